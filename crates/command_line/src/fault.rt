@@ -10,7 +10,7 @@ use std::alloc::{AllocError, AllocFailed, Global};
 use std::fmt;
 
 /// Why the words ask for nothing that can be done.
-#[derive(Drop)]
+#[derive(Debug, Drop)]
 pub enum LineFault {
     /// The words are no line of the program, or ask for help. The text is what the user is shown.
     Line(String),

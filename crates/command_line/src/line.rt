@@ -1,7 +1,7 @@
 // What words ask for, subcommand by subcommand.
 
 /// What the words ask for: a subcommand, with its values.
-#[derive(Drop)]
+#[derive(Debug, Drop)]
 pub enum Line {
     /// Whether these calls, by number, are an order of the history on standard input.
     Check {
@@ -70,7 +70,7 @@ pub enum Line {
 }
 
 /// What a drive does its calls at.
-#[derive(Clone, Copy, PartialEq, Eq)]
+#[derive(Clone, Copy, Debug, PartialEq, Eq)]
 pub enum Tree {
     /// A sorted map under one lock.
     Locked,
