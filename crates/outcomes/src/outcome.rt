@@ -29,7 +29,7 @@ pub const WORDS: u8 = 5;
 pub const FAILED: u8 = 6;
 
 /// What is answered to an input.
-#[derive(Clone, Copy)]
+#[derive(Clone, Copy, Debug)]
 pub enum Answer {
     /// Yes, `ok`, or a text.
     Yes,
@@ -53,7 +53,7 @@ impl Answer {
 }
 
 /// How a run comes out. Each text ends with a line feed.
-#[derive(Drop)]
+#[derive(Debug, Drop)]
 pub enum Outcome {
     /// The input is answered, with this line for standard output.
     Answered {
