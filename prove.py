@@ -3,8 +3,8 @@
 
     ./prove.py bench
 
-Each is proved once, as soon as those below it are, by rt's own scheduler: first those with the longest chain above them, as many side
-by side as there are processors and memory. What an earlier run has built of the same files is kept, and rt's commands find it built:
+Each is proved once, by rt's own scheduler: first those with the longest chain above them, as many side by side as there are processors
+and memory. One whose chain is less than half as long as what is left waits for those of the longer ones. What an earlier run has built of the same files is kept, and rt's commands find it built:
 so a run that was interrupted goes on where it was.
 """
 import copy
@@ -70,6 +70,19 @@ def build(crate, jobs, progress):
     return is_built
 
 
+def chains(crates, lines):
+    """The lines of the longest chain below each crate, and of the longest that begins with it, by their names."""
+    below, behind = dict.fromkeys(lines, 0), dict.fromkeys(lines, 0)
+    for it in crates:
+        below[it.name] = max((below[lower.name] + lines[lower.name] for lower in it.below() if lower.name in lines), default=0)
+    for it in reversed(crates):
+        behind[it.name] += lines[it.name]
+        for lower in it.below():
+            if lower.name in lines:
+                behind[lower.name] = max(behind[lower.name], behind[it.name])
+    return below, behind
+
+
 def main(name):
     # What was started ends with this, however this ends: at an interrupt too.
     rt.rtlib.guarded()
@@ -83,13 +96,21 @@ def main(name):
     if lacking:
         progress.say(f"crates to prove: {len(lacking)} of {len(crates)}; that takes minutes")
 
-    def work(crate, given, jobs):
-        return crate not in lacking or all(given[it.name, "proof"] for it in crate.below()) and build(crate, jobs, progress)
+    lines = dict(progress.left)
+    below, behind = chains(lacking, lines)
+    longest = max(behind.values(), default=0)
+
+    def work(crate, waits, given, jobs):
+        # one of the longest chain has two processes, whatever else there is to do
+        least = 2 if below[crate.name] + behind[crate.name] == longest else 1
+        return all(given[it] for it in waits) and build(crate, max(jobs, least), progress)
 
     tasks = {}
-    for it in crates:
-        waits = [(below.name, "proof") for below in it.below()]
-        tasks[it.name, "proof"] = waits, progress.left.get(it.name, 0), rt.need(it), lambda given, jobs, it=it: work(it, given, jobs)
+    for it in sorted(lacking, key=lambda it: -behind[it.name]):
+        # one with much less behind it leaves the processors to those with more
+        waits = {lower.name for lower in it.below() if lower.name in lines} | {name for name in lines if behind[name] > behind[it.name] + longest / 2}
+        waits = [(name, "proof") for name in waits]
+        tasks[it.name, "proof"] = waits, lines[it.name], rt.need(it), lambda given, jobs, it=it, waits=waits: work(it, waits, given, jobs)
     return 0 if all(rt.in_lanes(tasks).values()) and held else 1
 
 
