@@ -4,8 +4,8 @@
     ./prove.py bench
 
 Each is proved once, by rt's own scheduler: first those with the longest chain above them, as many side by side as there are processors
-and memory. One whose chain is less than half as long as what is left waits for those of the longer ones. What an earlier run has built of the same files is kept, and rt's commands find it built:
-so a run that was interrupted goes on where it was.
+and memory. One with a much shorter chain waits for them. What an earlier run has built of the same files is kept, and rt's commands
+find it built: so a run that was interrupted goes on where it was.
 """
 import copy
 import importlib.machinery
@@ -83,6 +83,21 @@ def chains(crates, lines):
     return below, behind
 
 
+def behind_others(call, *given):
+    """Makes a call whose processes leave the processors to those of others."""
+    made = []
+
+    def work():
+        # of this thread alone, and of what it starts
+        os.setpriority(os.PRIO_PROCESS, threading.get_native_id(), 10)
+        made.append(call(*given))
+
+    thread = threading.Thread(target=work)
+    thread.start()
+    thread.join()
+    return bool(made and made[0])
+
+
 def main(name):
     # What was started ends with this, however this ends: at an interrupt too.
     rt.rtlib.guarded()
@@ -101,15 +116,19 @@ def main(name):
     longest = max(behind.values(), default=0)
 
     def work(crate, waits, given, jobs):
-        # one of the longest chain has two processes, whatever else there is to do
-        least = 2 if below[crate.name] + behind[crate.name] == longest else 1
-        return all(given[it] for it in waits) and build(crate, max(jobs, least), progress)
+        if not all(given[it] for it in waits):
+            return False
+        if below[crate.name] + behind[crate.name] < longest:
+            return behind_others(build, crate, jobs, progress)
+        # one of the longest chain has all processors, where there is memory
+        has_room = rt.free() > 3 * rt.need(crate)
+        return build(crate, max(jobs, min(rt.processors(), 4)) if has_room else jobs, progress)
 
     tasks = {}
     for it in sorted(lacking, key=lambda it: -behind[it.name]):
         # one with much less behind it leaves the processors to those with more
-        waits = {lower.name for lower in it.below() if lower.name in lines} | {name for name in lines if behind[name] > behind[it.name] + longest / 2}
-        waits = [(name, "proof") for name in waits]
+        first = [name for name in lines if behind[name] > behind[it.name] + longest / 2]
+        waits = [(name, "proof") for name in {*first, *[lower.name for lower in it.below() if lower.name in lines]}]
         tasks[it.name, "proof"] = waits, lines[it.name], rt.need(it), lambda given, jobs, it=it, waits=waits: work(it, waits, given, jobs)
     return 0 if all(rt.in_lanes(tasks).values()) and held else 1
 
