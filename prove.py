@@ -89,7 +89,7 @@ def behind_others(call, *given):
 
     def work():
         # of this thread alone, and of what it starts
-        os.setpriority(os.PRIO_PROCESS, threading.get_native_id(), 10)
+        os.nice(10)
         made.append(call(*given))
 
     thread = threading.Thread(target=work)
