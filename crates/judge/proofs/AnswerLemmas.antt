@@ -1,40 +1,15 @@
--- What the answers on the segments so far have shown, where none is without order.
-use Rattle.std.proofs.Common.{◌≡◌, ℕ, Global, List, [], ◌∷◌, ◌++◌, Option, Some, None, true, false, ap, sym, subst, inl, inr, refl, ⊎_elim}
-use Rattle.std.proofs.Common.{arith, ◌∙◌}
-use Rattle.std.specs.Prelude.{◌⊎◌, All}
-use Rattle.std.specs.Option.{is_some}
+-- What the answers on all segments say of them.
+use Rattle.std.proofs.Common.{◌≡◌, ℕ, zero, suc, ◌<◌, List, [], ◌∷◌, ◌++◌, Some, ap, subst, inl, inr, refl, arith}
+use Rattle.std.specs.Prelude.{◌≢◌, All, slice_get}
 use Rattle.std.specs.List.{AllZip}
-use Rattle.std.specs.declared.vec.IntoIter.{IntoIter}
-use Rattle.std.specs.Vec.Iter.{into_iter_items, into_iter_len, into_iter_steps}
-use Rattle.std.proofs.lemmas.Bool.{false≢true}
-use Rattle.std.proofs.lemmas.List.{append-nil, append_assoc, nil_from_length}
-use Rattle.std.proofs.lemmas.List.Elements.{All-nil, All-cons, All-append, All-push, All-weaker}
+use Rattle.std.proofs.lemmas.List.Elements.{All-nil, All-cons, All-head, All-tail}
+use Rattle.std.proofs.lemmas.Option.{none-some, same_Some}
 use Rattle.segments.specs.SegmentView.{SegmentView}
 use Rattle.search.specs.declared.found.Found.{Found}
+use Rattle.search.specs.declared.found.Found.TheVariants.{Order, NoOrder, Spent}
 use Rattle.search.specs.Exact.{IsExactAnswer}
-use Rattle.judge.specs.Exact.{IsOrderedBy, IsOrdered, IsSpent, IsOrderedOrSpent}
-
--- the segment is the lowest whose search was spent
-pub record IsLowestSpent (budget : ℕ) (segments : List SegmentView) (segment : SegmentView) : Type 0 where
-  pub below : List SegmentView
-  pub above : List SegmentView
-  pub is : segments ≡ below ++ segment ∷ above
-  pub spent : IsSpent budget segment
-  pub lowest : All (IsOrdered budget) below
-  pub unrefuted : All (IsOrderedOrSpent budget) above
-
--- each segment so far has its order, or this one of them is the lowest whose search was spent
-abbrev pub HaveShown : ℕ → List SegmentView → List (List ℕ) → Option SegmentView → Type 0
-HaveShown budget segments orders None = AllZip (IsOrderedBy budget) segments orders
-HaveShown budget segments orders (Some segment) = IsLowestSpent budget segments segment
-
--- one more of each
-AllZip-more : {A B : Type 0} (R : A → B → Type 0) (xs : List A) (ys : List B) (x : A) (y : B) → AllZip R xs ys → R x y
-    → AllZip R (xs ++ x ∷ []) (ys ++ y ∷ [])
-AllZip-more R [] [] x y h r = (r, tt)
-AllZip-more R [] (b ∷ ys) x y h r = absurd h
-AllZip-more R (a ∷ xs) [] x y h r = absurd h
-AllZip-more R (a ∷ xs) (b ∷ ys) x y h r = (h.0, AllZip-more R xs ys x y h.1 r)
+use Rattle.judge.specs.Answers.{IsFirstAt, orders_in}
+use Rattle.judge.specs.Exact.{IsOrderedBy, IsOrdered, IsOrderedOrSpent}
 
 -- a weaker relation holds too
 pub AllZip-weaker : {A B : Type 0} (R Q : A → B → Type 0) → ((x : A) (y : B) → R x y → Q x y) → (xs : List A) (ys : List B)
@@ -43,6 +18,14 @@ AllZip-weaker R Q weaker [] [] h = tt
 AllZip-weaker R Q weaker [] (y ∷ ys) h = absurd h
 AllZip-weaker R Q weaker (x ∷ xs) [] h = absurd h
 AllZip-weaker R Q weaker (x ∷ xs) (y ∷ ys) h = (weaker x y h.0, AllZip-weaker R Q weaker xs ys h.1)
+
+-- beside the relation, what holds of each second one
+AllZip-with : {A B : Type 0} (R : A → B → Type 0) (P : B → Type 0) (xs : List A) (ys : List B) → AllZip R xs ys → All P ys
+    → AllZip (λ x y. R x y × P y) xs ys
+AllZip-with R P [] [] h all = tt
+AllZip-with R P [] (y ∷ ys) h all = absurd h
+AllZip-with R P (x ∷ xs) [] h all = absurd h
+AllZip-with R P (x ∷ xs) (y ∷ ys) h all = ((h.0, All-head P y ys all), AllZip-with R P xs ys h.1 (All-tail P y ys all))
 
 -- what holds wherever the relation holds, holds of each first one
 All-firsts : {A B : Type 0} (R : A → B → Type 0) (P : A → Type 0) → ((x : A) (y : B) → R x y → P x) → (xs : List A) (ys : List B)
@@ -56,107 +39,96 @@ pub IsOrdered-all : (budget : ℕ) (segments : List SegmentView) (orders : List 
     → All (IsOrdered budget) segments
 IsOrdered-all budget segments orders h = All-firsts (IsOrderedBy budget) (IsOrdered budget) (λ s o found. (o, found)) segments orders h
 
--- one more segment above the lowest that is spent
-IsLowestSpent-more : (budget : ℕ) (segments : List SegmentView) (spent segment : SegmentView) → IsLowestSpent budget segments spent
-    → IsOrderedOrSpent budget segment → IsLowestSpent budget (segments ++ segment ∷ []) spent
-IsLowestSpent-more budget segments spent segment h is = record {
-  below = h.below;
-  above = h.above ++ segment ∷ [];
-  is = ap (λ l. l ++ segment ∷ []) h.is ∙ append_assoc h.below (spent ∷ h.above) (segment ∷ []);
-  spent = h.spent;
-  lowest = h.lowest;
-  unrefuted = All-push (IsOrderedOrSpent budget) h.above segment h.unrefuted is;
+-- the segment at the place, between those below it and those above it
+pub record IsNamedAt (R : SegmentView → Found → Type 0) (Q : SegmentView → Type 0) (sought : Found) (segments : List SegmentView)
+    (place : ℕ) : Type 0 where
+  pub below : List SegmentView
+  pub segment : SegmentView
+  pub above : List SegmentView
+  pub parts : segments ≡ below ++ segment ∷ above
+  pub here : slice_get segments place ≡ Some segment
+  pub answered : R segment sought
+  pub lowest : All Q below
+
+-- the first answer names its segment, where what another answer says of a segment is Q
+named_at : (R : SegmentView → Found → Type 0) (Q : SegmentView → Type 0) (sought : Found)
+    → ((s : SegmentView) (a : Found) → R s a → (a ≢ sought) → Q s) → (segments : List SegmentView) (answers : List Found) (place : ℕ)
+    → AllZip R segments answers → IsFirstAt sought answers place → IsNamedAt R Q sought segments place
+named_at R Q sought other [] [] place h found = absurd (none-some sought found.here)
+named_at R Q sought other [] (a ∷ answers) place h found = absurd h
+named_at R Q sought other (s ∷ segments) [] place h found = absurd h
+named_at R Q sought other (s ∷ segments) (a ∷ answers) zero h found = record {
+  below = [];
+  segment = s;
+  above = segments;
+  parts = refl;
+  here = refl;
+  answered = subst (R s) (same_Some a sought found.here) h.0;
+  lowest = All-nil Q;
 }
+named_at R Q sought other (s ∷ segments) (a ∷ answers) (suc n) h found =
+    let later = named_at R Q sought other segments answers n h.1
+    (record { here = found.here; first = λ k below e. found.first (suc k) (omega (arith, below)) e }) in
+    record {
+      below = s ∷ later.below;
+      segment = later.segment;
+      above = later.above;
+      parts = ap (λ l. s ∷ l) later.parts;
+      here = later.here;
+      answered = later.answered;
+      lowest = All-cons Q s later.below (other s a h.0 (λ e. found.first 0 (omega arith) (ap Some e))) later.lowest;
+    }
 
--- one more segment has its order
-pub HaveShown-found : (budget : ℕ) (segments : List SegmentView) (orders : List (List ℕ)) (spent : Option SegmentView)
-    (segment : SegmentView) (order : List ℕ) → HaveShown budget segments orders spent → IsOrderedBy budget segment order
-    → HaveShown budget (segments ++ segment ∷ []) (orders ++ order ∷ []) spent
-HaveShown-found budget segments orders None segment order h found = AllZip-more (IsOrderedBy budget) segments orders segment order h found
-HaveShown-found budget segments orders (Some spent) segment order h found =
-    IsLowestSpent-more budget segments spent segment h (inl (order, found))
+module _ (budget : ℕ) where
+  -- the answer is exact, and another than that there is no order
+  abbrev pub IsUnrefuting : SegmentView → Found → Type 0
+  IsUnrefuting segment answer = IsExactAnswer budget segment answer × (answer ≢ NoOrder)
 
--- one more segment is spent, above the lowest
-pub HaveShown-spent : (budget : ℕ) (segments : List SegmentView) (orders : List (List ℕ)) (spent : Option SegmentView)
-    (segment : SegmentView) → is_some spent ≡ true → HaveShown budget segments orders spent → IsSpent budget segment
-    → HaveShown budget (segments ++ segment ∷ []) orders spent
-HaveShown-spent budget segments orders None segment some h beyond = absurd (false≢true some)
-HaveShown-spent budget segments orders (Some spent) segment some h beyond = IsLowestSpent-more budget segments spent segment h (inr beyond)
+  ordered_or_spent : (segment : SegmentView) (answer : Found) → IsExactAnswer budget segment answer → (answer ≢ NoOrder)
+      → IsOrderedOrSpent budget segment
+  ordered_or_spent segment (Order order) exact other = inl (order.items, exact)
+  ordered_or_spent segment NoOrder exact other = absurd (other refl)
+  ordered_or_spent segment Spent exact other = inr exact
 
--- the first that is spent
-pub HaveShown-first : (budget : ℕ) (segments : List SegmentView) (orders : List (List ℕ)) (spent : Option SegmentView)
-    (segment : SegmentView) → is_some spent ≡ false → HaveShown budget segments orders spent → IsSpent budget segment
-    → HaveShown budget (segments ++ segment ∷ []) orders (Some segment)
-HaveShown-first budget segments orders (Some spent) segment none h beyond = absurd (false≢true (sym none))
-HaveShown-first budget segments orders None segment none h beyond = record {
-  below = segments;
-  above = [];
-  is = refl;
-  spent = beyond;
-  lowest = IsOrdered-all budget segments orders h;
-  unrefuted = All-nil (IsOrderedOrSpent budget);
-}
+  ordered : (segment : SegmentView) (answer : Found) → IsUnrefuting segment answer → (answer ≢ Spent) → IsOrdered budget segment
+  ordered segment (Order order) exact other = (order.items, exact.0)
+  ordered segment NoOrder exact other = absurd (exact.1 refl)
+  ordered segment Spent exact other = absurd (other refl)
 
--- none so far is refuted
-pub IsOrderedOrSpent-all : (budget : ℕ) (segments : List SegmentView) (orders : List (List ℕ)) (spent : Option SegmentView)
-    → HaveShown budget segments orders spent → All (IsOrderedOrSpent budget) segments
-IsOrderedOrSpent-all budget segments orders None h =
-    All-firsts (IsOrderedBy budget) (IsOrderedOrSpent budget) (λ s o found. inl (o, found)) segments orders h
-IsOrderedOrSpent-all budget segments orders (Some spent) h = subst (All (IsOrderedOrSpent budget)) (sym h.is)
-    (All-append (IsOrderedOrSpent budget) h.below (spent ∷ h.above)
-    (All-weaker (IsOrdered budget) (IsOrderedOrSpent budget) (λ s is. inl is) h.below h.lowest)
-    (All-cons (IsOrderedOrSpent budget) spent h.above (inr h.spent) h.unrefuted))
+  -- the lowest segment that is refuted
+  pub refuted_at : (segments : List SegmentView) (answers : List Found) (place : ℕ) → AllZip (IsExactAnswer budget) segments answers
+      → IsFirstAt NoOrder answers place
+      → IsNamedAt (IsExactAnswer budget) (IsOrderedOrSpent budget) NoOrder segments place
+  refuted_at segments answers place h found =
+      named_at (IsExactAnswer budget) (IsOrderedOrSpent budget) NoOrder ordered_or_spent segments answers place h found
 
--- ---- a walk over the segments with their answers
+  -- the lowest that is spent, where none is refuted
+  pub spent_at : (segments : List SegmentView) (answers : List Found) (place : ℕ) → AllZip (IsExactAnswer budget) segments answers
+      → All (λ answer. answer ≢ NoOrder) answers → IsFirstAt Spent answers place
+      → IsNamedAt IsUnrefuting (IsOrdered budget) Spent segments place
+  spent_at segments answers place h none found =
+      named_at IsUnrefuting (IsOrdered budget) Spent ordered segments answers place
+      (AllZip-with (IsExactAnswer budget) (λ answer. answer ≢ NoOrder) segments answers h none) found
 
--- the segments before the rest have shown what they have, and the answers on the rest are exact
-pub record IsUnderWay (budget : ℕ) (segments rest : List SegmentView) (answers : List Found) (orders : List (List ℕ))
-    (spent : Option SegmentView) : Type 0 where
-  pub before : List SegmentView
-  pub parts : segments ≡ before ++ rest
-  pub shown : HaveShown budget before orders spent
-  pub exact : AllZip (IsExactAnswer budget) rest answers
+  -- no segment is refuted
+  pub unrefuted : (segments : List SegmentView) (answers : List Found) → AllZip (IsExactAnswer budget) segments answers
+      → All (λ answer. answer ≢ NoOrder) answers → All (IsOrderedOrSpent budget) segments
+  unrefuted segments answers h none =
+      All-firsts IsUnrefuting (IsOrderedOrSpent budget) (λ s a exact. ordered_or_spent s a exact.0 exact.1) segments answers
+      (AllZip-with (IsExactAnswer budget) (λ answer. answer ≢ NoOrder) segments answers h none)
 
--- before the first
-pub IsUnderWay-start : {budget : ℕ} {segments : List SegmentView} {answers : List Found}
-    → AllZip (IsExactAnswer budget) segments answers → IsUnderWay budget segments segments answers [] None
-IsUnderWay-start exact = record { before = []; parts = refl; shown = tt; exact = exact }
-
--- the next answer is exact
-pub IsUnderWay-answer : {budget : ℕ} {segments rest later : List SegmentView} {answers others : List Found} {orders : List
-    (List ℕ)} {spent : Option SegmentView} {segment : SegmentView} {answer : Found}
-    → IsUnderWay budget segments rest answers orders spent → rest ≡ segment ∷ later → answers ≡ answer ∷ others
-    → IsExactAnswer budget segment answer
-IsUnderWay-answer h e f = (rw (e, f) at h.exact).0
-
--- the walk goes on with what the segments up to the next have shown
-pub IsUnderWay-next : {budget : ℕ} {segments rest later : List SegmentView} {answers others : List Found} {orders orders_next : List
-    (List ℕ)} {spent spent_next : Option SegmentView} {segment : SegmentView} {answer : Found}
-    → (h : IsUnderWay budget segments rest answers orders spent) → rest ≡ segment ∷ later → answers ≡ answer ∷ others
-    → HaveShown budget (h.before ++ segment ∷ []) orders_next spent_next
-    → IsUnderWay budget segments later others orders_next spent_next
-IsUnderWay-next {later} {segment} h e f shown = record {
-  before = h.before ++ segment ∷ [];
-  parts = h.parts ∙ ap (λ l. h.before ++ l) e ∙ sym (append_assoc h.before (segment ∷ []) later);
-  shown = shown;
-  exact = (rw (e, f) at h.exact).1;
-}
-
--- an iterator that is at its end has no rest
-nil_at_end : {X : Type 0} (it : IntoIter X Global) → into_iter_len it ≡ 0 → into_iter_items it ≡ []
-nil_at_end it e = nil_from_length (into_iter_items it) (omega (arith, e, it.rest.ok.0))
-
--- with one of the iterators at its end, all segments have shown what they have
-pub IsUnderWay-all : {budget : ℕ} {segments : List SegmentView} {orders : List (List ℕ)} {spent : Option SegmentView}
-    (rest : IntoIter SegmentView Global) (answers : IntoIter Found Global)
-    → IsUnderWay budget segments (into_iter_items rest) (into_iter_items answers) orders spent
-    → ((u : IntoIter SegmentView Global) × into_iter_steps rest None u) ⊎ ((u : IntoIter Found Global) × into_iter_steps answers None u)
-    → HaveShown budget segments orders spent
-IsUnderWay-all {budget} {segments} {orders} {spent} rest answers h none =
-    let end : into_iter_items rest ≡ [] =
-    ⊎_elim (λ e. nil_at_end rest e.1.0) (λ e. nil (into_iter_items rest) (rw (nil_at_end answers e.1.0) at h.exact)) none in
-    subst (λ s. HaveShown budget s orders spent) (sym (h.parts ∙ ap (λ l. h.before ++ l) end ∙ append-nil h.before)) h.shown
-  where
-    nil : (rest : List SegmentView) → AllZip (IsExactAnswer budget) rest [] → rest ≡ []
-    nil [] h = refl
-    nil (s ∷ rest) h = absurd h
+  -- each segment has its order, where none is refuted or spent
+  pub all_ordered : (segments : List SegmentView) (answers : List Found) → AllZip (IsExactAnswer budget) segments answers
+      → All (λ answer. answer ≢ NoOrder) answers → All (λ answer. answer ≢ Spent) answers
+      → AllZip (IsOrderedBy budget) segments (orders_in answers)
+  all_ordered [] [] h none some = tt
+  all_ordered [] (a ∷ answers) h none some = absurd h
+  all_ordered (s ∷ segments) [] h none some = absurd h
+  all_ordered (s ∷ segments) (Order order ∷ answers) h none some = (
+    h.0,
+    all_ordered segments answers h.1 (All-tail (λ answer. answer ≢ NoOrder) (Order order) answers none)
+        (All-tail (λ answer. answer ≢ Spent) (Order order) answers some),
+  )
+  all_ordered (s ∷ segments) (NoOrder ∷ answers) h none some =
+      absurd (All-head (λ answer. answer ≢ NoOrder) NoOrder answers none refl)
+  all_ordered (s ∷ segments) (Spent ∷ answers) h none some = absurd (All-head (λ answer. answer ≢ Spent) Spent answers some refl)

@@ -30,9 +30,15 @@ use Rattle.history_text.specs.TextLaws.{SpellsOneHistory}
 use Rattle.serde_json.specs.Written.{compact_text}
 
 -- what holds of all holds of the one in the middle
-All-here : (P : SegmentView → Type 0) (below : List SegmentView) (s : SegmentView) (above : List SegmentView)
+pub All-here : (P : SegmentView → Type 0) (below : List SegmentView) (s : SegmentView) (above : List SegmentView)
     → All P (below ++ s ∷ above) → P s
 All-here P below s above h = All-contains P (below ++ s ∷ above) s h (Contains-append_right below (s ∷ above) s (Contains-first s above))
+
+-- and of each above it
+pub All-above : (P : SegmentView → Type 0) (below : List SegmentView) (s : SegmentView) (above : List SegmentView)
+    → All P (below ++ s ∷ above) → All P above
+All-above P [] s above h = All-tail P s above h
+All-above P (x ∷ below) s above h = All-above P below s above (All-tail P x (below ++ s ∷ above) h)
 
 -- the first of which P holds is one, where what stands below has Q, and P and Q exclude each other
 first_unique : (P Q : SegmentView → Type 0) → ((s : SegmentView) → P s → Q s → ⊥) → (below : List SegmentView) (s : SegmentView)

@@ -1,3 +1,4 @@
+pub mod Answers
 pub mod Shows
 pub mod Shown
 pub mod Exact

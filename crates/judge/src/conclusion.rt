@@ -1,11 +1,15 @@
 // What the answers on all segments of a history say of the history.
-ghost use Rattle.std.specs.Prelude.{All, IfOk};
+ghost use Rattle.std.specs.Prelude.{◌≡◌, ◌≢◌, ◌<◌, length, map, slice_get, All, Some, IfOk, IfSome, IfNone};
 ghost use Rattle.std.specs.List.{AllZip};
 ghost use Rattle.events.specs.Operations.{operations};
-ghost use Rattle.orders.specs.Orders.{IsLinearizable};
+ghost use Rattle.orders.specs.Orders.{IsLinearizable, IsOrderOfHistory};
 ghost use Rattle.segments.specs.Segments.{AreSegments};
 ghost use Rattle.segments.specs.SegmentOrders.{HasNoOrder};
 ghost use Rattle.search.specs.Exact.{IsExactAnswer};
+ghost use Rattle.search.specs.declared.found.Found.TheVariants.{NoOrder, Spent};
+ghost use Rattle.merge_orders.specs.Merge.{IsMergedOrder};
+ghost use Rattle.merge_orders.specs.OrdersOfSegments.{AreOrdersOfSegments};
+ghost use Rattle.judge.specs.Answers.{IsFirstAt, orders_in};
 ghost use Rattle.judge.specs.Shown.{IsShown};
 ghost use Rattle.judge.specs.Exact.{IsExactVerdict};
 
@@ -32,19 +36,68 @@ pub(crate) fn conclude(
     ensures shown { IfOk result (IsShown history.now.start budget (operations history.now.events)) }
     ensures exact { IfOk result (IsExactVerdict history.now.start budget (operations history.now.events)) }
 {
-    let mut orders = Vec::with_capacity(alloc, segments.len())?;
-    let mut lowest_spent = None;
-    for (segment, answer) in segments.into_iter().zip(answers) {
-        match answer {
-            Found::Order(order) => orders.push(order)?,
-            Found::NoOrder => return Ok(Verdict::No(segment)),
-            Found::Spent if lowest_spent.is_none() => lowest_spent = Some(segment),
-            // a later segment without order still makes it a no
-            Found::Spent => {}
+    if let Some(place) = first_without_order(&answers) {
+        return Ok(Verdict::No(segment_at(segments, place)));
+    }
+    if let Some(place) = first_spent(&answers) {
+        return Ok(Verdict::Undecided(segment_at(segments, place)));
+    }
+    Ok(Verdict::Yes(merged(alloc, history, answers)?))
+}
+
+/// The place of the first answer that there is no order.
+fn first_without_order(answers: &[Found]) -> Option<usize>
+    ensures found { IfSome result (IsFirstAt NoOrder answers.now) }
+    ensures none { IfNone result (All (λ answer. answer ≢ NoOrder) answers.now) }
+{
+    for place in 0..answers.len() {
+        if matches!(&answers[place], Found::NoOrder) {
+            return Some(place);
         }
     }
-    match lowest_spent {
-        Some(segment) => Ok(Verdict::Undecided(segment)),
-        None => Ok(Verdict::Yes(merge(alloc, history, &orders)?)),
+    None
+}
+
+/// The place of the first answer of a search that needs more than the budget.
+fn first_spent(answers: &[Found]) -> Option<usize>
+    ensures found { IfSome result (IsFirstAt Spent answers.now) }
+    ensures none { IfNone result (All (λ answer. answer ≢ Spent) answers.now) }
+{
+    for place in 0..answers.len() {
+        if matches!(&answers[place], Found::Spent) {
+            return Some(place);
+        }
     }
+    None
+}
+
+/// The segment at a place.
+fn segment_at(mut segments: Vec<Segment>, place: usize) -> Segment
+    requires { place < length segments.items }
+    ensures { slice_get segments.items place ≡ Some result }
+{
+    segments.swap_remove(place)
+}
+
+/// The merged order of the orders among the answers.
+fn merged(alloc: Global, history: &History, answers: Vec<Found>) -> Result<Vec<u32>, Memory>
+    requires { AreOrdersOfSegments history.now.start (operations history.now.events) (orders_in answers.items) }
+    ensures merged { IfOk result (λ v. IsMergedOrder (operations history.now.events) (orders_in answers.items) v.items) }
+    ensures order { IfOk result (λ v. IsOrderOfHistory history.now v.items) }
+{
+    let orders = orders_of(alloc, answers)?;
+    merge(alloc, history, &orders)
+}
+
+/// The orders among the answers.
+fn orders_of(alloc: Global, answers: Vec<Found>) -> Result<Vec<Vec<u32>>, Memory>
+    ensures { IfOk result (λ orders. map (λ order. order.items) orders.items ≡ orders_in answers.items) }
+{
+    let mut orders = Vec::with_capacity(alloc, answers.len())?;
+    for answer in answers {
+        if let Found::Order(order) = answer {
+            orders.push(order)?;
+        }
+    }
+    Ok(orders)
 }

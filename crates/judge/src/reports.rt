@@ -1,13 +1,14 @@
 // From a verdict to its report.
-ghost use Rattle.std.specs.Prelude.{◌≡◌, IfOk, string_bytes};
-ghost use Rattle.serde_json.specs.View.{view};
+ghost use Rattle.std.specs.Prelude.{◌≡◌, [], codes, IfOk, OnOk, string_bytes};
+ghost use Rattle.serde_json.specs.Data.{string, object, no_members, member};
+ghost use Rattle.serde_json.specs.View.{members_view, view};
 ghost use Rattle.serde_json.specs.Written.{compact_text};
 ghost use Rattle.judge.specs.Reports.{numbers_data, segment_data, verdict_data};
 
 use crate::verdict::Verdict;
 use events::Memory;
 use segments::Segment;
-use serde_json::{Value, json};
+use serde_json::{Map, Value, put};
 use std::alloc::{AllocError, Global};
 
 /// The report of a verdict, one JSON object without spaces, its members by rising bytes: the numbers of the
@@ -23,21 +24,63 @@ pub fn report(alloc: Global, verdict: &Verdict) -> Result<String, Memory>
 fn verdict_value(alloc: Global, verdict: &Verdict) -> Result<Value, AllocError>
     ensures { IfOk result (λ value. view value ≡ verdict_data verdict.now) }
 {
+    let mut members = Map::new(alloc);
+    put_verdict(&mut members, alloc, verdict)?;
+    Ok(Value::Object(members))
+}
+
+/// Puts the members of a verdict's report where none are.
+fn put_verdict(
+    members: &mut Map<String, Value>,
+    alloc: Global,
+    verdict: &Verdict,
+) -> Result<(), AllocError>
+    requires { members.old.entries ≡ [] }
+    ensures { OnOk result (object (members_view members.new.entries) ≡ verdict_data verdict.now) }
+{
     match verdict {
-        Verdict::Yes(order) => {
-            let order = numbers_value(alloc, order)?;
-            json!(in alloc; {"order": order, "verdict": "yes"})
-        }
-        Verdict::No(segment) => segment_value(alloc, segment, "no"),
-        Verdict::Undecided(segment) => segment_value(alloc, segment, "undecided"),
+        Verdict::Yes(order) => put_order(members, alloc, order),
+        Verdict::No(segment) => put_segment(members, alloc, segment, "no"),
+        Verdict::Undecided(segment) => put_segment(members, alloc, segment, "undecided"),
     }
 }
 
-fn segment_value(alloc: Global, segment: &Segment, word: &str) -> Result<Value, AllocError>
-    ensures { IfOk result (λ value. view value ≡ segment_data segment.now word.now) }
+fn put_order(
+    members: &mut Map<String, Value>,
+    alloc: Global,
+    order: &[u32],
+) -> Result<(), AllocError>
+    requires { members.old.entries ≡ [] }
+    ensures { OnOk result (members_view members.new.entries
+        ≡ member (codes "order") (numbers_data order.now) (member (codes "verdict") (string (codes "yes")) no_members)) }
 {
-    let calls = numbers_value(alloc, segment.numbers())?;
-    json!(in alloc; {"calls": calls, "hi": segment.hi(), "lo": segment.lo(), "verdict": word})
+    put(members, alloc, "order", numbers_value(alloc, order)?)?;
+    put(
+        members,
+        alloc,
+        "verdict",
+        Value::try_from_str(alloc, "yes")?,
+    )
+}
+
+fn put_segment(
+    members: &mut Map<String, Value>,
+    alloc: Global,
+    segment: &Segment,
+    word: &str,
+) -> Result<(), AllocError>
+    requires { members.old.entries ≡ [] }
+    ensures { OnOk result (object (members_view members.new.entries) ≡ segment_data segment.now word.now) }
+{
+    put(
+        members,
+        alloc,
+        "calls",
+        numbers_value(alloc, segment.numbers())?,
+    )?;
+    put(members, alloc, "hi", Value::from(segment.hi()))?;
+    put(members, alloc, "lo", Value::from(segment.lo()))?;
+    put(members, alloc, "verdict", Value::try_from_str(alloc, word)?)
 }
 
 fn numbers_value(alloc: Global, numbers: &[u32]) -> Result<Value, AllocError>

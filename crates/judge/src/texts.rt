@@ -1,5 +1,5 @@
 // From a history's text to its verdict and the report of it.
-ghost use Rattle.std.specs.Prelude.{◌≡◌, ◌≤◌, IfOk, IfErr, OnOk, string_bytes};
+ghost use Rattle.std.specs.Prelude.{◌≡◌, ◌≤◌, IfOk, IfErr, Ok, OnOk, string_bytes};
 ghost use Rattle.events.specs.HistoryView.{HistoryView};
 ghost use Rattle.events.specs.Histories.{IsHistory};
 ghost use Rattle.history_text.specs.Texts.{Spells};
@@ -41,8 +41,7 @@ pub fn judge_text<R: Threads + Sync, G: Gate + Sync>(
     ensures passed { OnOk result (WasPassedForText (G.was_passed gate.now) text.now) }
 {
     let history = read_history(alloc, text)?;
-    let verdict = judge(rt, alloc, &history, budget, workers, gate)?;
-    Ok(with_report(alloc, verdict)?)
+    with_report(alloc, judge(rt, alloc, &history, budget, workers, gate))
 }
 
 /// Reads a history's text and judges it as `judge_alone` does: the answer of `judge_text`, found by one thread.
@@ -58,15 +57,19 @@ pub fn judge_text_alone(
         → IfErr result (λ fault. fault ≡ faults.Memory) }
 {
     let history = read_history(alloc, text)?;
-    let verdict = judge_alone(alloc, &history, budget)?;
-    Ok(with_report(alloc, verdict)?)
+    with_report(alloc, judge_alone(alloc, &history, budget))
 }
 
-/// The verdict, and its report beside it.
-fn with_report(alloc: Global, verdict: Verdict) -> Result<(Verdict, String), Memory>
-    ensures verdict { IfOk result (λ answer. answer.0 ≡ verdict) }
-    ensures report { IfOk result (λ answer. string_bytes answer.1 ≡ compact_text (verdict_data verdict)) }
+/// The verdict, where one was found, and its report beside it.
+fn with_report(
+    alloc: Global,
+    verdict: Result<Verdict, Memory>,
+) -> Result<(Verdict, String), JudgeFault>
+    ensures verdict { IfOk result (λ answer. verdict ≡ Ok answer.0) }
+    ensures report { IfOk result (λ answer. string_bytes answer.1 ≡ compact_text (verdict_data answer.0)) }
+    ensures refused { IfErr result (λ fault. fault ≡ faults.Memory) }
 {
+    let verdict = verdict?;
     let line = report(alloc, &verdict)?;
     Ok((verdict, line))
 }

@@ -1,146 +1,125 @@
--- A walk over the segments with their answers; at the end all of them have shown what they have.
-use Rattle.std.proofs.Common.{[], ◌∷◌, ◌++◌, map, ap, subst, sym, ◌∙◌}
-use Rattle.std.specs.Prelude.{Contains}
-use Rattle.std.specs.Iterator.Adapters.{zip_first, zip_second}
-use Rattle.std.specs.Vec.Iter.{into_iter_items}
-use Rattle.std.proofs.lemmas.List.{map-append}
-use Rattle.std.proofs.lemmas.List.Elements.{All-contains, Contains-append_right}
+-- The lowest segment whose answer is sought is the one named; where there is none, all segments have their orders.
+use Rattle.std.proofs.Common.{ℕ, List, ◌∷◌, ◌++◌, sym, subst, ◌∙◌}
+use Rattle.std.specs.Prelude.{◌≡◌, ◌≢◌, Some, All, slice_get}
+use Rattle.std.specs.List.{AllZip}
+use Rattle.std.proofs.lemmas.Option.{same_Some, slice_get_within}
+use Rattle.events.specs.declared.operation.Operation.{Operation}
 use Rattle.events.specs.Operations.{operations}
+use Rattle.map_object.specs.MapObject.{Contents}
 use Rattle.orders.specs.Orders.{IsLinearizable}
+use Rattle.segments.specs.SegmentView.{SegmentView}
 use Rattle.segments.specs.SegmentOrders.{HasNoOrder}
 use Rattle.segments.specs.Segments.{AreSegments}
-use Rattle.list_laws.proofs.Lists.{Contains-first}
-use Rattle.judge.proofs.AnswerLemmas.{HaveShown-found, HaveShown-spent, HaveShown-first, IsOrderedOrSpent-all, IsUnderWay-start}
-use Rattle.judge.proofs.AnswerLemmas.{IsUnderWay-answer}
-use Rattle.judge.proofs.AnswerLemmas.{IsUnderWay-next}
-use Rattle.judge.proofs.AnswerLemmas.{IsUnderWay-all}
-use Rattle.judge.proofs.VerdictLemmas.{found_orders, shows_yes, shows_no, shows_undecided}
+use Rattle.search.specs.declared.found.Found.{Found}
+use Rattle.search.specs.declared.found.Found.TheVariants.{NoOrder, Spent}
+use Rattle.search.specs.Exact.{IsExactAnswer}
+use Rattle.judge.specs.Answers.{IsFirstAt, orders_in}
+use Rattle.judge.specs.Exact.{IsOrderedOrSpent, IsExactYes, IsExactNo, IsExactUndecided}
+use Rattle.judge.proofs.AnswerLemmas.{refuted_at, spent_at, unrefuted, all_ordered}
+use Rattle.judge.proofs.VerdictLemmas.{found_orders, shows_yes, shows_no, shows_undecided, All-here, All-above}
 use Rattle.judge.proofs.conclusion.conclude.Goals as goal
 
-pub loop-segment-init : goal.loop-segment-init
-loop-segment-init c =
-    let gives = c.into_iter-segment-iterator.ensures.into_iter_gives in
-    record {
-      can_next = (tt, tt);
-      is_finite = tt;
-      under_way =
-          rw (gives, c.zip-segment-items.ensures.first, c.in_ok-orders.ensures.items)
-          (rw (c.into_iter.ensures.rest, c.zip-segment-items.ensures.second.0) (IsUnderWay-start c.requires.exact));
-    }
+module _ (start : Contents) (budget : ℕ) (calls : List Operation) (segments : List SegmentView) (answers : List Found)
+    (are_segments : AreSegments start calls segments) (h : AllZip (IsExactAnswer budget) segments answers) where
+  exact_no : (place : ℕ) (segment : SegmentView) → IsFirstAt NoOrder answers place → slice_get segments place ≡ Some segment
+      → IsExactNo start budget calls segment
+  exact_no place segment found there =
+      let named = refuted_at budget segments answers place h found in
+      let same : named.segment ≡ segment = same_Some named.segment segment (sym named.here ∙ there) in
+      record {
+        below = named.below;
+        above = named.above;
+        are_segments = subst (λ s. AreSegments start calls (named.below ++ s ∷ named.above)) same
+            (subst (AreSegments start calls) named.parts are_segments);
+        refuted = subst (λ s. IsExactAnswer budget s NoOrder) same named.answered;
+        lowest = named.lowest;
+      }
 
-pub loop-segment-preserved-in-Order-1 : goal.loop-segment-preserved-in-Order-1
-loop-segment-preserved-in-Order-1 c =
-    let way = c.loop-segment.invariant.under_way in
-    let steps = c.in-Some.ensures.steps in
-    let orders = map (λ v. v.items) c.loop-segment.orders.items in
-    let found = rw c.in-Order.is at (IsUnderWay-answer way steps.0.0 steps.1.0) in
-    let shown = HaveShown-found c.args.budget way.before orders c.loop-segment.lowest_spent c.in-Some.segment c.in-Order.order.items
-    way.shown found in
-    record {
-      can_next = (tt, tt);
-      is_finite = tt;
-      under_way = rw (c.in_ok-push-in-Order.ensures.items, map-append) (IsUnderWay-next way steps.0.0 steps.1.0 shown);
-    }
+  refutes_all : (place : ℕ) (segment : SegmentView) → All (λ s. HasNoOrder s → IsLinearizable start calls → ⊥) segments
+      → IsFirstAt NoOrder answers place → slice_get segments place ≡ Some segment → IsLinearizable start calls → ⊥
+  refutes_all place segment refutes found there =
+      let named = refuted_at budget segments answers place h found in
+      let same : named.segment ≡ segment = same_Some named.segment segment (sym named.here ∙ there) in
+      subst (λ s. HasNoOrder s → IsLinearizable start calls → ⊥) same
+      (All-here (λ s. HasNoOrder s → IsLinearizable start calls → ⊥) named.below named.segment named.above
+      (subst (All (λ s. HasNoOrder s → IsLinearizable start calls → ⊥)) named.parts refutes))
+      (exact_no place segment found there).refuted.0
 
-pub returns-in-NoOrder-clause-exact : goal.returns-in-NoOrder-clause-exact
-returns-in-NoOrder-clause-exact c =
-    let way = c.loop-segment.invariant.under_way in
-    let steps = c.in-Some.ensures.steps in
-    record {
-      below = way.before;
-      above = into_iter_items (zip_first c.next.new.self);
-      are_segments = subst (AreSegments c.args.history.now.start (operations c.args.history.now.events)) (way.parts
-          ∙ ap (λ l. way.before ++ l) steps.0.0) c.requires.segments;
-      refuted = rw c.in-NoOrder.is at (IsUnderWay-answer way steps.0.0 steps.1.0);
-      lowest = IsOrderedOrSpent-all c.args.budget way.before (map (λ v. v.items) c.loop-segment.orders.items)
-          c.loop-segment.lowest_spent way.shown;
-    }
+  exact_undecided : (place : ℕ) (segment : SegmentView) → All (λ answer. answer ≢ NoOrder) answers → IsFirstAt Spent answers place
+      → slice_get segments place ≡ Some segment → IsExactUndecided start budget calls segment
+  exact_undecided place segment none found there =
+      let named = spent_at budget segments answers place h none found in
+      let same : named.segment ≡ segment = same_Some named.segment segment (sym named.here ∙ there) in
+      record {
+        below = named.below;
+        above = named.above;
+        are_segments = subst (λ s. AreSegments start calls (named.below ++ s ∷ named.above)) same
+            (subst (AreSegments start calls) named.parts are_segments);
+        spent = subst (λ s. IsExactAnswer budget s Spent) same named.answered.0;
+        lowest = named.lowest;
+        unrefuted = All-above (IsOrderedOrSpent budget) named.below named.segment named.above
+            (subst (All (IsOrderedOrSpent budget)) named.parts (unrefuted budget segments answers h none));
+      }
 
-pub returns-in-NoOrder-clause-shown : goal.returns-in-NoOrder-clause-shown
-returns-in-NoOrder-clause-shown c =
-    let calls = operations c.args.history.now.events in
-    let exact = returns-in-NoOrder-clause-exact c in
-    let way = c.loop-segment.invariant.under_way in
-    let segment = c.in-Some.segment in
-    let above = into_iter_items (zip_first c.next.new.self) in
-    let parts = way.parts ∙ ap (λ l. way.before ++ l) c.in-Some.ensures.steps.0.0 in
-    let is = subst (λ s. Contains s segment) (sym parts)
-    (Contains-append_right way.before (segment ∷ above) segment (Contains-first segment above)) in
-    shows_no c.args.budget c.args.history.now.start calls segment exact
-    (All-contains (λ s. HasNoOrder s → IsLinearizable c.args.history.now.start calls → ⊥) c.args.segments.items segment c.requires.refutes
-    is exact.refuted.0)
+pub segment_at-requires : goal.segment_at-requires
+segment_at-requires c =
+    let found = rw c.deref.ensures.value at c.in-Some.ensures.found in
+    let named = refuted_at c.args.budget c.args.segments.items c.args.answers.items c.in-Some.place c.requires.exact found in
+    slice_get_within c.args.segments.items c.in-Some.place named.segment named.here
 
-pub loop-segment-preserved-then-is_none : goal.loop-segment-preserved-then-is_none
-loop-segment-preserved-then-is_none c =
-    let way = c.loop-segment.invariant.under_way in
-    let steps = c.in-Some.ensures.steps in
-    let orders = map (λ v. v.items) c.loop-segment.orders.items in
-    let spent = rw c.in-Spent.is at (IsUnderWay-answer way steps.0.0 steps.1.0) in
-    let shown = HaveShown-first c.args.budget way.before orders c.loop-segment.lowest_spent c.in-Some.segment c.if-is_none.ensures
-    way.shown spent in
-    record {
-      can_next = (tt, tt);
-      is_finite = tt;
-      under_way = IsUnderWay-next way steps.0.0 steps.1.0 shown;
-    }
+pub returns-in-Some-clause-exact : goal.returns-in-Some-clause-exact
+returns-in-Some-clause-exact c =
+    exact_no c.args.history.now.start c.args.budget (operations c.args.history.now.events) c.args.segments.items c.args.answers.items
+    c.requires.segments c.requires.exact c.in-Some.place c.segment_at.result (rw c.deref.ensures.value at c.in-Some.ensures.found)
+    c.segment_at.ensures
 
-pub loop-segment-preserved : goal.loop-segment-preserved
-loop-segment-preserved c =
-    let way = c.loop-segment.invariant.under_way in
-    let steps = c.in-Some.ensures.steps in
-    let orders = map (λ v. v.items) c.loop-segment.orders.items in
-    let spent = rw c.in-Spent-2.is at (IsUnderWay-answer way steps.0.0 steps.1.0) in
-    let shown = HaveShown-spent c.args.budget way.before orders c.loop-segment.lowest_spent c.in-Some.segment c.if-is_none.ensures
-    way.shown spent in
-    record {
-      can_next = (tt, tt);
-      is_finite = tt;
-      under_way = IsUnderWay-next way steps.0.0 steps.1.0 shown;
-    }
+pub returns-in-Some-clause-shown : goal.returns-in-Some-clause-shown
+returns-in-Some-clause-shown c =
+    shows_no c.args.budget c.args.history.now.start (operations c.args.history.now.events) c.segment_at.result
+    (returns-in-Some-clause-exact c)
+    (refutes_all c.args.history.now.start c.args.budget (operations c.args.history.now.events) c.args.segments.items c.args.answers.items
+    c.requires.segments c.requires.exact c.in-Some.place c.segment_at.result c.requires.refutes
+    (rw c.deref.ensures.value at c.in-Some.ensures.found) c.segment_at.ensures)
 
-pub returns-in-Some-lowest_spent-clause-exact : goal.returns-in-Some-lowest_spent-clause-exact
-returns-in-Some-lowest_spent-clause-exact c =
-    let lowest =
-    rw c.in-Some-lowest_spent.is at
-    (IsUnderWay-all (zip_first c.loop-segment.segment-iterator)
-    (zip_second c.loop-segment.segment-iterator) c.loop-segment.invariant.under_way c.in-None.ensures.steps) in
-    record {
-      below = lowest.below;
-      above = lowest.above;
-      are_segments = subst (AreSegments c.args.history.now.start (operations c.args.history.now.events)) lowest.is c.requires.segments;
-      spent = lowest.spent;
-      lowest = lowest.lowest;
-      unrefuted = lowest.unrefuted;
-    }
+pub segment_at-requires-in-Some-first_spent : goal.segment_at-requires-in-Some-first_spent
+segment_at-requires-in-Some-first_spent c =
+    let none = rw c.deref.ensures.value at c.in_default.ensures.none in
+    let found = rw c.deref-2.ensures.value at c.in-Some-first_spent.ensures.found in
+    let named = spent_at c.args.budget c.args.segments.items c.args.answers.items c.in-Some-first_spent.place c.requires.exact none found in
+    slice_get_within c.args.segments.items c.in-Some-first_spent.place named.segment named.here
 
-pub returns-in-Some-lowest_spent-clause-shown : goal.returns-in-Some-lowest_spent-clause-shown
-returns-in-Some-lowest_spent-clause-shown c =
-    shows_undecided c.args.budget c.args.history.now.start (operations c.args.history.now.events) c.in-Some-lowest_spent.segment
-    (returns-in-Some-lowest_spent-clause-exact c)
+pub returns-in-Some-first_spent-clause-exact : goal.returns-in-Some-first_spent-clause-exact
+returns-in-Some-first_spent-clause-exact c =
+    exact_undecided c.args.history.now.start c.args.budget (operations c.args.history.now.events) c.args.segments.items
+    c.args.answers.items c.requires.segments c.requires.exact c.in-Some-first_spent.place c.segment_at-in-Some-first_spent.result
+    (rw c.deref.ensures.value at c.in_default.ensures.none) (rw c.deref-2.ensures.value at c.in-Some-first_spent.ensures.found)
+    c.segment_at-in-Some-first_spent.ensures
 
-pub merge-requires : goal.merge-requires
-merge-requires c = (
+pub returns-in-Some-first_spent-clause-shown : goal.returns-in-Some-first_spent-clause-shown
+returns-in-Some-first_spent-clause-shown c =
+    shows_undecided c.args.budget c.args.history.now.start (operations c.args.history.now.events)
+    c.segment_at-in-Some-first_spent.result (returns-in-Some-first_spent-clause-exact c)
+
+pub merged-requires : goal.merged-requires
+merged-requires c = (
   c.args.segments.items,
   c.requires.segments,
-  rw c.deref.ensures.value
-      (found_orders c.args.budget c.args.segments.items (map (λ v. v.items) c.loop-segment.orders.items)
-      (rw c.in-None-lowest_spent.is at
-      (IsUnderWay-all (zip_first c.loop-segment.segment-iterator)
-      (zip_second c.loop-segment.segment-iterator) c.loop-segment.invariant.under_way c.in-None.ensures.steps))),
+  found_orders c.args.budget c.args.segments.items (orders_in c.args.answers.items)
+      (all_ordered c.args.budget c.args.segments.items c.args.answers.items c.requires.exact
+      (rw c.deref.ensures.value at c.in_default.ensures.none) (rw c.deref-2.ensures.value at c.in_default-first_spent.ensures.none)),
 )
 
 pub returns-clause-exact : goal.returns-clause-exact
 returns-clause-exact c = record {
   segments = c.args.segments.items;
-  orders = map (λ v. v.items) c.loop-segment.orders.items;
+  orders = orders_in c.args.answers.items;
   are_segments = c.requires.segments;
-  ordered = rw c.in-None-lowest_spent.is at
-      (IsUnderWay-all (zip_first c.loop-segment.segment-iterator)
-      (zip_second c.loop-segment.segment-iterator) c.loop-segment.invariant.under_way c.in-None.ensures.steps);
-  merged = rw c.deref.ensures.value at c.in_ok-merge-in-None-lowest_spent.ensures.merged;
+  ordered = all_ordered c.args.budget c.args.segments.items c.args.answers.items c.requires.exact
+      (rw c.deref.ensures.value at c.in_default.ensures.none) (rw c.deref-2.ensures.value at c.in_default-first_spent.ensures.none);
+  merged = c.in_ok-merged.ensures.merged;
 }
 
 pub returns-clause-shown : goal.returns-clause-shown
 returns-clause-shown c =
-    shows_yes c.args.budget c.args.history.now.start (operations c.args.history.now.events) _
-    (returns-clause-exact c) c.in_ok-merge-in-None-lowest_spent.ensures.order
+    shows_yes c.args.budget c.args.history.now.start (operations c.args.history.now.events) c.in_ok-merged.field-0.items
+    (returns-clause-exact c) c.in_ok-merged.ensures.order

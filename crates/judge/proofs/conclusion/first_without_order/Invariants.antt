@@ -1,0 +1,8 @@
+use Rattle.std.proofs.Common.{◌≡◌, ◌<◌, ℕ, Some}
+use Rattle.std.specs.Prelude.{slice_get}
+use Rattle.search.specs.declared.found.Found.TheVariants.{NoOrder}
+use Rattle.judge.proofs.conclusion.first_without_order.Given as goal
+
+-- none so far is so
+abbrev pub invariant-loop-place : goal.invariant-loop-place
+invariant-loop-place l = (n : ℕ) → n < l.place → slice_get l.answers n ≡ Some NoOrder → ⊥
