@@ -1,12 +1,14 @@
 // From a location to its line.
-ghost use Rattle.std.specs.Prelude.{◌≡◌, IfOk, string_bytes};
-ghost use Rattle.serde_json.specs.View.{view};
+ghost use Rattle.std.specs.Prelude.{◌≡◌, IfOk, OnOk, codes, string_bytes};
+ghost use Rattle.serde_json.specs.Data.{string, object, no_members, put as with_member};
+ghost use Rattle.serde_json.specs.View.{view, members_view};
 ghost use Rattle.serde_json.specs.Written.{compact_text};
+ghost use Rattle.history_text.specs.Texts.{number_data};
 ghost use Rattle.locating.specs.Reports.{location_data};
 
 use crate::location::Location;
 use events::Memory;
-use serde_json::{Value, json};
+use serde_json::{Map, Value, put};
 use std::alloc::{AllocError, Global};
 
 /// The report of a location, one JSON object without spaces, its members by rising bytes.
@@ -20,13 +22,53 @@ pub fn location_line(alloc: Global, location: &Location) -> Result<String, Memor
 fn location_value(alloc: Global, location: &Location) -> Result<Value, AllocError>
     ensures { IfOk result (λ value. view value ≡ location_data location.now) }
 {
+    let mut members = Map::new(alloc);
+    put_location(&mut members, alloc, location)?;
+    Ok(Value::Object(members))
+}
+
+/// Puts the members of a location's object where none are.
+fn put_location(
+    members: &mut Map<String, Value>,
+    alloc: Global,
+    location: &Location,
+) -> Result<(), AllocError>
+    requires { members_view members.old.entries ≡ no_members }
+    ensures { OnOk result (object (members_view members.new.entries) ≡ location_data location.now) }
+{
     match *location {
-        Location::Yes => json!(in alloc; {"verdict": "yes"}),
+        Location::Yes => put_word(members, alloc, "yes"),
         Location::No { call, event } => {
-            json!(in alloc; {"call": call, "event": event, "verdict": "no"})
+            put_number(members, alloc, "call", call)?;
+            put_number(members, alloc, "event", event)?;
+            put_word(members, alloc, "no")
         }
         Location::Undecided { from, to } => {
-            json!(in alloc; {"from": from, "to": to, "verdict": "undecided"})
+            put_number(members, alloc, "from", from)?;
+            put_number(members, alloc, "to", to)?;
+            put_word(members, alloc, "undecided")
         }
     }
+}
+
+/// Puts a member that is a number.
+fn put_number(
+    members: &mut Map<String, Value>,
+    alloc: Global,
+    name: &str,
+    number: u32,
+) -> Result<(), AllocError>
+    ensures { OnOk result (members_view members.new.entries
+        ≡ with_member name.now (number_data number) (members_view members.old.entries)) }
+{
+    put(members, alloc, name, Value::from(number))
+}
+
+/// Puts the member that is the verdict.
+fn put_word(members: &mut Map<String, Value>, alloc: Global, word: &str) -> Result<(), AllocError>
+    ensures { OnOk result (members_view members.new.entries
+        ≡ with_member (codes "verdict") (string word.now) (members_view members.old.entries)) }
+{
+    let value = Value::try_from_str(alloc, word)?;
+    put(members, alloc, "verdict", value)
 }
