@@ -4,6 +4,7 @@ ghost use Rattle.events.specs.Operations.{operations};
 ghost use Rattle.orders.specs.Orders.{IsOrderOfHistory};
 ghost use Rattle.certificate.specs.declared.fault.OrderFault.TheVariants as faults;
 ghost use Rattle.certificate.specs.Faults.{IsRefusedFor};
+ghost use Rattle.certificate.specs.Prefix.{IsPrefixOf};
 
 use crate::fault::OrderFault;
 use crate::prefix::Prefix;
@@ -22,8 +23,24 @@ pub fn check(alloc: Global, history: &History, order: &[u32]) -> Result<(), Orde
     ensures accepted { IsOrderOfHistory history.now order.now
         → IfErr result (λ e. e ≡ faults.Memory) }
 {
+    let mut prefix = Prefix::new(alloc, history.start(), history.calls())?;
+    take_numbers(alloc, history, &mut prefix, order)
+}
+
+/// Takes the numbers one after another, where none was taken before; and says what is missing at the end.
+fn take_numbers(
+    alloc: Global,
+    history: &History,
+    prefix: &mut Prefix,
+    order: &[u32],
+) -> Result<(), OrderFault>
+    requires { IsPrefixOf history.now.start (operations history.now.events) [] prefix.old }
+    ensures ok { OnOk result (IsOrderOfHistory history.now order.now) }
+    ensures refused { IfErr result (IsRefusedFor history.now.start (operations history.now.events) order.now) }
+    ensures accepted { IsOrderOfHistory history.now order.now
+        → IfErr result (λ e. e ≡ faults.Memory) }
+{
     let calls = history.calls();
-    let mut prefix = Prefix::new(alloc, history.start(), calls)?;
     for (place, number) in order.iter().enumerate() {
         prefix.take(alloc, calls, place, *number)?;
     }

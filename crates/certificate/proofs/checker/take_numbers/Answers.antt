@@ -6,8 +6,8 @@ use Rattle.events.specs.Operations.{operations}
 use Rattle.certificate.specs.Faults.{IsRefusedFor}
 use Rattle.certificate.specs.Prefix.{IsPrefixOf}
 use Rattle.certificate.proofs.FaultLemmas.{refused_order}
-use Rattle.certificate.proofs.checker.check.Goals as goal
-use Rattle.certificate.proofs.checker.check.Goals.{In_err-take}
+use Rattle.certificate.proofs.checker.take_numbers.Goals as goal
+use Rattle.certificate.proofs.checker.take_numbers.Goals.{In_err-take}
 
 -- a number that is not taken shows why the list is refused
 refused : (c : In_err-take) → IsRefusedFor c.args.history.now.start (operations c.args.history.now.events) c.args.order.now
@@ -20,12 +20,12 @@ refused c =
 
 pub returns-in_err-take-clause-refused : goal.returns-in_err-take-clause-refused
 returns-in_err-take-clause-refused c =
-    let p = err_from_is_err_and c.from_residual-in_err-take.result c.from_residual-in_err-take.ensures.1 in
+    let p = err_from_is_err_and c.from_residual.result c.from_residual.ensures.1 in
     rw (p.1, p.2) (refused (goal.at.returns-in_err-take-clause-refused c).In_err-take)
 
 pub returns-in_err-take-clause-accepted : goal.returns-in_err-take-clause-accepted
 returns-in_err-take-clause-accepted c = λ h.
-    let p = err_from_is_err_and c.from_residual-in_err-take.result c.from_residual-in_err-take.ensures.1 in
+    let p = err_from_is_err_and c.from_residual.result c.from_residual.ensures.1 in
     rw (p.1, p.2) (refused_order c.args.history.now.start _ c.args.order.now c.in_err-take.field-0.0
     (refused (goal.at.returns-in_err-take-clause-accepted c).In_err-take) h)
 
