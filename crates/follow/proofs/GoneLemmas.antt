@@ -20,7 +20,10 @@ use Rattle.follow.specs.Sparing.{AreAllHeld}
 use Rattle.follow.specs.declared.answered.Loss.{Loss}
 use Rattle.follow.specs.declared.groups.Group.{Group}
 use Rattle.follow.specs.Parts.{IsSearchable, IsPartOf, IsGroupAt}
-use Rattle.follow.specs.Settlements.{HasSettled, IsSpentOf}
+use Rattle.follow.specs.declared.settling.Leaving.{Leaving}
+use Rattle.follow.specs.declared.settling.Settled.{Settled}
+use Rattle.follow.specs.declared.settling.Settled.TheVariants.{Going, Lost, Spent}
+use Rattle.follow.specs.Settlements.{HasSettled, IsLeavingOf, IsGone, IsSettlement, IsSpentOf}
 use Rattle.follow.specs.Outcomes.{IsRangeOf, IsSpent}
 use Rattle.follow.proofs.GroupSearchLemmas.{searchable, judged_in}
 
@@ -64,6 +67,18 @@ module _ (f : FollowerView) (group : Group) (goes : List Bool) (early : List Ope
       subst (λ (pairs : Contents). IsLinearizable pairs early) (sym part.start)
       (subst (λ (calls : List Operation). IsLinearizable (within group.part.range.low group.part.range.high f.known) calls) (sym early_is)
       (law start events f group.part.range goes follows may_go_of))
+
+-- the same of what comes of letting them go
+pub gone_settles : (f : FollowerView) (group : Group) (leaving : Leaving) (budget : ℕ) → IsPartOf f group
+    → IsLeavingOf f.left group.marks.items leaving
+    → SettlementsFollow → (start : Contents) (events : List Event) (order : List ℕ) → IsFollowing start events f
+    → IsOrder group.part.start.items leaving.marked.calls.items order
+    → (it : Settled) → IsGone f leaving order it → IsSettlement start events f group budget it
+gone_settles f group leaving budget part is law start events order follows is_order (Going g) gone =
+    gone_follows f group leaving.marks.items leaving.marked.calls.items part is.settled is.marked.calls law start events order g follows
+    is_order gone
+gone_settles f group leaving budget part is law start events order follows is_order (Lost loss) gone = absurd gone
+gone_settles f group leaving budget part is law start events order follows is_order (Spent loss) gone = absurd gone
 
 -- a search of those that may go was given up
 pub is_spent_of : (f : FollowerView) (place : ℕ) (call : LeftCall) (reply : Reply) (budget : ℕ) (group : Group) (loss : Loss)

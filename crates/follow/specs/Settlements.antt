@@ -2,7 +2,9 @@
 use Rattle.std.specs.Prelude.{◌≡◌, ℕ, Bool, List, ⊤}
 use Rattle.events.specs.declared.event.Event.{Event}
 use Rattle.map_object.specs.MapObject.{Contents}
+use Rattle.orders.specs.Orders.{after_calls, calls_at}
 use Rattle.configurations.specs.Counts.{ReachesMoreThan}
+use Rattle.calls_left.specs.declared.left.LeftCall.{LeftCall}
 use Rattle.calls_left.specs.Left.{calls_of, marked}
 use Rattle.calls_left.specs.Settling.{AreAmong, IsSettled}
 use Rattle.follow.specs.FollowerView.{FollowerView, after_settlement}
@@ -10,6 +12,8 @@ use Rattle.follow.specs.Following.{IsFollowing}
 use Rattle.follow.specs.Judging.{numbers_of}
 use Rattle.follow.specs.declared.answered.Loss.{Loss}
 use Rattle.follow.specs.declared.groups.Group.{Group}
+use Rattle.follow.specs.Parts.{IsMarkedOf}
+use Rattle.follow.specs.declared.settling.Leaving.{Leaving}
 use Rattle.follow.specs.declared.settling.Settled.{Settled}
 use Rattle.follow.specs.declared.settling.Settled.TheVariants.{Going, Lost, Spent}
 
@@ -18,6 +22,17 @@ pub record HasSettled (f : FollowerView) (group : List Bool) (g : FollowerView) 
   pub marks : List Bool
   pub settled : IsSettled (calls_of f.left) group marks
   pub is : g ≡ after_settlement f marks g.known
+
+-- the calls left of a group that may go
+pub record IsLeavingOf (left : List LeftCall) (group : List Bool) (leaving : Leaving) : Type 0 where
+  pub settled : IsSettled (calls_of left) group leaving.marks.items
+  pub marked : IsMarkedOf left leaving.marks.items leaving.marked
+
+-- they are gone, in an order
+abbrev pub IsGone : FollowerView → Leaving → List ℕ → Settled → Type 0
+IsGone f leaving order (Going g) =
+    g ≡ after_settlement f leaving.marks.items (after_calls f.known (calls_at leaving.marked.calls.items order))
+IsGone f leaving order other = ⊥
 
 -- where calls are gone, they are those of the group that may go
 abbrev pub IsSettledAs : FollowerView → Group → Settled → Type 0

@@ -15,7 +15,7 @@ ghost use Rattle.follow.specs.Outcomes.{IsAnswered, IsJudged};
 
 use crate::answered::Answered;
 use crate::fault::FollowFault;
-use crate::groups::{group_at, search_part};
+use crate::groups::{Searched, search_at};
 use crate::laws::{
     answers_follow, answers_refute, calls_kept_are_held, changes_find_values, following_begins,
     invocations_follow, invocations_hold, quiet_followers_keep_no_call, settlements_hold,
@@ -171,8 +171,9 @@ impl Follower {
         settlements_hold();
         let event = self.standing.events();
         let standing = self.standing.take_answer(place, reply);
-        let group = group_at(alloc, &standing, place, event)?;
-        match search_part(alloc, &group.part.start, &group.part.calls, budget)? {
+        let searched = search_at(alloc, &standing, place, event, budget)?;
+        let Searched { group, found } = searched;
+        match found {
             Found::Order(order) => match settle(alloc, standing, group, order, budget)? {
                 Settled::Going(standing) => Ok(Answered::Going(Follower { standing })),
                 Settled::Lost(loss) => Ok(Answered::Lost(loss)),

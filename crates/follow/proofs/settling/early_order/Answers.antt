@@ -5,5 +5,5 @@ use Rattle.follow.proofs.settling.early_order.Goals as goal
 
 pub returns-then-eq : goal.returns-then-eq
 returns-then-eq c =
-    let same = rw c.as_slice.ensures.value at c.if-eq.ensures in
-    c.requires.order ((pointwise_decides booleans_Decides c.args.goes.now c.args.group.now.marks.items).0 (sym same))
+    let same = rw (c.as_slice.ensures.value, c.as_slice-2.ensures.value) at c.if-eq.ensures in
+    c.requires.order ((pointwise_decides booleans_Decides c.args.leaving.now.marks.items c.args.group.now.marks.items).0 (sym same))

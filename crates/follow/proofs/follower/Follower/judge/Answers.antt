@@ -50,8 +50,8 @@ put_into inside f standing place event call reply group view_is here event_is pu
       at = grouped f place call reply event group standing here is (event_is ∙ ap (λ (g : FollowerView). g.events) view_is) each;
     }
 
-pub group_at-requires : goal.group_at-requires
-group_at-requires c =
+pub search_at-requires : goal.search_at-requires
+search_at-requires c =
     let f = c.args.self in
     let o = c.requires.open in
     let standing = c.take_answer-standing.result in
@@ -64,18 +64,18 @@ group_at-requires c =
 pub settle-requires-clause-part : goal.settle-requires-clause-part
 settle-requires-clause-part c =
     let o = c.requires.open in
-    let group = c.in_ok-group.group in
+    let group = c.in_ok-searched.searched.group in
     let p = put_into c.self.inside.standing c.args.self c.take_answer-standing.result c.args.place c.events-event.result o.call
-    c.args.reply group c.self.view_is o.here c.events-event.ensures.events c.take_answer-standing.ensures c.in_ok-group.ensures.group in
+    c.args.reply group c.self.view_is o.here c.events-event.ensures.events c.take_answer-standing.ensures c.in_ok-searched.ensures.group in
     subst (λ (g : FollowerView). IsPartOf g group) (sym p.put) p.at.part
 
 pub invariant_of-result : goal.invariant_of-result
 invariant_of-result c =
     let f = c.args.self in
     let o = c.requires.open in
-    let group = c.in_ok-group.group in
+    let group = c.in_ok-searched.searched.group in
     let p = put_into c.self.inside.standing f c.take_answer-standing.result c.args.place c.events-event.result o.call c.args.reply group
-    c.self.view_is o.here c.events-event.ensures.events c.take_answer-standing.ensures c.in_ok-group.ensures.group in
+    c.self.view_is o.here c.events-event.ensures.events c.take_answer-standing.ensures c.in_ok-searched.ensures.group in
     let settled : HasSettled c.take_answer-standing.result group.marks.items c.in-Going.standing =
     rw c.in-Going.is at c.in_ok-standing-in-Order.ensures.settled in
     held_on c.settlements_hold.ensures f c.args.place o.call c.args.reply f.events group c.in-Going.standing
@@ -86,11 +86,11 @@ invariant_of-result c =
 pub returns-in-Going : goal.returns-in-Going
 returns-in-Going c = λ start events call follows here.
     let f = c.args.self in
-    let group = c.in_ok-group.group in
+    let group = c.in_ok-searched.searched.group in
     let p = put_into c.self.inside.standing f c.take_answer-standing.result c.args.place c.events-event.result call c.args.reply group
-    c.self.view_is here c.events-event.ensures.events c.take_answer-standing.ensures c.in_ok-group.ensures.group in
+    c.self.view_is here c.events-event.ensures.events c.take_answer-standing.ensures c.in_ok-searched.ensures.group in
     let order : IsOrder group.part.start.items group.part.calls.items c.in-Order.order.items =
-    rw (c.deref.ensures.value, c.deref-2.ensures.value) at (rw c.in-Order.is at c.in_ok-order.ensures) in
+    rw c.in-Order.is at c.in_ok-searched.ensures.found in
     let all = events ++ Answer call.process c.args.reply ∷ [] in
     let goes = goes_on start events f c.args.place call c.args.reply f.events group c.answers_follow.ensures follows here
     (still_open f.left c.args.place call c.requires.open here) p.at c.in-Order.order.items order in
@@ -104,11 +104,11 @@ returns-in-Going c = λ start events call follows here.
 pub returns-in-Lost : goal.returns-in-Lost
 returns-in-Lost c = λ start events call follows here.
     let f = c.args.self in
-    let group = c.in_ok-group.group in
+    let group = c.in_ok-searched.searched.group in
     let p = put_into c.self.inside.standing f c.take_answer-standing.result c.args.place c.events-event.result call c.args.reply group
-    c.self.view_is here c.events-event.ensures.events c.take_answer-standing.ensures c.in_ok-group.ensures.group in
+    c.self.view_is here c.events-event.ensures.events c.take_answer-standing.ensures c.in_ok-searched.ensures.group in
     let order : IsOrder group.part.start.items group.part.calls.items c.in-Order.order.items =
-    rw (c.deref.ensures.value, c.deref-2.ensures.value) at (rw c.in-Order.is at c.in_ok-order.ensures) in
+    rw c.in-Order.is at c.in_ok-searched.ensures.found in
     let all = events ++ Answer call.process c.args.reply ∷ [] in
     let goes = goes_on start events f c.args.place call c.args.reply f.events group c.answers_follow.ensures follows here
     (still_open f.left c.args.place call c.requires.open here) p.at c.in-Order.order.items order in
@@ -119,11 +119,11 @@ returns-in-Lost c = λ start events call follows here.
 pub returns-in-Spent-2 : goal.returns-in-Spent-2
 returns-in-Spent-2 c = λ start events call follows here.
     let f = c.args.self in
-    let group = c.in_ok-group.group in
+    let group = c.in_ok-searched.searched.group in
     let p = put_into c.self.inside.standing f c.take_answer-standing.result c.args.place c.events-event.result call c.args.reply group
-    c.self.view_is here c.events-event.ensures.events c.take_answer-standing.ensures c.in_ok-group.ensures.group in
+    c.self.view_is here c.events-event.ensures.events c.take_answer-standing.ensures c.in_ok-searched.ensures.group in
     let order : IsOrder group.part.start.items group.part.calls.items c.in-Order.order.items =
-    rw (c.deref.ensures.value, c.deref-2.ensures.value) at (rw c.in-Order.is at c.in_ok-order.ensures) in
+    rw c.in-Order.is at c.in_ok-searched.ensures.found in
     let all = events ++ Answer call.process c.args.reply ∷ [] in
     let goes = goes_on start events f c.args.place call c.args.reply f.events group c.answers_follow.ensures follows here
     (still_open f.left c.args.place call c.requires.open here) p.at c.in-Order.order.items order in
@@ -135,20 +135,20 @@ returns-in-Spent-2 c = λ start events call follows here.
 pub returns-in-NoOrder : goal.returns-in-NoOrder
 returns-in-NoOrder c = λ start events call follows here.
     let f = c.args.self in
-    let group = c.in_ok-group.group in
+    let group = c.in_ok-searched.searched.group in
     let p = put_into c.self.inside.standing f c.take_answer-standing.result c.args.place c.events-event.result call c.args.reply group
-    c.self.view_is here c.events-event.ensures.events c.take_answer-standing.ensures c.in_ok-group.ensures.group in
+    c.self.view_is here c.events-event.ensures.events c.take_answer-standing.ensures c.in_ok-searched.ensures.group in
     let none : IsLinearizable group.part.start.items group.part.calls.items → ⊥ =
-    rw (c.deref.ensures.value, c.deref-2.ensures.value) at (rw c.in-NoOrder.is at c.in_ok-order.ensures) in
+    rw c.in-NoOrder.is at c.in_ok-searched.ensures.found in
     is_lost start events f c.args.place call c.args.reply group c.answers_refute.ensures follows here
     (still_open f.left c.args.place call c.requires.open here) p.at none
 
 pub returns-in-Spent : goal.returns-in-Spent
 returns-in-Spent c = λ start events call follows here.
     let f = c.args.self in
-    let group = c.in_ok-group.group in
+    let group = c.in_ok-searched.searched.group in
     let p = put_into c.self.inside.standing f c.take_answer-standing.result c.args.place c.events-event.result call c.args.reply group
-    c.self.view_is here c.events-event.ensures.events c.take_answer-standing.ensures c.in_ok-group.ensures.group in
+    c.self.view_is here c.events-event.ensures.events c.take_answer-standing.ensures c.in_ok-searched.ensures.group in
     let reached : ReachesMoreThan group.part.start.items group.part.calls.items c.args.budget =
-    rw (c.deref.ensures.value, c.deref-2.ensures.value) at (rw c.in-Spent.is at c.in_ok-order.ensures) in
+    rw c.in-Spent.is at c.in_ok-searched.ensures.found in
     is_spent f c.args.place call c.args.reply c.args.budget group p.at reached
