@@ -26,7 +26,7 @@ use Rattle.recorder.specs.Passes.{process_number, log_of, events_by}
 use Rattle.recorder.specs.Recorders.{processes_of, IsPassOf, HasProcesses, history_of, HasOwnEvents}
 use Rattle.recorder.specs.Closing.{IsOneOfEach}
 use Rattle.drives.specs.Drives.{invoked, HasFinished, IsDriveOf}
-use Rattle.drives.specs.Passes.{AreOwn, AnswersFit, HasRecordedScript, IsPassAfter, EachIsAfter}
+use Rattle.drives.specs.Passes.{AreOwn, AnswersFit, HasRecordedScript, IsPassAfter, EachIsAfter, AreAfter}
 use Rattle.drives.proofs.ScriptLemmas.{own-events}
 use Rattle.drives.proofs.AnswerLemmas.{events_of-none, AreAnswered-own}
 
@@ -66,7 +66,7 @@ after-script may_answer r scripts script n (Ok p) at own process recorded = reco
 }
 after-script may_answer r scripts script n (Err e) at own process recorded = tt
 
-abbrev Ok-pass : Pass → Result Pass Memory
+abbrev pub Ok-pass : Pass → Result Pass Memory
 Ok-pass pass = Ok pass
 
 pub length-values : (done : List (Result Pass Memory)) (passes : List Pass) → done ≡ map (λ pass. Ok pass) passes
@@ -77,7 +77,7 @@ length-values done passes all = ap length all ∙ length-map passes Ok-pass
 pub each-pass : (may_answer : Call → Reply → Type 0) (r : Recorder) (scripts : List (List Call)) (done : List (Result Pass Memory))
     (passes : List Pass)
     → EachIsAfter may_answer r scripts done → done ≡ map (λ pass. Ok pass) passes
-    → (process : ℕ) (d : Pass) → process < length passes → IsPassAfter may_answer r scripts process (slice_index_or passes process d)
+    → AreAfter may_answer r scripts passes
 each-pass may_answer r scripts done passes each all process d within =
     let inside : process < length done = let many = length-values done passes all in omega arith in
     let is : slice_index_or done process (Ok d) ≡ Ok (slice_index_or passes process d) =
@@ -129,7 +129,7 @@ module _ (n : ℕ) where
 -- The passes of all processes, by process.
 
 module _ (may_answer : Call → Reply → Type 0) (r : Recorder) (scripts : List (List Call)) (passes : List Pass)
-    (each : (process : ℕ) (d : Pass) → process < length passes → IsPassAfter may_answer r scripts process (slice_index_or passes process d))
+    (each : AreAfter may_answer r scripts passes)
     (many : length passes ≡ length scripts) where
   pub are-own : All (IsPassOf r) passes
   are-own k d within = (each k d within).own

@@ -1,12 +1,12 @@
 // A plan is driven at a caller's subject.
-ghost use Rattle.std.specs.Prelude.{◌≡◌, ◌≤◌, map, length, vec_len, All, IfOk, Ok};
+ghost use Rattle.std.specs.Prelude.{◌≡◌, ◌≤◌, ◌∷◌, ◌++◌, [], map, length, vec_len, All, IfOk, OnOk, Ok};
 ghost use Rattle.std.specs.List.{range_with_len};
 ghost use Rattle.plans.specs.Plans.{AreTreeCalls};
 ghost use Rattle.recorder.specs.Passes.{process_number};
 ghost use Rattle.recorder.specs.Recorders.{calls_for_each};
 ghost use Rattle.recorder.specs.Closing.{WantsMemory};
 ghost use Rattle.drives.specs.Drives.{IsDrivable, IsDriveOf};
-ghost use Rattle.drives.specs.Passes.{IsReady, IsPassAfter, EachIsAfter};
+ghost use Rattle.drives.specs.Passes.{IsReady, IsPassAfter, EachIsAfter, AreAfter};
 
 use crate::room::longest;
 use crate::script::do_script;
@@ -34,12 +34,31 @@ pub fn drive_subject<R: Threads + Sync, S: Subject + Sync>(
 {
     let scripts = plan.scripts();
     let (recorder, passes) = Recorder::open(alloc, scripts.len() as u8, longest(scripts) as u32)?;
-    let done = do_scripts(rt, &recorder, subject, passes, scripts)?;
-    let passes = all_passes(alloc, done)?;
+    let passes = passes_after(rt, alloc, &recorder, subject, passes, scripts)?;
     match recorder.close(alloc, passes) {
         Ok(history) => Ok(history),
         Err(fault) => Err(want_of_memory(fault)),
     }
+}
+
+/// The passes of all processes once they have done their scripts, by process. `Err` is want of memory.
+fn passes_after<R: Threads + Sync, S: Subject + Sync>(
+    rt: &R,
+    alloc: Global,
+    recorder: &Recorder,
+    subject: &S,
+    passes: Vec<Pass>,
+    scripts: &[Vec<TreeCall>],
+) -> Result<Vec<Pass>, Memory>
+    requires ready { All (IsReady recorder.now (length scripts.now)) passes.items }
+    requires numbers { map process_number passes.items ≡ range_with_len 0 (length scripts.now) }
+    requires room { All (λ script. vec_len script ≤ calls_for_each recorder.now) scripts.now }
+    requires calls { AreTreeCalls (map (λ script. script.items) scripts.now) }
+    ensures many { IfOk result (λ after. length after.items ≡ length scripts.now) }
+    ensures after { IfOk result (λ after. AreAfter (S.may_answer subject.now) recorder.now (map (λ script. script.items) scripts.now) after.items) }
+{
+    let done = do_scripts(rt, recorder, subject, passes, scripts)?;
+    all_passes(alloc, done)
 }
 
 /// All processes do their scripts, each in a thread of its own where one can be made: what each gives back, by process.
@@ -86,9 +105,17 @@ fn all_passes(alloc: Global, done: Vec<Result<Pass, Memory>>) -> Result<Vec<Pass
 {
     let mut passes = Vec::with_capacity(alloc, done.len())?;
     for pass in done {
-        passes.push(pass?)?;
+        put(&mut passes, pass)?;
     }
     Ok(passes)
+}
+
+/// Puts a pass behind others, unless its process wanted memory.
+fn put(passes: &mut Vec<Pass>, pass: Result<Pass, Memory>) -> Result<(), Memory>
+    ensures { OnOk result (map (λ pass. Ok pass) passes.new.items ≡ map (λ pass. Ok pass) passes.old.items ++ pass ∷ []) }
+{
+    passes.push(pass?)?;
+    Ok(())
 }
 
 /// A recorder was not closed only for want of memory.
