@@ -1,5 +1,6 @@
 // The steps of one process.
-ghost use Rattle.std.specs.Prelude.{◌≡◌, ◌<◌, ℕ, Some, IsTrue, IfOk, OnOk, OnErr, MatchOption};
+ghost use Rattle.std.specs.Prelude.{◌≡◌, ◌<◌, ◌∷◌, ◌++◌, [], ℕ, Some, IsTrue, IfOk, OnOk, OnErr, MatchOption};
+ghost use Rattle.std.specs.Prelude.{vec_len, vec_capacity};
 ghost use Rattle.events.specs.declared.event.Reply.{Reply};
 ghost use Rattle.art.specs.Doings.{IsAnswered};
 ghost use Rattle.art.specs.declared.doing.Doing.TheVariants.{Answered};
@@ -17,6 +18,17 @@ use art_shared::{Place, Setup, SharedCore};
 use events::{Event, Memory, Reply};
 use std::alloc::Global;
 use std::mem;
+
+/// Adds an event to a log that has room for it.
+fn log_event(log: &mut Vec<(u64, Event)>, stamp: u64, event: Event)
+    requires { vec_len log.old < vec_capacity log.old }
+    ensures { log.new.items ≡ log.old.items ++ (stamp, event) ∷ [] }
+{
+    match log.push((stamp, event)) {
+        Ok(()) => (),
+        Err(_) => unreachable!(),
+    }
+}
 
 impl Runner {
     /// Begins a call.
@@ -46,7 +58,7 @@ impl Runner {
             process: number,
             call: call.call(),
         };
-        self.log.push((stamp, event))?;
+        log_event(&mut self.log, stamp, event);
         self.left -= 1;
         self.doing = Doing::Going(Task::begin(setup.shape, setup.variant, call));
         Ok(())
@@ -144,7 +156,7 @@ impl Runner {
                     process: number,
                     reply,
                 };
-                self.log.push((stamp, event))?;
+                log_event(&mut self.log, stamp, event);
                 Ok(())
             }
             _ => unreachable!(),

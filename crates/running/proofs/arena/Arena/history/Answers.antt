@@ -9,7 +9,6 @@ use Rattle.running.specs.Fitting.{Run}
 use Rattle.running.specs.Passes.{shows, opened_for}
 use Rattle.running.proofs.CloseLemmas.{logged-history}
 use Rattle.running.proofs.ReadMomentLemmas.{scans-have-moments, gets-have-moments, is-linearizable}
-use Rattle.running.specs.Linearizable.{IsLinearizableIn}
 use Rattle.running.proofs.arena.Arena.history.Goals as goal
 
 pub history_by_stamp-requires-clause-events : goal.history_by_stamp-requires-clause-events
