@@ -1,0 +1,21 @@
+use Rattle.std.proofs.Common.{[], ◌∷◌, ◌++◌, take, sym, ap, ◌∙◌}
+use Rattle.std.specs.Prelude.{flat_map}
+use Rattle.std.proofs.lemmas.List.{take_more, take_all, flat_map_more}
+use Rattle.machine.specs.declared.runner.Runner.{Runner}
+use Rattle.machine.proofs.recorded.all_events.Goals as goal
+
+pub loop-runner-preserved : goal.loop-runner-preserved
+loop-runner-preserved c =
+    let log = λ (r : Runner). r.log.items in
+    let runners = c.args.runners.now in
+    let i = c.loop-runner.runner-index in
+    let runner = c.runner-item.result in
+    c.in_ok-append_log.ensures
+    ∙ ((λ j. c.loop-runner.invariant j ++ c.deref.ensures.value j)
+    ∙ (flat_map_more log [] (take i runners) runner
+    ∙ ap (flat_map log)
+    (ap (λ r. take i runners ++ r ∷ []) c.runner-item.is ∙ sym (take_more runners i runner c.loop-runner-test.true))))
+
+pub returns : goal.returns
+returns c = c.loop-runner.invariant
+    ∙ ap (flat_map (λ (r : Runner). r.log.items)) (take_all c.loop-runner.runner-index c.args.runners.now c.loop-runner-test.false)
