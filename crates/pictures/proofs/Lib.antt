@@ -6,4 +6,5 @@ mod MarkLemmas
 mod FrontLemmas
 mod RankLemmas
 mod WindowLemmas
+mod KeptLemmas
 mod InsideLemmas

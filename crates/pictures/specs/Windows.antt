@@ -69,6 +69,11 @@ meets from to bar = nat_lt bar.from to && ends_from from bar.to
 abbrev pub is_within : ℕ → ℕ → Mark → Bool
 is_within from to mark = nat_le from mark.column && nat_lt mark.column to
 
+-- the part of a bar in it, where the verdict speaks of the call
+abbrev pub bar_in : List ℕ → ℕ → ℕ → Bar → Option Bar
+bar_in columns from to bar =
+    if bar.is_pale then None else (if meets from to (ranked_bar columns bar) then Some (ranked_bar columns bar) else None)
+
 -- the bars of the calls of which the verdict speaks that have a part in it, and the marks in it
 abbrev pub bars_in : List ℕ → ℕ → ℕ → List Bar → List Bar
 bars_in columns from to bars = filter (meets from to) (map (ranked_bar columns) (filter (λ b. not b.is_pale) bars))

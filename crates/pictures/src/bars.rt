@@ -1,5 +1,5 @@
 // The bars of a picture.
-ghost use Rattle.std.specs.Prelude.{◌≡◌, ◌<◌, length, IfOk, IfSome, Some, slice_get, option_map, string_bytes};
+ghost use Rattle.std.specs.Prelude.{◌≡◌, ◌<◌, [], length, IfOk, OnOk, IfSome, Some, slice_get, option_map, string_bytes};
 ghost use Rattle.events.specs.Events.{process_of};
 ghost use Rattle.events.specs.Operations.{operations};
 ghost use Rattle.events.specs.Histories.{IsHistory};
@@ -7,7 +7,7 @@ ghost use Rattle.pictures.specs.Bars.{speaks_of, is_response, IsBarOf, AreBarsOf
 ghost use Rattle.pictures.specs.Lanes.{lanes};
 ghost use Rattle.pictures.specs.Columns.{event_column};
 ghost use Rattle.list_laws.specs.Lists.{has_number};
-ghost use Rattle.pictures.specs.Words.{reply_words};
+ghost use Rattle.pictures.specs.Words.{call_words, reply_words};
 
 use crate::columns::event_column;
 use crate::lanes::{lane_of, process_of};
@@ -63,12 +63,24 @@ pub fn bars_of(alloc: Global, scene: &Scene<'_>) -> Result<Vec<Bar>, Memory>
     ensures { IfOk result (λ v. AreBarsOf scene.now.history.now.events scene.now.points.now
         scene.now.verdict.now scene.now.wrong v.items) }
 {
+    let mut bars = Vec::with_capacity(alloc, scene.history.calls().len())?;
+    push_bars(alloc, scene, &mut bars)?;
+    Ok(bars)
+}
+
+/// Adds one bar for each call, by number, where there is none yet.
+fn push_bars(alloc: Global, scene: &Scene<'_>, bars: &mut Vec<Bar>) -> Result<(), Memory>
+    requires lanes { scene.now.lanes.now ≡ lanes scene.now.history.now.events }
+    requires history { IsHistory scene.now.history.now }
+    requires none { bars.old.items ≡ [] }
+    ensures { OnOk result (AreBarsOf scene.now.history.now.events scene.now.points.now
+        scene.now.verdict.now scene.now.wrong bars.new.items) }
+{
     let calls = scene.history.calls();
-    let mut bars = Vec::with_capacity(alloc, calls.len())?;
     for (number, call) in calls.iter().enumerate() {
         bars.push(bar_of(alloc, scene, number, call)?)?;
     }
-    Ok(bars)
+    Ok(())
 }
 
 /// The bar of a call.
@@ -79,11 +91,29 @@ fn bar_of(alloc: Global, scene: &Scene<'_>, number: usize, call: &Operation) -> 
     ensures { IfOk result (IsBarOf scene.now.history.now.events scene.now.points.now
         scene.now.verdict.now scene.now.wrong number call.now) }
 {
-    let events = scene.history.events();
-    let process = process_at(events, call.inv);
     let words = call_words(alloc, &call.call)?;
     let reply = words_of_response(alloc, &call.response)?;
-    Ok(Bar {
+    Ok(bar_with(scene, number, call, words, reply))
+}
+
+/// The bar of a call with it and its reply in words.
+fn bar_with(
+    scene: &Scene<'_>,
+    number: usize,
+    call: &Operation,
+    words: String,
+    reply: Option<String>,
+) -> Bar
+    requires lanes { scene.now.lanes.now ≡ lanes scene.now.history.now.events }
+    requires history { IsHistory scene.now.history.now }
+    requires call { slice_get (operations scene.now.history.now.events) number ≡ Some call.now }
+    requires words { string_bytes words ≡ call_words call.now.call }
+    requires reply { option_map string_bytes reply ≡ option_map (λ r. reply_words r.reply) call.now.response }
+    ensures { IsBarOf scene.now.history.now.events scene.now.points.now scene.now.verdict.now scene.now.wrong number call.now result }
+{
+    let events = scene.history.events();
+    let process = process_at(events, call.inv);
+    Bar {
         number,
         process,
         lane: lane_of(scene.lanes, process),
@@ -96,7 +126,7 @@ fn bar_of(alloc: Global, scene: &Scene<'_>, number: usize, call: &Operation) -> 
         is_pale: !speaks_of(scene.verdict, number),
         is_wrong: is_response(scene.wrong, &call.response),
         is_cut: false,
-    })
+    }
 }
 
 /// The process of the event at a place.

@@ -25,10 +25,18 @@ pub fn front_of(
     ensures front { IfOk result (λ v. IsFrontShown budget verdict.now v.items) }
     ensures markable { IfOk result (λ v. IsMarkable (operations history.now.events) (marked verdict.now v.items)) }
 {
-    let front = match verdict {
-        Verdict::Yes(_) => Vec::new(alloc),
-        Verdict::No(segment) => longest_front(alloc, segment, budget)?,
-        Verdict::Undecided(segment) => longest_front(alloc, segment, budget)?,
-    };
+    let front = front_shown(alloc, verdict, budget)?;
     Ok(front)
+}
+
+/// The longest front of the segment that a verdict names.
+fn front_shown(alloc: Global, verdict: &Verdict, budget: u32) -> Result<Vec<u32>, Memory>
+    requires { (1 ≤ budget) × (budget ≤ budget_limit) }
+    ensures { IfOk result (λ v. IsFrontShown budget verdict.now v.items) }
+{
+    match verdict {
+        Verdict::Yes(_) => Ok(Vec::new(alloc)),
+        Verdict::No(segment) => longest_front(alloc, segment, budget),
+        Verdict::Undecided(segment) => longest_front(alloc, segment, budget),
+    }
 }

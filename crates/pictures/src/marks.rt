@@ -1,7 +1,7 @@
 // The marks of a picture.
-ghost use Rattle.std.specs.Prelude.{◌≡◌, ◌<◌, length, All, IfOk};
+ghost use Rattle.std.specs.Prelude.{◌≡◌, ◌<◌, length, slice_index, All, IfOk};
 ghost use Rattle.events.specs.Operations.{operations};
-ghost use Rattle.pictures.specs.Columns.{order_points};
+ghost use Rattle.pictures.specs.Columns.{mark_column, order_points};
 ghost use Rattle.pictures.specs.Bars.{AreSpansOf};
 ghost use Rattle.pictures.specs.Marks.{IsMarkable, AreMarksOf};
 
@@ -37,16 +37,29 @@ pub fn marks_of(
     requires bars { AreSpansOf (operations scene.now.history.now.events) scene.now.points.now bars.now }
     ensures { IfOk result (λ v. AreMarksOf (operations scene.now.history.now.events) order.now bars.now v.items) }
 {
-    let events = scene.history.events();
     let mut marks = Vec::with_capacity(alloc, order.len())?;
     for (place, number) in order.iter().enumerate() {
-        marks.push(Mark {
-            number: *number,
-            place,
-            point: scene.points[place],
-            lane: bars[*number as usize].lane,
-            column: mark_column(events, scene.points, place),
-        })?;
+        let lane = bars[*number as usize].lane;
+        marks.push(mark_at(scene, lane, place, *number))?;
     }
     Ok(marks)
+}
+
+/// The mark of a call with this number, at a place of the order and in a lane.
+fn mark_at(scene: &Scene<'_>, lane: usize, place: usize, number: u32) -> Mark
+    requires place { place < length scene.now.points.now }
+    requires point { slice_index scene.now.points.now place < length scene.now.history.now.events }
+    ensures number { result.number ≡ number }
+    ensures place { result.place ≡ place }
+    ensures point { result.point ≡ slice_index scene.now.points.now place }
+    ensures lane { result.lane ≡ lane }
+    ensures column { result.column ≡ mark_column scene.now.points.now place }
+{
+    Mark {
+        number,
+        place,
+        point: scene.points[place],
+        lane,
+        column: mark_column(scene.history.events(), scene.points, place),
+    }
 }

@@ -1,7 +1,11 @@
 // The picture of a verdict.
 ghost use Rattle.std.specs.Prelude.{◌≡◌, IfOk};
 ghost use Rattle.events.specs.Operations.{operations};
-ghost use Rattle.pictures.specs.Marks.{IsMarkable};
+ghost use Rattle.events.specs.Histories.{IsHistory};
+ghost use Rattle.pictures.specs.Bars.{AreBarsOf};
+ghost use Rattle.pictures.specs.Columns.{order_points};
+ghost use Rattle.pictures.specs.Lanes.{lanes};
+ghost use Rattle.pictures.specs.Marks.{IsMarkable, AreMarksOf};
 ghost use Rattle.pictures.specs.Pictures.{marked, heading_of, IsPictureOf};
 
 use crate::bars::{Bar, Scene, bars_of};
@@ -67,19 +71,34 @@ pub fn picture_of(
     requires { IsMarkable (operations history.now.events) (marked verdict.now front.now) }
     ensures { IfOk result (IsPictureOf history.now verdict.now wrong front.now) }
 {
+    let points = points_of(alloc, history.calls(), marked(verdict, front))?;
+    picture_at(alloc, history, verdict, wrong, front, &points)
+}
+
+/// The same, where these are the points of the calls that are marked.
+fn picture_at(
+    alloc: Global,
+    history: &History,
+    verdict: &Verdict,
+    wrong: Option<usize>,
+    front: &[u32],
+    points: &[usize],
+) -> Result<Picture, Memory>
+    requires markable { IsMarkable (operations history.now.events) (marked verdict.now front.now) }
+    requires points { points.now ≡ order_points (operations history.now.events) (marked verdict.now front.now) }
+    ensures { IfOk result (IsPictureOf history.now verdict.now wrong front.now) }
+{
     let order = marked(verdict, front);
-    let points = points_of(alloc, history.calls(), order)?;
+    let start = Vec::from_slice(alloc, history.start())?;
     let lanes = lanes_of(alloc, history.events())?;
     let scene = Scene {
         history,
         verdict,
         wrong,
         lanes: &lanes,
-        points: &points,
+        points,
     };
-    let bars = bars_of(alloc, &scene)?;
-    let marks = marks_of(alloc, &scene, order, &bars)?;
-    let start = Vec::from_slice(alloc, history.start())?;
+    let (bars, marks) = bars_and_marks(alloc, &scene, order)?;
     let columns = history.events().len() + order.len();
     Ok(Picture {
         heading: heading_of(verdict),
@@ -90,6 +109,26 @@ pub fn picture_of(
         columns,
         part: None,
     })
+}
+
+/// The bars of a picture, and the marks of an order on them.
+fn bars_and_marks(
+    alloc: Global,
+    scene: &Scene<'_>,
+    order: &[u32],
+) -> Result<(Vec<Bar>, Vec<Mark>), Memory>
+    requires lanes { scene.now.lanes.now ≡ lanes scene.now.history.now.events }
+    requires history { IsHistory scene.now.history.now }
+    requires order { IsMarkable (operations scene.now.history.now.events) order.now }
+    requires points { scene.now.points.now ≡ order_points (operations scene.now.history.now.events) order.now }
+    ensures bars { IfOk result (λ drawn. AreBarsOf scene.now.history.now.events scene.now.points.now
+        scene.now.verdict.now scene.now.wrong drawn.0.items) }
+    ensures marks { IfOk result (λ drawn. AreMarksOf (operations scene.now.history.now.events) order.now
+        drawn.0.items drawn.1.items) }
+{
+    let bars = bars_of(alloc, scene)?;
+    let marks = marks_of(alloc, scene, order, &bars)?;
+    Ok((bars, marks))
 }
 
 /// The calls that are marked: those of the order of a yes, else those of the front.

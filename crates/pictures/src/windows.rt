@@ -1,8 +1,8 @@
 // The part of a picture that a view shows.
-ghost use Rattle.std.specs.Prelude.{◌≡◌, ◌==◌, ◌+◌, ◌≤◌, length, map, min, option_map, position, slice_get, unwrap_or, IfOk, Option};
+ghost use Rattle.std.specs.Prelude.{◌≡◌, ◌==◌, ◌+◌, ◌++◌, ◌≤◌, length, map, min, option_map, position, slice_get, unwrap_or, IfOk, OnOk, Option};
 ghost use Rattle.std.specs.List.{filter_map, list_any};
 ghost use Rattle.pictures.specs.Windows.{ranked_bar, ranked_mark, meets, is_within, cut_bar, cut_mark, cut_end};
-ghost use Rattle.pictures.specs.Windows.{columns_of, start_of, end_of, rank, place_of, lanes_kept, bars_in, marks_in};
+ghost use Rattle.pictures.specs.Windows.{columns_of, start_of, end_of, rank, place_of, lanes_kept, bar_in, bars_in, marks_in};
 ghost use Rattle.pictures.specs.Windows.{window_from, event_shown, last_point, column_of, is_whole, IsPartOf, IsShownOf};
 
 use crate::bars::Bar;
@@ -93,11 +93,25 @@ fn columns_of(alloc: Global, bars: &[Bar], marks: &[Mark]) -> Result<Vec<usize>,
     ensures { IfOk result (λ v. v.items ≡ columns_of bars.now marks.now) }
 {
     let mut columns = starts_of(alloc, bars)?;
-    let ends = ends_of(alloc, bars)?;
-    let places = places_of(alloc, marks)?;
-    columns.extend_from_slice(&ends)?;
-    columns.extend_from_slice(&places)?;
+    push_ends(alloc, &mut columns, bars)?;
+    push_places(alloc, &mut columns, marks)?;
     Ok(columns)
+}
+
+/// Adds the columns of the responses.
+fn push_ends(alloc: Global, columns: &mut Vec<usize>, bars: &[Bar]) -> Result<(), Memory>
+    ensures { OnOk result (columns.new.items ≡ columns.old.items ++ filter_map end_of bars.now) }
+{
+    let ends = ends_of(alloc, bars)?;
+    Ok(columns.extend_from_slice(&ends)?)
+}
+
+/// Adds the columns of the marks.
+fn push_places(alloc: Global, columns: &mut Vec<usize>, marks: &[Mark]) -> Result<(), Memory>
+    ensures { OnOk result (columns.new.items ≡ columns.old.items ++ map (λ m. m.column) marks.now) }
+{
+    let places = places_of(alloc, marks)?;
+    Ok(columns.extend_from_slice(&places)?)
 }
 
 /// The columns of their invocations.
@@ -166,11 +180,15 @@ fn window_at(
 ) -> Result<Picture, Memory>
     ensures { IfOk result (IsPartOf columns.now event from to picture) }
 {
-    let bars = bars_in(alloc, picture.bars, columns, from, to)?;
-    let marks = marks_in(alloc, &picture.marks, columns, from, to)?;
-    let lanes = lanes_kept(alloc, &bars, &picture.lanes)?;
-    let bars = cut_bars(alloc, bars, &lanes, from, to)?;
-    let marks = cut_marks(alloc, &marks, &picture.lanes, &lanes, from)?;
+    let (lanes, bars, marks) = kept_at(
+        alloc,
+        picture.bars,
+        &picture.marks,
+        &picture.lanes,
+        columns,
+        from,
+        to,
+    )?;
     Ok(Picture {
         heading: picture.heading,
         start: picture.start,
@@ -186,6 +204,44 @@ fn window_at(
     })
 }
 
+/// The lanes, the bars and the marks of a window, where these are all lanes.
+fn kept_at(
+    alloc: Global,
+    bars: Vec<Bar>,
+    marks: &[Mark],
+    all: &[u8],
+    columns: &[usize],
+    from: usize,
+    to: usize,
+) -> Result<(Vec<u8>, Vec<Bar>, Vec<Mark>), Memory>
+    ensures lanes { IfOk result (λ kept. kept.0.items ≡ lanes_kept (bars_in columns.now from to bars.items) all.now) }
+    ensures bars { IfOk result (λ kept. kept.1.items ≡ map (cut_bar kept.0.items from to) (bars_in columns.now from to bars.items)) }
+    ensures marks { IfOk result (λ kept. kept.2.items
+        ≡ map (cut_mark all.now kept.0.items from) (marks_in columns.now from to marks.now)) }
+{
+    let bars = bars_in(alloc, bars, columns, from, to)?;
+    let lanes = lanes_kept(alloc, &bars, all)?;
+    let marks = marks_at(alloc, marks, all, &lanes, columns, from, to)?;
+    let bars = cut_bars(alloc, bars, &lanes, from, to)?;
+    Ok((lanes, bars, marks))
+}
+
+/// The marks in a window, as they stand in it with these of all lanes.
+fn marks_at(
+    alloc: Global,
+    marks: &[Mark],
+    all: &[u8],
+    lanes: &[u8],
+    columns: &[usize],
+    from: usize,
+    to: usize,
+) -> Result<Vec<Mark>, Memory>
+    ensures { IfOk result (λ v. v.items ≡ map (cut_mark all.now lanes.now from) (marks_in columns.now from to marks.now)) }
+{
+    let marks = marks_in(alloc, marks, columns, from, to)?;
+    cut_marks(alloc, &marks, all, lanes, from)
+}
+
 /// The bars of the calls of which the verdict speaks that meet a window, with their places among the columns.
 fn bars_in(
     alloc: Global,
@@ -196,13 +252,40 @@ fn bars_in(
 ) -> Result<Vec<Bar>, Memory>
     ensures { IfOk result (λ v. v.items ≡ bars_in columns.now from to bars.items) }
 {
+    let kept = bars_kept(alloc, bars, columns, from, to)?;
+    Ok(kept)
+}
+
+/// The same, bar by bar.
+fn bars_kept(
+    alloc: Global,
+    bars: Vec<Bar>,
+    columns: &[usize],
+    from: usize,
+    to: usize,
+) -> Result<Vec<Bar>, Memory>
+    ensures { IfOk result (λ v. v.items ≡ filter_map (bar_in columns.now from to) bars.items) }
+{
     Ok(
         bars.into_iter()
-            .filter(|bar| !bar.is_pale)
-            .map(|bar| ranked_bar(columns, bar))
-            .filter(|bar| meets(from, to, bar))
+            .filter_map(|bar| bar_in(columns, from, to, bar))
             .collect(alloc)?,
     )
+}
+
+/// A bar with its places among the columns, where the verdict speaks of the call and it meets a window.
+fn bar_in(columns: &[usize], from: usize, to: usize, bar: Bar) -> Option<Bar>
+    ensures { result ≡ bar_in columns.now from to bar }
+{
+    if bar.is_pale {
+        return None;
+    }
+    let bar = ranked_bar(columns, bar);
+    if meets(from, to, &bar) {
+        Some(bar)
+    } else {
+        None
+    }
 }
 
 /// A bar whose columns are their places among these.

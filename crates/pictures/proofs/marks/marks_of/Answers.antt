@@ -7,15 +7,15 @@ use Rattle.pictures.specs.declared.bars.Bar.{Bar}
 use Rattle.pictures.proofs.MarkLemmas.{AreMarksBelow, point-at, point-within, mark-in-bar, mark-more, marks-rise}
 use Rattle.pictures.proofs.marks.marks_of.Goals as goal
 
-pub mark_column-requires-clause-point : goal.mark_column-requires-clause-point
-mark_column-requires-clause-point c =
+pub mark_at-requires-clause-point : goal.mark_at-requires-clause-point
+mark_at-requires-clause-point c =
     let events = c.args.scene.now.history.now.events in
     let order = c.args.order.now in
     let place = c.loop-place.place in
     let n = get_or order place 0 in
     let order_here = slice_get-get_or order place 0 c.loop-place-test.true in
     let (a, here) = slice_get-below (operations events) n (c.requires.order.known place 0 c.loop-place-test.true) in
-    rw (c.events-events.ensures.events, c.requires.points) (point-within events order place n a order_here here)
+    rw c.requires.points (point-within events order place n a order_here here)
 
 pub loop-place-preserved : goal.loop-place-preserved
 loop-place-preserved c =
@@ -31,16 +31,17 @@ loop-place-preserved c =
     let bar = c.index-bars-number.result in
     let bar_here : slice_get bars n ≡ Some bar =
     slice_get_read bars (length bars) n bar refl (omega (arith, known, c.requires.bars.one_each)) c.index-bars-number.is in
-    let point = ap (λ points. get_or points place 0) c.requires.points ∙ point-at calls order place n order_here in
+    let point = c.mark_at.ensures.point ∙ ap (λ points. get_or points place 0) c.requires.points ∙ point-at calls order place n order_here in
     let spans = rw c.requires.points at c.requires.bars in
-    let column = rw c.requires.points at c.mark_column.ensures in
+    let lane = c.mark_at.ensures.lane ∙ ap (λ (b : Bar). b.lane) (sym c.index-bars-number.is) in
+    let column = rw c.requires.points at c.mark_at.ensures.column in
     rw c.in_ok-push.ensures.items (mark-more calls order bars place c.loop-place.marks.items _ c.loop-place.invariant (record {
-      number = order_here;
-      at_place = refl;
-      point = point;
+      number = rw c.mark_at.ensures.number order_here;
+      at_place = c.mark_at.ensures.place;
+      point = rw c.mark_at.ensures.number point;
       column = column;
-      inside = mark-in-bar events order bars place n a bar _ c.requires.order spans order_here here bar_here
-          (ap (λ (b : Bar). b.lane) (sym c.index-bars-number.is)) column;
+      inside = rw c.mark_at.ensures.number (mark-in-bar events order bars place n a bar _ c.requires.order spans order_here here bar_here
+          lane column);
     }))
 
 pub returns : goal.returns

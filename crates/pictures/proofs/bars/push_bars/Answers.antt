@@ -2,7 +2,7 @@ use Rattle.std.proofs.Common.{◌≡◌, Some, length, refl, ap, arith}
 use Rattle.std.specs.Prelude.{slice_get}
 use Rattle.std.proofs.lemmas.Option.{slice_get_read}
 use Rattle.pictures.proofs.BarLemmas.{bar-more}
-use Rattle.pictures.proofs.bars.bars_of.Goals as goal
+use Rattle.pictures.proofs.bars.push_bars.Goals as goal
 
 pub bar_of-requires-clause-call : goal.bar_of-requires-clause-call
 bar_of-requires-clause-call c =

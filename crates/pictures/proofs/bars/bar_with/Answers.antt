@@ -1,6 +1,6 @@
 use Rattle.std.proofs.Common.{refl, not, ap}
 use Rattle.pictures.proofs.BarLemmas.{invoked-by, lane-in, inv-within, res-within}
-use Rattle.pictures.proofs.bars.bar_of.Goals as goal
+use Rattle.pictures.proofs.bars.bar_with.Goals as goal
 
 pub process_at-process-requires : goal.process_at-process-requires
 process_at-process-requires c = rw c.events-events.ensures.events (inv-within _ _ _ c.requires.call)
@@ -26,8 +26,8 @@ returns c =
       invoked = invoked-by _ _ _ _ c.requires.call by;
       lane = rw (← c.requires.lanes) c.lane_of.ensures;
       span = record { from = c.event_column.ensures; to = c.column_of.ensures };
-      call = c.in_ok-words.ensures;
-      reply = c.in_ok-reply.ensures;
+      call = c.requires.words;
+      reply = c.requires.reply;
       pale = ap not c.speaks_of.ensures;
       goes_wrong = c.is_response.ensures;
       whole = refl;
