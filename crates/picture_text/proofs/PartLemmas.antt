@@ -1,13 +1,22 @@
 -- What stands in a text, worked out step by step.
-use Rattle.std.proofs.Common.{◌≡◌, ℕ, ◌+◌, ◌-◌, ◌++◌, Bool, List, Some, length, codes, refl}
+use Rattle.std.proofs.Common.{◌≡◌, ℕ, ◌+◌, ◌-◌, [], ◌∷◌, ◌++◌, Bool, List, Some, length, codes, refl}
 use Rattle.pictures.specs.declared.bars.Bar.{Bar}
-use Rattle.pictures.specs.declared.marks.Mark.{Mark}
 use Rattle.pictures.specs.declared.pictures_of.Part.{Part}
 use Rattle.pictures.specs.declared.pictures_of.Picture.{Picture}
+use Rattle.picture_text.specs.Bars.{number_text, opening_text, with_shape, with_title, with_words}
 use Rattle.picture_text.specs.Frame.{has_wrong, with_legend}
 use Rattle.picture_text.specs.Layout.{x_of, y_of, column_width, screens_before, width_of}
 use Rattle.picture_text.specs.Parts.{with_before, with_behind, with_counts, with_part, with_part_of, with_screens}
-use Rattle.picture_text.specs.Svg.{top_text, with_bars, with_lanes, with_marks, IsSvgOf}
+use Rattle.picture_text.specs.Svg.{top_text, with_bars, with_lanes, with_legend_of, with_marks, IsSvgOf}
+
+-- a bar
+pub bar-whole : (text opened titled shaped numbered worded whole : List ℕ) (width columns : ℕ) (bar : Bar)
+    → opened ≡ text ++ opening_text bar → titled ≡ with_title opened bar → shaped ≡ with_shape titled width columns bar
+    → numbered ≡ shaped ++ number_text width bar → worded ≡ with_words numbered width columns bar
+    → whole ≡ worded ++ (codes "</g>" ++ 10 ∷ [])
+    → whole ≡ with_words (with_shape (with_title (text ++ opening_text bar) bar) width columns bar ++ number_text width bar) width columns bar
+    ++ (codes "</g>" ++ 10 ∷ [])
+bar-whole text opened titled shaped numbered worded whole width columns bar o t s n w is = rw (is, w, n, s, t, o) refl
 
 -- what is said of a part
 pub part-whole : (text before behind counts : List ℕ) (width bottom end many : ℕ) (picture : Picture) (part : Part)
@@ -18,17 +27,17 @@ pub part-whole : (text before behind counts : List ℕ) (width bottom end many :
 part-whole text before behind counts width bottom end many picture part is m b e first second third =
     rw (third, second, first, b, e, m, is) refl
 
+-- what the shapes mean
+pub legend-whole : (text legend : List ℕ) (many bottom : ℕ) (picture : Picture) (bars : List Bar) (red : Bool)
+    → many ≡ length picture.lanes.items → bottom ≡ y_of many → bars ≡ picture.bars.items → red ≡ has_wrong bars
+    → legend ≡ with_legend text (bottom + 20) picture.heading red → legend ≡ with_legend_of text picture
+legend-whole text legend many bottom picture bars red m b same r is = rw (is, r, same, b, m) refl
+
 -- the whole text
-pub svg-whole : (style top lanes bars names marks legend whole text : List ℕ) (width all end screens many y : ℕ) (picture : Picture)
-    (first second : List ℕ) (each others : List Bar) (places : List Mark) (red : Bool)
-    → width ≡ column_width picture.columns picture.bars.items
-    → all ≡ width_of width picture.columns → top ≡ top_text style all picture → end ≡ all - 16 → first ≡ picture.lanes.items
-    → lanes ≡ with_lanes top end 0 first → each ≡ picture.bars.items → bars ≡ with_bars lanes width picture.columns each
-    → screens ≡ screens_before width picture.columns → second ≡ picture.lanes.items → names ≡ with_screens bars width second 0 screens
-    → places ≡ picture.marks.items → marks ≡ with_marks names width places → many ≡ length picture.lanes.items → y ≡ y_of many
-    → others ≡ picture.bars.items → red ≡ has_wrong others → legend ≡ with_legend marks (y + 20) picture.heading red
-    → whole ≡ with_part legend width picture → text ≡ whole ++ codes "</svg>"
+pub svg-whole : (style top calls order text : List ℕ) (width all : ℕ) (picture : Picture)
+    → width ≡ column_width picture.columns picture.bars.items → all ≡ width_of width picture.columns → top ≡ top_text style all picture
+    → calls ≡ with_bars (with_lanes top (all - 16) 0 picture.lanes.items) width picture.columns picture.bars.items
+    → order ≡ with_marks (with_screens calls width picture.lanes.items 0 (screens_before width picture.columns)) width picture.marks.items
+    → text ≡ with_part (with_legend_of order picture) width picture ++ codes "</svg>"
     → IsSvgOf style picture text
-svg-whole style top lanes bars names marks legend whole text width all end screens many y picture first second each others places red
-    w a t e f ls ea bs sc se ns pl ms m y_is ot re lg wh tx =
-    rw (tx, wh, lg, re, ot, y_is, m, ms, pl, ns, se, sc, bs, ea, ls, f, e, t, a, w) refl
+svg-whole style top calls order text width all picture w a t c o is = rw (is, o, c, t, a, w) refl

@@ -9,6 +9,10 @@ use Rattle.picture_text.specs.Layout.{x_of, y_of, room_of}
 abbrev pub class_of : Bar → List ℕ
 class_of bar = if bar.is_wrong then codes "wrong" else if bar.is_pale then codes "pale" else codes "call"
 
+-- how the text of a bar begins
+abbrev pub opening_text : Bar → List ℕ
+opening_text bar = codes "<g class='" ++ (class_of bar ++ codes "'>")
+
 -- the event at which a call is answered
 abbrev pub answered_text : Option ℕ → List ℕ
 answered_text None = codes " on, pending"
@@ -95,6 +99,6 @@ with_words text width columns bar =
 -- a bar
 unfoldable pub with_bar : List ℕ → ℕ → ℕ → Bar → List ℕ
 with_bar text width columns bar =
-    with_words (with_shape (with_title (text ++ (codes "<g class='" ++ (class_of bar ++ codes "'>"))) bar) width columns bar
+    with_words (with_shape (with_title (text ++ opening_text bar) bar) width columns bar
     ++ number_text width bar)
     width columns bar ++ (codes "</g>" ++ 10 ∷ [])

@@ -28,10 +28,12 @@ verdict_text (Undecided lo hi) = codes "Undecided: keys " ++ keys_text lo hi
 abbrev pub with_heading : List ℕ → Heading → List ℕ
 with_heading text heading = text ++ codes "<text class='title' x='16' y='28'>" ++ verdict_text heading ++ (codes "</text>" ++ 10 ∷ [])
 
--- the pairs at the start
+-- the pairs at the start, in words
+abbrev pub with_start_words : List ℕ → List ℕ → ℕ → List ℕ
+with_start_words text words room = text ++ codes "<text x='16' y='50'>starts with " ++ shown room words ++ (codes "</text>" ++ 10 ∷ [])
+
 abbrev pub with_start : List ℕ → List (ℕ × ℕ) → ℕ → List ℕ
-with_start text start room =
-    text ++ codes "<text x='16' y='50'>starts with " ++ shown room (pairs_words start) ++ (codes "</text>" ++ 10 ∷ [])
+with_start text start room = with_start_words text (pairs_words start) room
 
 -- the ground of a lane
 abbrev pub ground_text : ℕ → ℕ → List ℕ

@@ -29,6 +29,11 @@ top_text style all picture =
     with_start (with_heading (head_text all (height_of (length picture.lanes.items) picture.part) ++ style) picture.heading)
     picture.start.items ((all - 104) / 6)
 
+-- what the shapes of a picture mean
+abbrev pub with_legend_of : List ℕ → Picture → List ℕ
+with_legend_of text picture =
+    with_legend text (y_of (length picture.lanes.items) + 20) picture.heading (has_wrong picture.bars.items)
+
 -- the text of a picture, with these lines on how its parts look, at a width of a column
 abbrev pub svg_text : List ℕ → ℕ → Picture → List ℕ
 svg_text style width picture =
@@ -36,8 +41,7 @@ svg_text style width picture =
     let lanes = with_lanes (top_text style all picture) (all - 16) 0 picture.lanes.items in
     let bars = with_bars lanes width picture.columns picture.bars.items in
     let names = with_screens bars width picture.lanes.items 0 (screens_before width picture.columns) in
-    let legend = with_legend (with_marks names width picture.marks.items) (y_of (length picture.lanes.items) + 20) picture.heading
-    (has_wrong picture.bars.items) in
+    let legend = with_legend_of (with_marks names width picture.marks.items) picture in
     with_part legend width picture ++ codes "</svg>"
 
 -- the text of a picture: at the width of a column at which its words have room

@@ -1,6 +1,6 @@
 // The bars of a text.
 ghost use Rattle.std.specs.Prelude.{◌≡◌, ◌++◌, OnOk, option_map, string_bytes};
-ghost use Rattle.picture_text.specs.Bars.{class_of, answered_text, with_reply, with_title, with_shape, rectangle_text, with_open};
+ghost use Rattle.picture_text.specs.Bars.{class_of, opening_text, answered_text, with_reply, with_title, with_shape, rectangle_text, with_open};
 ghost use Rattle.picture_text.specs.Bars.{number_text, with_label, reply_label, with_words, with_bar};
 ghost use Rattle.picture_text.specs.Bars.{turn_text, dashes_text, with_left_open, with_both_open};
 
@@ -11,17 +11,24 @@ use pictures::Bar;
 
 /// Adds a bar: its shape, the number of its call, and the call and its reply in words, cut to the room that they
 /// have; whole they stand in its title.
-#[tactic(auto, unfolding(crate::specs::Bars::with_bar))]
 pub fn push_bar(out: &mut String, width: u8, columns: usize, bar: &Bar) -> Result<(), Memory>
     ensures { OnOk result (string_bytes out.new ≡ with_bar (string_bytes out.old) width columns bar.now) }
 {
-    let class = class_of(bar);
-    write!(out, "<g class='{class}'>")?;
+    push_opening(out, bar)?;
     push_title(out, bar)?;
     push_shape(out, width, columns, bar)?;
     push_number(out, width, bar)?;
     push_words(out, width, columns, bar)?;
     out.push_str("</g>\n")?;
+    Ok(())
+}
+
+/// Adds the beginning of a bar: how it is drawn.
+fn push_opening(out: &mut String, bar: &Bar) -> Result<(), Memory>
+    ensures { OnOk result (string_bytes out.new ≡ string_bytes out.old ++ opening_text bar.now) }
+{
+    let class = class_of(bar);
+    write!(out, "<g class='{class}'>")?;
     Ok(())
 }
 
@@ -103,13 +110,11 @@ fn push_rectangle(out: &mut String, x: u128, y: u128, span: u128) -> Result<(), 
     Ok(())
 }
 
-/// Adds a rectangle that is open at the right.
+/// Adds a rectangle that is open at the right: its line is that of one which is open at the left, from the other end.
 fn push_open(out: &mut String, x: u128, y: u128, end: u128) -> Result<(), Memory>
     ensures { OnOk result (string_bytes out.new ≡ with_open (string_bytes out.old) x y end) }
 {
-    write!(out, "<path class='bar' d='M{end} {y}")?;
-    write!(out, "H{x}v18H{end}'/>")?;
-    Ok(())
+    push_left_open(out, end, y, x)
 }
 
 /// Adds a rectangle that is open at the left.

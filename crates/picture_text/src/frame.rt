@@ -1,6 +1,7 @@
 // What stands around the bars of a text: its head, the words at its top, and its lanes.
 ghost use Rattle.std.specs.Prelude.{◌≡◌, ◌++◌, OnOk, string_bytes};
-ghost use Rattle.picture_text.specs.Frame.{head_text, with_heading, with_start, ground_text, name_text, with_lane, has_wrong, marks_text};
+ghost use Rattle.pictures.specs.declared.pictures_of.Heading.TheVariants.{NoOrder, Undecided};
+ghost use Rattle.picture_text.specs.Frame.{head_text, verdict_text, with_heading, with_start, with_start_words, ground_text, name_text, with_lane, has_wrong, marks_text};
 ghost use Rattle.picture_text.specs.Frame.{with_legend};
 
 use crate::content::push_shown;
@@ -25,12 +26,33 @@ pub fn push_heading(out: &mut String, heading: &Heading) -> Result<(), Memory>
     ensures { OnOk result (string_bytes out.new ≡ with_heading (string_bytes out.old) heading.now) }
 {
     out.push_str("<text class='title' x='16' y='28'>")?;
-    match heading {
-        Heading::Order => out.push_str("Linearizable")?,
-        Heading::NoOrder { lo, hi } => write!(out, "Not linearizable: keys {lo} to {hi}")?,
-        Heading::Undecided { lo, hi } => write!(out, "Undecided: keys {lo} to {hi}")?,
-    }
+    push_verdict(out, heading)?;
     out.push_str("</text>\n")?;
+    Ok(())
+}
+
+/// Adds the verdict in words.
+fn push_verdict(out: &mut String, heading: &Heading) -> Result<(), Memory>
+    ensures { OnOk result (string_bytes out.new ≡ string_bytes out.old ++ verdict_text heading.now) }
+{
+    match heading {
+        Heading::Order => Ok(out.push_str("Linearizable")?),
+        Heading::NoOrder { lo, hi } => push_refuted(out, *lo, *hi),
+        Heading::Undecided { lo, hi } => push_undecided(out, *lo, *hi),
+    }
+}
+
+fn push_refuted(out: &mut String, lo: u64, hi: u64) -> Result<(), Memory>
+    ensures { OnOk result (string_bytes out.new ≡ string_bytes out.old ++ verdict_text (NoOrder lo hi)) }
+{
+    write!(out, "Not linearizable: keys {lo} to {hi}")?;
+    Ok(())
+}
+
+fn push_undecided(out: &mut String, lo: u64, hi: u64) -> Result<(), Memory>
+    ensures { OnOk result (string_bytes out.new ≡ string_bytes out.old ++ verdict_text (Undecided lo hi)) }
+{
+    write!(out, "Undecided: keys {lo} to {hi}")?;
     Ok(())
 }
 
@@ -44,8 +66,15 @@ pub fn push_start(
     ensures { OnOk result (string_bytes out.new ≡ with_start (string_bytes out.old) start.now room) }
 {
     let words = pairs_words(alloc, start)?;
+    push_start_words(out, words.as_bytes(), room)
+}
+
+/// Adds these pairs in words.
+fn push_start_words(out: &mut String, words: &[u8], room: u128) -> Result<(), Memory>
+    ensures { OnOk result (string_bytes out.new ≡ with_start_words (string_bytes out.old) words.now room) }
+{
     out.push_str("<text x='16' y='50'>starts with ")?;
-    push_shown(out, words.as_bytes(), room)?;
+    push_shown(out, words, room)?;
     out.push_str("</text>\n")?;
     Ok(())
 }
