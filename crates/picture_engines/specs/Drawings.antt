@@ -38,6 +38,19 @@ IsWrongEvent budget history (verdicts.Undecided segment) wrong = wrong ≡ None
 abbrev pub whole : View
 whole = record { around = 0; calls = 0 }
 
+-- the part is what the view shows of a picture of the verdict with this front
+pub record IsPartShown (view : View) (history : HistoryView) (verdict : Verdict) (wrong : Option ℕ) (front : List ℕ)
+    (part : Picture) : Type 0 where
+  pub picture : Picture
+  pub pictured : IsPictureOf history verdict wrong front picture
+  pub viewed : IsShownOf (length history.events) wrong view picture part
+
+-- the text is that of such a part
+pub record IsDrawnText (view : View) (history : HistoryView) (verdict : Verdict) (wrong : Option ℕ) (front text : List ℕ) : Type 0 where
+  pub part : Picture
+  pub shown : IsPartShown view history verdict wrong front part
+  pub text_is : IsSvgOf STYLE.now part text
+
 -- the text is one of what the view shows of a picture of the exact verdict on the history, which is this answer
 pub record IsDrawing (budget : ℕ) (view : View) (history : HistoryView) (answer : Answer) (text : List ℕ) : Type 0 where
   pub verdict : Verdict

@@ -12,8 +12,10 @@ ghost use Rattle.outcomes.specs.Outcomes.{IsTextOutcome, OnAnswered};
 ghost use Rattle.outcomes.specs.Reads.{IsTextRead};
 ghost use Rattle.outcomes.specs.Runs.{IsRun};
 ghost use Rattle.outcomes.specs.Statuses.{OnAnswerStatus};
-ghost use Rattle.picture_engines.specs.Drawings.{event_of, whole, IsDrawAnswer, IsViewAnswer, IsDrawing, IsWrongEvent};
+ghost use Rattle.picture_engines.specs.Drawings.{event_of, whole, IsDrawAnswer, IsViewAnswer, IsDrawing, IsDrawnText, IsPartShown, IsWrongEvent};
 ghost use Rattle.picture_engines.specs.Outcomes.{IsDrawOutcome};
+ghost use Rattle.pictures.specs.Marks.{IsMarkable};
+ghost use Rattle.pictures.specs.Pictures.{marked};
 ghost use Rattle.pictures.specs.declared.windows.View.{View};
 ghost use Rattle.pool.specs.Limits.{worker_limit};
 ghost use Rattle.search.specs.Limits.{budget_limit};
@@ -25,7 +27,7 @@ use judge::{Verdict, judge, judge_alone};
 use locating::{Location, locate, locate_alone};
 use outcomes::{Answer, Outcome, line_of, text_from, write_outcome};
 use picture_text::svg;
-use pictures::{View, front_of, part_of, picture_of};
+use pictures::{Picture, View, front_of, part_of, picture_of};
 use pool::Gate;
 use std::alloc::Global;
 use std::thread::Threads;
@@ -128,8 +130,28 @@ fn drawing_of<R: Threads + Sync, G: Gate + Sync>(
     ensures passed { OnOk result (WasPassedForEach (G.was_passed gate.now) history.now) }
 {
     let verdict = judge(rt, alloc, history, budget, workers, gate)?;
-    let wrong = wrong_event(rt, alloc, history, &verdict, budget, workers, gate)?;
-    drawing_with(alloc, history, budget, &verdict, wrong, view)
+    drawing_of_verdict(rt, alloc, history, budget, workers, view, gate, &verdict)
+}
+
+/// The same of this verdict.
+fn drawing_of_verdict<R: Threads + Sync, G: Gate + Sync>(
+    rt: &R,
+    alloc: Global,
+    history: &History,
+    budget: u32,
+    workers: u32,
+    view: View,
+    gate: &G,
+    verdict: &Verdict,
+) -> Result<(Answer, String), Memory>
+    requires budget { (1 ≤ budget) × (budget ≤ budget_limit) }
+    requires workers { (1 ≤ workers) × (workers ≤ worker_limit) }
+    requires shown { IsShown history.now.start budget (operations history.now.events) verdict.now }
+    requires exact { IsExactVerdict history.now.start budget (operations history.now.events) verdict.now }
+    ensures { IfOk result (λ drawn. IsDrawing budget view history.now drawn.0 (string_bytes drawn.1)) }
+{
+    let wrong = wrong_event(rt, alloc, history, verdict, budget, workers, gate)?;
+    drawing_with(alloc, history, budget, verdict, wrong, view)
 }
 
 /// The same of the whole picture, where one thread judges.
@@ -138,12 +160,27 @@ fn drawing_alone(alloc: Global, history: &History, budget: u32) -> Result<(Answe
     ensures { IfOk result (λ drawn. IsDrawing budget whole history.now drawn.0 (string_bytes drawn.1)) }
 {
     let verdict = judge_alone(alloc, history, budget)?;
-    let wrong = wrong_event_alone(alloc, history, &verdict, budget)?;
+    drawing_of_verdict_alone(alloc, history, budget, &verdict)
+}
+
+/// The same of this verdict.
+fn drawing_of_verdict_alone(
+    alloc: Global,
+    history: &History,
+    budget: u32,
+    verdict: &Verdict,
+) -> Result<(Answer, String), Memory>
+    requires budget { (1 ≤ budget) × (budget ≤ budget_limit) }
+    requires shown { IsShown history.now.start budget (operations history.now.events) verdict.now }
+    requires exact { IsExactVerdict history.now.start budget (operations history.now.events) verdict.now }
+    ensures { IfOk result (λ drawn. IsDrawing budget whole history.now drawn.0 (string_bytes drawn.1)) }
+{
+    let wrong = wrong_event_alone(alloc, history, verdict, budget)?;
     let whole = View {
         around: 0,
         calls: 0,
     };
-    drawing_with(alloc, history, budget, &verdict, wrong, whole)
+    drawing_with(alloc, history, budget, verdict, wrong, whole)
 }
 
 /// The text of what a view shows of a picture of this verdict on a history, with this event marked as wrong, and the answer that
@@ -163,10 +200,42 @@ fn drawing_with(
     ensures { IfOk result (λ drawn. IsDrawing budget view history.now drawn.0 (string_bytes drawn.1)) }
 {
     let front = front_of(alloc, history, verdict, budget)?;
-    let picture = picture_of(alloc, history, verdict, wrong, &front)?;
-    let part = part_of(alloc, picture, history.events().len(), wrong, view)?;
-    let drawing = svg(alloc, &part)?;
+    let drawing = drawn_text(alloc, history, verdict, wrong, &front, view)?;
     Ok((answer_of(verdict), drawing))
+}
+
+/// The text of what a view shows of the picture with this front.
+fn drawn_text(
+    alloc: Global,
+    history: &History,
+    verdict: &Verdict,
+    wrong: Option<usize>,
+    front: &[u32],
+    view: View,
+) -> Result<String, Memory>
+    requires { IsMarkable (operations history.now.events) (marked verdict.now front.now) }
+    ensures { IfOk result (λ text. IsDrawnText view history.now verdict.now wrong front.now (string_bytes text)) }
+{
+    let part = part_shown(alloc, history, verdict, wrong, front, view)?;
+    let text = svg(alloc, &part)?;
+    Ok(text)
+}
+
+/// What a view shows of the picture with this front.
+fn part_shown(
+    alloc: Global,
+    history: &History,
+    verdict: &Verdict,
+    wrong: Option<usize>,
+    front: &[u32],
+    view: View,
+) -> Result<Picture, Memory>
+    requires { IsMarkable (operations history.now.events) (marked verdict.now front.now) }
+    ensures { IfOk result (IsPartShown view history.now verdict.now wrong front.now) }
+{
+    let picture = picture_of(alloc, history, verdict, wrong, front)?;
+    let part = part_of(alloc, picture, history.events().len(), wrong, view)?;
+    Ok(part)
 }
 
 /// The event at which a history that the verdict refutes goes wrong, where the budget suffices to locate it.
