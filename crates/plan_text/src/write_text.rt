@@ -1,12 +1,13 @@
 // From a plan to its text.
-ghost use Rattle.std.specs.Prelude.{◌≡◌, not, map, IfOk, OnOk, string_bytes};
+ghost use Rattle.std.specs.Prelude.{◌≡◌, [], not, codes, map, IfOk, OnOk, string_bytes};
 ghost use Rattle.serde_json.specs.View.{view};
 ghost use Rattle.serde_json.specs.Written.{compact_text};
 ghost use Rattle.events.specs.PlainHistories.{is_replace};
-ghost use Rattle.history_text.specs.Texts.{call_data};
+ghost use Rattle.history_text.specs.Texts.{call_data, number_data};
+ghost use Rattle.history_text.specs.ValueFaults.{object_of_two};
 ghost use Rattle.plans.specs.Plans.{AreScripts};
 ghost use Rattle.plan_text.specs.Scripts.{script_data, scripts_data};
-ghost use Rattle.plan_text.specs.PlanTexts.{is_plain_script, are_plain_scripts, written_data, SpellsPlan};
+ghost use Rattle.plan_text.specs.PlanTexts.{version_of, is_plain_script, are_plain_scripts, written_data, SpellsPlan};
 
 use art_steps::TreeCall;
 use events::{Call, Memory};
@@ -30,11 +31,23 @@ fn plan_value(alloc: Global, plan: &Plan) -> Result<Value, AllocError>
     ensures scripts { OnOk result (AreScripts plan.now) }
 {
     let scripts = scripts_value(alloc, plan.scripts())?;
-    if are_plain_scripts(plan.scripts()) {
-        json!(in alloc; {"scripts": scripts, "version": 1u64})
-    } else {
-        json!(in alloc; {"scripts": scripts, "version": 2u64})
-    }
+    let value = plan_object(alloc, scripts, version_of(plan.scripts()))?;
+    Ok(value)
+}
+
+/// The version of a text with these scripts.
+fn version_of(scripts: &[Vec<TreeCall>]) -> u64
+    ensures { result ≡ version_of (not (are_plain_scripts (map (λ script. script.items) scripts.now))) }
+{
+    if are_plain_scripts(scripts) { 1 } else { 2 }
+}
+
+/// The JSON value of a text with these scripts, of a version.
+fn plan_object(alloc: Global, scripts: Value, version: u64) -> Result<Value, AllocError>
+    ensures { IfOk result (λ value. view value
+        ≡ object_of_two (codes "scripts") (view scripts) (codes "version") (number_data version)) }
+{
+    json!(in alloc; {"scripts": scripts, "version": version})
 }
 
 /// Whether no call of any script is a replace.
@@ -71,18 +84,40 @@ fn scripts_value(alloc: Global, scripts: &[Vec<TreeCall>]) -> Result<Value, Allo
     ensures { IfOk result (λ value. view value ≡ scripts_data (map (λ script. script.items) scripts.now)) }
 {
     let mut items = Vec::new(alloc);
+    push_scripts(alloc, scripts, &mut items)?;
+    Ok(Value::from(items))
+}
+
+/// Adds the values of the scripts, where there is none yet.
+fn push_scripts(
+    alloc: Global,
+    scripts: &[Vec<TreeCall>],
+    items: &mut Vec<Value>,
+) -> Result<(), AllocError>
+    requires { items.old.items ≡ [] }
+    ensures { OnOk result (map view items.new.items ≡ map script_data (map (λ script. script.items) scripts.now)) }
+{
     for script in scripts {
         items.push(script_value(alloc, script)?)?;
     }
-    Ok(Value::from(items))
+    Ok(())
 }
 
 fn script_value(alloc: Global, calls: &[TreeCall]) -> Result<Value, AllocError>
     ensures { IfOk result (λ value. view value ≡ script_data calls.now) }
 {
     let mut items = Vec::new(alloc);
+    push_calls(alloc, calls, &mut items)?;
+    Ok(Value::from(items))
+}
+
+/// Adds the values of the calls, where there is none yet.
+fn push_calls(alloc: Global, calls: &[TreeCall], items: &mut Vec<Value>) -> Result<(), AllocError>
+    requires { items.old.items ≡ [] }
+    ensures { OnOk result (map view items.new.items ≡ map call_data calls.now) }
+{
     for call in calls {
         items.push(call_value(alloc, &call.call())?)?;
     }
-    Ok(Value::from(items))
+    Ok(())
 }
