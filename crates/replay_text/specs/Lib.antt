@@ -3,3 +3,4 @@ pub mod ReplayViews
 pub mod ReplayTexts
 pub mod ReplayTextFaults
 pub mod ReplayTextLaws
+pub mod Settings

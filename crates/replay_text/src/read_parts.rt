@@ -1,5 +1,5 @@
 // From the values of a text's members to a replay.
-ghost use Rattle.std.specs.Prelude.{◌≡◌, ◌+◌, ◌≤◌, List, length, map, sum, All, Option, IsTrue, is_some, IfOk, IfSome, IfNone};
+ghost use Rattle.std.specs.Prelude.{◌≡◌, ℕ, ◌+◌, ◌≤◌, List, length, map, sum, All, Option, IsTrue, is_some, IfOk, IfSome, IfNone};
 ghost use Rattle.serde_json.specs.Data.{Data};
 ghost use Rattle.serde_json.specs.View.{view};
 ghost use Rattle.events.specs.declared.event.Call.{Call};
@@ -9,14 +9,18 @@ ghost use Rattle.plans.specs.Plans.{AreFew, AreTreeCalls, AreScripts};
 ghost use Rattle.plan_text.specs.Scripts.{SpellsScripts};
 ghost use Rattle.replay_text.specs.Replays.{ReplayView};
 ghost use Rattle.art_core.specs.Starts.{inserts};
+ghost use Rattle.art_rows.specs.declared.table.Shape.{Shape};
+ghost use Rattle.art_steps.specs.declared.variant.Variant.{Variant};
 ghost use Rattle.replay_text.specs.ReplayTexts.{SpellsStart, ArePartsOf};
+ghost use Rattle.replay_text.specs.Settings.{AreSettings};
 ghost use Rattle.replay_text.specs.ReplayViews.{shown};
 ghost use Rattle.events.specs.Limits.{call_limit};
 
 use crate::replay::Replay;
 use crate::schedules::schedule_of;
 use crate::words::{shape_of, turns_of, variant_of};
-use art_steps::TreeCall;
+use art_rows::Shape;
+use art_steps::{TreeCall, Variant};
 use events::{MAX_CALLS, Memory};
 use plan_text::scripts_of;
 use plans::{Plan, has_room};
@@ -55,13 +59,7 @@ pub fn replay_with(
           variant = view variant.now;
         }) r → ⊥)) }
 {
-    let Some(limit) = turns_of(limit) else {
-        return Ok(None);
-    };
-    let Some(shape) = shape_of(rows) else {
-        return Ok(None);
-    };
-    let Some(variant) = variant_of(variant) else {
+    let Some((limit, shape, variant)) = settings_of(limit, rows, variant) else {
         return Ok(None);
     };
     let Some(schedule) = schedule_of(alloc, schedule)? else {
@@ -78,6 +76,18 @@ pub fn replay_with(
         scripts,
         schedule,
     }))
+}
+
+/// The turns, the shape and the variant that these values spell, within the limits.
+fn settings_of(limit: &Value, rows: &Value, variant: &Value) -> Option<(u32, Shape, Variant)>
+    ensures some { IfSome result (λ p. AreSettings (view limit.now) (view rows.now) (view variant.now) p.0 p.1 p.2) }
+    ensures none { IfNone result ((turns : ℕ) (shape : Shape) (name : Variant)
+        → AreSettings (view limit.now) (view rows.now) (view variant.now) turns shape name → ⊥) }
+{
+    let turns = turns_of(limit)?;
+    let shape = shape_of(rows)?;
+    let name = variant_of(variant)?;
+    Some((turns, shape, name))
 }
 
 /// The scripts of a plan that a value spells, with room for so many pairs beside the calls.

@@ -1,7 +1,18 @@
--- A value that spells no schedule is that of no replay.
+-- Values that spell no settings, or no schedule, are those of no replay.
 use Rattle.std.proofs.lemmas.List.Sums.{list_all-from_AllPass}
 use Rattle.replay_text.specs.Replays.{is_item}
 use Rattle.replay_text.proofs.read_parts.replay_with.Goals as goal
+
+pub returns-in_default-clause-none : goal.returns-in_default-clause-none
+returns-in_default-clause-none c = λ s r _ _ parts.
+    c.in_default.ensures.none r.limit r.shape r.variant (record {
+      limit_is = parts.limit;
+      some_turn = parts.within.some_turn;
+      few_turns = parts.within.few_turns;
+      rows_are = parts.rows;
+      within = parts.within.plan.shape;
+      variant_is = parts.variant;
+    })
 
 pub returns-in_default-2-clause-none : goal.returns-in_default-2-clause-none
 returns-in_default-2-clause-none c = λ s r _ _ parts.
