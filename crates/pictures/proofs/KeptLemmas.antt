@@ -1,5 +1,5 @@
 -- The bars that are kept one by one are those that are kept in turn.
-use Rattle.std.proofs.Common.{◌≡◌, ℕ, Bool, true, false, not, List, [], ◌∷◌, map, Option, Some, None, if◌then◌else◌, refl, ap}
+use Rattle.std.proofs.Common.{◌≡◌, ℕ, Bool, true, false, not, List, [], ◌∷◌, map, Some, None, if◌then◌else◌, refl, ap}
 use Rattle.std.specs.Prelude.{filter, cond}
 use Rattle.std.specs.List.{filter_map, cons_option}
 use Rattle.pictures.specs.declared.bars.Bar.{Bar}
