@@ -10,4 +10,4 @@ mod places;
 mod windows;
 
 pub use config::Config;
-pub use memo::Memo;
+pub use memo::{Memo, visit, visited_at_start};

@@ -6,6 +6,7 @@ ghost use Rattle.configurations.specs.Counts.{AreDistinct};
 use crate::config::Config;
 use events::Memory;
 use indexmap::IndexSet;
+use map_object::SortedMap;
 use std::alloc::Global;
 use std::marker::Model;
 
@@ -73,5 +74,26 @@ impl Memo {
         ensures { IsTrue result ↔ (self.now ≡ []) }
     {
         self.visited.is_empty()
+    }
+}
+
+/// The configurations visited before any call: the one at the map.
+pub fn visited_at_start(alloc: Global, map: &SortedMap) -> Result<Memo, Memory>
+    ensures { IfOk result (λ visited. visited ≡ record { taken = []; pairs = map.now } ∷ []) }
+{
+    let start = Config::start(alloc, map)?;
+    let mut memo = Memo::new(alloc);
+    let _new = visit(&mut memo, start)?;
+    Ok(memo)
+}
+
+/// Whether a configuration is new; from now on it is not.
+pub fn visit(memo: &mut Memo, config: Config) -> Result<bool, Memory>
+    ensures new { IfOk result (λ new. IsTrue new ↔ (Contains memo.old config → ⊥)) }
+    ensures visited { IfOk result (λ new. memo.new ≡ (if new then memo.old ++ config ∷ [] else memo.old)) }
+{
+    match memo.visit(config) {
+        Ok(is_new) => Ok(is_new),
+        Err((_config, memory)) => Err(memory),
     }
 }
