@@ -1,11 +1,11 @@
 -- The links of a walk before its first call, and where it stands there.
-use Rattle.std.proofs.Common.{◌≡◌, ℕ, zero, suc, ◌+◌, ◌-◌, ◌<◌, ◌≤◌, true, List, Some, [], ◌∷◌, ◌++◌, length, get_or, set, take, drop, refl}
+use Rattle.std.proofs.Common.{◌≡◌, ℕ, zero, suc, ◌+◌, ◌-◌, ◌<◌, ◌≤◌, true, List, Some, [], ◌∷◌, ◌++◌, length, get_or, set, take, drop, replicate, refl}
 use Rattle.std.proofs.Common.{sym, ap, ◌∙◌}
 use Rattle.std.proofs.Common.{subst, inl, inr, ⊎_elim, arith}
 use Rattle.std.specs.Prelude.{◌≢◌, ◌⊎◌, slice_get, slice_index, All, AllPairs, Contains}
 use Rattle.std.specs.List.{range_with_len}
 use Rattle.std.proofs.lemmas.Bool.{cases_lt}
-use Rattle.std.proofs.lemmas.List.{length-set, take_more, take-append-drop}
+use Rattle.std.proofs.lemmas.List.{length-set, length-replicate, get_or-replicate, take_more, take-append-drop}
 use Rattle.std.proofs.lemmas.List.Elements.{All-nil, All-cons, All-weaker, All-contains, All-take, Contains-get_or, Contains-append_left}
 use Rattle.std.proofs.lemmas.List.Elements.{Contains-append_right}
 use Rattle.std.proofs.lemmas.List.Elements.{Contains-append_cases}
@@ -16,12 +16,12 @@ use Rattle.events.specs.declared.operation.Operation.{Operation}
 use Rattle.events.specs.Precedence.{is_before, NonePrecedesItself}
 use Rattle.map_object.specs.MapObject.{Contents}
 use Rattle.configurations.specs.Configurations.{Configuration}
-use Rattle.list_laws.proofs.Lists.{AllPairs-append, AllPairs-front, AllPairs-back, AllPairs-across, All-front, All-back, Contains-first}
+use Rattle.list_laws.proofs.Lists.{AllPairs-nil, AllPairs-append, AllPairs-front, AllPairs-back, AllPairs-across, All-front, All-back, Contains-first}
 use Rattle.list_laws.proofs.Lists.{Contains-later}
 use Rattle.list_laws.proofs.Lists.{Contains-cases, Contains-nil, All-from_contains}
 use Rattle.configurations.proofs.ConfigurationLemmas.{configuration_of, LeadsTo-nil}
 use Rattle.search.specs.declared.standing.Level.{Level}
-use Rattle.search.specs.Links.{LinksView, AreWithin, linked_last, IsChain}
+use Rattle.search.specs.Links.{LinksView, AreWithin, no_links, linked_last, IsChain}
 use Rattle.search.specs.Standing.{IsNoLater, IsByAnswer, IsLinkedByAnswer, StandsWith}
 use Rattle.search.proofs.LinkLemmas.{IsChain-push, IsNextLeft, IsNextLeft-first}
 use Rattle.search.proofs.CursorLemmas.{StandsAtCursor-open, StandsAtCursor-pass}
@@ -37,6 +37,13 @@ range_push n =
     let one : n + 1 ≡ suc n = omega arith in
     let same : 0 + n ≡ n = omega arith in
     ap (range_with_len 0) one ∙ range_more 0 n ∙ ap (λ k. range_with_len 0 n ++ k ∷ []) same
+
+-- no node is in the list
+pub IsChain-none : (size : ℕ) → (length (no_links size).after ≡ size + 1) × IsChain (no_links size) size [] size
+IsChain-none size = (length-replicate (size + 1) size, (last, last))
+  where
+    last : slice_index (replicate (size + 1) size) size ≡ size
+    last = get_or-replicate (size + 1) size size 0 (omega arith)
 
 -- a chain from the end goes on with one more node
 pub IsChain-more : (l : LinksView) (p size : ℕ) (nodes : List ℕ) → AreWithin l → length l.after ≡ size + 1 → p < size
@@ -57,6 +64,13 @@ not_before xs i d lt distinct = All-from_contains (λ n. n ≢ get_or xs i d) (t
     All-contains (λ x. All (λ k. x ≢ k) (get_or xs i d ∷ drop (suc i) xs)) (take i xs) n
     (AllPairs-across (λ a b. a ≢ b) (take i xs) (get_or xs i d ∷ drop (suc i) xs) parts) h 0 d (omega arith))
 
+-- a call that stands by its answer is a node
+pub node_within : (calls : List Operation) (order : List ℕ) (i d size len : ℕ) → IsByAnswer calls size order → i < length order
+    → len ≡ size + 1
+    → get_or order i d < len
+node_within calls order i d size len sorted lt is =
+    omega (arith, is, All-contains (λ n. n < size) order (get_or order i d) sorted.below (Contains-get_or order i d lt))
+
 -- the links of an order, one place further
 pub IsChain-next : (calls : List Operation) (order : List ℕ) (l : LinksView) (i d size : ℕ) → IsByAnswer calls size order → AreWithin l
     → length l.after ≡ size + 1 → i < length order → IsChain l size (take i order) size
@@ -73,6 +87,15 @@ IsChain-next calls order l i d size sorted within len lt chain =
     (more.0, subst (λ xs. IsChain (linked_last l size (get_or order i d)) size xs size) (sym (take_more order i d lt)) more.1)
 
 -- ---- the order of answers
+
+-- no call stands among none
+pub IsByAnswer-nil : (calls : List Operation) → IsByAnswer calls 0 []
+IsByAnswer-nil calls = record {
+  below = All-nil (λ n. n < 0);
+  distinct = AllPairs-nil (λ m n. m ≢ n);
+  all = λ n lt. absurd (omega (arith, lt));
+  sorted = AllPairs-nil (IsNoLater calls);
+}
 
 -- a call put among others that stand by their answers, behind those answered no later and before those answered no earlier
 pub IsByAnswer-insert : (calls : List Operation) (n at : ℕ) (order : List ℕ) → IsByAnswer calls n order

@@ -9,10 +9,19 @@ use std::marker::Model;
 /// Nodes below a size in a list, each with the node after it and the one before it; the size itself stands
 /// for both ends. A node that is taken out keeps its own links, so that it can be put back where it was,
 /// once all that were taken out after it are back. Contracts see the links alone.
-#[derive(Drop)]
 pub struct Links {
     after: Vec<u32>,
     before: Vec<u32>,
+}
+
+// Both lists are let go in one place.
+impl Drop for Links {
+    fn drop(self) {
+        let Links {
+            after: _after,
+            before: _before,
+        } = self;
+    }
 }
 
 impl Model for Links {

@@ -1,10 +1,10 @@
 // Where a walk stands, and its steps.
-ghost use Rattle.std.specs.Prelude.{◌≡◌, ◌↔◌, ◌+◌, ◌<◌, ◌≤◌, ◌^◌, ◌∷◌, ◌++◌, ℕ, [], true, false, length, take, drop, All, AllPairs, IfOk, OnOk};
-ghost use Rattle.std.specs.Prelude.{if◌then◌else◌, IsTrue, Contains};
+ghost use Rattle.std.specs.Prelude.{◌≡◌, ◌+◌, ◌<◌, ◌≤◌, ◌^◌, ℕ, true, false, length, take, drop, All, AllPairs, IfOk, OnOk};
+ghost use Rattle.std.specs.Prelude.{IsSomeAnd, slice_get};
 ghost use Rattle.std.specs.List.{range_with_len};
 ghost use Rattle.events.specs.Precedence.{NonePrecedesItself, is_before};
 ghost use Rattle.map_object.specs.MapObject.{Contents};
-ghost use Rattle.orders.specs.Orders.{IsOrder};
+ghost use Rattle.orders.specs.Orders.{IsOrder, IsLegalCall};
 ghost use Rattle.search.specs.Remaining.{IsEarliestAnswer};
 ghost use Rattle.search.specs.Cursor.{StandsAtCursor};
 ghost use Rattle.search.specs.Links.{IsChain};
@@ -14,7 +14,7 @@ use crate::links::Links;
 use crate::undo::{take_call, undo_call};
 use events::{Call, Memory, Operation};
 use map_object::SortedMap;
-use memo::{Config, Memo};
+use memo::{Memo, visit, visited_at_start};
 use orders::may_come_next;
 use std::alloc::Global;
 
@@ -30,7 +30,6 @@ pub struct Level {
 /// Where a walk stands: the calls taken, the next one to try, or the number of calls where none is left, the
 /// configuration that it stands at, the map there, the configurations visited, and the calls left, in the
 /// order of their invocations and in that of their answers.
-#[derive(Drop)]
 pub struct Standing {
     pub levels: Vec<Level>,
     pub next: u32,
@@ -39,6 +38,21 @@ pub struct Standing {
     pub memo: Memo,
     pub calls: Links,
     pub answers: Links,
+}
+
+// All its parts are let go in one place.
+impl Drop for Standing {
+    fn drop(self) {
+        let Standing {
+            levels: _levels,
+            next: _next,
+            at: _at,
+            map: _map,
+            memo: _memo,
+            calls: _calls,
+            answers: _answers,
+        } = self;
+    }
 }
 
 /// What a step of a walk came to.
@@ -72,27 +86,6 @@ pub fn open_standing(alloc: Global, map: SortedMap, calls: &[Operation]) -> Resu
         calls: by_number,
         answers: by_answer,
     })
-}
-
-/// The configurations visited before any call: the one at the map.
-fn visited_at_start(alloc: Global, map: &SortedMap) -> Result<Memo, Memory>
-    ensures { IfOk result (λ visited. visited ≡ record { taken = []; pairs = map.now } ∷ []) }
-{
-    let start = Config::start(alloc, map)?;
-    let mut memo = Memo::new(alloc);
-    let _new = visit(&mut memo, start)?;
-    Ok(memo)
-}
-
-/// Whether a configuration is new; from now on it is not.
-fn visit(memo: &mut Memo, config: Config) -> Result<bool, Memory>
-    ensures new { IfOk result (λ new. IsTrue new ↔ (Contains memo.old config → ⊥)) }
-    ensures visited { IfOk result (λ new. memo.new ≡ (if new then memo.old ++ config ∷ [] else memo.old)) }
-{
-    match memo.visit(config) {
-        Ok(new) => Ok(new),
-        Err((_config, memory)) => Err(memory),
-    }
 }
 
 /// One step: the next call is tried where it may come next, and else the walk goes back.
@@ -136,7 +129,7 @@ fn earliest_answer(calls: &[Operation], standing: &Standing) -> Option<usize>
     }
 }
 
-/// Takes a call where its reply is legal and leads to a new configuration, and else passes it over.
+/// Takes the next call where its reply is legal and leads to a new configuration, and else passes it over.
 fn try_call(alloc: Global, calls: &[Operation], standing: &mut Standing) -> Result<(), Memory>
     ghost start: { Contents }
     requires few { length calls.now + 1 < 2 ^ 32 }
@@ -146,20 +139,32 @@ fn try_call(alloc: Global, calls: &[Operation], standing: &mut Standing) -> Resu
     ensures { OnOk result (HasMoved start calls.now standing.old standing.new) }
 {
     let place = standing.next;
-    let operation = &calls[place as usize];
-    if !may_come_next(&standing.map, operation) {
-        standing.next = standing.calls.after(place);
-        return Ok(());
+    if may_come_next(&standing.map, &calls[place as usize]) {
+        return take_next(alloc, calls, standing);
     }
-    let undo = take_call(alloc, &mut standing.map, operation)?;
+    standing.next = standing.calls.after(place);
+    Ok(())
+}
+
+/// Takes the next call, whose reply is legal, where it leads to a new configuration, and else passes it over.
+fn take_next(alloc: Global, calls: &[Operation], standing: &mut Standing) -> Result<(), Memory>
+    ghost start: { Contents }
+    requires few { length calls.now + 1 < 2 ^ 32 }
+    requires apart { NonePrecedesItself calls.now }
+    requires stands { Stands start calls.now standing.old }
+    requires may { MayTry start calls.now (places standing.old.levels.items) standing.old.next }
+    requires legal { IsSomeAnd (slice_get calls.now standing.old.next) (λ a. IsLegalCall standing.old.map a.call a.response) }
+    ensures { OnOk result (HasMoved start calls.now standing.old standing.new) }
+{
+    let place = standing.next;
+    let undo = take_call(alloc, &mut standing.map, &calls[place as usize])?;
     let config = standing
         .memo
         .at(standing.at)
         .with(alloc, place, &standing.map)?;
     let new = visit(&mut standing.memo, config)?;
     if new {
-        push(calls.len() as u32, standing, place, undo)?;
-        return Ok(());
+        return push(calls.len() as u32, standing, place, undo);
     }
     undo_call(alloc, &mut standing.map, undo)?;
     standing.next = standing.calls.after(place);

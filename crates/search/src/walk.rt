@@ -53,8 +53,8 @@ impl Walk {
         ensures budget { IfOk result (λ w. w.budget ≡ budget) }
         ensures len { IfOk result (λ w. w.len ≡ 1) }
     {
+        let standing = begin(alloc, segment)?;
         let segment = segment.copy(alloc)?;
-        let standing = begin(alloc, &segment)?;
         Ok(Walk {
             segment,
             budget,

@@ -66,3 +66,27 @@ returns-in-Some-clause-longest c =
     let (exact, counted, met) = rw c.in-Some.is at c.in_ok-_found.ensures in
     let h = c.loop-longest.invariant in
     (standing.memo, met h.2, longest-most segment standing c.loop-longest.longest.items h.1)
+
+pub loop-longest-smaller-then-len : goal.loop-longest-smaller-then-len
+loop-longest-smaller-then-len c = let (moved, goes_on, within) = rw c.in_default.is at c.in_ok-_found.ensures in goes_on.falls
+
+pub loop-longest-smaller : goal.loop-longest-smaller
+loop-longest-smaller c = let (moved, goes_on, within) = rw c.in_default.is at c.in_ok-_found.ensures in goes_on.falls
+
+pub returns-in-Some-clause-front : goal.returns-in-Some-clause-front
+returns-in-Some-clause-front c = let was = c.loop-longest.invariant.1 in (was.places, was.is, was.is_front)
+
+pub returns-in-Some-clause-exact : goal.returns-in-Some-clause-exact
+returns-in-Some-clause-exact c =
+    let (exact, counted, met) = rw c.in-Some.is at c.in_ok-_found.ensures in
+    let was = c.loop-longest.invariant.1 in
+    record {
+      places = was.places;
+      is = was.is;
+      is_front = was.is_front;
+      met = c.loop-longest.standing.memo;
+      enough = met c.loop-longest.invariant.2;
+      reached = was.reached;
+      most = was.most;
+      least = was.least;
+    }

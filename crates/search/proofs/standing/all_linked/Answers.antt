@@ -1,4 +1,4 @@
-use Rattle.std.proofs.Common.{◌<◌, arith}
+use Rattle.std.proofs.Common.{◌≡◌, ◌+◌, ◌<◌, [], length, sym, subst, arith}
 use Rattle.std.specs.Prelude.{◌≢◌}
 use Rattle.std.specs.List.{range_with_len}
 use Rattle.std.proofs.lemmas.List.Elements.{All-weaker}
@@ -6,8 +6,14 @@ use Rattle.list_laws.proofs.Lists.{All-from_contains}
 use Rattle.list_laws.proofs.RisingLemmas.{IsStrictlyIncreasing-range}
 use Rattle.search.proofs.EarliestLemmas.{distinct_from_increasing}
 use Rattle.search.proofs.LinkLemmas.{range_below}
-use Rattle.search.proofs.OpenLemmas.{range_push, IsChain-more}
+use Rattle.search.specs.Links.{IsChain}
+use Rattle.search.proofs.OpenLemmas.{range_push, IsChain-none, IsChain-more}
 use Rattle.search.proofs.standing.all_linked.Goals as goal
+
+pub loop-place-init : goal.loop-place-init
+loop-place-init c =
+    let size = c.args.size in
+    subst (λ l. (length l.after ≡ size + 1) × IsChain l size [] size) (sym c.in_ok-links.ensures) (IsChain-none size)
 
 pub loop-place-preserved : goal.loop-place-preserved
 loop-place-preserved c =

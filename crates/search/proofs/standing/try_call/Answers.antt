@@ -1,52 +1,23 @@
-use Rattle.std.proofs.Common.{◌≡◌, Bool, false, List, ◌+◌, [], ◌∷◌, ◌++◌, Some, length, refl, sym, ap, ◌∙◌, subst, inl, inr, ⊎_elim, arith}
-use Rattle.std.specs.Prelude.{slice_get, slice_index, Contains, IsTrue, ◌↔◌}
-use Rattle.std.proofs.lemmas.Bool.{iff_false, both_ways}
-use Rattle.std.proofs.lemmas.List.{length-append}
-use Rattle.std.proofs.lemmas.Option.{slice_get_read, slice_get_within, same_Some}
-use Rattle.configurations.specs.Configurations.{Configuration, LeadsTo}
-use Rattle.search.specs.declared.standing.Level.{Level}
-use Rattle.search.specs.Links.{unlinked}
-use Rattle.search.specs.Standing.{places}
-use Rattle.search.proofs.MemoLemmas.{visited_or_not}
-use Rattle.search.proofs.WalkLemmas.{cursor-illegal, StandsWith-passed, untried-passed, LeadsTo-taken, cursor-seen, StandsWith-push}
-use Rattle.search.proofs.WalkLemmas.{untried-pushed}
-use Rattle.search.proofs.WalkLemmas.{places-push, StandsWith-same}
+use Rattle.std.proofs.Common.{◌≡◌, Some, length, refl, inl, arith}
+use Rattle.std.specs.Prelude.{slice_get}
+use Rattle.std.proofs.lemmas.Bool.{iff_false}
+use Rattle.std.proofs.lemmas.Option.{slice_get_read}
+use Rattle.search.proofs.WalkLemmas.{cursor-illegal, StandsWith-passed, untried-passed}
 use Rattle.search.proofs.standing.try_call.Goals as goal
 
--- a configuration that is not new was visited
-not_new : (config : Configuration) (visited : List Configuration) (new : Bool) → IsTrue new ↔ (Contains visited config → ⊥) → new ≡ false
-    → Contains visited config
-not_new config visited new h is = ⊎_elim (λ within. within) (λ out. absurd (both_ways new is (h.1 out))) (visited_or_not visited config)
-
-pub returns-then-not-may_come_next : goal.returns-then-not-may_come_next
-returns-then-not-may_come_next g c =
+pub take_next-requires : goal.take_next-requires
+take_next-requires g c =
     let calls = c.args.calls.now in
     let w = c.args.standing.now in
-    let s = c.requires.1.1.0 in
     let may = c.requires.1.1.1 in
     let a = c.index-calls-place.result in
-    let here : slice_get calls w.next ≡ Some a = slice_get_read calls (length calls) w.next a refl may.known c.index-calls-place.is in
-    let cursor =
-    cursor-illegal g.start calls c.requires.1.0 w.levels.items w.next w.at w.map w.memo w.calls w.answers s may.known may.not_order a here
-    (iff_false c.may_come_next.ensures c.if-not-may_come_next.true) in
-    let stands = StandsWith-passed g.start calls c.requires.1.0 w.levels.items w.next w.at w.map w.memo w.calls w.answers s may.known
-    may.not_order cursor in
-    let less = untried-passed g.start calls c.requires.1.0 w.levels.items w.next w.at w.map w.memo w.calls w.answers s
-    may.known may.not_order in
-    record { stands = rw c.after-standing.ensures.after stands; progress = inl (refl, rw c.after-standing.ensures.after less) }
+    let here : slice_get calls w.next ≡ Some a = slice_get_read calls (length calls) w.next a refl may.known c.index-calls-place.is in (
+      c.requires.0,
+      (c.requires.1.0, (c.requires.1.1.0, (may, rw here (c.may_come_next.ensures.0 c.if-may_come_next.true)))),
+    )
 
-pub at-requires : goal.at-requires
-at-requires g c =
-    let w = c.args.standing.now in
-    let s = c.requires.1.1.0 in
-    slice_get_within w.memo w.at s.stands_at.0 s.stands_at.1
-
-pub with-requires : goal.with-requires
-with-requires g c = λ h.
-    let w = c.args.standing.now in
-    let s = c.requires.1.1.0 in
-    let same = same_Some s.stands_at.0 c.at.result.now (sym s.stands_at.1 ∙ c.at.ensures) in
-    s.left c.requires.1.1.1.known ((s.stands_at.2.taken w.next).0 (subst (λ (d : Configuration). Contains d.taken w.next) (sym same) h))
+pub after-standing-requires : goal.after-standing-requires
+after-standing-requires g c = omega (arith, c.requires.1.1.0.links.number_size, c.requires.1.1.1.known)
 
 pub returns : goal.returns
 returns g c =
@@ -56,80 +27,11 @@ returns g c =
     let may = c.requires.1.1.1 in
     let a = c.index-calls-place.result in
     let here : slice_get calls w.next ≡ Some a = slice_get_read calls (length calls) w.next a refl may.known c.index-calls-place.is in
-    let config = c.in_ok-config.config in
-    let legal = c.may_come_next.ensures.0 c.if-not-may_come_next.false in
-    let leads =
-    LeadsTo-taken g.start calls c.requires.1.0 w.levels.items w.next w.at w.map w.memo w.calls w.answers s may.known may.not_order a here
-    may.preceded legal
-    c.at.result.now config c.at.ensures c.in_ok-config.ensures.rising c.in_ok-config.ensures.taken
-    (c.in_ok-config.ensures.pairs ∙ c.in_ok-undo.ensures.after) in
-    let visited_is = rw c.if-new.false at c.in_ok-new.ensures.visited in
-    let within : Contains w.memo config = not_new config w.memo c.in_ok-new.new c.in_ok-new.ensures.new c.if-new.false in
     let cursor =
-    cursor-seen g.start calls c.requires.1.0 w.levels.items w.next w.at w.map w.memo w.calls w.answers s may.known may.not_order a here
-    may.preceded legal
-    config
-    leads within in
+    cursor-illegal g.start calls c.requires.1.0 w.levels.items w.next w.at w.map w.memo w.calls w.answers s may.known may.not_order a here
+    (iff_false c.may_come_next.ensures c.if-may_come_next.false) in
     let stands = StandsWith-passed g.start calls c.requires.1.0 w.levels.items w.next w.at w.map w.memo w.calls w.answers s may.known
     may.not_order cursor in
     let less = untried-passed g.start calls c.requires.1.0 w.levels.items w.next w.at w.map w.memo w.calls w.answers s
     may.known may.not_order in
-    record {
-      stands =
-          StandsWith-same g.start calls w.levels.items w.levels.items
-          (slice_index w.calls.after w.next) c.after-standing-2.result w.at w.at w.map c.undo_call.new.map w.memo
-          c.visit.new.memo w.calls w.calls
-          w.answers w.answers refl c.after-standing-2.ensures.after refl
-          (c.in_ok-undo_call.ensures ∙ c.in_ok-undo.ensures.undo)
-          visited_is refl refl stands;
-      progress = inl (visited_is, rw c.after-standing-2.ensures.after less);
-    }
-
-pub returns-then-new : goal.returns-then-new
-returns-then-new g c =
-    let calls = c.args.calls.now in
-    let w = c.args.standing.now in
-    let s = c.requires.1.1.0 in
-    let may = c.requires.1.1.1 in
-    let a = c.index-calls-place.result in
-    let here : slice_get calls w.next ≡ Some a = slice_get_read calls (length calls) w.next a refl may.known c.index-calls-place.is in
-    let config = c.in_ok-config.config in
-    let legal = c.may_come_next.ensures.0 c.if-not-may_come_next.false in
-    let leads =
-    LeadsTo-taken g.start calls c.requires.1.0 w.levels.items w.next w.at w.map w.memo w.calls w.answers s may.known may.not_order a here
-    may.preceded legal
-    c.at.result.now config c.at.ensures c.in_ok-config.ensures.rising c.in_ok-config.ensures.taken
-    (c.in_ok-config.ensures.pairs ∙ c.in_ok-undo.ensures.after) in
-    let visited_is = rw c.if-new.true at c.in_ok-new.ensures.visited in
-    let new = c.in_ok-new.ensures.new.0 c.if-new.true in
-    let p = c.in_ok-push.ensures in
-    let level : Level = record { place = w.next; undo = c.in_ok-undo.undo; at = w.at } in
-    let stands =
-    StandsWith-push g.start calls c.requires.1.0 w.levels.items w.next w.at w.map w.memo w.calls w.answers s may.known may.not_order
-    a here may.preceded
-    legal config
-    leads new c.in_ok-undo.undo level refl refl c.take_call.new.map c.in_ok-undo.ensures.after c.in_ok-undo.ensures.undo p.calls_within
-    p.answers_within in
-    let more =
-    untried-pushed g.start calls c.requires.1.0 w.levels.items w.next w.at w.map w.memo w.calls w.answers s may.known may.not_order a here
-    may.preceded legal
-    config
-    leads new c.in_ok-undo.undo level refl refl c.take_call.new.map c.in_ok-undo.ensures.after c.in_ok-undo.ensures.undo p.calls_within
-    p.answers_within in
-    let one_more : length (w.memo ++ config ∷ []) ≡ length w.memo + 1 = length-append w.memo (config ∷ []) in
-    let n = c.push.new.standing in
-    record {
-      stands =
-          StandsWith-same g.start calls (w.levels.items ++ level ∷ []) n.levels.items
-          (slice_index (unlinked w.calls w.next).after (length calls)) n.next
-          (length w.memo) n.at c.take_call.new.map n.map (w.memo ++ config ∷ []) n.memo (unlinked w.calls w.next) n.calls
-          (unlinked w.answers w.next) n.answers
-          p.levels p.next (p.at ∙ omega (arith, ap length visited_is, one_more)) p.map (p.memo ∙ visited_is) p.calls p.answers stands;
-      progress = inr (
-        config,
-        p.memo ∙ visited_is,
-        subst (λ ps. LeadsTo g.start calls ps config) (sym (ap places p.levels ∙ places-push w.levels.items level)) leads,
-        rw (p.levels, p.next) more,
-        ap places p.levels ∙ places-push w.levels.items level,
-      );
-    }
+    record { stands = rw c.after-standing.ensures.after stands; progress = inl (refl, rw c.after-standing.ensures.after less) }
