@@ -1,6 +1,5 @@
 // Where a search stands, and its steps.
-ghost use Rattle.std.specs.Prelude.{◌≡◌, ◌↔◌, ◌+◌, ◌<◌, ◌≤◌, ◌^◌, ◌∷◌, ◌++◌, length, [], AllPairs, IfOk, OnOk, Contains};
-ghost use Rattle.std.specs.Prelude.{if◌then◌else◌, IsTrue};
+ghost use Rattle.std.specs.Prelude.{◌≡◌, ◌+◌, ◌<◌, ◌≤◌, ◌^◌, length, [], AllPairs, IfOk, OnOk};
 ghost use Rattle.events.specs.Precedence.{NonePrecedesItself};
 ghost use Rattle.map_object.specs.MapObject.{Contents, IsRising};
 ghost use Rattle.orders.specs.Orders.{IsOrder, IsLinearizable};
@@ -9,7 +8,7 @@ ghost use Rattle.call_search.specs.Standing.{places, Stands, StandsBare, IsNextO
 use crate::choices::choices;
 use events::{Call, Memory, Operation};
 use map_object::SortedMap;
-use memo::{Config, Memo};
+use memo::{Memo, visit, visited_at_start};
 use search::{take_call, undo_call};
 use std::alloc::Global;
 use std::mem;
@@ -26,7 +25,6 @@ pub struct Level {
 
 /// Where a search stands: the calls taken, those that are to be tried next, the last one first, the configuration that it stands
 /// at, the map there, the configurations visited, which calls are taken, and a place below which all are.
-#[derive(Drop)]
 pub struct Standing {
     pub levels: Vec<Level>,
     pub rest: Vec<u32>,
@@ -35,6 +33,21 @@ pub struct Standing {
     pub memo: Memo,
     pub taken: Vec<bool>,
     pub low: usize,
+}
+
+// All its parts are let go in one place.
+impl Drop for Standing {
+    fn drop(self) {
+        let Standing {
+            levels: _levels,
+            rest: _rest,
+            at: _at,
+            map: _map,
+            memo: _memo,
+            taken: _taken,
+            low: _low,
+        } = self;
+    }
 }
 
 /// What a step of a search came to.
@@ -66,27 +79,6 @@ pub(crate) fn open(alloc: Global, map: SortedMap, calls: &[Operation]) -> Result
         taken,
         low: 0,
     })
-}
-
-/// The configurations visited before any call: the one at the map.
-fn visited_at_start(alloc: Global, map: &SortedMap) -> Result<Memo, Memory>
-    ensures { IfOk result (λ visited. visited ≡ record { taken = []; pairs = map.now } ∷ []) }
-{
-    let start = Config::start(alloc, map)?;
-    let mut memo = Memo::new(alloc);
-    let _new = visit(&mut memo, start)?;
-    Ok(memo)
-}
-
-/// Whether a configuration is new; from now on it is not.
-fn visit(memo: &mut Memo, config: Config) -> Result<bool, Memory>
-    ensures new { IfOk result (λ new. IsTrue new ↔ (Contains memo.old config → ⊥)) }
-    ensures visited { IfOk result (λ new. memo.new ≡ (if new then memo.old ++ config ∷ [] else memo.old)) }
-{
-    match memo.visit(config) {
-        Ok(new) => Ok(new),
-        Err((_config, memory)) => Err(memory),
-    }
 }
 
 /// One step: the next call is tried, or the search goes back where there is none.
@@ -209,9 +201,9 @@ fn go_back(alloc: Global, calls: &[Operation], standing: &mut Standing) -> Resul
         at,
         rest,
     } = level;
-    undo_call(alloc, &mut standing.map, undo)?;
     standing.at = at;
     standing.rest = rest;
+    undo_call(alloc, &mut standing.map, undo)?;
     standing.taken[place as usize] = false;
     if (place as usize) < standing.low {
         standing.low = place as usize;
