@@ -39,6 +39,17 @@ low_below {place} {undo} {old} {new} p k lt = subst (λ xs. (k < old.low) ⊎ (g
 more : (n : ℕ) → n + 1 + 0 ≡ n + 1
 more n = omega arith
 
+pub bounds-calls-place : goal.bounds-calls-place
+bounds-calls-place g c =
+    let next = c.requires.1.1.is_next in
+    slice_get_within c.args.calls.now c.args.place next.call next.here
+
+pub at-requires : goal.at-requires
+at-requires g c =
+    let w = c.args.standing.now in
+    let s = c.requires.1.0 in
+    slice_get_within w.memo w.at s.stands_at.0 s.stands_at.1
+
 pub with-requires : goal.with-requires
 with-requires g c = λ h.
     let w = c.args.standing.now in
@@ -52,6 +63,15 @@ push-requires-clause-place g c =
     let next = c.requires.1.1.is_next in
     let lt = slice_get_within c.args.calls.now c.args.place next.call next.here in
     omega (arith, lt, c.requires.1.0.marked.all)
+
+pub push-requires-clause-low : goal.push-requires-clause-low
+push-requires-clause-low g c = let marked = c.requires.1.0.marked in omega (arith, marked.all, marked.within)
+
+pub push-requires-clause-visited : goal.push-requires-clause-visited
+push-requires-clause-visited g c =
+    let w = c.args.standing.now in
+    let visited_is = rw c.if-new.true at c.in_ok-new.ensures.visited in
+    omega (arith, ap length visited_is, length-append w.memo (c.in_ok-config.config ∷ []))
 
 pub returns-then-new : goal.returns-then-new
 returns-then-new g c =
