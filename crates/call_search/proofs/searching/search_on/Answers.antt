@@ -32,3 +32,12 @@ pub loop-alloc-smaller : goal.loop-alloc-smaller
 loop-alloc-smaller g c =
     falls g.start c.args.calls.now c.args.budget c.loop-alloc.standing c.make_step.new.standing
     (omega (arith, c.if-len-budget.false, c.len.ensures.len)) (rw c.in-Made-2.is at c.in_ok-make_step.ensures)
+
+pub look_on-requires : goal.look_on-requires
+look_on-requires g c = (c.requires.0, (c.requires.1.0, (c.requires.1.1.0, (c.requires.1.1.1.0, c.requires.1.1.1.1))))
+
+pub make_step-requires : goal.make_step-requires
+make_step-requires g c = (c.requires.0, (c.requires.1.0, (c.requires.1.1.0, (c.requires.1.1.1.0, c.loop-alloc.invariant))))
+
+pub loop-alloc-preserved : goal.loop-alloc-preserved
+loop-alloc-preserved g c = (rw c.in-Made-2.is at c.in_ok-make_step.ensures).stands
