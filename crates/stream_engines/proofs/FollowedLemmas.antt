@@ -1,7 +1,7 @@
 -- What an event makes of a stream that is followed.
 use Rattle.follow.specs.declared.fault.FollowFault.TheVariants as turns
 use Rattle.std.proofs.Common.{◌≡◌, ℕ, ◌+◌, ◌-◌, ◌^◌, ◌<◌, ◌≤◌, min, Bool, true, false, List, [], ◌∷◌, ◌++◌, length, Option, Some}
-use Rattle.std.proofs.Common.{None, cond, refl, sym, ap, ◌∙◌, inl, inr, arith}
+use Rattle.std.proofs.Common.{None, Result, Ok, Err, IfErr, cond, subst, refl, sym, ap, ◌∙◌, inl, inr, arith}
 use Rattle.std.proofs.Math.Nat.{min-eq_left, min_comm}
 use Rattle.std.proofs.lemmas.Bool.{cases_lt, false≢true}
 use Rattle.std.proofs.lemmas.Bool.Decides.{nat_tests}
@@ -19,7 +19,10 @@ use Rattle.follow.specs.declared.fault.FollowFault.{FollowFault}
 use Rattle.followers.specs.declared.together.Followers.{Followers}
 use Rattle.followers.specs.Followed.{IsFollowedBy}
 use Rattle.stream_engines.specs.declared.followed.Followed.{Followed}
+use Rattle.outcomes.specs.declared.outcome.Outcome.{Outcome}
+use Rattle.outcomes.specs.declared.outcome.Outcome.TheVariants as outcomes
 use Rattle.stream_engines.specs.Followed.{IsFollowed}
+use Rattle.stream_engines.specs.Outcomes.{IsStreamOutcome}
 use Rattle.stream_engines.specs.Overlaps.{pending_after, overlap_after, overlap_of}
 use Rattle.stream_engines.proofs.StreamLemmas.{SpellStream-push}
 use Rattle.stream_engines.proofs.OverlapLemmas.{pending-invoke, pending-answer, pending_le, overlap-invoke, overlap-answer}
@@ -87,3 +90,9 @@ answered read line f g process reply pending limit followed spelled follows pend
       pending = pending_is ∙ (ap (λ (n : ℕ). n - 1) followed.pending ∙ sym (pending-answer 0 events process reply));
       overlap = followed.overlap ∙ ap (λ (n : ℕ). min n (2 ^ 64 - 1)) (sym (overlap-answer 0 events process reply));
     }
+
+-- want of memory may come at any text
+pub memory_alone : (budget : ℕ) (told : Option (List ℕ)) (r : Result Followed Outcome) → IfErr r (λ outcome. outcome ≡ outcomes.Memory)
+    → IfErr r (IsStreamOutcome budget told)
+memory_alone budget told (Ok f) is = tt
+memory_alone budget told (Err outcome) is = subst (IsStreamOutcome budget told) (sym is) tt

@@ -2,6 +2,7 @@
 ghost use Rattle.std.specs.Prelude.{◌≡◌, ℕ, ◌+◌, ◌<◌, List, [], ◌∷◌, ◌++◌, length, Option, IfOk, IfErr};
 ghost use Rattle.events.specs.declared.event.Event.TheVariants as events;
 ghost use Rattle.events.specs.Starts.{KeysRise};
+ghost use Rattle.outcomes.specs.declared.outcome.Outcome.TheVariants as outcomes;
 ghost use Rattle.stream_text.specs.Lines.{as_event, SpellsEvent, SpellsStart};
 ghost use Rattle.stream_engines.specs.Followed.{IsFollowed};
 ghost use Rattle.stream_engines.specs.Outcomes.{IsStreamOutcome};
@@ -173,23 +174,40 @@ impl Followed {
         let (pending, overlap) = (self.pending, self.overlap);
         match self.followers.answer(alloc, process, reply, budget) {
             Ok(Answered::Going(followers)) => {
-                match followers.relieved(alloc, limit, budget) {
-                    Ok(followers) => {
-                        let limit = limit_behind(&followers, limit);
-                        Ok(Followed {
-                            followers,
-                            has_start,
-                            pending: pending.saturating_sub(1),
-                            overlap,
-                            limit,
-                        })
-                    }
-                    Err(_) => Err(Outcome::Memory),
-                }
+                let taken = Followed {
+                    followers,
+                    has_start,
+                    pending: pending.saturating_sub(1),
+                    overlap,
+                    limit,
+                };
+                taken.relieved(alloc, budget)
             }
             Ok(Answered::Lost(reason)) => Err(lost_outcome(alloc, reason)),
             Ok(Answered::Spent(reason)) => Err(spent_outcome(alloc, reason)),
             Ok(Answered::Refused(_, fault)) => Err(refused_event(alloc, number, line, &fault)),
+            Err(_) => Err(Outcome::Memory),
+        }
+    }
+
+    /// With fewer calls left, where there are more than the limit.
+    fn relieved(self, alloc: Global, budget: u32) -> Result<Followed, Outcome>
+        ensures taken { (read : List (List ℕ)) → IsFollowed read self → IfOk result (IsFollowed read) }
+        ensures stopped { IfErr result (λ outcome. outcome ≡ outcomes.Memory) }
+    {
+        let (has_start, limit) = (self.has_start, self.limit);
+        let (pending, overlap) = (self.pending, self.overlap);
+        match self.followers.relieved(alloc, limit, budget) {
+            Ok(followers) => {
+                let limit = limit_behind(&followers, limit);
+                Ok(Followed {
+                    followers,
+                    has_start,
+                    pending,
+                    overlap,
+                    limit,
+                })
+            }
             Err(_) => Err(Outcome::Memory),
         }
     }

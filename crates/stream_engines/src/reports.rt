@@ -1,21 +1,23 @@
 // The lines that a stream is answered with.
-ghost use Rattle.std.specs.Prelude.{◌≡◌, ℕ, ◌++◌, List, [], IfOk, IfSome, MatchOption, codes, string_bytes};
+ghost use Rattle.std.specs.Prelude.{◌≡◌, ℕ, ◌++◌, List, [], IfOk, OnOk, IfSome, MatchOption, codes, string_bytes};
 ghost use Rattle.orders.specs.Orders.{IsLinearizable};
 ghost use Rattle.outcomes.specs.declared.outcome.Answer.TheVariants.{Undecided};
 ghost use Rattle.stream_engines.specs.Leaves.{IsAnsweredBy, IsLostOutcome, IsYesOutcome};
 ghost use Rattle.stream_engines.specs.Notes.{overlap_note};
-ghost use Rattle.serde_json.specs.View.{view};
+ghost use Rattle.serde_json.specs.Data.{object, string, put as with_member};
+ghost use Rattle.serde_json.specs.View.{view, members_view};
 ghost use Rattle.serde_json.specs.Written.{compact_text};
 ghost use Rattle.outcomes.specs.Lines.{line};
 ghost use Rattle.stream_engines.specs.Answers.{IsSmallLine};
-ghost use Rattle.stream_engines.specs.Reports.{yes_data, numbers_data, loss_data, own_part, judged_data, reason_data};
+ghost use Rattle.history_text.specs.Texts.{number_data};
+ghost use Rattle.stream_engines.specs.Reports.{yes_data, numbers_data, own_part, judged_data, reason_data};
 
 use crate::small_history::small_line;
 use events::Memory;
 use follow::Loss;
 use followers::{Part, Reason};
 use outcomes::{Answer, Outcome, line_of};
-use serde_json::{Value, json};
+use serde_json::{Map, Value, put};
 use std::alloc::{AllocError, Global};
 
 /// The answer to a stream whose events have an order. Where there are two calls at least, and none overlaps another, a note says so.
@@ -115,7 +117,29 @@ fn yes_line(alloc: Global, calls: usize, overlap: u64) -> Result<String, AllocEr
 fn yes_value(alloc: Global, calls: usize, overlap: u64) -> Result<Value, AllocError>
     ensures { IfOk result (λ value. view value ≡ yes_data calls overlap) }
 {
-    json!(in alloc; {"calls": calls, "overlap": overlap, "verdict": "yes"})
+    let mut members = Map::new(alloc);
+    put_yes(alloc, &mut members, calls, overlap)?;
+    Ok(Value::Object(members))
+}
+
+/// Puts what is told of a yes into an object without members.
+fn put_yes(
+    alloc: Global,
+    members: &mut Map<String, Value>,
+    calls: usize,
+    overlap: u64,
+) -> Result<(), AllocError>
+    requires { members.old.entries ≡ [] }
+    ensures { OnOk result (object (members_view members.new.entries) ≡ yes_data calls overlap) }
+{
+    put(members, alloc, "calls", Value::from(calls))?;
+    put(members, alloc, "overlap", Value::from(overlap))?;
+    put(
+        members,
+        alloc,
+        "verdict",
+        Value::try_from_str(alloc, "yes")?,
+    )
 }
 
 /// The line of an answer that was judged, with a word for what came of it.
@@ -141,31 +165,61 @@ fn judged_value(
 ) -> Result<Value, AllocError>
     ensures { IfOk result (λ value. view value ≡ judged_data call event own.now word.now) }
 {
+    let mut members = Map::new(alloc);
+    put_judged(alloc, &mut members, call, event, own, word)?;
+    Ok(Value::Object(members))
+}
+
+/// Puts what is told of an answer that was judged into an object without members.
+fn put_judged(
+    alloc: Global,
+    members: &mut Map<String, Value>,
+    call: usize,
+    event: usize,
+    own: &Option<Loss>,
+    word: &str,
+) -> Result<(), AllocError>
+    requires { members.old.entries ≡ [] }
+    ensures { OnOk result (object (members_view members.new.entries) ≡ judged_data call event own.now word.now) }
+{
+    put_answer(alloc, members, call, event, word)?;
     match own {
-        Some(loss) => loss_value(alloc, call, event, loss, word),
-        None => json!(in alloc; {"call": call, "event": event, "verdict": word}),
+        Some(loss) => put_loss(alloc, members, loss),
+        None => Ok(()),
     }
 }
 
-fn loss_value(
+/// Puts the number and the event of an answer, and a word for what came of it.
+fn put_answer(
     alloc: Global,
+    members: &mut Map<String, Value>,
     call: usize,
     event: usize,
-    loss: &Loss,
     word: &str,
-) -> Result<Value, AllocError>
-    ensures { IfOk result (λ value. view value ≡ loss_data call event loss.now word.now) }
+) -> Result<(), AllocError>
+    ensures { OnOk result (members_view members.new.entries
+        ≡ with_member (codes "verdict") (string word.now) (with_member (codes "event") (number_data event)
+        (with_member (codes "call") (number_data call) (members_view members.old.entries)))) }
 {
-    let calls = numbers_value(alloc, &loss.numbers)?;
-    let range = loss.range;
-    json!(in alloc; {
-        "call": call,
-        "calls": calls,
-        "event": event,
-        "hi": range.high,
-        "lo": range.low,
-        "verdict": word
-    })
+    put(members, alloc, "call", Value::from(call))?;
+    put(members, alloc, "event", Value::from(event))?;
+    put(members, alloc, "verdict", Value::try_from_str(alloc, word)?)
+}
+
+/// Puts the calls that were searched in the stream itself, and their range.
+fn put_loss(alloc: Global, members: &mut Map<String, Value>, loss: &Loss) -> Result<(), AllocError>
+    ensures { OnOk result (members_view members.new.entries
+        ≡ with_member (codes "lo") (number_data loss.now.range.low) (with_member (codes "hi") (number_data loss.now.range.high)
+        (with_member (codes "calls") (numbers_data loss.now.numbers.items) (members_view members.old.entries)))) }
+{
+    put(
+        members,
+        alloc,
+        "calls",
+        numbers_value(alloc, &loss.numbers)?,
+    )?;
+    put(members, alloc, "hi", Value::from(loss.range.high))?;
+    put(members, alloc, "lo", Value::from(loss.range.low))
 }
 
 fn numbers_value(alloc: Global, numbers: &[usize]) -> Result<Value, AllocError>

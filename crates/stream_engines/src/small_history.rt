@@ -1,10 +1,10 @@
 // The calls of a group as a history by themselves: of few processes, at the places that are left when other calls go.
-ghost use Rattle.std.specs.Prelude.{◌≡◌, true, IfOk, IfSome, string_bytes};
+ghost use Rattle.std.specs.Prelude.{◌≡◌, true, IfOk, IfSome, string_bytes, slice_get};
 ghost use Rattle.orders.specs.Orders.{IsLinearizable};
 ghost use Rattle.stream_engines.specs.Answers.{IsSmallLine};
 
 use crate::alike::are_alike;
-use events::{Event, History, HistoryFault, Memory, Operation, PROCESSES};
+use events::{Call, Event, History, HistoryFault, Memory, Operation, PROCESSES, Response};
 use follow::Loss;
 use history_text::{MAX_TEXT, write_history};
 use outcomes::line_of;
@@ -17,14 +17,23 @@ pub fn small_line(alloc: Global, loss: &Loss) -> Result<String, Memory>
     ensures { (IsLinearizable loss.now.start.items loss.now.calls.items → ⊥)
         → IfOk result (λ text. IsSmallLine loss.now (string_bytes text)) }
 {
+    match small_history(alloc, loss)? {
+        Some(history) => line_of_alike(alloc, loss, &history),
+        None => Ok(String::new(alloc)),
+    }
+}
+
+/// The line of a history from the pairs of a group; nothing where its calls are not those of the group, or the text is too long.
+fn line_of_alike(alloc: Global, loss: &Loss, history: &History) -> Result<String, Memory>
+    requires { history.now.start ≡ loss.now.start.items }
+    ensures { (IsLinearizable loss.now.start.items loss.now.calls.items → ⊥)
+        → IfOk result (λ text. IsSmallLine loss.now (string_bytes text)) }
+{
     places_do_not_matter();
-    let Some(history) = small_history(alloc, loss)? else {
-        return Ok(String::new(alloc));
-    };
     if !are_alike(&loss.calls, history.calls()) {
         return Ok(String::new(alloc));
     }
-    let text = write_history(alloc, &history)?;
+    let text = write_history(alloc, history)?;
     if text.len() > MAX_TEXT {
         return Ok(String::new(alloc));
     }
@@ -35,10 +44,21 @@ pub fn small_line(alloc: Global, loss: &Loss) -> Result<String, Memory>
 fn small_history(alloc: Global, loss: &Loss) -> Result<Option<History>, Memory>
     ensures { IfOk result (λ found. IfSome found (λ history. history.start ≡ loss.now.start.items)) }
 {
-    let Some(events) = small_events(alloc, &loss.calls)? else {
-        return Ok(None);
-    };
-    let start = Vec::from_slice(alloc, &loss.start)?;
+    match small_events(alloc, &loss.calls)? {
+        Some(events) => history_from(alloc, &loss.start, events),
+        None => Ok(None),
+    }
+}
+
+/// The history of events from some pairs, where they make one.
+fn history_from(
+    alloc: Global,
+    start: &[(u64, u64)],
+    events: Vec<Event>,
+) -> Result<Option<History>, Memory>
+    ensures { IfOk result (λ found. IfSome found (λ history. history.start ≡ start.now)) }
+{
+    let start = Vec::from_slice(alloc, start)?;
     match History::with_start(alloc, start, events) {
         Ok(history) => Ok(Some(history)),
         Err(HistoryFault::Memory) => Err(Memory),
@@ -46,37 +66,94 @@ fn small_history(alloc: Global, loss: &Loss) -> Result<Option<History>, Memory>
     }
 }
 
+/// The events of calls so far, the process of each call, and the processes that are free, that which was free last behind. No clause
+/// speaks of them: whether the calls of the events are those that were given is tested.
+#[derive(Drop)]
+struct Seats {
+    free: Vec<u8>,
+    processes: Vec<u8>,
+    events: Vec<Event>,
+}
+
 /// The events of calls by rising invocation, in their order, each call by the process that was free last; none where too many
 /// overlap.
 fn small_events(alloc: Global, calls: &[Operation]) -> Result<Option<Vec<Event>>, Memory> {
-    let mut free = Vec::new(alloc);
-    for process in 0..PROCESSES {
-        free.push(PROCESSES - 1 - process)?;
+    let places = places_of(alloc, calls)?;
+    let mut seats = Seats {
+        free: Vec::new(alloc),
+        processes: Vec::new(alloc),
+        events: Vec::new(alloc),
+    };
+    if seat_all(alloc, &mut seats, calls, &places)? {
+        Ok(Some(seats.events))
+    } else {
+        Ok(None)
     }
-    let mut processes: Vec<u8> = Vec::new(alloc);
-    let mut events = Vec::new(alloc);
-    for (_, number) in &places_of(alloc, calls)? {
+}
+
+/// Gives each event of calls to a process, from where all are free. Answers whether there was one each time.
+fn seat_all(
+    alloc: Global,
+    seats: &mut Seats,
+    calls: &[Operation],
+    places: &[(usize, usize)],
+) -> Result<bool, Memory> {
+    for process in 0..PROCESSES {
+        seats.free.push(PROCESSES - 1 - process)?;
+    }
+    for (_, number) in places {
         let Some(call) = calls.get(*number) else {
-            return Ok(None);
+            return Ok(false);
         };
-        if let Some(process) = processes.get(*number) {
-            let Some(response) = &call.response else {
-                return Ok(None);
-            };
-            let reply = response.reply.copy(alloc)?;
-            let process = *process;
-            events.push(Event::Answer { process, reply })?;
-            free.push(process)?;
-        } else {
-            let Some(process) = free.pop() else {
-                return Ok(None);
-            };
-            processes.push(process)?;
-            let call = call.call;
-            events.push(Event::Invoke { process, call })?;
+        if !seat(alloc, seats, call, *number)? {
+            return Ok(false);
         }
     }
-    Ok(Some(events))
+    Ok(true)
+}
+
+/// Gives the next event of the call with this number to a process, where there is one.
+fn seat(alloc: Global, seats: &mut Seats, call: &Operation, number: usize) -> Result<bool, Memory> {
+    match process_at(&seats.processes, number) {
+        Some(process) => end_call(alloc, seats, process, &call.response),
+        None => begin_call(seats, call.call),
+    }
+}
+
+/// The process of the call with this number, where it has begun.
+fn process_at(processes: &[u8], number: usize) -> Option<u8>
+    ensures { result ≡ slice_get processes.now number }
+{
+    match processes.get(number) {
+        Some(process) => Some(*process),
+        None => None,
+    }
+}
+
+/// The answer of a call, by its process, which is free then.
+fn end_call(
+    alloc: Global,
+    seats: &mut Seats,
+    process: u8,
+    response: &Option<Response>,
+) -> Result<bool, Memory> {
+    let Some(response) = response else {
+        return Ok(false);
+    };
+    let reply = response.reply.copy(alloc)?;
+    seats.events.push(Event::Answer { process, reply })?;
+    seats.free.push(process)?;
+    Ok(true)
+}
+
+/// The invocation of a call, by the process that was free last.
+fn begin_call(seats: &mut Seats, call: Call) -> Result<bool, Memory> {
+    let Some(process) = seats.free.pop() else {
+        return Ok(false);
+    };
+    seats.processes.push(process)?;
+    seats.events.push(Event::Invoke { process, call })?;
+    Ok(true)
 }
 
 /// The places of the events of calls, in their order, each with the number of its call.

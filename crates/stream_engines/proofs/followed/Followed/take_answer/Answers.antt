@@ -2,13 +2,13 @@ use Rattle.std.proofs.Common.{[], ◌∷◌, ◌++◌, subst}
 use Rattle.events.specs.declared.event.Event.TheVariants.{Answer}
 use Rattle.followers.specs.declared.reason.Answered.{Answered}
 use Rattle.followers.specs.Outcomes.{IsAnswered}
-use Rattle.stream_engines.proofs.FollowedLemmas.{answered}
+use Rattle.stream_engines.proofs.FollowedLemmas.{answered, memory_alone}
 use Rattle.stream_engines.proofs.JudgedLemmas.{lost_at, spent_at, parts_refuted}
 use Rattle.stream_engines.proofs.RefusalLemmas.{refused_turn}
 use Rattle.stream_engines.proofs.followed.Followed.take_answer.Goals as goal
 
-pub returns-in-Ok-clause-taken : goal.returns-in-Ok-clause-taken
-returns-in-Ok-clause-taken c = λ read followed spelled.
+pub returns-in-Ok-Going-clause-taken : goal.returns-in-Ok-Going-clause-taken
+returns-in-Ok-Going-clause-taken c = λ read followed spelled.
     let line = c.args.line.now in
     let stream = followed.stream in
     let process = c.args.process in
@@ -16,9 +16,13 @@ returns-in-Ok-clause-taken c = λ read followed spelled.
     let taken = subst (λ (a : Answered). IsAnswered stream.start stream.events c.args.self.followers process reply c.args.budget a)
     c.in-Ok-Going.field-0-is
     (c.in-Ok-Going.ensures stream.start stream.events followed.follows) in
-    answered read line c.args.self c.in-Ok.followers process reply c.saturating_sub.result c.limit_behind-limit.result followed spelled
-    (c.in-Ok.ensures.follows stream.start (stream.events ++ Answer process reply ∷ []) taken.1)
-    c.saturating_sub.ensures
+    c.relieved.ensures.taken (read ++ line ∷ [])
+    (answered read line c.args.self c.in-Ok-Going.followers process reply c.saturating_sub.result c.args.self.limit followed spelled taken.1
+    c.saturating_sub.ensures)
+
+pub returns-in-Ok-Going-clause-stopped : goal.returns-in-Ok-Going-clause-stopped
+returns-in-Ok-Going-clause-stopped c = λ told read count followed spelled begins.
+    memory_alone c.args.budget told c.relieved.result c.relieved.ensures.stopped
 
 pub returns-in-Ok-Lost-clause-stopped : goal.returns-in-Ok-Lost-clause-stopped
 returns-in-Ok-Lost-clause-stopped c = λ told read count followed spelled begins.
