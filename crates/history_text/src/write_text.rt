@@ -1,16 +1,16 @@
 // From a history to its text.
-ghost use Rattle.std.specs.Prelude.{◌≡◌, ◌≤◌, ◌∷◌, map, codes, IfOk, string_bytes, string_len};
-ghost use Rattle.serde_json.specs.Data.{string};
-ghost use Rattle.serde_json.specs.View.{view};
+ghost use Rattle.std.specs.Prelude.{◌≡◌, ◌≤◌, [], ◌∷◌, map, codes, IfOk, OnOk, string_bytes, string_len};
+ghost use Rattle.serde_json.specs.Data.{string, object, no_members, put as with_member};
+ghost use Rattle.serde_json.specs.View.{view, members_view};
 ghost use Rattle.serde_json.specs.Written.{compact_text};
 ghost use Rattle.std.specs.List.{list_all};
 ghost use Rattle.events.specs.PlainHistories.{is_plain_event, is_plain};
 ghost use Rattle.history_text.specs.Texts.{number_data, list_data, pair_data, call_data, reply_data, event_data, history_data, Spells};
-ghost use Rattle.history_text.specs.ValueFaults.{object_of_two, object_of_three, invocation_data, response_data};
+ghost use Rattle.history_text.specs.ValueFaults.{invocation_data, response_data};
 ghost use Rattle.history_text.specs.Limits.{text_limit};
 
 use events::{Call, Event, History, Memory, Reply};
-use serde_json::{Value, json};
+use serde_json::{Map, Value, push, put};
 use std::alloc::{AllocError, Global};
 
 /// The text of a history in the compact form: no spaces, members by rising bytes, numbers in plain decimal. It is
@@ -30,28 +30,36 @@ pub fn write_history(alloc: Global, history: &History) -> Result<String, Memory>
 fn history_value(alloc: Global, history: &History) -> Result<Value, AllocError>
     ensures { IfOk result (λ value. view value ≡ history_data history.now) }
 {
-    let events = events_value(alloc, history.events())?;
+    let mut members = Map::new(alloc);
+    put_history(alloc, &mut members, history)?;
+    Ok(Value::Object(members))
+}
+
+/// Puts what is written of a history into an object without members.
+fn put_history(
+    alloc: Global,
+    members: &mut Map<String, Value>,
+    history: &History,
+) -> Result<(), AllocError>
+    requires { members.old.entries ≡ [] }
+    ensures { OnOk result (object (members_view members.new.entries) ≡ history_data history.now) }
+{
+    put(
+        members,
+        alloc,
+        "events",
+        events_value(alloc, history.events())?,
+    )?;
     if is_plain(history) {
-        return first_version(alloc, events);
+        return put(members, alloc, "version", Value::from(1u64));
     }
-    let start = pairs_value(alloc, history.start())?;
-    second_version(alloc, events, start)
-}
-
-/// The document of a history without a start, by the value of its events.
-fn first_version(alloc: Global, events: Value) -> Result<Value, AllocError>
-    ensures { IfOk result (λ value. view value
-        ≡ object_of_two (codes "events") (view events) (codes "version") (number_data 1)) }
-{
-    json!(in alloc; {"events": events, "version": 1u64})
-}
-
-/// The document of a history with a start, by the values of its events and of its start.
-fn second_version(alloc: Global, events: Value, start: Value) -> Result<Value, AllocError>
-    ensures { IfOk result (λ value. view value
-        ≡ object_of_three (codes "events") (view events) (codes "start") (view start) (codes "version") (number_data 2)) }
-{
-    json!(in alloc; {"events": events, "start": start, "version": 2u64})
+    put(
+        members,
+        alloc,
+        "start",
+        pairs_value(alloc, history.start())?,
+    )?;
+    put(members, alloc, "version", Value::from(2u64))
 }
 
 /// Whether a history has neither starting pairs nor a replace.
@@ -105,7 +113,7 @@ fn invocation_value(alloc: Global, process: u8, call: &Call) -> Result<Value, Al
         ≡ invocation_data (call_data call.now) (number_data process)) }
 {
     let call = call_value(alloc, call)?;
-    json!(in alloc; {"invoke": call, "process": process})
+    turn_value(alloc, "invoke", call, process)
 }
 
 fn response_value(alloc: Global, process: u8, reply: &Reply) -> Result<Value, AllocError>
@@ -113,7 +121,31 @@ fn response_value(alloc: Global, process: u8, reply: &Reply) -> Result<Value, Al
         ≡ response_data (reply_data reply.now) (number_data process)) }
 {
     let reply = reply_value(alloc, reply)?;
-    json!(in alloc; {"answer": reply, "process": process})
+    turn_value(alloc, "answer", reply, process)
+}
+
+/// The value of what a process did, under a name, with the number of the process.
+fn turn_value(alloc: Global, name: &str, done: Value, process: u8) -> Result<Value, AllocError>
+    ensures { IfOk result (λ value. view value
+        ≡ object (with_member (codes "process") (number_data process) (with_member name.now (view done) no_members))) }
+{
+    let mut members = Map::new(alloc);
+    put_turn(alloc, &mut members, name, done, process)?;
+    Ok(Value::Object(members))
+}
+
+fn put_turn(
+    alloc: Global,
+    members: &mut Map<String, Value>,
+    name: &str,
+    done: Value,
+    process: u8,
+) -> Result<(), AllocError>
+    ensures { OnOk result (members_view members.new.entries
+        ≡ with_member (codes "process") (number_data process) (with_member name.now (view done) (members_view members.old.entries))) }
+{
+    put(members, alloc, name, done)?;
+    put(members, alloc, "process", Value::from(process))
 }
 
 /// The JSON value of a call: an array of its name and its numbers.
@@ -168,5 +200,15 @@ pub fn pairs_value(alloc: Global, pairs: &[(u64, u64)]) -> Result<Value, AllocEr
 fn pair_value(alloc: Global, pair: (u64, u64)) -> Result<Value, AllocError>
     ensures { IfOk result (λ value. view value ≡ pair_data pair) }
 {
-    json!(in alloc; [pair.0, pair.1])
+    let mut items = Vec::new(alloc);
+    push_pair(&mut items, pair)?;
+    Ok(Value::from(items))
+}
+
+fn push_pair(items: &mut Vec<Value>, pair: (u64, u64)) -> Result<(), AllocError>
+    requires { items.old.items ≡ [] }
+    ensures { OnOk result (map view items.new.items ≡ number_data pair.0 ∷ number_data pair.1 ∷ []) }
+{
+    push(items, Value::from(pair.0))?;
+    push(items, Value::from(pair.1))
 }
