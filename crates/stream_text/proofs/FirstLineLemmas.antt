@@ -3,7 +3,7 @@ use Rattle.stream_text.specs.declared.line_fault.LineFault.TheVariants as faults
 use Rattle.stream_text.specs.declared.event.FirstLine.TheVariants as first
 use Rattle.events.specs.declared.event.Event.TheVariants as events
 use Rattle.std.proofs.Common.{◌≡◌, ◌≢◌, ℕ, ◌<◌, true, false, true≢false, List, [], ◌∷◌, ◌++◌, length, map, codes, get_or, inl, inr, subst}
-use Rattle.std.proofs.Common.{refl, sym, ap, ◌∙◌, arith}
+use Rattle.std.proofs.Common.{refl, sym, ap, ◌∙◌, arith, Result, Ok, Err, IfOk, IfErr}
 use Rattle.std.specs.Prelude.{◌⊎◌, All}
 use Rattle.std.proofs.lemmas.Bool.{lt-ltb}
 use Rattle.std.proofs.lemmas.List.Elements.{All-head, All-weaker}
@@ -19,13 +19,14 @@ use Rattle.history_text.specs.Texts.{number_data, list_data, pair_data, call_dat
 use Rattle.history_text.proofs.DataLemmas.{list_data_injective, first_names}
 use Rattle.history_text.proofs.TextLemmas.{pair_data_injective, pairs_injective}
 use Rattle.history_text.proofs.SplitLemmas.{GoesOnWith, SplitsAlike, item_at, two_splits}
-use Rattle.stream_text.specs.Lines.{as_event, start_object, start_line_data}
-use Rattle.stream_text.specs.LineFaults.{ShowsPairFault, IsStartFault, IsFirstFault}
+use Rattle.stream_text.specs.Lines.{as_event, start_object, start_line_data, IsLine, IsFirstOf, SpellsFirst}
+use Rattle.stream_text.specs.LineFaults.{ShowsPairFault, IsStartFault, IsFirstFault, IsFirstLineFault}
 use Rattle.stream_text.specs.LineLaws.{SpellsOneFirst, HasOneFirstFault, FaultySpellsNoFirst}
+use Rattle.stream_text.specs.declared.event.FirstLine.{FirstLine}
 use Rattle.stream_text.specs.declared.event.StreamEvent.{StreamEvent}
 use Rattle.stream_text.specs.declared.event.StreamEvent.TheVariants.{Invoke, Answer}
 use Rattle.stream_text.specs.declared.line_fault.LineFault.{LineFault}
-use Rattle.stream_text.proofs.LineLemmas.{one_line_value, one_event, one_fault_of_lines, value_fault, one_event_fault, no_event_fault}
+use Rattle.stream_text.proofs.LineLemmas.{one_line_value, one_event, one_fault_of_lines, value_fault, one_event_fault, no_event_fault, memory_alone}
 
 -- ---- pairs by rising key
 
@@ -187,3 +188,22 @@ no_first line f (first.Event e) h other spelled =
     by_value : IsFirstFault (event_data (as_event e)) f → ⊥
     by_value (inl a) = event_is_no_start (as_event e) a.0 a.1 a.2
     by_value (inr a) = no_event_fault false (as_event e) f a.1 other spelled.stands
+
+-- ---- what is read of a first line, by what is read of its value
+
+pub first_spelled : (line : List ℕ) (d : Data) (r : Result FirstLine LineFault) → IsLine line d → IfOk r (IsFirstOf d)
+    → IfOk r (SpellsFirst line)
+first_spelled line d (Ok (first.Start pairs)) is ok = record { value = subst (IsLine line) ok.0 is; rising = ok.1 }
+first_spelled line d (Ok (first.Event e)) is ok = record { value = subst (IsLine line) ok.0 is; stands = ok.1 }
+first_spelled line d (Err f) is ok = tt
+
+pub first_refused : (line : List ℕ) (d : Data) (r : Result FirstLine LineFault) → IsLine line d → IfErr r (IsFirstFault d)
+    → IfErr r (IsFirstLineFault line)
+first_refused line d (Ok found) is wrong = tt
+first_refused line d (Err f) is wrong = inr (d, is, wrong)
+
+-- what is refused spells nothing, unless memory ran out
+pub first_accepted : (line : List ℕ) (found : FirstLine) (r : Result FirstLine LineFault) → IfErr r (IsFirstLineFault line)
+    → SpellsFirst line found → IfErr r (λ f. f ≡ faults.Memory)
+first_accepted line found (Ok other) wrong spelled = tt
+first_accepted line found (Err f) wrong spelled = memory_alone f (λ other. no_first line f found wrong other spelled)

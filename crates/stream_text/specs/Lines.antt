@@ -1,5 +1,5 @@
 -- What a line of a stream spells: an event, or at the head of a stream the pairs that it starts with.
-use Rattle.std.specs.Prelude.{ℕ, ◌<◌, ◌≤◌, Bool, false, List, length, map, codes, IsTrue}
+use Rattle.std.specs.Prelude.{◌≡◌, ℕ, ◌<◌, ◌≤◌, Bool, false, List, length, map, codes, IsTrue}
 use Rattle.serde_json.specs.Data.{Data}
 use Rattle.events.specs.declared.event.Event.{Event}
 use Rattle.events.specs.declared.event.Event.TheVariants as events
@@ -47,6 +47,11 @@ start_line_data pairs = start_object (list_data (map pair_data pairs)) (number_d
 pub record SpellsStart (line : List ℕ) (pairs : List (ℕ × ℕ)) : Type 0 where
   pub value : IsLine line (start_line_data pairs)
   pub rising : KeysRise pairs
+
+-- the value of a first line is that of starting pairs by rising key, or of an event of a stream without
+abbrev pub IsFirstOf : Data → FirstLine → Type 0
+IsFirstOf d (first.Start pairs) = (d ≡ start_line_data pairs) × KeysRise pairs
+IsFirstOf d (first.Event e) = (d ≡ event_data (as_event e)) × MayStandIn false (as_event e)
 
 -- what the first line of a stream spells: starting pairs, or an event of a stream without
 abbrev pub SpellsFirst : List ℕ → FirstLine → Type 0

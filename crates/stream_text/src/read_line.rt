@@ -11,8 +11,8 @@ ghost use Rattle.stream_text.specs.declared.line_fault.LineFault.TheVariants as 
 ghost use Rattle.stream_text.specs.declared.event.FirstLine.{FirstLine};
 ghost use Rattle.stream_text.specs.LineLimits.{number_limit};
 ghost use Rattle.stream_text.specs.Lines.{as_event, start_object, start_line_data, IsLine};
-ghost use Rattle.stream_text.specs.Lines.{MayStandIn, SpellsEvent, SpellsFirst};
-ghost use Rattle.stream_text.specs.LineFaults.{IsByteFault, IsEventFault, IsStartFault, IsPairFault, IsEventLineFault, IsFirstLineFault};
+ghost use Rattle.stream_text.specs.Lines.{MayStandIn, IsFirstOf, SpellsEvent, SpellsFirst};
+ghost use Rattle.stream_text.specs.LineFaults.{IsByteFault, IsEventFault, IsStartFault, IsPairFault, IsFirstFault, IsEventLineFault, IsFirstLineFault};
 
 use crate::MAX_LINE;
 use crate::event::{FirstLine, StreamEvent};
@@ -46,11 +46,19 @@ pub fn read_first_line(alloc: Global, line: &[u8]) -> Result<FirstLine, LineFaul
     ensures accepted { (first : FirstLine) → SpellsFirst line.now first → IfErr result (λ fault. fault ≡ faults.Memory) }
 {
     let value = value_of(alloc, line)?;
-    if let Some((start, version)) = two_members(&value, "start", "version") {
+    first_of(alloc, &value)
+}
+
+/// What the value of a first line spells.
+fn first_of(alloc: Global, value: &Value) -> Result<FirstLine, LineFault>
+    ensures ok { IfOk result (IsFirstOf (view value.now)) }
+    ensures refused { IfErr result (IsFirstFault (view value.now)) }
+{
+    if let Some((start, version)) = two_members(value, "start", "version") {
         let pairs = start_of(alloc, start, version)?;
         return Ok(FirstLine::Start(Pairs::new(pairs)));
     }
-    Ok(FirstLine::Event(event_of(alloc, false, &value)?))
+    Ok(FirstLine::Event(event_of(alloc, false, value)?))
 }
 
 /// The JSON value of a line that is not too long.

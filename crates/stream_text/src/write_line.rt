@@ -1,6 +1,7 @@
 // From an event to its line.
-ghost use Rattle.std.specs.Prelude.{◌≡◌, ◌≤◌, Bool, IfOk, string_bytes, string_len};
-ghost use Rattle.serde_json.specs.View.{view};
+ghost use Rattle.std.specs.Prelude.{◌≡◌, ◌≤◌, Bool, IfOk, OnOk, codes, string_bytes, string_len};
+ghost use Rattle.serde_json.specs.Data.{object, no_members, put as with_member};
+ghost use Rattle.serde_json.specs.View.{view, members_view};
 ghost use Rattle.serde_json.specs.Written.{compact_text};
 ghost use Rattle.history_text.specs.Texts.{number_data, call_data, reply_data, event_data};
 ghost use Rattle.history_text.specs.ValueFaults.{invocation_data, response_data};
@@ -11,7 +12,7 @@ ghost use Rattle.stream_text.specs.Lines.{as_event, MayStandIn, SpellsEvent};
 use crate::event::StreamEvent;
 use events::{Call, Memory, Reply};
 use history_text::{call_value, reply_value};
-use serde_json::{Value, json};
+use serde_json::{Map, Value, put};
 use std::alloc::{AllocError, Global};
 
 /// The line of an event, in the compact form of a history's text and without a line feed: it spells this event in each stream in which
@@ -40,12 +41,36 @@ fn invocation_value(alloc: Global, process: u16, call: &Call) -> Result<Value, A
     ensures { IfOk result (λ value. view value ≡ invocation_data (call_data call.now) (number_data process)) }
 {
     let call = call_value(alloc, call)?;
-    json!(in alloc; {"invoke": call, "process": process})
+    turn_value(alloc, "invoke", call, process)
 }
 
 fn response_value(alloc: Global, process: u16, reply: &Reply) -> Result<Value, AllocError>
     ensures { IfOk result (λ value. view value ≡ response_data (reply_data reply.now) (number_data process)) }
 {
     let reply = reply_value(alloc, reply)?;
-    json!(in alloc; {"answer": reply, "process": process})
+    turn_value(alloc, "answer", reply, process)
+}
+
+/// The value of what a process did, under a name, with the number of the process.
+fn turn_value(alloc: Global, name: &str, done: Value, process: u16) -> Result<Value, AllocError>
+    ensures { IfOk result (λ value. view value
+        ≡ object (with_member (codes "process") (number_data process) (with_member name.now (view done) no_members))) }
+{
+    let mut members = Map::new(alloc);
+    put_turn(alloc, &mut members, name, done, process)?;
+    Ok(Value::Object(members))
+}
+
+fn put_turn(
+    alloc: Global,
+    members: &mut Map<String, Value>,
+    name: &str,
+    done: Value,
+    process: u16,
+) -> Result<(), AllocError>
+    ensures { OnOk result (members_view members.new.entries
+        ≡ with_member (codes "process") (number_data process) (with_member name.now (view done) (members_view members.old.entries))) }
+{
+    put(members, alloc, name, done)?;
+    put(members, alloc, "process", Value::from(process))
 }
