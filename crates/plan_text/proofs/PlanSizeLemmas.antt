@@ -15,7 +15,7 @@ use Rattle.events.specs.declared.event.Call.TheVariants.{Get, Insert, Remove, Sc
 use Rattle.history_text.specs.Limits.{text_limit}
 use Rattle.history_text.specs.Texts.{call_data}
 use Rattle.art_steps.specs.TreeCalls.{is_tree_call}
-use Rattle.plans.specs.Plans.{AreFew, AreTreeCalls, AreScripts}
+use Rattle.plans.specs.Plans.{AreTreeCalls, AreScripts}
 use Rattle.plan_text.specs.Scripts.{script_data}
 use Rattle.plan_text.specs.PlanTexts.{version_of, written_data, are_plain_scripts, plan_data}
 use Rattle.plan_text.proofs.WrittenPlanLemmas.{IsTreeCall}

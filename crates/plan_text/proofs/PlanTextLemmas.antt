@@ -1,6 +1,6 @@
 -- A text spells one plan only, and has one fault.
 use Rattle.plans.specs.declared.fault.PlanFault.TheVariants as faults
-use Rattle.std.proofs.Common.{◌≡◌, ◌≢◌, ℕ, Bool, List, map, Result, Ok, Err, OnErr, IfErr, refl, sym, ◌∙◌, subst}
+use Rattle.std.proofs.Common.{◌≡◌, ℕ, Bool, List, map, Result, Ok, Err, OnErr, IfErr, refl, sym, ◌∙◌, subst}
 use Rattle.serde_json.specs.Data.{Data}
 use Rattle.events.specs.declared.event.Call.{Call}
 use Rattle.history_text.specs.Texts.{call_data, IsJson}

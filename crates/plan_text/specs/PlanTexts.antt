@@ -1,5 +1,5 @@
 -- The text of a plan: JSON whose value is that of its scripts, in one of two versions.
-use Rattle.std.specs.Prelude.{◌≡◌, ℕ, Bool, true, false, not, List, map, codes, IsTrue}
+use Rattle.std.specs.Prelude.{◌≡◌, ℕ, Bool, true, false, not, List, codes, IsTrue}
 use Rattle.std.specs.List.{list_all}
 use Rattle.serde_json.specs.Data.{Data}
 use Rattle.events.specs.declared.event.Call.{Call}

@@ -1,11 +1,9 @@
 -- Replays: what is run, and by which schedule.
-use Rattle.std.specs.Prelude.{ℕ, ◌+◌, ◌≤◌, Bool, true, ◌&&◌, nat_le, IsTrue, List, length, map, sum, All}
+use Rattle.std.specs.Prelude.{ℕ, ◌≤◌, Bool, true, ◌&&◌, nat_le, IsTrue, List, length, All}
 use Rattle.events.specs.declared.event.Call.{Call}
-use Rattle.events.specs.declared.event.Call.TheVariants.{Insert}
-use Rattle.map_object.specs.MapObject.{Contents, IsRising}
+use Rattle.map_object.specs.MapObject.{Contents}
 use Rattle.art_rows.specs.declared.table.Shape.{Shape}
 use Rattle.art_steps.specs.declared.variant.Variant.{Variant}
-use Rattle.art_steps.specs.TreeCalls.{is_tree_call}
 use Rattle.art_core.specs.declared.item.Item.{Item}
 use Rattle.art_core.specs.declared.item.Item.TheVariants.{Turns, End, Until}
 use Rattle.art_core.specs.Starts.{IsStartOf}

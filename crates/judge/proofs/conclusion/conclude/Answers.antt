@@ -14,7 +14,7 @@ use Rattle.search.specs.declared.found.Found.{Found}
 use Rattle.search.specs.declared.found.Found.TheVariants.{NoOrder, Spent}
 use Rattle.search.specs.Exact.{IsExactAnswer}
 use Rattle.judge.specs.Answers.{IsFirstAt, orders_in}
-use Rattle.judge.specs.Exact.{IsOrderedOrSpent, IsExactYes, IsExactNo, IsExactUndecided}
+use Rattle.judge.specs.Exact.{IsOrderedOrSpent, IsExactNo, IsExactUndecided}
 use Rattle.judge.proofs.AnswerLemmas.{refuted_at, spent_at, unrefuted, all_ordered}
 use Rattle.judge.proofs.VerdictLemmas.{found_orders, shows_yes, shows_no, shows_undecided, All-here, All-above}
 use Rattle.judge.proofs.conclusion.conclude.Goals as goal

@@ -1,5 +1,4 @@
 -- The value at hand spells no script, so the values together spell no scripts.
-use Rattle.std.proofs.Common.{IfNone, subst}
 use Rattle.plan_text.specs.Scripts.{script_data, is_script}
 use Rattle.plan_text.proofs.AmongLemmas.{none_among}
 use Rattle.plan_text.proofs.read_scripts.scripts_among.Goals as goal

@@ -1,7 +1,6 @@
 -- A script with a replace is among them.
-use Rattle.std.proofs.Common.{◌≡◌, ◌∙◌, map, false, get_or, ap, sym}
+use Rattle.std.proofs.Common.{◌≡◌, ◌∙◌, false, get_or, ap, sym}
 use Rattle.std.proofs.lemmas.List.Folds.{list_all_at, list_all-map}
-use Rattle.events.specs.declared.event.Call.{Call}
 use Rattle.plan_text.specs.PlanTexts.{is_plain_script}
 use Rattle.plan_text.proofs.write_text.are_plain_scripts.Goals as goal
 
