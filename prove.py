@@ -4,8 +4,9 @@
     ./prove.py bench
 
 Each is proved once, by rt's own scheduler: first those with the longest chain above them, as many side by side as there are processors
-and memory. One with a much shorter chain waits for them. What an earlier run has built of the same files is kept, and rt's commands
-find it built: so a run that was interrupted goes on where it was.
+and memory. One with a much shorter chain waits for them. As rt ci does, it builds libraries of statements: what stands above loads what
+was proved of them, and not the proofs. What an earlier run has built of the same files is kept, and rt's commands find it built: so a
+run that was interrupted goes on where it was.
 """
 import copy
 import importlib.machinery
@@ -23,7 +24,9 @@ rt = importlib.machinery.SourceFileLoader("rt", os.path.realpath(shutil.which("r
 
 
 class Crate(rt.rtlib.Crate):
-    """A crate whose stamp, the sum of all that it is made from, reads each crate below once, and not once for each way down to it."""
+    """A crate that is built as a library of statements. These fit only such builds of the libraries below, where rt's own commands build a
+    library with its proofs, so one of those counts as not built here. Its stamp, the sum of all that it is made from, reads each crate
+    below once, and not once for each way down to it."""
 
     below_one = threading.local()
 
@@ -37,6 +40,31 @@ class Crate(rt.rtlib.Crate):
         finally:
             if is_outermost:
                 del self.below_one.stamps
+
+    def marks(self):
+        """The files that say of what the library is built: rt's own, and the one that says that it is of statements."""
+        return [f"{os.path.dirname(self.rlib)}/{name}" for name in ("stamp", "statements")]
+
+    def mark(self):
+        stamp = self.stamp()
+        for file in self.marks():
+            with open(file, "w", encoding="utf-8") as it:
+                it.write(stamp)
+
+    def is_built(self):
+        stamp = self.stamp()
+        return os.path.isdir(self.rlib) and all(rt.rtlib.text_of(file) == stamp for file in self.marks())
+
+    def build(self, jobs):
+        """Proves and builds it above libraries that are built, and returns whether it is."""
+        stamp, folder = self.stamp(), os.path.dirname(self.rlib)
+        shutil.rmtree(folder, ignore_errors=True)
+        os.makedirs(folder)
+        words = self.words(["--jobs", str(jobs), "--statements"], keeps=False)
+        if self.call(rt.rtlib.RATTLE, "build", *words, "-o", self.rlib) or self.stamp() != stamp:
+            return False
+        self.mark()
+        return True
 
 
 class Progress:
@@ -61,7 +89,7 @@ def build(crate, jobs, progress):
     """Proves and builds a library above those that are built. Returns whether it is; why not goes to standard error."""
     crate = copy.copy(crate)
     with tempfile.TemporaryFile("w+", errors="replace") as crate.out:
-        is_built = crate.build_rlib(["--jobs", str(jobs)], anew=False) == 0
+        is_built = crate.build(jobs)
         crate.out.seek(0)
         if is_built:
             progress.proved(crate)
