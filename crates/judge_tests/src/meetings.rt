@@ -4,6 +4,7 @@ ghost use Rattle.std.specs.Prelude.{◌≤◌};
 use crate::gates::{Rounds, Visits};
 use crate::worked::inserts;
 use cutter::cut;
+use events::History;
 use history_text::read_history;
 use judge::{Verdict, judge, judge_text};
 use locating::{Location, locate};
@@ -25,14 +26,66 @@ fn met_behind<R: Threads + Sync + Abort>(
 {
     let gate = Rounds::of(u64::from(workers));
     let text = inserts(alloc, segments)?;
-    let history = read_history(alloc, text.as_bytes())?;
-    search_all(rt, alloc, &cut(alloc, &history)?, 1000, workers, &gate)?;
-    let judged = judge(rt, alloc, &history, 1000, workers, &gate)?;
-    assert!(rt; matches!(judged, Verdict::Yes(_)));
-    assert!(rt; judge_text(rt, alloc, text.as_bytes(), 1000, workers, &gate).is_ok());
-    let located = locate(rt, alloc, &history, 1000, workers, &gate)?;
-    assert!(rt; matches!(located, Location::Yes));
+    pass(rt, alloc, text.as_bytes(), workers, &gate)?;
     Ok(gate.met())
+}
+
+fn pass<R: Threads + Sync + Abort>(
+    rt: &R,
+    alloc: Global,
+    text: &[u8],
+    workers: u32,
+    gate: &Rounds,
+) -> Result<(), Fail>
+    requires { (1 ≤ workers) × (workers ≤ MAX_WORKERS) }
+{
+    let history = read_history(alloc, text)?;
+    search_segments(rt, alloc, &history, workers, gate)?;
+    judge_history(rt, alloc, &history, workers, gate)?;
+    assert!(rt; judge_text(rt, alloc, text, 1000, workers, gate).is_ok());
+    locate_nothing(rt, alloc, &history, workers, gate)
+}
+
+fn search_segments<R: Threads + Sync>(
+    rt: &R,
+    alloc: Global,
+    history: &History,
+    workers: u32,
+    gate: &Rounds,
+) -> Result<(), Fail>
+    requires { (1 ≤ workers) × (workers ≤ MAX_WORKERS) }
+{
+    let segments = cut(alloc, history)?;
+    search_all(rt, alloc, &segments, 1000, workers, gate)?;
+    Ok(())
+}
+
+fn judge_history<R: Threads + Sync + Abort>(
+    rt: &R,
+    alloc: Global,
+    history: &History,
+    workers: u32,
+    gate: &Rounds,
+) -> Result<(), Fail>
+    requires { (1 ≤ workers) × (workers ≤ MAX_WORKERS) }
+{
+    let judged = judge(rt, alloc, history, 1000, workers, gate)?;
+    assert!(rt; matches!(judged, Verdict::Yes(_)));
+    Ok(())
+}
+
+fn locate_nothing<R: Threads + Sync + Abort>(
+    rt: &R,
+    alloc: Global,
+    history: &History,
+    workers: u32,
+    gate: &Rounds,
+) -> Result<(), Fail>
+    requires { (1 ≤ workers) × (workers ≤ MAX_WORKERS) }
+{
+    let located = locate(rt, alloc, history, 1000, workers, gate)?;
+    assert!(rt; matches!(located, Location::Yes));
+    Ok(())
 }
 
 #[test]
@@ -61,13 +114,35 @@ const LOST_AT_LAST: &[u8] = br#"{"events":[
 
 #[test]
 fn two_workers_meet_at_each_verdict_that_locates(rt: HostRuntime) -> Result<(), Fail> {
-    let alloc = rt.alloc();
-    let history = read_history(alloc, LOST_AT_LAST)?;
-    let (gate, visits) = (Rounds::of(2), Visits::at(alloc, 2)?);
-    let found = locate(&rt, alloc, &history, 1000, 2, &gate)?;
-    assert!(rt; matches!(found, Location::No { call: 3, event: 7 }));
-    assert_eq!(rt; gate.met(), 8, "two workers at each of four verdicts");
-    locate(&rt, alloc, &history, 1000, 2, &visits)?;
-    assert_eq!(rt; visits.fewest_and_most(), (4, 4));
+    let history = read_history(rt.alloc(), LOST_AT_LAST)?;
+    assert_eq!(rt;
+        met_at_last(&rt, rt.alloc(), &history)?,
+        8,
+        "two workers at each of four verdicts"
+    );
+    assert_eq!(rt; visits_until_last(&rt, rt.alloc(), &history)?, (4, 4));
     Ok(())
+}
+
+/// How many times two workers met until it was located where a history goes wrong that does so at its last event.
+fn met_at_last<R: Threads + Sync + Abort>(
+    rt: &R,
+    alloc: Global,
+    history: &History,
+) -> Result<u64, Fail> {
+    let gate = Rounds::of(2);
+    let found = locate(rt, alloc, history, 1000, 2, &gate)?;
+    assert!(rt; matches!(found, Location::No { call: 3, event: 7 }));
+    Ok(gate.met())
+}
+
+/// The fewest and the most visits at one of two segments until two workers have located where a history goes wrong.
+fn visits_until_last<R: Threads + Sync>(
+    rt: &R,
+    alloc: Global,
+    history: &History,
+) -> Result<(u64, u64), Fail> {
+    let visits = Visits::at(alloc, 2)?;
+    locate(rt, alloc, history, 1000, 2, &visits)?;
+    Ok(visits.fewest_and_most())
 }

@@ -4,67 +4,107 @@ ghost use Rattle.std.specs.Prelude.{◌≤◌};
 use crate::gates::Visits;
 use crate::worked::{THREE_KEYS, TWO_KEYS, gets, inserts};
 use cutter::cut;
-use events::{History, MAX_CALLS};
+use events::{History, MAX_CALLS, Memory};
 use history_text::read_history;
 use judge::{MAX_BUDGET, judge_alone, report};
 use locating::{MAX_JUDGEMENTS, locate};
-use pool::{OpenGate, search_all, search_alone};
+use pool::{MAX_WORKERS, OpenGate, search_all, search_alone};
 use search::Found;
+use segments::Segment;
 use std::alloc::Global;
+use std::process::Abort;
 use std::test::Fail;
 use std::thread::Threads;
 
-/// The report of one thread's verdict.
-fn alone(alloc: Global, text: &[u8], budget: u32) -> Result<String, Fail>
+/// Whether the report of one thread's verdict on a text is this.
+fn is_judged(alloc: Global, text: &[u8], budget: u32, want: &str) -> Result<bool, Fail>
     requires { (1 ≤ budget) × (budget ≤ MAX_BUDGET) }
 {
-    let verdict = judge_alone(alloc, &read_history(alloc, text)?, budget)?;
-    Ok(report(alloc, &verdict)?)
+    let history = read_history(alloc, text)?;
+    let line = reported(alloc, &history, budget)?;
+    Ok(line.as_str() == want)
+}
+
+fn reported(alloc: Global, history: &History, budget: u32) -> Result<String, Memory>
+    requires { (1 ≤ budget) × (budget ≤ MAX_BUDGET) }
+{
+    let verdict = judge_alone(alloc, history, budget)?;
+    report(alloc, &verdict)
 }
 
 #[test]
 fn histories_are_judged_by_one_thread(rt: HostRuntime) -> Result<(), Fail> {
-    let alloc = rt.alloc();
-    let yes = alone(alloc, TWO_KEYS, 1000)?;
-    assert!(rt; yes.as_str() == r#"{"order":[1,0,2],"verdict":"yes"}"#);
+    let yes = r#"{"order":[1,0,2],"verdict":"yes"}"#;
+    assert!(rt; is_judged(rt.alloc(), TWO_KEYS, 1000, yes)?);
     // The later no decides where the segment before it is spent.
-    let no = alone(alloc, THREE_KEYS, 3)?;
-    assert!(rt; no.as_str() == r#"{"calls":[2],"hi":9,"lo":9,"verdict":"no"}"#);
-    let undecided = alone(alloc, TWO_KEYS, 3)?;
-    assert!(rt; undecided.as_str() == r#"{"calls":[0,1],"hi":1,"lo":1,"verdict":"undecided"}"#);
+    let no = r#"{"calls":[2],"hi":9,"lo":9,"verdict":"no"}"#;
+    assert!(rt; is_judged(rt.alloc(), THREE_KEYS, 3, no)?);
+    let undecided = r#"{"calls":[0,1],"hi":1,"lo":1,"verdict":"undecided"}"#;
+    assert!(rt; is_judged(rt.alloc(), TWO_KEYS, 3, undecided)?);
     Ok(())
 }
 
 #[test]
 fn equal_answers_for_every_number_of_workers(rt: HostRuntime) -> Result<(), Fail> {
-    let alloc = rt.alloc();
-    let segments = cut(alloc, &read_history(alloc, THREE_KEYS)?)?;
-    let want = [
-        Found::Spent,
-        Found::NoOrder,
-        Found::Order(Vec::from_slice(alloc, &[3])?),
-    ];
+    let segments = segments_of(rt.alloc(), THREE_KEYS)?;
     for workers in [1, 2, 4, 64] {
-        let found = search_all(&rt, alloc, &segments, 3, workers, &OpenGate)?;
-        assert!(rt; found.as_slice() == want.as_slice(), "{workers} workers");
+        let found = search_all(&rt, rt.alloc(), &segments, 3, workers, &OpenGate)?;
+        assert!(rt; are_spent_none_and_third(&found), "{workers} workers");
     }
     Ok(())
 }
 
+fn segments_of(alloc: Global, text: &[u8]) -> Result<Vec<Segment>, Fail> {
+    let history = read_history(alloc, text)?;
+    Ok(cut(alloc, &history)?)
+}
+
+/// Whether the first of three segments was spent, the second has no order, and the third that of call 3.
+fn are_spent_none_and_third(found: &[Found]) -> bool {
+    match found {
+        [Found::Spent, Found::NoOrder, Found::Order(order)] => order.as_slice() == [3].as_slice(),
+        _ => false,
+    }
+}
+
 #[test]
 fn each_segment_is_entered_once(rt: HostRuntime) -> Result<(), Fail> {
-    let alloc = rt.alloc();
-    let history = read_history(alloc, inserts(alloc, 4096)?.as_bytes())?;
-    let segments = cut(alloc, &history)?;
-    let alone = Visits::at(alloc, 4096)?;
-    assert!(rt; search_alone(alloc, &segments, 1000, &alone)?.len() == MAX_CALLS);
-    assert!(rt; alone.fewest_and_most() == (1, 1));
+    let text = inserts(rt.alloc(), 4096)?;
+    let segments = segments_of(rt.alloc(), text.as_bytes())?;
+    assert_eq!(rt; entered_alone(&rt, rt.alloc(), &segments)?, (1, 1));
     for workers in [1, 2, 64] {
-        let visits = Visits::at(alloc, 4096)?;
-        assert!(rt; search_all(&rt, alloc, &segments, 1000, workers, &visits)?.len() == MAX_CALLS);
-        assert!(rt; visits.fewest_and_most() == (1, 1), "{workers} workers");
+        assert_eq!(rt;
+            entered(&rt, rt.alloc(), &segments, workers)?,
+            (1, 1),
+            "{workers} workers"
+        );
     }
     Ok(())
+}
+
+/// The fewest and the most times that a segment of so many as there may be is entered by one thread.
+fn entered_alone<R: Abort>(
+    rt: &R,
+    alloc: Global,
+    segments: &[Segment],
+) -> Result<(u64, u64), Fail> {
+    let visits = Visits::at(alloc, 4096)?;
+    assert!(rt; search_alone(alloc, segments, 1000, &visits)?.len() == MAX_CALLS);
+    Ok(visits.fewest_and_most())
+}
+
+/// The same by so many workers.
+fn entered<R: Threads + Sync + Abort>(
+    rt: &R,
+    alloc: Global,
+    segments: &[Segment],
+    workers: u32,
+) -> Result<(u64, u64), Fail>
+    requires { (1 ≤ workers) × (workers ≤ MAX_WORKERS) }
+{
+    let visits = Visits::at(alloc, 4096)?;
+    assert!(rt; search_all(rt, alloc, segments, 1000, workers, &visits)?.len() == MAX_CALLS);
+    Ok(visits.fewest_and_most())
 }
 
 /// How many verdicts one worker asks for to locate where gets go wrong, of which this one is wrong: each is one visit, as all gets are
