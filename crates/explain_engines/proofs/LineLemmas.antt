@@ -1,5 +1,5 @@
 -- The line of a history with some calls.
-use Rattle.std.proofs.Common.{◌≡◌, ℕ, ◌≤◌, List, ◌++◌, length, ap, ◌∙◌, subst, inr, arith}
+use Rattle.std.proofs.Common.{◌≡◌, ℕ, ◌≤◌, List, ◌++◌, length, ap, ◌∙◌, inr, arith}
 use Rattle.std.proofs.Common.{⊎_elim}
 use Rattle.serde_json.specs.Written.{compact_text}
 use Rattle.events.specs.declared.event.Event.{Event}
@@ -13,7 +13,7 @@ use Rattle.explaining.specs.declared.explanation.Explanation.{Explanation}
 use Rattle.explaining.specs.Explained.{IsExplanation}
 use Rattle.explain_engines.specs.Fronts.{front_data}
 use Rattle.explain_engines.specs.Reports.{rows}
-use Rattle.explain_engines.specs.Answers.{IsHistoryWith, IsFrontOfText, AreHistoryLines, AreDetailsOf}
+use Rattle.explain_engines.specs.Answers.{IsHistoryWith, IsFrontOfText, IsToldFront, AreHistoryLines, AreDetailsOf}
 
 history_from : (loss : Loss) (text : List ℕ) → IsSmallHistory loss text → IsHistoryWith loss.start.items loss.calls.items text
 history_from loss text h = record {
@@ -25,22 +25,33 @@ history_from loss text h = record {
   refuted = h.refuted;
 }
 
--- where the pairs are those of a loss: its line, and that of a front of its calls
-pub two_lines : (budget : ℕ) (start : Contents) (loss : Loss) (bytes told all front : List ℕ) → loss.start.items ≡ start
-    → 1 ≤ length bytes → IsSmallLine loss bytes
-    → ((text : List ℕ) (m : Contents) (calls : List Operation) → bytes ≡ line text → IsHistoryWith m calls text
-    → IsFrontOfText budget text front)
-    → told ≡ line (compact_text (front_data start loss.calls.items front)) → all ≡ bytes ++ told
-    → AreHistoryLines budget start loss.calls.items all
-two_lines budget start loss bytes told all front is some small fronts told_is all_is = ⊎_elim
+-- the line of a front of the calls of a history, told of pairs, calls and numbers that are those
+pub told_from : (budget : ℕ) (start : Contents) (calls : List Operation) (bytes front : List ℕ) (m : Contents) (named : List Operation)
+    (numbers told : List ℕ) → m ≡ start → named ≡ calls → numbers ≡ front
+    → ((text : List ℕ) (m : Contents) (l : List Operation) → bytes ≡ line text → IsHistoryWith m l text → IsFrontOfText budget text front)
+    → told ≡ line (compact_text (front_data m named numbers)) → IsToldFront budget start calls bytes told
+told_from budget start calls bytes front m named numbers told m_is named_is numbers_is fronts told_is = (
+  front,
+  (λ text line_is shown. fronts text start calls line_is shown),
+  told_is
+  ∙ (ap (λ (m : Contents). line (compact_text (front_data m named numbers))) m_is
+  ∙ (ap (λ (l : List Operation). line (compact_text (front_data start l numbers))) named_is
+  ∙ ap (λ (l : List ℕ). line (compact_text (front_data start calls l))) numbers_is)),
+)
+
+-- the line of a history with the calls of a loss, and behind it that of a front of these
+pub two_lines : (budget : ℕ) (loss : Loss) (bytes told all : List ℕ) → 1 ≤ length bytes → IsSmallLine loss bytes
+    → IsToldFront budget loss.start.items loss.calls.items bytes told → all ≡ bytes ++ told
+    → AreHistoryLines budget loss.start.items loss.calls.items all
+two_lines budget loss bytes told all some small (front, fronts, told_is) all_is = ⊎_elim
     (λ none. absurd (omega (arith, ap length none)))
     (λ shown.
-    let history = subst (λ (m : Contents). IsHistoryWith m loss.calls.items shown.0) is (history_from loss shown.0 shown.2) in
+    let history = history_from loss shown.0 shown.2 in
     inr (record {
       text = shown.0;
       front = front;
       is_history = history;
-      is_front = fronts shown.0 start loss.calls.items shown.1 history;
+      is_front = fronts shown.0 shown.1 history;
       bytes_are = all_is ∙ (ap (λ (l : List ℕ). l ++ told) shown.1 ∙ ap (λ (l : List ℕ). line shown.0 ++ l) told_is);
     }))
     small

@@ -44,6 +44,12 @@ pub record IsFrontOfText (budget : ℕ) (text : List ℕ) (front : List ℕ) : T
   pub whole : IsWholeSegment history.start (operations history.events) segment
   pub longest : IsLongestFront budget segment front
 
+-- a line, of the longest front of the history with these calls that other bytes are the line of
+abbrev pub IsToldFront : ℕ → Contents → List Operation → List ℕ → List ℕ → Type 0
+IsToldFront budget start calls bytes told =
+    (front : List ℕ) × ((text : List ℕ) → bytes ≡ line text → IsHistoryWith start calls text → IsFrontOfText budget text front)
+    × (told ≡ line (compact_text (front_data start calls front)))
+
 -- the line of a history with these calls, and that of its longest front, with what it leaves and which calls would come next
 pub record AreTwoLines (budget : ℕ) (start : Contents) (calls : List Operation) (bytes : List ℕ) : Type 0 where
   pub text : List ℕ

@@ -41,14 +41,11 @@ answers_data a reply =
 abbrev pub stuck_data : Contents → Operation → Data
 stuck_data m a = answers_data a (reply_to m a.call)
 
-abbrev pub members_data : Data → Data → Data → Data
-members_data front holds next =
-    object (member (codes "front") front (member (codes "holds") holds (member (codes "next") next no_members)))
-
 -- calls taken, the pairs that the map then holds, and the calls that would come next
 abbrev pub taken_data : List Operation → Contents → List Operation → Data
 taken_data taken m next =
-    members_data (list_data (map event_data taken)) (list_data (map pair_data m)) (list_data (map (stuck_data m) next))
+    object (member (codes "front") (list_data (map event_data taken)) (member (codes "holds") (list_data (map pair_data m))
+    (member (codes "next") (list_data (map (stuck_data m) next)) no_members)))
 
 -- the calls with these numbers, from some pairs on
 abbrev pub front_data : Contents → List Operation → List ℕ → Data

@@ -1,13 +1,14 @@
 // How far an order of few calls gets, and what stands in its way.
-ghost use Rattle.std.specs.Prelude.{◌≡◌, map, IfOk, string_bytes, slice_get};
-ghost use Rattle.serde_json.specs.View.{view};
+ghost use Rattle.std.specs.Prelude.{◌≡◌, [], map, IfOk, OnOk, string_bytes, slice_get};
+ghost use Rattle.serde_json.specs.Data.{object};
+ghost use Rattle.serde_json.specs.View.{view, members_view};
 ghost use Rattle.serde_json.specs.Written.{compact_text};
 ghost use Rattle.events.specs.Precedence.{precedes};
 ghost use Rattle.history_text.specs.Texts.{list_data};
 ghost use Rattle.map_object.specs.MapObject.{IsRising, reply_to};
 ghost use Rattle.orders.specs.Orders.{calls_at, after_calls};
 ghost use Rattle.outcomes.specs.Lines.{line};
-ghost use Rattle.explain_engines.specs.Fronts.{front_data, taken_data, members_data, event_data, answers_data, stuck_data};
+ghost use Rattle.explain_engines.specs.Fronts.{front_data, taken_data, event_data, answers_data, stuck_data};
 ghost use Rattle.explain_engines.specs.Fronts.{is_taken, is_preceded, left_by, unpreceded, next_of};
 
 use crate::reports::answer_value;
@@ -16,7 +17,7 @@ use history_text::{pairs_value, reply_value};
 use map_object::SortedMap;
 use orders::apply;
 use outcomes::line_of;
-use serde_json::{Value, json};
+use serde_json::{Map, Value, put};
 use std::alloc::{AllocError, Global};
 
 /// The line of a front of few calls from some pairs: the calls, the pairs that they leave, and the calls that would come next.
@@ -167,21 +168,26 @@ fn taken_value(
 ) -> Result<Value, Memory>
     ensures { IfOk result (λ value. view value ≡ taken_data taken.now held.now next.now) }
 {
-    let front = events_value(alloc, taken)?;
-    let holds = pairs_value(alloc, held.pairs())?;
-    let stuck = all_stuck(alloc, held, next)?;
-    Ok(members_value(alloc, front, holds, stuck)?)
+    let mut members = Map::new(alloc);
+    put_taken(alloc, &mut members, taken, held, next)?;
+    Ok(Value::Object(members))
 }
 
-fn members_value(
+/// Puts calls taken, the pairs that the map then holds, and the calls that would come next, into an object without members.
+fn put_taken(
     alloc: Global,
-    front: Value,
-    holds: Value,
-    next: Value,
-) -> Result<Value, AllocError>
-    ensures { IfOk result (λ value. view value ≡ members_data (view front) (view holds) (view next)) }
+    members: &mut Map<String, Value>,
+    taken: &[Operation],
+    held: &SortedMap,
+    next: &[Operation],
+) -> Result<(), Memory>
+    requires { members.old.entries ≡ [] }
+    ensures { OnOk result (object (members_view members.new.entries) ≡ taken_data taken.now held.now next.now) }
 {
-    json!(in alloc; {"front": front, "holds": holds, "next": next})
+    put(members, alloc, "front", events_value(alloc, taken)?)?;
+    put(members, alloc, "holds", pairs_value(alloc, held.pairs())?)?;
+    put(members, alloc, "next", all_stuck(alloc, held, next)?)?;
+    Ok(())
 }
 
 /// The events of calls.
@@ -224,8 +230,27 @@ fn reply_to(alloc: Global, held: &SortedMap, call: &Call) -> Result<Reply, Memor
 fn answers_value(alloc: Global, call: &Operation, would: &Reply) -> Result<Value, AllocError>
     ensures { IfOk result (λ value. view value ≡ answers_data call.now would.now) }
 {
-    let answer = answer_value(alloc, &call.response)?;
-    let reply = reply_value(alloc, would)?;
-    let event = call.inv;
-    json!(in alloc; {"answer": answer, "event": event, "would": reply})
+    let mut members = Map::new(alloc);
+    put_answers(alloc, &mut members, call, would)?;
+    Ok(Value::Object(members))
+}
+
+/// Puts the event of a call, what it was answered, and what it would be, into an object without members.
+fn put_answers(
+    alloc: Global,
+    members: &mut Map<String, Value>,
+    call: &Operation,
+    would: &Reply,
+) -> Result<(), AllocError>
+    requires { members.old.entries ≡ [] }
+    ensures { OnOk result (object (members_view members.new.entries) ≡ answers_data call.now would.now) }
+{
+    put(
+        members,
+        alloc,
+        "answer",
+        answer_value(alloc, &call.response)?,
+    )?;
+    put(members, alloc, "event", Value::from(call.inv))?;
+    put(members, alloc, "would", reply_value(alloc, would)?)
 }

@@ -1,14 +1,17 @@
 // The lines of an explanation.
-ghost use Rattle.std.specs.Prelude.{◌≡◌, ℕ, ◌≤◌, List, length, IfOk, string_bytes};
-ghost use Rattle.serde_json.specs.View.{view};
+ghost use Rattle.std.specs.Prelude.{◌≡◌, ℕ, ◌≤◌, List, [], length, IfOk, OnOk, codes, string_bytes};
+ghost use Rattle.serde_json.specs.Data.{object, put as with_member};
+ghost use Rattle.serde_json.specs.View.{view, members_view};
 ghost use Rattle.serde_json.specs.Written.{compact_text};
 ghost use Rattle.events.specs.Events.{process_of};
-ghost use Rattle.map_object.specs.MapObject.{Contents};
+ghost use Rattle.history_text.specs.Texts.{number_data, call_data};
+ghost use Rattle.map_object.specs.MapObject.{Contents, IsRising};
 ghost use Rattle.search.specs.Limits.{budget_limit};
 ghost use Rattle.outcomes.specs.Lines.{line};
 ghost use Rattle.explaining.specs.Explained.{IsExplanation};
 ghost use Rattle.orders.specs.Orders.{IsLinearizable};
-ghost use Rattle.explain_engines.specs.Answers.{AreDetailsOf, AreHistoryLines, IsHistoryWith, IsFrontOfText};
+ghost use Rattle.stream_engines.specs.Answers.{IsSmallLine};
+ghost use Rattle.explain_engines.specs.Answers.{AreDetailsOf, AreHistoryLines, IsHistoryWith, IsFrontOfText, IsToldFront};
 ghost use Rattle.explain_engines.specs.Reports.{answer_data, process_at, reason_word, row_data, rows};
 
 use crate::fronts::front_line;
@@ -20,7 +23,7 @@ use history_text::{call_value, one_history, read_history, reply_value};
 use outcomes::line_of;
 use search::longest_front;
 use segments::Segment;
-use serde_json::{Value, json};
+use serde_json::{Map, Value, put};
 use std::alloc::{AllocError, Global};
 use stream_engines::small_line;
 
@@ -66,14 +69,51 @@ fn history_lines(
         start,
         calls,
     };
-    let mut lines = small_line(alloc, &loss)?;
-    if lines.is_empty() {
-        return Ok(lines);
+    loss_lines(alloc, &loss, budget)
+}
+
+/// The line of a history with the calls of a loss, and that of a front of these; nothing where they fit no history.
+fn loss_lines(alloc: Global, loss: &Loss, budget: u32) -> Result<String, Memory>
+    requires rising { IsRising loss.now.start.items }
+    requires budget { (1 ≤ budget) × (budget ≤ budget_limit) }
+    ensures { (IsLinearizable loss.now.start.items loss.now.calls.items → ⊥)
+        → IfOk result (λ text. AreHistoryLines budget loss.now.start.items loss.now.calls.items (string_bytes text)) }
+{
+    let small = small_line(alloc, loss)?;
+    if small.is_empty() {
+        return Ok(small);
     }
-    let front = front_of(alloc, lines.as_bytes(), budget)?;
-    let told = front_line(alloc, segment.start(), &loss.calls, &front)?;
+    with_front_line(alloc, small, loss, budget)
+}
+
+/// The line of a history with the calls of a loss, and behind it that of a front of these.
+fn with_front_line(
+    alloc: Global,
+    small: String,
+    loss: &Loss,
+    budget: u32,
+) -> Result<String, Memory>
+    requires some { 1 ≤ length (string_bytes small) }
+    requires rising { IsRising loss.now.start.items }
+    requires budget { (1 ≤ budget) × (budget ≤ budget_limit) }
+    ensures { IsSmallLine loss.now (string_bytes small)
+        → IfOk result (λ text. AreHistoryLines budget loss.now.start.items loss.now.calls.items (string_bytes text)) }
+{
+    let mut lines = small;
+    let told = told_front(alloc, lines.as_bytes(), loss, budget)?;
     lines.push_str(told.as_str())?;
     Ok(lines)
+}
+
+/// The line of the longest front that a search of the history on a line meets, which is one with the calls of a loss.
+fn told_front(alloc: Global, bytes: &[u8], loss: &Loss, budget: u32) -> Result<String, Memory>
+    requires some { 1 ≤ length bytes.now }
+    requires rising { IsRising loss.now.start.items }
+    requires budget { (1 ≤ budget) × (budget ≤ budget_limit) }
+    ensures { IfOk result (λ told. IsToldFront budget loss.now.start.items loss.now.calls.items bytes.now (string_bytes told)) }
+{
+    let front = front_of(alloc, bytes, budget)?;
+    front_line(alloc, &loss.start, &loss.calls, &front)
 }
 
 /// The longest front that a search of all calls of the history on a line meets.
@@ -143,18 +183,51 @@ fn row_value(
 ) -> Result<Value, AllocError>
     ensures { IfOk result (λ value. view value ≡ row_data events.now call.now reason.now) }
 {
-    let answer = answer_value(alloc, &call.response)?;
-    let asked = call_value(alloc, &call.call)?;
-    let event = call.inv;
-    let process = process_at(events, event);
-    let word = reason_word(reason);
-    json!(in alloc; {
-        "answer": answer,
-        "call": asked,
-        "event": event,
-        "process": process,
-        "reason": word
-    })
+    let mut members = Map::new(alloc);
+    put_row(alloc, &mut members, events, call, reason)?;
+    Ok(Value::Object(members))
+}
+
+/// Puts what is told of a call that is kept into an object without members.
+fn put_row(
+    alloc: Global,
+    members: &mut Map<String, Value>,
+    events: &[Event],
+    call: &Operation,
+    reason: &Reason,
+) -> Result<(), AllocError>
+    requires { members.old.entries ≡ [] }
+    ensures { OnOk result (object (members_view members.new.entries) ≡ row_data events.now call.now reason.now) }
+{
+    put_call(alloc, members, call)?;
+    let process = process_at(events, call.inv);
+    put(members, alloc, "process", Value::from(process))?;
+    put(
+        members,
+        alloc,
+        "reason",
+        Value::try_from_str(alloc, reason_word(reason))?,
+    )
+}
+
+/// Puts what counts of a call's answer, what was called, and the event of its invocation.
+fn put_call(
+    alloc: Global,
+    members: &mut Map<String, Value>,
+    call: &Operation,
+) -> Result<(), AllocError>
+    ensures { OnOk result (members_view members.new.entries
+        ≡ with_member (codes "event") (number_data call.now.inv) (with_member (codes "call") (call_data call.now.call)
+        (with_member (codes "answer") (answer_data call.now.response) (members_view members.old.entries)))) }
+{
+    put(
+        members,
+        alloc,
+        "answer",
+        answer_value(alloc, &call.response)?,
+    )?;
+    put(members, alloc, "call", call_value(alloc, &call.call)?)?;
+    put(members, alloc, "event", Value::from(call.inv))
 }
 
 /// What counts of a call's answer: the reply, or a word where there is none.
