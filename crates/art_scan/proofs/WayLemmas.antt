@@ -1,9 +1,10 @@
 -- The way of a scan, from its lowest row on.
-use Rattle.std.proofs.Common.{◌≡◌, ℕ, List, [], ◌∷◌, refl, ap, sym, ◌∙◌, true, false}
+use Rattle.std.proofs.Common.{◌≡◌, ℕ, List, [], ◌∷◌, refl, ap, sym, ◌∙◌, true, false, Bool, ⊎_elim}
 use Rattle.std.proofs.lemmas.Bool.{false≢true}
 use Rattle.std.proofs.lemmas.Option.{none-some}
-use Rattle.std.specs.Prelude.{None}
-use Rattle.art_rows.specs.declared.table.Kind.TheVariants.{Full}
+use Rattle.std.specs.Prelude.{None, if◌then◌else◌, ◌⊎◌}
+use Rattle.art_rows.specs.declared.table.Kind.{Kind}
+use Rattle.art_rows.specs.declared.table.Kind.TheVariants.{Four, Sixteen, FortyEight, Full}
 use Rattle.art_steps.specs.Rows.{Setting}
 use Rattle.art_steps.specs.Steps.{reply_of}
 use Rattle.art_stages.specs.declared.stage.Held.{Held}
@@ -16,7 +17,7 @@ use Rattle.art_rows.specs.declared.table.Child.{Child as ChildOf}
 use Rattle.art_rows.specs.declared.table.Child.TheVariants.{Leaf}
 use Rattle.art_rows.specs.Words.{child_of}
 use Rattle.art_stages.specs.Scans.{Walk, ScanAt, at, on_way, with_frame, frame_of, frame_at, way_at, scan_turn, resume_at}
-use Rattle.art_stages.specs.Scans.{row_begins, visit_list}
+use Rattle.art_stages.specs.Scans.{row_begins, words_at, visit_list}
 use Rattle.art_stages.specs.Scans.{child_after, step_after}
 use Rattle.art_scan.specs.Sound.{is_over}
 use Rattle.art_scan.specs.Walks.{has_any, with_pair}
@@ -50,6 +51,19 @@ begins_full c low high n w e =
     resume_frame c low high w (frame_of n (keys_one 0) 0 0)
     ∙ (ap (λ k. frame_at k low high w (frame_of n (keys_one 0) 0 0) (resume_at c low high w)) e
     ∙ sym (ap (λ k. row_begins k c low high n w) e))
+
+begins_as : (c : Setting) (low high : ℕ) (n : Held) (w : Walk) (k : Kind) → at (Keys n) w ≡ row_begins k c low high n w → n.kind ≡ k
+    → at (Keys n) w ≡ row_begins n.kind c low high n w
+begins_as c low high n w k here is = here ∙ sym (ap (λ j. row_begins j c low high n w) is)
+
+pub begins_keys : (c : Setting) (low high : ℕ) (n : Held) (w : Walk) → (n.kind ≡ Four) ⊎ (n.kind ≡ Sixteen)
+    → at (Keys n) w ≡ row_begins n.kind c low high n w
+begins_keys c low high n w e = ⊎_elim (begins_as c low high n w Four refl) (begins_as c low high n w Sixteen refl) e
+
+pub begins_words : (c : Setting) (low high : ℕ) (n : Held) (w : Walk) (found : Bool) (here x : ScanAt) → n.kind ≡ FortyEight
+    → words_at low high n w 0 32 (resume_at c low high w) ≡ (if found then here else resume_at c low high w)
+    → x ≡ (if found then here else resume_at c low high w) → x ≡ row_begins n.kind c low high n w
+begins_words c low high n w found here x e next is = is ∙ (sym next ∙ sym (ap (λ k. row_begins k c low high n w) e))
 
 pub visit_some : (c : Setting) (low high : ℕ) (n : Held) (w : Walk) (xs : List ℕ) → has_any xs ≡ true
     → row_begins n.kind c low high n w ≡ visit_list c low high n w xs
