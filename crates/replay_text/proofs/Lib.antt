@@ -1,3 +1,4 @@
 pub mod PartLemmas
+pub mod ItemLemmas
 pub mod RisingPairLemmas
 pub mod ReplayTextLemmas

@@ -94,9 +94,7 @@ fn start_and_last_two<'a>(mut members: Iter<'a, String, Value>) -> Option<(&'a V
     ensures some { IfSome result (λ p. members_view members.entry ≡ other_members (Some (view p.0.now)) (view p.1.now)) }
     ensures none { IfNone result ((start variant : Data) → members_view members.entry ≡ other_members (Some start) variant → ⊥) }
 {
-    let start = next_member(&mut members, "start")?;
-    let variant = last_two(members, 2)?;
-    Some((start, variant))
+    next_member(&mut members, "start").zip(last_two(members, 2))
 }
 
 /// The value of the variant, where it and this version are all the members.
@@ -123,9 +121,7 @@ fn next_two<'a>(
     ensures none { IfNone result ((d e : Data) (others : Members)
         → members_view members.old ≡ member first.now d (member second.now e others) → ⊥) }
 {
-    let first_value = next_member(members, first)?;
-    let second_value = next_member(members, second)?;
-    Some((first_value, second_value))
+    next_member(members, first).zip(next_member(members, second))
 }
 
 /// The value of the next member, which has this name.
@@ -133,10 +129,8 @@ fn next_member<'a>(members: &mut Iter<'a, String, Value>, name: &str) -> Option<
     ensures some { IfSome result (λ value. members_view members.old ≡ member name.now (view value.now) (members_view members.new)) }
     ensures none { IfNone result ((d : Data) (others : Members) → members_view members.old ≡ member name.now d others → ⊥) }
 {
-    let (found, value) = members.next()?;
-    if found.as_str() == name {
-        Some(value)
-    } else {
-        None
+    match members.next() {
+        Some((found, value)) if found.as_str() == name => Some(value),
+        _ => None,
     }
 }

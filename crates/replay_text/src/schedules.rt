@@ -9,7 +9,7 @@ ghost use Rattle.replay_text.specs.Replays.{is_item, item_limit};
 ghost use Rattle.replay_text.specs.ReplayTexts.{item_data};
 
 use crate::MAX_ITEMS;
-use crate::words::{point_named, turns_of};
+use crate::words::{items_of, point_of, turns_of};
 use art_core::Item;
 use events::Memory;
 use serde_json::Value;
@@ -66,14 +66,24 @@ fn item_of(value: &Value) -> Option<Item>
     ensures standing { IfSome result (λ item. IsTrue (is_item item)) }
     ensures none { IfNone result ((item : Item) → view value.now ≡ item_data item → IsTrue (is_item item) → ⊥) }
 {
-    match value.as_array()?.as_slice() {
-        [process, word] => short_item(process.as_u64()?, word.as_str()?),
-        [process, word, last] => long_item(process.as_u64()?, word.as_str()?, last),
+    match items_of(value)? {
+        [process, word] => short_item(process, word),
+        [process, word, last] => long_item(process, word, last),
         _ => None,
     }
 }
 
-fn short_item(process: u64, word: &str) -> Option<Item>
+/// The item that an array of two values spells.
+fn short_item(process: &Value, word: &Value) -> Option<Item>
+    ensures spelled { IfSome result (λ item. item_data item ≡ list_data (view process.now ∷ view word.now ∷ [])) }
+    ensures standing { IfSome result (λ item. IsTrue (is_item item)) }
+    ensures none { IfNone result ((item : Item) → item_data item ≡ list_data (view process.now ∷ view word.now ∷ []) → ⊥) }
+{
+    end_item(process.as_u64()?, word.as_str()?)
+}
+
+/// The item of this word alone.
+fn end_item(process: u64, word: &str) -> Option<Item>
     ensures spelled { IfSome result (λ item. item_data item ≡ list_data (number_data process ∷ string word.now ∷ [])) }
     ensures standing { IfSome result (λ item. IsTrue (is_item item)) }
     ensures none { IfNone result ((item : Item) → item_data item ≡ list_data (number_data process ∷ string word.now ∷ []) → ⊥) }
@@ -86,7 +96,19 @@ fn short_item(process: u64, word: &str) -> Option<Item>
     }
 }
 
-fn long_item(process: u64, word: &str, last: &Value) -> Option<Item>
+/// The item that an array of three values spells.
+fn long_item(process: &Value, word: &Value, last: &Value) -> Option<Item>
+    ensures spelled { IfSome result (λ item. item_data item
+        ≡ list_data (view process.now ∷ view word.now ∷ view last.now ∷ [])) }
+    ensures standing { IfSome result (λ item. IsTrue (is_item item)) }
+    ensures none { IfNone result ((item : Item)
+        → item_data item ≡ list_data (view process.now ∷ view word.now ∷ view last.now ∷ []) → IsTrue (is_item item) → ⊥) }
+{
+    turns_or_until(process.as_u64()?, word.as_str()?, last)
+}
+
+/// The item of this word and a last value.
+fn turns_or_until(process: u64, word: &str, last: &Value) -> Option<Item>
     ensures spelled { IfSome result (λ item. item_data item
         ≡ list_data (number_data process ∷ string word.now ∷ view last.now ∷ [])) }
     ensures standing { IfSome result (λ item. IsTrue (is_item item)) }
@@ -100,7 +122,7 @@ fn long_item(process: u64, word: &str, last: &Value) -> Option<Item>
         }),
         "until" => Some(Item::Until {
             process: process as usize,
-            point: point_named(last.as_str()?)?,
+            point: point_of(last)?,
         }),
         _ => None,
     }

@@ -1,8 +1,8 @@
 // From JSON values to the words and the numbers of a replay.
-ghost use Rattle.std.specs.Prelude.{◌≡◌, ℕ, ◌≤◌, IfSome, IfNone};
-ghost use Rattle.serde_json.specs.Data.{string};
+ghost use Rattle.std.specs.Prelude.{◌≡◌, ◌∷◌, [], ℕ, ◌≤◌, List, map, IfSome, IfNone};
+ghost use Rattle.serde_json.specs.Data.{Data, string};
 ghost use Rattle.serde_json.specs.View.{view};
-ghost use Rattle.history_text.specs.Texts.{number_data};
+ghost use Rattle.history_text.specs.Texts.{number_data, list_data};
 ghost use Rattle.art_rows.specs.declared.table.Shape.{Shape};
 ghost use Rattle.art_rows.specs.Table.{IsWithinLimits};
 ghost use Rattle.art_steps.specs.declared.access.Point.{Point};
@@ -53,8 +53,15 @@ fn variant_named(name: &str) -> Option<Variant>
     }
 }
 
-/// The point of this name.
-pub fn point_named(name: &str) -> Option<Point>
+/// The point that a value names.
+pub fn point_of(value: &Value) -> Option<Point>
+    ensures spelled { IfSome result (λ point. view value.now ≡ string (point_name point)) }
+    ensures none { IfNone result ((point : Point) → view value.now ≡ string (point_name point) → ⊥) }
+{
+    point_named(value.as_str()?)
+}
+
+fn point_named(name: &str) -> Option<Point>
     ensures spelled { IfSome result (λ point. name.now ≡ point_name point) }
     ensures none { IfNone result ((point : Point) → name.now ≡ point_name point → ⊥) }
 {
@@ -75,17 +82,35 @@ pub fn shape_of(value: &Value) -> Option<Shape>
     ensures within { IfSome result (λ shape. IsWithinLimits shape) }
     ensures none { IfNone result ((shape : Shape) → view value.now ≡ rows_data shape → IsWithinLimits shape → ⊥) }
 {
-    match value.as_array()?.as_slice() {
-        [rows4, rows16, rows48, rows256] => {
-            shape_with(
-                rows4.as_u64()?,
-                rows16.as_u64()?,
-                rows48.as_u64()?,
-                rows256.as_u64()?,
-            )
-        }
+    match items_of(value)? {
+        [rows4, rows16, rows48, rows256] => shape_of_four(rows4, rows16, rows48, rows256),
         _ => None,
     }
+}
+
+/// The items of a value that is an array.
+pub fn items_of(value: &Value) -> Option<&[Value]>
+    ensures some { IfSome result (λ items. view value.now ≡ list_data (map view items.now)) }
+    ensures none { IfNone result ((items : List Data) → view value.now ≡ list_data items → ⊥) }
+{
+    Some(value.as_array()?.as_slice())
+}
+
+/// The shape whose numbers of rows an array of four values lists, within the limits.
+fn shape_of_four(rows4: &Value, rows16: &Value, rows48: &Value, rows256: &Value) -> Option<Shape>
+    ensures spelled { IfSome result (λ shape. rows_data shape
+        ≡ list_data (view rows4.now ∷ view rows16.now ∷ view rows48.now ∷ view rows256.now ∷ [])) }
+    ensures within { IfSome result (λ shape. IsWithinLimits shape) }
+    ensures none { IfNone result ((shape : Shape)
+        → rows_data shape ≡ list_data (view rows4.now ∷ view rows16.now ∷ view rows48.now ∷ view rows256.now ∷ [])
+        → IsWithinLimits shape → ⊥) }
+{
+    shape_with(
+        rows4.as_u64()?,
+        rows16.as_u64()?,
+        rows48.as_u64()?,
+        rows256.as_u64()?,
+    )
 }
 
 /// The shape with these numbers of rows, if they are within the limits.

@@ -1,14 +1,23 @@
-use Rattle.std.proofs.Common.{length, arith, ap, sym, ◌∙◌}
-use Rattle.history_text.proofs.DataLemmas.{list_found}
+-- An array that lists numbers of rows has four values, and what these four list, it lists.
+use Rattle.std.proofs.Common.{map, refl, arith, ap, sym, ◌∙◌}
+use Rattle.serde_json.specs.View.{view}
+use Rattle.history_text.specs.Texts.{list_data}
+use Rattle.history_text.proofs.DataLemmas.{four_items, IfNone-mapped}
 use Rattle.replay_text.proofs.PartLemmas.{length_of_rows}
 use Rattle.replay_text.proofs.words.shape_of.Goals as goal
 
 pub returns-in_default-clause-none : goal.returns-in_default-clause-none
 returns-in_default-clause-none c = λ shape h _.
-    let n = length_of_rows _ shape (sym (list_found _ _ c.in_ok-as_array.ensures) ∙ h) in
-    omega (arith, n, ap length c.as_slice.ensures.value, c.in_default.len_below)
+    omega (arith, length_of_rows _ shape (sym c.in_ok-items_of.ensures.some ∙ h), c.in_default.len_below)
 
 pub returns-in_default-2-clause-none : goal.returns-in_default-2-clause-none
 returns-in_default-2-clause-none c = λ shape h _.
-    let n = length_of_rows _ shape (sym (list_found _ _ c.in_ok-as_array.ensures) ∙ h) in
-    omega (arith, n, ap length c.as_slice.ensures.value, c.in_default.len_at_least)
+    omega (arith, length_of_rows _ shape (sym c.in_ok-items_of.ensures.some ∙ h), c.in_default.len_at_least)
+
+pub returns-in-len4-clause-none : goal.returns-in-len4-clause-none
+returns-in-len4-clause-none c =
+    let items = c.in_ok-items_of.ensures.some ∙ ap (λ vs. list_data (map view vs))
+    (four_items _ c.rows4-item.result c.rows16-item.result c.rows48-item.result c.rows256-item.result
+    (omega (arith, c.in-len4)) c.rows4-item.is c.rows16-item.is c.rows48-item.is c.rows256-item.is) in
+    IfNone-mapped c.shape_of_four.result c.shape_of_four.result refl (λ none shape h within. none shape (sym h ∙ items) within)
+    c.shape_of_four.ensures.none
