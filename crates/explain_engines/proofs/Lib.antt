@@ -5,4 +5,5 @@ mod NoneLemmas
 mod OutcomeLemmas
 mod RowLemmas
 mod StuckLemmas
+mod ValueLemmas
 mod WholeLemmas

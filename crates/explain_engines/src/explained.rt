@@ -1,11 +1,14 @@
 // `bench explain`: the verdict on a history, and few calls that show a no.
-ghost use Rattle.std.specs.Prelude.{◌≡◌, ℕ, ◌<◌, ◌≤◌, List, Some, IfOk, string_bytes};
+ghost use Rattle.std.specs.Prelude.{◌≡◌, ℕ, ◌<◌, ◌≤◌, List, ◌++◌, Some, IfOk, string_bytes};
+ghost use Rattle.serde_json.specs.Written.{compact_text};
 ghost use Rattle.events.specs.HistoryView.{HistoryView};
 ghost use Rattle.events.specs.Operations.{operations};
 ghost use Rattle.history_engines.specs.Answers.{IsHistoryRefusal, IsTextOf};
 ghost use Rattle.history_text.specs.Limits.{text_limit};
+ghost use Rattle.judge.specs.Reports.{verdict_data};
 ghost use Rattle.judge.specs.Shown.{IsShown};
 ghost use Rattle.outcomes.specs.Ends.{change};
+ghost use Rattle.outcomes.specs.Lines.{line};
 ghost use Rattle.outcomes.specs.Outcomes.{IsTextOutcome};
 ghost use Rattle.outcomes.specs.Reads.{IsTextRead};
 ghost use Rattle.outcomes.specs.Runs.{IsRun};
@@ -84,10 +87,26 @@ fn explained_with(alloc: Global, history: &History, budget: u32) -> Result<(Answ
     ensures { IfOk result (λ told. IsExplaining budget history.now told.0 (string_bytes told.1)) }
 {
     let verdict = judge_alone(alloc, history, budget)?;
-    let mut lines = line_of(report(alloc, &verdict)?)?;
-    let details = details_of(alloc, history, &verdict, budget)?;
-    lines.push_str(details.as_str())?;
+    let lines = verdict_lines(alloc, history, &verdict, budget)?;
     Ok((answer_of(&verdict), lines))
+}
+
+/// The report of a verdict, and behind it what shows it.
+fn verdict_lines(
+    alloc: Global,
+    history: &History,
+    verdict: &Verdict,
+    budget: u32,
+) -> Result<String, Memory>
+    requires budget { (1 ≤ budget) × (budget ≤ budget_limit) }
+    requires shown { IsShown history.now.start budget (operations history.now.events) verdict.now }
+    ensures { IfOk result (λ text. (details : List ℕ) × AreDetails budget history.now.events verdict.now details
+        × (string_bytes text ≡ line (compact_text (verdict_data verdict.now)) ++ details)) }
+{
+    let mut lines = line_of(report(alloc, verdict)?)?;
+    let details = details_of(alloc, history, verdict, budget)?;
+    lines.push_str(details.as_str())?;
+    Ok(lines)
 }
 
 /// What shows a verdict beside its report.

@@ -1,0 +1,16 @@
+-- The values of a list, pushed one by one.
+use Rattle.std.proofs.Common.{◌≡◌, ℕ, ◌+◌, ◌<◌, List, [], ◌∷◌, ◌++◌, length, map, take, sym, ap, ◌∙◌}
+use Rattle.std.specs.List.{slice_index_or}
+use Rattle.std.proofs.lemmas.List.{map-append, map_more}
+use Rattle.serde_json.specs.Data.{Data}
+use Rattle.serde_json.specs.View.{view}
+use Rattle.serde_json.specs.declared.value.Value.{Value}
+
+-- behind the values of those so far, that of the next
+pub pushed : {X : Type 0} (f : X → Data) (items : List Value) (value : Value) (xs : List X) (i : ℕ) (x : X) → i < length xs
+    → x ≡ slice_index_or xs i x → map view items ≡ map f (take i xs) → view value ≡ f x
+    → map view (items ++ value ∷ []) ≡ map f (take (i + 1) xs)
+pushed f items value xs i x below is so_far told =
+    map-append view items (value ∷ [])
+    ∙ ((λ j. so_far j ++ told j ∷ [])
+    ∙ (ap (λ y. map f (take i xs) ++ f y ∷ []) is ∙ sym (map_more f xs i x below)))

@@ -1,0 +1,19 @@
+use Rattle.std.proofs.Common.{map, ap, ◌∙◌}
+use Rattle.std.proofs.lemmas.List.{take_all}
+use Rattle.serde_json.specs.View.{view}
+use Rattle.history_text.specs.Texts.{list_data}
+use Rattle.explain_engines.specs.Fronts.{stuck_data}
+use Rattle.explain_engines.proofs.ValueLemmas.{pushed}
+use Rattle.explain_engines.proofs.fronts.all_stuck.Goals as goal
+
+pub loop-call-preserved : goal.loop-call-preserved
+loop-call-preserved c =
+    ap (map view) c.in_ok-push.ensures.items
+    ∙ pushed (stuck_data c.args.held.now) c.loop-call.items.items c.in_ok-stuck_value.field-0 c.args.next.now
+    c.loop-call.call-index c.call-item.result
+    c.loop-call-test.true c.call-item.is c.loop-call.invariant c.in_ok-stuck_value.ensures
+
+pub returns : goal.returns
+returns c = c.from.ensures
+    ∙ ap list_data (c.loop-call.invariant
+    ∙ ap (map (stuck_data c.args.held.now)) (take_all c.loop-call.call-index c.args.next.now c.loop-call-test.false))
