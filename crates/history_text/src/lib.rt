@@ -11,7 +11,7 @@ mod write_text;
 
 pub use json_fault::JsonFault;
 pub use json_text::json_of;
-pub use parts::two_members;
+pub use parts::{items_of, two_members};
 pub use read_event::{call_of, may_stand, pair_of, pairs_of, reply_of};
 pub use read_text::read_history;
 pub use text_laws::{one_history, one_text_fault};

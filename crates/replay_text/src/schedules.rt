@@ -9,9 +9,10 @@ ghost use Rattle.replay_text.specs.Replays.{is_item, item_limit};
 ghost use Rattle.replay_text.specs.ReplayTexts.{item_data};
 
 use crate::MAX_ITEMS;
-use crate::words::{items_of, point_of, turns_of};
+use crate::words::{point_of, turns_of};
 use art_core::Item;
 use events::Memory;
+use history_text::items_of;
 use serde_json::Value;
 use std::alloc::Global;
 

@@ -1,6 +1,6 @@
 // From JSON values to the words and the numbers of a replay.
-ghost use Rattle.std.specs.Prelude.{◌≡◌, ◌∷◌, [], ℕ, ◌≤◌, List, map, IfSome, IfNone};
-ghost use Rattle.serde_json.specs.Data.{Data, string};
+ghost use Rattle.std.specs.Prelude.{◌≡◌, ◌∷◌, [], ℕ, ◌≤◌, IfSome, IfNone};
+ghost use Rattle.serde_json.specs.Data.{string};
 ghost use Rattle.serde_json.specs.View.{view};
 ghost use Rattle.history_text.specs.Texts.{number_data, list_data};
 ghost use Rattle.art_rows.specs.declared.table.Shape.{Shape};
@@ -13,6 +13,7 @@ ghost use Rattle.replay_text.specs.ReplayTexts.{variant_name, point_name, rows_d
 use crate::MAX_TURNS;
 use art_rows::Shape;
 use art_steps::{Point, Variant};
+use history_text::items_of;
 use serde_json::Value;
 
 /// The number of turns that a value spells: at least one, and at most `MAX_TURNS`.
@@ -86,14 +87,6 @@ pub fn shape_of(value: &Value) -> Option<Shape>
         [rows4, rows16, rows48, rows256] => shape_of_four(rows4, rows16, rows48, rows256),
         _ => None,
     }
-}
-
-/// The items of a value that is an array.
-pub fn items_of(value: &Value) -> Option<&[Value]>
-    ensures some { IfSome result (λ items. view value.now ≡ list_data (map view items.now)) }
-    ensures none { IfNone result ((items : List Data) → view value.now ≡ list_data items → ⊥) }
-{
-    Some(value.as_array()?.as_slice())
 }
 
 /// The shape whose numbers of rows an array of four values lists, within the limits.
