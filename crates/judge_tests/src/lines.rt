@@ -1,7 +1,7 @@
 // Sources that are cut at their line feeds, wherever a read of them ends or fails, and lines that events are written as.
-ghost use Rattle.std.specs.Prelude.{◌<◌};
+ghost use Rattle.std.specs.Prelude.{◌≡◌, ◌<◌, IfOk};
 
-use std::alloc::Global;
+use std::alloc::{AllocError, Global};
 use std::test::Fail;
 use stream_text::{LineReader, NoLine, event_line, read_event_line};
 use streams::memory_ends::MemorySource;
@@ -15,9 +15,30 @@ fn read_all(
 ) -> Result<(Vec<u8>, u64), Fail>
     requires { 0 < most }
 {
-    let source = MemorySource::new(text.as_bytes().to_vec(alloc)?, most, fails_in);
-    let mut reader = LineReader::new(alloc, source)?;
+    let mut reader = reader_of(alloc, text, most, fails_in)?;
     let mut lines = Vec::new(alloc);
+    let failed = put_lines(&mut reader, &mut lines)?;
+    Ok((lines, failed))
+}
+
+/// A reader of a text, before its first line.
+fn reader_of(
+    alloc: Global,
+    text: &str,
+    most: usize,
+    fails_in: Option<u64>,
+) -> Result<LineReader<MemorySource>, AllocError>
+    requires { 0 < most }
+    ensures { IfOk result (λ reader. reader.failures ≡ 0) }
+{
+    let source = MemorySource::new(text.as_bytes().to_vec(alloc)?, most, fails_in);
+    LineReader::new(alloc, source)
+}
+
+/// Puts all lines that a reader has, with a bar behind each, and counts the calls that failed.
+fn put_lines(reader: &mut LineReader<MemorySource>, lines: &mut Vec<u8>) -> Result<u64, Fail>
+    requires { reader.old.failures ≡ 0 }
+{
     let mut failed = 0;
     for _turn in 0..100u64 {
         match reader.advance() {
@@ -25,7 +46,7 @@ fn read_all(
                 lines.extend_from_slice(reader.line())?;
                 lines.push(b'|')?;
             }
-            Ok(false) => return Ok((lines, failed)),
+            Ok(false) => return Ok(failed),
             Err(NoLine::Failed) => failed += 1,
             Err(NoLine::TooLong) => return Err(Fail::new("a line is too long")),
         }

@@ -118,8 +118,20 @@ fn judged_to_locate<R: Threads + Sync>(
     requires { (1 ≤ budget) × (budget ≤ MAX_BUDGET) }
 {
     let history = History::from_events(alloc, gets(alloc, MAX_CALLS, wrong)?)?;
+    visits_to_locate(rt, alloc, &history, budget)
+}
+
+/// The most visits at the first segment, or at another, until one worker has located where a history goes wrong.
+fn visits_to_locate<R: Threads + Sync>(
+    rt: &R,
+    alloc: Global,
+    history: &History,
+    budget: u32,
+) -> Result<u64, Fail>
+    requires { (1 ≤ budget) × (budget ≤ MAX_BUDGET) }
+{
     let visits = Visits::at(alloc, 1)?;
-    locate(rt, alloc, &history, budget, 1, &visits)?;
+    locate(rt, alloc, history, budget, 1, &visits)?;
     Ok(visits.fewest_and_most().1)
 }
 

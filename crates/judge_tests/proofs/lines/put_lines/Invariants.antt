@@ -1,6 +1,6 @@
 -- At most one call fails in a turn.
 use Rattle.std.proofs.Common.{◌≤◌}
-use Rattle.judge_tests.proofs.lines.read_all.Given as goal
+use Rattle.judge_tests.proofs.lines.put_lines.Given as goal
 
 abbrev pub invariant-loop-turn : goal.invariant-loop-turn
 invariant-loop-turn l = record {
