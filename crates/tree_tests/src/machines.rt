@@ -5,6 +5,7 @@ use art_core::Item;
 use machine::{Machine, MachineFault, RunFault};
 use plan_text::read_plan;
 use std::alloc::{AllocError, Global};
+use std::process::Abort;
 use std::test::Fail;
 
 /// A machine for the plan that a text spells.
@@ -65,10 +66,7 @@ static GROWN: [(usize, u64); 14] = [
 ];
 
 /// One turn, and then all others.
-#[test]
-fn a_row_grows_from_4_to_16_to_48_children(rt: HostRuntime) -> Result<(), Fail> {
-    let alloc = rt.alloc();
-    let mut machine = opened(alloc, INSERTS)?;
+fn make_all_turns<R: Abort>(rt: &R, alloc: Global, machine: &mut Machine) {
     assert_eq!(rt; machine.turn(alloc, 0), Ok(()));
     let others = [Item::Turns {
         process: 0,
@@ -79,8 +77,19 @@ fn a_row_grows_from_4_to_16_to_48_children(rt: HostRuntime) -> Result<(), Fail> 
         fault: MachineFault::NothingToDo,
     };
     assert_eq!(rt; machine.run(alloc, &others), Err(done));
+}
+
+/// Each of the words after 17 inserts stands at its place.
+fn check_grown<R: Abort>(rt: &R, words: &[u64]) {
     for (place, word) in &GROWN {
-        assert_eq!(rt; machine.words().get(*place), Some(word));
+        assert_eq!(rt; words.get(*place), Some(word));
     }
+}
+
+#[test]
+fn a_row_grows_from_4_to_16_to_48_children(rt: HostRuntime) -> Result<(), Fail> {
+    let mut machine = opened(rt.alloc(), INSERTS)?;
+    make_all_turns(&rt, rt.alloc(), &mut machine);
+    check_grown(&rt, machine.words());
     Ok(())
 }

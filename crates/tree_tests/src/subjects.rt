@@ -8,8 +8,11 @@ use events::{Call, History, Reply, Response};
 use judge::{MAX_BUDGET, Verdict, judge_alone};
 use plan_text::read_plan;
 use recorder::Subject;
+use std::alloc::Global;
+use std::process::Abort;
 use std::sync::atomic::{AtomicBool, AtomicU64, Ordering};
 use std::test::Fail;
+use std::thread::Threads;
 
 /// Answers a key plus 7. A call on key 0 waits for one on key 1, and that for one on key 2. It counts the calls that saw that the
 /// one for which they waited had begun.
@@ -18,6 +21,17 @@ struct Meeting {
     first: AtomicBool,
     second: AtomicBool,
     met: AtomicU64,
+}
+
+impl Meeting {
+    /// A subject of which no call has begun yet.
+    fn new() -> Meeting {
+        Meeting {
+            first: AtomicBool::new(false),
+            second: AtomicBool::new(false),
+            met: AtomicU64::new(0),
+        }
+    }
 }
 
 impl Subject for Meeting {
@@ -61,37 +75,64 @@ static FIRST_TWO: &str = r#"{"scripts":[[["get",0],["get",2]],[["get",1]]],"vers
 static LAST_TWO: &str =
     r#"{"scripts":[[],[],[],[],[],[],[],[],[],[],[],[],[],[],[],[],[],[],[],[],[],[],[],[],[],[],[],[],[],[],[],[],[],[],[],[],[],[],[],[],[],[],[],[],[],[],[],[],[],[],[],[],[],[],[],[],[],[],[],[],[],[],[["get",0],["get",2]],[["get",1]]],"version":1}"#;
 
+/// What is recorded when the plan that a text spells is driven at a subject.
+fn driven_at<R: Threads + Sync>(
+    rt: &R,
+    alloc: Global,
+    text: &str,
+    subject: &Meeting,
+) -> Result<History, Fail> {
+    let plan = read_plan(alloc, text.as_bytes())?;
+    if !is_drivable(&plan) {
+        return Err(Fail::new("the plan has too many calls"));
+    }
+    Ok(drive_subject(rt, alloc, &plan, subject)?)
+}
+
+/// What is recorded in this round, in which two calls of a plan see that the ones for which they wait have begun.
+fn met_in<R: Threads + Sync + Abort>(
+    rt: &R,
+    alloc: Global,
+    text: &str,
+    round: i32,
+) -> Result<History, Fail> {
+    let subject = Meeting::new();
+    let history = driven_at(rt, alloc, text, &subject)?;
+    assert!(rt; subject.met.load(Ordering::SeqCst) == 2, "round {round}");
+    Ok(history)
+}
+
+/// Each get is answered by its key plus 7, and their answers come as the calls wait for each other.
+fn check_answers<R: Abort>(rt: &R, history: &History, round: i32) {
+    let (Some(first), Some(second), Some(third)) = (
+        answered_get(history, 0),
+        answered_get(history, 1),
+        answered_get(history, 2),
+    ) else {
+        panic!(rt; "each get is answered by a value, round {round}");
+    };
+    assert!(rt; (first.2, second.2, third.2) == (7, 8, 9));
+    assert!(rt;
+        second.0 < first.1,
+        "the get of 1 comes before the answer of 0"
+    );
+    assert!(rt; first.1 < third.0, "the get of 2 comes after that of 0");
+}
+
+/// The answers are refuted.
+fn check_refuted<R: Abort>(rt: &R, alloc: Global, history: &History) -> Result<(), Fail> {
+    let verdict = judge_alone(alloc, history, MAX_BUDGET)?;
+    assert!(rt; matches!(verdict, Verdict::No(_)), "nothing was inserted");
+    Ok(())
+}
+
 #[test]
 fn two_subject_calls(rt: HostRuntime) -> Result<(), Fail> {
-    let alloc = rt.alloc();
     for round in 0..100 {
-        let subject = Meeting {
-            first: AtomicBool::new(false),
-            second: AtomicBool::new(false),
-            met: AtomicU64::new(0),
-        };
         let text = if round < 50 { FIRST_TWO } else { LAST_TWO };
-        let plan = read_plan(alloc, text.as_bytes())?;
-        if !is_drivable(&plan) {
-            return Err(Fail::new("the plan has too many calls"));
-        }
-        let history = drive_subject(&rt, alloc, &plan, &subject)?;
-        assert!(rt; subject.met.load(Ordering::SeqCst) == 2, "round {round}");
-        let (Some(first), Some(second), Some(third)) = (
-            answered_get(&history, 0),
-            answered_get(&history, 1),
-            answered_get(&history, 2),
-        ) else {
-            panic!(rt; "each get is answered by a value, round {round}");
-        };
-        assert!(rt; (first.2, second.2, third.2) == (7, 8, 9));
-        assert!(rt;
-            second.0 < first.1,
-            "the get of 1 comes before the answer of 0"
-        );
-        assert!(rt; first.1 < third.0, "the get of 2 comes after that of 0");
-        let verdict = judge_alone(alloc, &history, MAX_BUDGET)?;
-        assert!(rt; matches!(verdict, Verdict::No(_)), "nothing was inserted");
+        let history = met_in(&rt, rt.alloc(), text, round)?;
+        check_answers(&rt, &history, round);
+        check_refuted(&rt, rt.alloc(), &history)?;
     }
     Ok(())
 }
