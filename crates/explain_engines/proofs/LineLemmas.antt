@@ -34,9 +34,9 @@ told_from budget start calls bytes front m named numbers told m_is named_is numb
   front,
   (λ text line_is shown. fronts text start calls line_is shown),
   told_is
-  ∙ (ap (λ (m : Contents). line (compact_text (front_data m named numbers))) m_is
-  ∙ (ap (λ (l : List Operation). line (compact_text (front_data start l numbers))) named_is
-  ∙ ap (λ (l : List ℕ). line (compact_text (front_data start calls l))) numbers_is)),
+      ∙ (ap (λ (m : Contents). line (compact_text (front_data m named numbers))) m_is
+      ∙ (ap (λ (l : List Operation). line (compact_text (front_data start l numbers))) named_is
+      ∙ ap (λ (l : List ℕ). line (compact_text (front_data start calls l))) numbers_is)),
 )
 
 -- the line of a history with the calls of a loss, and behind it that of a front of these

@@ -87,12 +87,7 @@ fn loss_lines(alloc: Global, loss: &Loss, budget: u32) -> Result<String, Memory>
 }
 
 /// The line of a history with the calls of a loss, and behind it that of a front of these.
-fn with_front_line(
-    alloc: Global,
-    small: String,
-    loss: &Loss,
-    budget: u32,
-) -> Result<String, Memory>
+fn with_front_line(alloc: Global, small: String, loss: &Loss, budget: u32) -> Result<String, Memory>
     requires some { 1 ≤ length (string_bytes small) }
     requires rising { IsRising loss.now.start.items }
     requires budget { (1 ≤ budget) × (budget ≤ budget_limit) }

@@ -25,7 +25,7 @@ loop-number-preserved c =
     c.loop-number-test.true c.loop-number.invariant c.in_ok-call.ensures in
     let with_found = λ (found : Option Operation). so_far ++ cons_option found [] in
     elim c.match-branch-2.branch [
-      in-Some+in_ok-push w ↦ ap items w.taken-is ∙ (w.in_ok-push.ensures.items ∙ (ap with_found (sym w.in-Some.is) ∙ next))
+      | in-Some+in_ok-push w ↦ ap items w.taken-is ∙ (w.in_ok-push.ensures.items ∙ (ap with_found (sym w.in-Some.is) ∙ next))
       | in_default w ↦ ap items w.taken-is ∙ (sym (append-nil so_far) ∙ (ap with_found (sym w.in_default.is) ∙ next))
     ]
 
