@@ -13,7 +13,7 @@ use Rattle.events.specs.declared.operation.Response.{Response}
 use Rattle.events.specs.Precedence.{is_before, precedes}
 use Rattle.map_object.specs.MapObject.{Contents, reply_to, after_reply, IsLegalReply}
 use Rattle.orders.specs.Orders.{after_call, after_calls, IsLegalCall}
-use Rattle.orders.proofs.LegalLemmas.{reply_to_answers, after_reply-answer}
+use Rattle.map_object.proofs.TellLemmas.{reply_to_answers, after_reply-answer}
 use Rattle.list_laws.proofs.Lists.{All-from_contains, AllPairs-across, Contains-split, Contains-around, Contains-later}
 use Rattle.quiet_cuts.proofs.AroundLemmas.{beside, middle, AllPairs-before, AllPairs-behind}
 use Rattle.quiet_cuts.proofs.ContinueLemmas.{before_later}

@@ -12,7 +12,7 @@ use Rattle.map_object.specs.MapObject.{Contents, IsRising, value_at, below, abov
 use Rattle.map_object.specs.MapObject.{IsLegalReply}
 use Rattle.map_object.proofs.MapLemmas.{AreBelow-below, AreAbove-above, value_at_found, value_at_gap}
 use Rattle.orders.specs.Orders.{after_call, IsLegalCall}
-use Rattle.orders.proofs.LegalLemmas.{reply_to_answers}
+use Rattle.map_object.proofs.TellLemmas.{reply_to_answers}
 use Rattle.std.proofs.lemmas.Option.{same_Some}
 use Rattle.search.proofs.UndoLemmas.{with_value, joined}
 use Rattle.call_search.specs.Replies.{says_unchanged}

@@ -26,6 +26,9 @@ pair_count replies.None = 0
 pair_count (replies.Some value) = 0
 pair_count (replies.Pairs pairs) = length pairs
 pair_count replies.Refused = 0
+pair_count replies.Done = 0
+pair_count replies.Found = 0
+pair_count replies.Other = 0
 
 -- whether an event has a range where it needs one
 abbrev pub is_shaped : Event → Bool

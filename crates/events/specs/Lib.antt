@@ -3,6 +3,7 @@ pub mod Events
 pub mod HistoryView
 pub mod Starts
 pub mod Histories
+pub mod Told
 pub mod PlainHistories
 pub mod HistoryFaults
 pub mod Keys

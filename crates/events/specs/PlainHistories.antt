@@ -1,4 +1,4 @@
--- Histories with neither starting pairs nor a replace.
+-- Histories with neither starting pairs nor a replace, whose answers tell all.
 use Rattle.std.specs.Prelude.{ℕ, Bool, true, false, not, ◌&&◌, List, [], ◌∷◌}
 use Rattle.std.specs.List.{list_all}
 use Rattle.events.specs.declared.event.Call.{Call}
@@ -6,6 +6,7 @@ use Rattle.events.specs.declared.event.Call.TheVariants.{Get, Insert, Remove, Sc
 use Rattle.events.specs.declared.event.Event.{Event}
 use Rattle.events.specs.declared.event.Event.TheVariants.{Invoke, Answer}
 use Rattle.events.specs.HistoryView.{HistoryView}
+use Rattle.events.specs.Told.{is_told}
 
 -- whether a call is a replace
 abbrev pub is_replace : Call → Bool
@@ -15,16 +16,16 @@ is_replace (Remove key) = false
 is_replace (Scan low high) = false
 is_replace (Replace key old new) = true
 
--- whether an event is anything but the invocation of a replace
+-- whether an event is anything but the invocation of a replace and an answer that tells less than the map answers
 abbrev pub is_plain_event : Event → Bool
 is_plain_event (Invoke p call) = not (is_replace call)
-is_plain_event (Answer p reply) = true
+is_plain_event (Answer p reply) = is_told reply
 
 -- whether there are no pairs
 abbrev pub has_no_pairs : List (ℕ × ℕ) → Bool
 has_no_pairs [] = true
 has_no_pairs (pair ∷ pairs) = false
 
--- whether a history has neither starting pairs nor a replace
+-- whether a history has neither starting pairs nor a replace, and its answers tell all
 abbrev pub is_plain : HistoryView → Bool
 is_plain history = has_no_pairs history.start && list_all is_plain_event history.events

@@ -1,6 +1,7 @@
 // What processes do at a map: they call it, and it answers them.
 ghost use Rattle.std.specs.Prelude.{◌≡◌, IfOk};
 ghost use Rattle.events.specs.Histories.{pair_count};
+ghost use Rattle.events.specs.Told.{is_told};
 
 use crate::memory::Memory;
 use std::alloc::Global;
@@ -103,6 +104,12 @@ pub enum Reply {
     Pairs(Pairs),
     /// The map would not do the call, and nothing changed.
     Refused,
+    /// The map did the call. What it found is not told.
+    Done,
+    /// The map did the call, and its key held a value. Which one is not told.
+    Found,
+    /// A replace found another value than the one that it expects, or none, and changed nothing.
+    Other,
 }
 
 impl Reply {
@@ -115,6 +122,9 @@ impl Reply {
             Reply::Some(value) => Ok(Reply::Some(*value)),
             Reply::Pairs(pairs) => Ok(Reply::Pairs(pairs.copy(alloc)?)),
             Reply::Refused => Ok(Reply::Refused),
+            Reply::Done => Ok(Reply::Done),
+            Reply::Found => Ok(Reply::Found),
+            Reply::Other => Ok(Reply::Other),
         }
     }
 
@@ -126,6 +136,14 @@ impl Reply {
             Reply::Pairs(pairs) => pairs.as_slice().len(),
             _ => 0,
         }
+    }
+
+    /// Whether it tells all that the map answers: not where it says only that the call was done, that its key held a
+    /// value, or that a replace found another one.
+    pub fn is_told(&self) -> bool
+        ensures { result ≡ is_told self.now }
+    {
+        !matches!(self, Reply::Done | Reply::Found | Reply::Other)
     }
 }
 

@@ -15,7 +15,7 @@ use Rattle.map_object.specs.MapObject.{Contents, IsRising, value_at, below, abov
 use Rattle.map_object.specs.MapObject.{IsLegalReply}
 use Rattle.map_object.proofs.MapLemmas.{AreBelow-below, AreAbove-above, value_at_found, value_at_gap}
 use Rattle.orders.specs.Orders.{after_call, IsLegalCall}
-use Rattle.orders.proofs.LegalLemmas.{reply_to_answers, after_reply-answer}
+use Rattle.map_object.proofs.TellLemmas.{reply_to_answers, after_reply-answer}
 use Rattle.segments.proofs.RangeLemmas.{value_at-within}
 use Rattle.quiet_cuts.proofs.ValueLemmas.{IsOut, in_or_out, same_within, value_left}
 use Rattle.call_search.specs.Replies.{says_unchanged}

@@ -18,7 +18,7 @@ use Rattle.events.specs.Operations.{operations}
 use Rattle.events.proofs.HistoryLemmas.{has_open_call-push}
 use Rattle.map_object.specs.MapObject.{Contents, value_reply}
 use Rattle.orders.specs.Orders.{IsLinearizable}
-use Rattle.orders.proofs.LegalLemmas.{value_answers}
+use Rattle.map_object.proofs.TellLemmas.{value_answers}
 use Rattle.list_laws.proofs.Lists.{Any-first, Any-later, Contains-around, Contains-at, Contains-cases, Contains-nil}
 use Rattle.quiet_cuts.proofs.AroundLemmas.{found, any_of, middle}
 use Rattle.alternatives.specs.Alternatives.{Alternative, Alternates, AlternativesJudge, IsOpenIn, HasAllReplies}

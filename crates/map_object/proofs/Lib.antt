@@ -1,3 +1,4 @@
 mod PlaceLemmas
 pub mod RangeLemmas
 pub mod MapLemmas
+pub mod TellLemmas

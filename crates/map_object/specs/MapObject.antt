@@ -1,7 +1,7 @@
 -- The sequential object: an ordered map, as the list of its pairs by rising key.
 use Rattle.events.specs.declared.event.Reply.TheVariants as replies
 use Rattle.std.specs.Prelude.{◌≡◌, ℕ, ◌⊎◌, ◌==◌, ◌&&◌, Bool, false, nat_lt, nat_le, if◌then◌else◌, List, [], ◌∷◌, ◌++◌, filter, Option}
-use Rattle.std.specs.Prelude.{Some, None}
+use Rattle.std.specs.Prelude.{Some, None, true, not, IsTrue, ⊤}
 use Rattle.events.specs.declared.event.Call.{Call}
 use Rattle.events.specs.declared.event.Call.TheVariants.{Get, Insert, Remove, Scan, Replace}
 use Rattle.events.specs.Starts.{KeysRise}
@@ -44,7 +44,7 @@ abbrev pub value_reply : Option ℕ → Reply
 value_reply None = replies.None
 value_reply (Some value) = replies.Some value
 
--- what a call is answered, unless it is refused
+-- the whole answer to a call, unless it is refused
 abbrev pub reply_to : Contents → Call → Reply
 reply_to m (Get key) = value_reply (value_at m key)
 reply_to m (Insert key value) = value_reply (value_at m key)
@@ -65,9 +65,44 @@ abbrev pub after_reply : Contents → Call → Reply → Contents
 after_reply m call replies.Refused = m
 after_reply m call reply = after m call
 
--- a reply is legal where it is `refused`, at any call, or the one that the map gives
+-- whether a whole answer is a value, and so not that there is none, nor a list
+abbrev pub is_value : Reply → Bool
+is_value replies.None = false
+is_value (replies.Some value) = true
+is_value (replies.Pairs pairs) = false
+is_value replies.Refused = false
+is_value replies.Done = false
+is_value replies.Found = false
+is_value replies.Other = false
+
+-- whether a whole answer is none, or another value than this one
+abbrev pub is_none_or_other : ℕ → Reply → Bool
+is_none_or_other expected replies.None = true
+is_none_or_other expected (replies.Some value) = not (value == expected)
+is_none_or_other expected (replies.Pairs pairs) = false
+is_none_or_other expected replies.Refused = false
+is_none_or_other expected replies.Done = false
+is_none_or_other expected replies.Found = false
+is_none_or_other expected replies.Other = false
+
+-- whether a whole answer says that a replace did not find the value that it expects
+abbrev pub misses : Call → Reply → Bool
+misses (Get key) whole = false
+misses (Insert key value) whole = false
+misses (Remove key) whole = false
+misses (Scan low high) whole = false
+misses (Replace key expected value) whole = is_none_or_other expected whole
+
+-- a reply tells of the whole answer all, or less: only that the call was done, that it found a value, or that it did not find the expected one
+abbrev pub TellsOf : Call → Reply → Reply → Type 0
+TellsOf call whole replies.Done = ⊤
+TellsOf call whole replies.Found = IsTrue (is_value whole)
+TellsOf call whole replies.Other = IsTrue (misses call whole)
+TellsOf call whole reply = reply ≡ whole
+
+-- a reply is legal where it is `refused`, at any call, or tells of the answer that the map gives
 abbrev pub IsLegalReply : Contents → Call → Reply → Type 0
-IsLegalReply m call reply = (reply ≡ replies.Refused) ⊎ (reply ≡ reply_to m call)
+IsLegalReply m call reply = (reply ≡ replies.Refused) ⊎ TellsOf call (reply_to m call) reply
 
 -- the object: from m the call may do this reply and leave m2
 abbrev pub Does : Contents → Call → Reply → Contents → Type 0

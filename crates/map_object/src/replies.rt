@@ -22,7 +22,7 @@ pub fn is_value(reply: &Reply, value: Option<u64>) -> bool
     match reply {
         Reply::None => value.is_none(),
         Reply::Some(found) => value == Some(*found),
-        Reply::Pairs(_) | Reply::Refused => false,
+        Reply::Pairs(_) | Reply::Refused | Reply::Done | Reply::Found | Reply::Other => false,
     }
 }
 
@@ -32,6 +32,11 @@ pub fn is_list(reply: &Reply, pairs: &[(u64, u64)]) -> bool
 {
     match reply {
         Reply::Pairs(listed) => listed.as_slice() == pairs,
-        Reply::None | Reply::Some(_) | Reply::Refused => false,
+        Reply::None
+        | Reply::Some(_)
+        | Reply::Refused
+        | Reply::Done
+        | Reply::Found
+        | Reply::Other => false,
     }
 }

@@ -1,6 +1,17 @@
 // The sorted map.
 ghost use Rattle.std.specs.Prelude.{◌≡◌, ◌↔◌, ◌++◌, ◌∷◌, [], IsTrue, IfOk, IfErr, OnOk, OnErr, None};
-ghost use Rattle.map_object.specs.MapObject.{IsRising, IsLegalReply, value_at, below, above, within, reply_to, after};
+ghost use Rattle.map_object.specs.MapObject.{
+  IsRising,
+  IsLegalReply,
+  value_at,
+  below,
+  above,
+  within,
+  reply_to,
+  after,
+  is_value,
+  misses,
+};
 ghost use Rattle.map_object.specs.Memory.{TakesMemory};
 ghost use Rattle.map_object.specs.Places.{IsAt, IsGapFor};
 ghost use Rattle.events.specs.declared.event.Call.TheVariants.{Replace};
@@ -95,18 +106,51 @@ impl SortedMap {
         }
     }
 
-    /// Whether the reply is legal at this call: `Refused` always is, and else only what the map would
-    /// answer. It takes no memory, and compares the pairs of a scan one by one.
+    /// Whether the reply is legal at this call: `Refused` and `Done` always are, and else only what tells of the answer that
+    /// the map would give. It takes no memory, and compares the pairs of a scan one by one.
     pub fn fits(&self, call: &Call, reply: &Reply) -> bool
         ensures { IsTrue result ↔ IsLegalReply self.now call.now reply.now }
     {
-        if matches!(reply, Reply::Refused) {
-            return true;
+        match reply {
+            Reply::Refused | Reply::Done => true,
+            Reply::Found => self.finds_value(call),
+            Reply::Other => self.finds_other(call),
+            Reply::None | Reply::Some(_) | Reply::Pairs(_) => self.gives(call, reply),
         }
+    }
+
+    /// Whether the reply is the whole answer to the call.
+    fn gives(&self, call: &Call, reply: &Reply) -> bool
+        ensures { IsTrue result ↔ (reply.now ≡ reply_to self.now call.now) }
+    {
         match *call {
             Call::Get(key) | Call::Insert(key, _) | Call::Remove(key) | Call::Replace(key, _, _) =>
                 { is_value(reply, self.value(key)) }
             Call::Scan(low, high) => is_list(reply, self.range(low, high)),
+        }
+    }
+
+    /// Whether the call finds a value. A scan finds a list.
+    fn finds_value(&self, call: &Call) -> bool
+        ensures { result ≡ is_value (reply_to self.now call.now) }
+    {
+        match *call {
+            Call::Get(key) | Call::Insert(key, _) | Call::Remove(key) | Call::Replace(key, _, _) =>
+                { self.value(key).is_some() }
+            Call::Scan(..) => false,
+        }
+    }
+
+    /// Whether the call is a replace that finds another value than the one that it expects, or none.
+    fn finds_other(&self, call: &Call) -> bool
+        ensures { result ≡ misses call.now (reply_to self.now call.now) }
+    {
+        match *call {
+            Call::Replace(key, expected, _) => match self.value(key) {
+                Some(found) => found != expected,
+                None => true,
+            },
+            Call::Get(_) | Call::Insert(..) | Call::Remove(_) | Call::Scan(..) => false,
         }
     }
 

@@ -1,41 +1,19 @@
 -- The legal lists of calls are those that the object does in turn, and what they lead to is one list of pairs.
-use Rattle.events.specs.declared.event.Reply.TheVariants as replies
-use Rattle.std.proofs.Common.{◌≡◌, ◌≢◌, ℕ, List, [], ◌∷◌, Option, Some, None, inr, refl, sym, subst, ◌∙◌}
+use Rattle.std.proofs.Common.{◌≡◌, List, [], ◌∷◌, Option, Some, None, inr, refl, sym, subst, ◌∙◌}
 use Rattle.events.specs.declared.event.Call.{Call}
-use Rattle.events.specs.declared.event.Call.TheVariants.{Get, Insert, Remove, Scan, Replace}
-use Rattle.events.specs.declared.event.Reply.{Reply}
 use Rattle.events.specs.declared.operation.Operation.{Operation}
 use Rattle.events.specs.declared.operation.Response.{Response}
-use Rattle.map_object.specs.MapObject.{Contents, value_at, value_reply, reply_to, after, after_reply}
+use Rattle.map_object.specs.MapObject.{Contents, reply_to}
+use Rattle.map_object.proofs.TellLemmas.{reply_to_answers, after_reply-answer, tells_all}
 use Rattle.orders.specs.Orders.{after_call, after_calls, IsLegalCall, IsLegal}
 use Rattle.orders.specs.Leads.{DoesCall, Leads}
-
--- a value or none is no refusal
-pub value_answers : (value : Option ℕ) → value_reply value ≢ replies.Refused
-value_answers None e = cc
-value_answers (Some value) e = cc
-
--- what the map gives is never `refused`
-pub reply_to_answers : (m : Contents) (call : Call) → reply_to m call ≢ replies.Refused
-reply_to_answers m (Get key) e = value_answers (value_at m key) e
-reply_to_answers m (Insert key value) e = value_answers (value_at m key) e
-reply_to_answers m (Remove key) e = value_answers (value_at m key) e
-reply_to_answers m (Scan low high) e = cc
-reply_to_answers m (Replace key expected value) e = value_answers (value_at m key) e
-
--- a call that is not refused is done
-pub after_reply-answer : (m : Contents) (call : Call) (reply : Reply) → reply ≢ replies.Refused → after_reply m call reply ≡ after m call
-after_reply-answer m call replies.None answered = refl
-after_reply-answer m call (replies.Some value) answered = refl
-after_reply-answer m call (replies.Pairs pairs) answered = refl
-after_reply-answer m call replies.Refused answered = absurd (answered refl)
 
 -- one call: legal, with the pairs after it, is to be done
 pub DoesCall-from_legal : (m : Contents) (call : Call) (response : Option Response) → IsLegalCall m call response
     → DoesCall m call response (after_call m call response)
 DoesCall-from_legal m call None legal =
     let answered = reply_to_answers m call in
-    (reply_to m call, answered, (inr refl, sym (after_reply-answer m call (reply_to m call) answered)))
+    (reply_to m call, answered, (inr (tells_all m call (reply_to m call) refl), sym (after_reply-answer m call (reply_to m call) answered)))
 DoesCall-from_legal m call (Some response) legal = (legal, refl)
 
 pub legal_from_DoesCall : (m : Contents) (call : Call) (response : Option Response) (next : Contents) → DoesCall m call response next

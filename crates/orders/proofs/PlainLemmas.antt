@@ -1,7 +1,7 @@
--- Histories with neither starting pairs nor a replace have the orders that their calls have without either.
+-- Histories with neither starting pairs nor a replace, whose answers tell all, have the orders that their calls have without either.
 use Rattle.events.specs.declared.event.Reply.TheVariants as replies
-use Rattle.std.proofs.Common.{◌≡◌, ℕ, suc, true, false, List, [], ◌∷◌, Option, Some, None, inl, inr, refl, sym, subst, ◌∙◌}
-use Rattle.std.specs.Prelude.{All, slice_get}
+use Rattle.std.proofs.Common.{◌≡◌, ℕ, suc, ◌==◌, Bool, true, false, cond, List, [], ◌∷◌, Option, Some, None, inl, inr, refl, sym, subst, ◌∙◌}
+use Rattle.std.specs.Prelude.{All, slice_get, ⊤}
 use Rattle.std.specs.List.{list_all}
 use Rattle.std.proofs.lemmas.Bool.{and_parts, not-true}
 use Rattle.std.proofs.lemmas.List.Elements.{All-nil, All-cons, All-head, All-tail, All-contains}
@@ -13,18 +13,24 @@ use Rattle.events.specs.declared.event.Reply.{Reply}
 use Rattle.events.specs.declared.operation.Operation.{Operation}
 use Rattle.events.specs.declared.operation.Response.{Response}
 use Rattle.events.specs.PlainHistories.{is_replace, is_plain_event, has_no_pairs}
-use Rattle.events.specs.Operations.{operation_of, operations_from, operations}
-use Rattle.map_object.specs.MapObject.{Contents, reply_to, after, after_reply}
+use Rattle.events.specs.Operations.{response_from, operation_of, operations_from, operations}
+use Rattle.events.specs.Told.{is_told}
+use Rattle.map_object.specs.MapObject.{Contents, reply_to, after, after_reply, TellsOf}
+use Rattle.map_object.proofs.TellLemmas.{after_reply-answer, tells_all, tells_answers, whole_from_tells}
 use Rattle.list_laws.proofs.Lists.{All-from_contains, Contains-at}
 use Rattle.list_laws.proofs.FilterLemmas.{Contains-from_filter_map}
 use Rattle.orders.specs.Orders.{after_call, IsLegalCall, IsLegal, calls_at, IsOrder}
 use Rattle.orders.specs.PlainOrders.{DoesPlain, DoesPlainCall, AreDonePlainly, IsPlainOrder}
 use Rattle.orders.specs.Laws.{PlainHistoriesHavePlainOrders}
-use Rattle.orders.proofs.LegalLemmas.{reply_to_answers, after_reply-answer}
 
--- a call that is no replace
+-- a response that tells all, if there is one
+abbrev IsToldResponse : Option Response → Type 0
+IsToldResponse None = ⊤
+IsToldResponse (Some response) = is_told response.reply ≡ true
+
+-- a call that is no replace, and whose answer tells all
 abbrev IsPlainCall : Operation → Type 0
-IsPlainCall a = is_replace a.call ≡ false
+IsPlainCall a = (is_replace a.call ≡ false) × IsToldResponse a.response
 
 -- one call: what the map does is done plainly
 does_plain : (m : Contents) (call : Call) → is_replace call ≡ false → DoesPlain m call (reply_to m call) (after m call)
@@ -43,19 +49,20 @@ plain_does m (Remove key) reply next d = d
 plain_does m (Scan low high) reply next d = d
 plain_does m (Replace key expected value) reply next d = absurd d
 
--- the pairs after the reply that the map gives, and after a refusal
-after_given : (m : Contents) (call : Call) (reply : Reply) → reply ≡ reply_to m call → after_reply m call reply ≡ after m call
-after_given m call reply given = after_reply-answer m call reply (λ refused. reply_to_answers m call (sym given ∙ refused))
+-- the pairs after an answer, and after a refusal
+after_told : (m : Contents) (call : Call) (reply : Reply) → TellsOf call (reply_to m call) reply → after_reply m call reply ≡ after m call
+after_told m call reply tells = after_reply-answer m call reply (tells_answers m call reply tells)
 
 after_refused : (m : Contents) (call : Call) (reply : Reply) → reply ≡ replies.Refused → after_reply m call reply ≡ m
 after_refused m call reply refused = rw refused refl
 
-done-from_legal : (m : Contents) (call : Call) (response : Option Response) → is_replace call ≡ false → IsLegalCall m call response
+done-from_legal : (m : Contents) (call : Call) (response : Option Response) → is_replace call ≡ false → IsToldResponse response
+    → IsLegalCall m call response
     → DoesPlainCall m call response (after_call m call response)
-done-from_legal m call None plain legal = (reply_to m call, does_plain m call plain)
-done-from_legal m call (Some r) plain (inl refused) = inl (refused, after_refused m call r.reply refused)
-done-from_legal m call (Some r) plain (inr given) =
-    inr (rw (after_given m call r.reply given, given) (does_plain m call plain))
+done-from_legal m call None plain told legal = (reply_to m call, does_plain m call plain)
+done-from_legal m call (Some r) plain told (inl refused) = inl (refused, after_refused m call r.reply refused)
+done-from_legal m call (Some r) plain told (inr tells) =
+    inr (rw (after_told m call r.reply tells, whole_from_tells call (reply_to m call) r.reply told tells) (does_plain m call plain))
 
 legal_from_done : (m : Contents) (call : Call) (response : Option Response) (next : Contents) → DoesPlainCall m call response next
     → IsLegalCall m call response × (next ≡ after_call m call response)
@@ -63,14 +70,15 @@ legal_from_done m call None next d = (tt, (plain_does m call d.0 next d.1).1)
 legal_from_done m call (Some r) next (inl d) = (inl d.0, d.1 ∙ sym (after_refused m call r.reply d.0))
 legal_from_done m call (Some r) next (inr d) =
     let p = plain_does m call r.reply next d in
-    (inr p.0, p.1 ∙ sym (after_given m call r.reply p.0))
+    let tells = tells_all m call r.reply p.0 in
+    (inr tells, p.1 ∙ sym (after_told m call r.reply tells))
 
 -- a list of calls
 all_done : (m : Contents) (calls : List Operation) → All IsPlainCall calls → IsLegal m calls → AreDonePlainly m calls
 all_done m [] plain legal = tt
 all_done m (a ∷ calls) plain legal = (
   after_call m a.call a.response,
-  done-from_legal m a.call a.response (All-head IsPlainCall a calls plain) legal.0,
+  done-from_legal m a.call a.response (All-head IsPlainCall a calls plain).0 (All-head IsPlainCall a calls plain).1 legal.0,
   all_done (after_call m a.call a.response) calls (All-tail IsPlainCall a calls plain) legal.1,
 )
 
@@ -81,12 +89,27 @@ all_legal m (a ∷ calls) done =
     (p.0, all_legal (after_call m a.call a.response) calls (subst (λ (next : Contents). AreDonePlainly next calls) p.1 done.2))
 
 -- the calls of plain events are plain, and so are those with some numbers
+told_response : (p i : ℕ) (events : List Event) → list_all is_plain_event events ≡ true → IsToldResponse (response_from p i events)
+told_response p i [] plain = tt
+told_response p i (Invoke q call ∷ events) plain =
+    told_response p (suc i) events (and_parts (is_plain_event (Invoke q call)) (list_all is_plain_event events) plain).1
+told_response p i (Answer q reply ∷ events) plain =
+    let parts = and_parts (is_told reply) (list_all is_plain_event events) plain in
+    go (q == p) parts.0 (told_response p (suc i) events parts.1)
+  where
+    go : (b : Bool) → is_told reply ≡ true → IsToldResponse (response_from p (suc i) events)
+        → IsToldResponse (cond b (Some (record { res = i; reply = reply })) (response_from p (suc i) events))
+    go true here later = here
+    go false here later = later
+
 plain_from : (i : ℕ) (events : List Event) → list_all is_plain_event events ≡ true → All IsPlainCall (operations_from i events)
 plain_from i [] plain = All-nil IsPlainCall
-plain_from i (Answer p reply ∷ events) plain = plain_from (suc i) events plain
+plain_from i (Answer p reply ∷ events) plain =
+    plain_from (suc i) events (and_parts (is_told reply) (list_all is_plain_event events) plain).1
 plain_from i (Invoke p call ∷ events) plain =
     let parts = and_parts (is_plain_event (Invoke p call)) (list_all is_plain_event events) plain in
-    All-cons IsPlainCall (operation_of p call i events) (operations_from (suc i) events) (not-true (is_replace call) parts.0)
+    All-cons IsPlainCall (operation_of p call i events) (operations_from (suc i) events)
+    (not-true (is_replace call) parts.0, told_response p (suc i) events parts.1)
     (plain_from (suc i) events parts.1)
 
 plain_at : (calls : List Operation) (numbers : List ℕ) → All IsPlainCall calls → All IsPlainCall (calls_at calls numbers)

@@ -14,7 +14,7 @@ use Rattle.events.specs.Operations.{operations}
 use Rattle.map_object.specs.MapObject.{Contents, IsRising, after, after_reply, put, below, above}
 use Rattle.map_object.proofs.MapLemmas.{below_gap, above_gap}
 use Rattle.orders.specs.Orders.{IsLegal, after_calls}
-use Rattle.orders.proofs.LegalLemmas.{after_reply-answer}
+use Rattle.map_object.proofs.TellLemmas.{after_reply-answer}
 use Rattle.art_rows.specs.declared.table.Shape.{Shape}
 use Rattle.art_rows.specs.Table.{opening, IsWithinLimits}
 use Rattle.art_steps.specs.declared.variant.Variant.{Variant}
