@@ -4,6 +4,57 @@
 
 static struct recording r;
 
+/* Answers that tell less than the value: such a one makes a history one of version 3, whether the map holds something at its start
+ * or not. Before it the history is of the version that it was of. */
+static void tell_less(const struct recording_pair *start)
+{
+    assert(recording_open(&r, 2, 4, 2) == 0);
+    assert(recording_start(&r, start, 2) == 0);
+    assert(recording_answer_done(&r, 0) == -1);
+    assert(recording_answer_found(&r, 0) == -1);
+    assert(recording_answer_other(&r, 0) == -1);
+    assert(recording_answer_done(&r, 2) == -1);
+    assert(recording_answer_found(&r, 2) == -1);
+    assert(recording_answer_other(&r, 2) == -1);
+
+    /* Only a replace finds another value, and a scan finds none. Such a call stays open until it is answered. */
+    assert(recording_invoke_scan(&r, 0, 1, 5) == 0);
+    assert(recording_answer_found(&r, 0) == -1);
+    assert(recording_answer_other(&r, 0) == -1);
+    assert(recording_write(&r, stdout) == 0);
+    assert(recording_answer_done(&r, 0) == 0);
+    assert(recording_answer_done(&r, 0) == -1);
+    assert(recording_invoke_replace(&r, 0, 5, 8, 9) == 0);
+    assert(recording_answer_other(&r, 0) == 0);
+    assert(recording_invoke_replace(&r, 1, 5, 7, 7) == 0);
+    assert(recording_answer_found(&r, 1) == 0);
+    assert(recording_hold(&r, 0) == 0);
+    assert(recording_answer_done(&r, 0) == -1);
+    assert(recording_invoke_get(&r, 0, 1) == 0);
+    assert(recording_answer_other(&r, 0) == -1);
+    assert(recording_answer_found(&r, 0) == 0);
+    assert(recording_invoke_insert(&r, 1, 5, 6) == 0);
+    assert(recording_answer_other(&r, 1) == -1);
+    assert(recording_answer_found(&r, 1) == 0);
+    assert(recording_invoke_remove(&r, 1, 1) == 0);
+    assert(recording_answer_other(&r, 1) == -1);
+    assert(recording_answer_found(&r, 1) == 0);
+
+    /* Four calls each are four calls each. */
+    assert(recording_invoke_insert(&r, 1, 2, 3) == 0);
+    assert(recording_answer_done(&r, 1) == 0);
+    assert(recording_invoke_insert(&r, 1, 2, 3) == -1);
+    assert(r.stamps == 14);
+    assert(recording_write(&r, stdout) == 0);
+    recording_close(&r);
+
+    assert(recording_open(&r, 1, 1, 0) == 0);
+    assert(recording_invoke_remove(&r, 0, UINT64_MAX) == 0);
+    assert(recording_answer_done(&r, 0) == 0);
+    assert(recording_write(&r, stdout) == 0);
+    recording_close(&r);
+}
+
 int main(void)
 {
     static const struct recording_pair start[] = {{1, 10}, {5, 7}}, falling[] = {{5, 7}, {1, 10}}, two[] = {{1, 10}, {5, 8}};
@@ -63,5 +114,6 @@ int main(void)
     assert(recording_drop(&r, 0) == 0);
     assert(recording_write(&r, stdout) == 0);
     recording_close(&r);
+    tell_less(start);
     return 0;
 }

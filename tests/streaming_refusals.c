@@ -75,9 +75,11 @@ static void refuse_to_write(void)
     signal(SIGPIPE, SIG_IGN);
     assert(pipe(ends) == 0 && close(ends[0]) == 0);
     assert(streaming_open(&s, 2, 2, 0, ends[1]) == 0);
+    streaming_tell_less(&s);
     assert(streaming_invoke_get(&s, 0, 5) == 0);
     assert(streaming_write(&s) == -1 && errno == EPIPE);
     assert(streaming_answer(&s, 0, false, 0) == -1);
+    assert(streaming_answer_done(&s, 0) == -1);
     assert(streaming_hold(&s, 1) == -1);
     streaming_close(&s);
     close(ends[1]);
@@ -125,6 +127,65 @@ static void refuse_out_of_turn(void)
     assert(s.stamps == 12);
     streaming_end(&s);
     assert(streaming_write(&s) == -1);
+    streaming_close(&s);
+    assert(blocks_held == 0);
+}
+
+/* Answers that tell less than the value: refused where the stream was not started so, and the call stays open until it is answered. */
+static void refuse_less(void)
+{
+    assert(streaming_open(&s, 2, 64, 0, 1) == 0);
+    assert(streaming_invoke_replace(&s, 0, 5, 7, 8) == 0);
+    assert(streaming_answer_done(&s, 0) == -1);
+    assert(streaming_answer_found(&s, 0) == -1);
+    assert(streaming_answer_other(&s, 0) == -1);
+    assert(s.stamps == 1);
+    assert(streaming_answer(&s, 0, false, 0) == 0);
+    streaming_end(&s);
+    assert(streaming_write(&s) == 0);
+    streaming_close(&s);
+}
+
+static void tell_less(void)
+{
+    static const struct recording_pair start[] = {{1, 10}, {5, 7}};
+    assert(streaming_open(&s, 3, 64, 2, 1) == 0);
+    assert(streaming_start(&s, start, 2) == 0);
+    streaming_tell_less(&s);
+    assert(streaming_answer_done(&s, 0) == -1);
+    assert(streaming_answer_found(&s, 0) == -1);
+    assert(streaming_answer_other(&s, 0) == -1);
+    assert(streaming_answer_done(&s, 3) == -1);
+    assert(streaming_answer_found(&s, 3) == -1);
+    assert(streaming_answer_other(&s, 3) == -1);
+
+    /* Only a replace finds another value, and a scan finds none. Such a call stays open until it is answered. */
+    assert(streaming_invoke_scan(&s, 0, 1, 5) == 0);
+    assert(streaming_answer_found(&s, 0) == -1);
+    assert(streaming_answer_other(&s, 0) == -1);
+    assert(streaming_answer_done(&s, 0) == 0);
+    assert(streaming_answer_done(&s, 0) == -1);
+    assert(streaming_invoke_replace(&s, 0, 5, 8, 9) == 0);
+    assert(streaming_answer_other(&s, 0) == 0);
+    assert(streaming_invoke_replace(&s, 1, 5, 7, 7) == 0);
+    assert(streaming_answer_found(&s, 1) == 0);
+    assert(streaming_hold(&s, 0) == 0);
+    assert(streaming_answer_done(&s, 0) == -1);
+    assert(streaming_answer_found(&s, 0) == -1);
+    assert(streaming_invoke_get(&s, 0, 1) == 0);
+    assert(streaming_answer_other(&s, 0) == -1);
+    assert(streaming_answer_found(&s, 0) == 0);
+    assert(streaming_invoke_insert(&s, 1, 5, 6) == 0);
+    assert(streaming_answer_other(&s, 1) == -1);
+    assert(streaming_answer_done(&s, 1) == 0);
+    assert(streaming_invoke_remove(&s, 2, 1) == 0);
+    assert(streaming_answer_other(&s, 2) == -1);
+    assert(streaming_answer_found(&s, 2) == 0);
+    assert(streaming_invoke_get(&s, 2, 1) == 0);
+    assert(streaming_answer(&s, 2, false, 0) == 0);
+    assert(s.stamps == 14);
+    streaming_end(&s);
+    assert(streaming_write(&s) == 0);
     streaming_close(&s);
     assert(blocks_held == 0);
 }
@@ -181,5 +242,7 @@ int main(int count, char **words)
     refuse_to_open();
     refuse_to_write();
     refuse_out_of_turn();
+    refuse_less();
+    tell_less();
     return 0;
 }

@@ -24,6 +24,12 @@
  *     if (found) recording_invoke_get(&r, p, key); else recording_invoke_insert(&r, p, key, value);
  *     recording_answer(&r, p, found, old);
  *
+ * And where it tells less than the value, the answer says so much:
+ *
+ *     recording_invoke_insert(&r, p, key, value);
+ *     map_put(map, key, value);                     // tells nothing of what it found
+ *     recording_answer_done(&r, p);                 // or _found: there was a value; or _other: a replace found another one
+ *
  * docs/RECORDING.md says what has to hold of a recording for its verdict to mean something. streaming.h hands the events on
  * while the program runs.
  */
@@ -54,7 +60,7 @@ struct recording_pair { uint64_t key, value; };
 
 enum recording_kind { /* calls, then answers */
     RECORDING_GET, RECORDING_INSERT, RECORDING_REMOVE, RECORDING_SCAN, RECORDING_REPLACE,
-    RECORDING_NONE, RECORDING_VALUE, RECORDING_LIST, RECORDING_REFUSED
+    RECORDING_NONE, RECORDING_VALUE, RECORDING_LIST, RECORDING_REFUSED, RECORDING_DONE, RECORDING_FOUND, RECORDING_OTHER
 };
 
 /* An event: its words are those of the call, the value, or where a list of pairs begins and how many they are. */
@@ -133,6 +139,12 @@ static inline int recording_start(struct recording *r, const struct recording_pa
 static inline bool recording_may(const struct recording *r, unsigned p, bool answer)
 {
     return p < r->processes && r->logs[p].length < 2 * (size_t)r->calls_each && r->logs[p].length % 2 == answer;
+}
+
+/* Whether process p has a call of this kind open. */
+static inline bool recording_is_open(const struct recording *r, unsigned p, enum recording_kind call)
+{
+    return recording_may(r, p, true) && r->logs[p].events[r->logs[p].length - 1].kind == call;
 }
 
 static inline int recording_add(struct recording *r, unsigned p, enum recording_kind kind, uint64_t a, uint64_t b, uint64_t c)
@@ -222,6 +234,24 @@ static inline int recording_answer_refused(struct recording *r, unsigned p)
     return recording_add(r, p, RECORDING_REFUSED, 0, 0, 0);
 }
 
+/* The open call was done; what it found is not told. */
+static inline int recording_answer_done(struct recording *r, unsigned p)
+{
+    return recording_add(r, p, RECORDING_DONE, 0, 0, 0);
+}
+
+/* The open call was done, and there was a value at its key; which one is not told. Of a scan that says nothing: refused. */
+static inline int recording_answer_found(struct recording *r, unsigned p)
+{
+    return recording_is_open(r, p, RECORDING_SCAN) ? -1 : recording_add(r, p, RECORDING_FOUND, 0, 0, 0);
+}
+
+/* The open replace found another value than `old`, or none, and changed nothing. Of any other call it is refused. */
+static inline int recording_answer_other(struct recording *r, unsigned p)
+{
+    return recording_is_open(r, p, RECORDING_REPLACE) ? recording_add(r, p, RECORDING_OTHER, 0, 0, 0) : -1;
+}
+
 /* These write into room that suffices, and answer where their text ends. */
 static inline char *recording_put(char *to, const char *text)
 {
@@ -259,6 +289,7 @@ static inline char *recording_put_pairs(char *to, const struct recording_pair *p
 static inline char *recording_put_event(char *to, const struct recording_event *e, const struct recording_pair *pairs)
 {
     static const char *const calls[] = {"get", "insert", "remove", "scan", "replace"};
+    static const char *const answers[] = {"null", "", "", "\"refused\"", "\"done\"", "\"found\"", "\"other\""};
     static const int words[] = {1, 2, 1, 2, 3};
     if (e->kind < RECORDING_NONE) {
         to = recording_put(recording_put(recording_put(to, "{\"invoke\":[\""), calls[e->kind]), "\"");
@@ -274,23 +305,30 @@ static inline char *recording_put_event(char *to, const struct recording_event *
         else if (e->kind == RECORDING_LIST)
             to = recording_put_pairs(to, pairs, (size_t)e->words[1]);
         else
-            to = recording_put(to, e->kind == RECORDING_NONE ? "null" : "\"refused\"");
+            to = recording_put(to, answers[e->kind - RECORDING_NONE]);
     }
     to = recording_put_number(recording_put(to, ",\"process\":"), e->process);
     *to++ = '}';
     return to;
 }
 
+/* The least version of a history that has such an event, and else is of this one. */
+static inline unsigned recording_version(unsigned version, enum recording_kind kind)
+{
+    return kind > RECORDING_REFUSED ? 3 : kind == RECORDING_REPLACE && version < 2 ? 2 : version;
+}
+
 /* Writes the history, with room for the text of an event, and for an event of each stamp: those of calls left out have none. */
 static inline void recording_write_all(const struct recording *r, FILE *out, char *text, const struct recording_event **by_stamp)
 {
     size_t count = (size_t)atomic_load(&r->stamps);
-    bool is_plain = r->pairs_at_start == 0, is_first = true;
+    unsigned version = r->pairs_at_start == 0 ? 1 : 2;
+    bool is_first = true;
     for (unsigned p = 0; p < r->processes; p++)
         for (size_t i = 0; i < r->logs[p].length; i++) {
             const struct recording_event *e = &r->logs[p].events[i];
             by_stamp[e->stamp] = e;
-            is_plain = is_plain && e->kind != RECORDING_REPLACE;
+            version = recording_version(version, e->kind);
         }
     fputs("{\"events\":[", out);
     for (size_t i = 0; i < count; i++) {
@@ -303,11 +341,11 @@ static inline void recording_write_all(const struct recording *r, FILE *out, cha
         is_first = false;
     }
     fputc(']', out);
-    if (!is_plain) {
+    if (version > 1) {
         fputs(",\"start\":", out);
         fwrite(text, 1, (size_t)(recording_put_pairs(text, r->start, r->pairs_at_start) - text), out);
     }
-    fputs(is_plain ? ",\"version\":1}\n" : ",\"version\":2}\n", out);
+    fprintf(out, ",\"version\":%u}\n", version);
 }
 
 /* Writes the history. To be called once no thread records any more. Answers -1 where a process holds a call that was neither told

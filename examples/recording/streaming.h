@@ -15,7 +15,8 @@
  *
  * Each process is one thread, or what one thread at a time does, and makes one call at a time, through its own number p, from 0. A
  * call answers 0, or -1 where it refused: then nothing is recorded, and the process has to stop. Its call stays without an answer,
- * as that of a thread that dies does: neither holds anything up. streaming_hold and streaming_drop are as in recording.h.
+ * as that of a thread that dies does: neither holds anything up. streaming_hold and streaming_drop are as in recording.h, and so are
+ * streaming_answer_done, _found and _other, once streaming_tell_less has said that the stream is of version 3.
  *
  * Nothing is lost: where all slots are taken, whoever records waits for the writer, and so for who reads the stream. If a write
  * fails, the stream ends there, streaming_write answers -1 with errno, and all that would record is refused from then on. Where the
@@ -57,6 +58,7 @@ struct streaming_slot {
 /* What a process alone reads and writes, but for how far its lists are written: each stands in a ring of twice the room for one. */
 struct streaming_process {
     enum streaming_state state;
+    enum recording_kind call;
     uint64_t stamp_held, pairs_put;
     struct recording_pair *pairs;
     recording_word pairs_written;
@@ -68,7 +70,7 @@ struct streaming {
     char apart[128];
     recording_word is_ended, is_failed;
     uint64_t slots_held;
-    unsigned count;
+    unsigned count, version;
     size_t pairs_each, pairs_at_start, length;
     const struct recording_pair *start;
     struct streaming_slot *slots;
@@ -105,6 +107,7 @@ static inline int streaming_open(struct streaming *s, unsigned processes, size_t
     s->pairs_each = pairs_each;
     s->pairs_at_start = s->length = 0;
     s->start = NULL;
+    s->version = 2;
     s->descriptor = descriptor;
     s->slots = (struct streaming_slot *)calloc(slots, sizeof *s->slots);
     s->processes = (struct streaming_process *)calloc(processes, sizeof *s->processes);
@@ -139,6 +142,13 @@ static inline int streaming_start(struct streaming *s, const struct recording_pa
     s->start = pairs;
     s->pairs_at_start = count;
     return 0;
+}
+
+/* Lets calls be answered by less than the value: done, found or other, which are refused without it. The stream is then of version
+ * 3. To be called before streaming_write and the first call. */
+static inline void streaming_tell_less(struct streaming *s)
+{
+    s->version = 3;
 }
 
 /* Lets other threads go on: most times at once, sometimes for a millisecond. */
@@ -180,6 +190,7 @@ static inline int streaming_invoke(struct streaming *s, unsigned p, enum recordi
         return -1;
     struct recording_event event = {is_held ? s->processes[p].stamp_held : streaming_stamp(s), {a, b, c}, kind, p};
     s->processes[p].state = STREAMING_OPEN;
+    s->processes[p].call = kind;
     return streaming_put(s, &event, false);
 }
 
@@ -273,6 +284,28 @@ static inline int streaming_answer_refused(struct streaming *s, unsigned p)
     return streaming_respond(s, p, RECORDING_REFUSED, 0, 0);
 }
 
+/* The open call was done; what it found is not told. */
+static inline int streaming_answer_done(struct streaming *s, unsigned p)
+{
+    return s->version < 3 ? -1 : streaming_respond(s, p, RECORDING_DONE, 0, 0);
+}
+
+/* The open call was done, and there was a value at its key; which one is not told. Of a scan that says nothing: refused. */
+static inline int streaming_answer_found(struct streaming *s, unsigned p)
+{
+    if (s->version < 3 || !streaming_may(s, p, STREAMING_OPEN) || s->processes[p].call == RECORDING_SCAN)
+        return -1;
+    return streaming_respond(s, p, RECORDING_FOUND, 0, 0);
+}
+
+/* The open replace found another value than `old`, or none, and changed nothing. Of any other call it is refused. */
+static inline int streaming_answer_other(struct streaming *s, unsigned p)
+{
+    if (s->version < 3 || !streaming_may(s, p, STREAMING_OPEN) || s->processes[p].call != RECORDING_REPLACE)
+        return -1;
+    return streaming_respond(s, p, RECORDING_OTHER, 0, 0);
+}
+
 /* No process records any more: to be called once the threads that do are joined, or dead. */
 static inline void streaming_end(struct streaming *s)
 {
@@ -313,7 +346,8 @@ static inline void streaming_take(struct streaming *s, struct streaming_slot *sl
 static inline int streaming_write_lines(struct streaming *s)
 {
     char *end = recording_put_pairs(recording_put(s->text, "{\"start\":"), s->start, s->pairs_at_start);
-    s->length = (size_t)(recording_put(end, ",\"version\":2}\n") - s->text);
+    end = recording_put_number(recording_put(end, ",\"version\":"), s->version);
+    s->length = (size_t)(recording_put(end, "}\n") - s->text);
     uint64_t next = 0;
     for (unsigned times = 0;;) {
         bool is_ended = atomic_load(&s->is_ended);
