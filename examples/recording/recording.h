@@ -240,7 +240,7 @@ static inline int recording_answer_done(struct recording *r, unsigned p)
     return recording_add(r, p, RECORDING_DONE, 0, 0, 0);
 }
 
-/* The open call was done, and there was a value at its key; which one is not told. Of a scan that says nothing: refused. */
+/* The open call was done, and there was a value at its key; which one is not told. Of a scan it is refused. */
 static inline int recording_answer_found(struct recording *r, unsigned p)
 {
     return recording_is_open(r, p, RECORDING_SCAN) ? -1 : recording_add(r, p, RECORDING_FOUND, 0, 0, 0);

@@ -290,7 +290,7 @@ static inline int streaming_answer_done(struct streaming *s, unsigned p)
     return s->version < 3 ? -1 : streaming_respond(s, p, RECORDING_DONE, 0, 0);
 }
 
-/* The open call was done, and there was a value at its key; which one is not told. Of a scan that says nothing: refused. */
+/* The open call was done, and there was a value at its key; which one is not told. Of a scan it is refused. */
 static inline int streaming_answer_found(struct streaming *s, unsigned p)
 {
     if (s->version < 3 || !streaming_may(s, p, STREAMING_OPEN) || s->processes[p].call == RECORDING_SCAN)
