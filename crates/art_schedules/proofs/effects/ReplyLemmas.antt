@@ -5,7 +5,8 @@ use Rattle.std.proofs.Common.{eq-eqb}
 use Rattle.events.specs.declared.event.Call.{Call}
 use Rattle.events.specs.declared.event.Call.TheVariants.{Get, Insert, Remove, Scan, Replace}
 use Rattle.map_object.specs.MapObject as map
-use Rattle.map_object.specs.MapObject.{Contents, value_at, put, is_just, after_reply, IsLegalReply}
+use Rattle.map_object.specs.MapObject.{Contents, value_at, put, is_just, reply_to, after_reply, IsLegalReply}
+use Rattle.map_object.proofs.TellLemmas.{tells_all}
 use Rattle.art_rows.specs.declared.table.Kind.{Kind}
 use Rattle.art_rows.specs.declared.table.Child.{Child}
 use Rattle.art_rows.specs.declared.table.Child.TheVariants.{Empty, Row, Leaf}
@@ -58,20 +59,23 @@ module _ (says : WaysSayValues) (c : Setting) (n : ℕ) (real calm : List ℕ) (
   answered call None = refl
   answered call (Some value) = refl
 
+  tells : (call : Call) (old : Option ℕ) → value_reply old ≡ reply_to m call → IsLegalReply m call (value_reply old)
+  tells call old is = inr (tells_all m call (value_reply old) is)
+
   -- the effect makes the map after the call, and its reply is the map's
   pub does-so : (e : Effect) (old : Option ℕ) → IsPending c real calm e old → (call : Call) → IsEffectOf call old e
       → (pairs_after e m ≡ after_reply m call (value_reply old)) × IsLegalReply m call (value_reply old)
   does-so e old pending (Insert key value) (same, pairs) =
       let was = ap (value_at m) same ∙ value-before e old pending in
-      (pairs m ∙ sym (answered (Insert key value) old), inr (sym (replied key old was)))
+      (pairs m ∙ sym (answered (Insert key value) old), tells (Insert key value) old (sym (replied key old was)))
   does-so e old pending (Remove key) (same, pairs) =
       let was = ap (value_at m) same ∙ value-before e old pending in
-      (pairs m ∙ sym (answered (Remove key) old), inr (sym (replied key old was)))
+      (pairs m ∙ sym (answered (Remove key) old), tells (Remove key) old (sym (replied key old was)))
   does-so e old pending (Replace key expected value) (same, found, pairs) =
       let was = ap (value_at m) same ∙ value-before e old pending in
       let just : is_just (value_at m key) expected ≡ true = ap (λ z. is_just z expected) (was ∙ found) ∙ eq-eqb expected expected refl in (
         pairs m ∙ (sym (ap (λ b. if b then put key value m else m) just) ∙ sym (answered (Replace key expected value) old)),
-        inr (sym (replied key old was)),
+        tells (Replace key expected value) old (sym (replied key old was)),
       )
   does-so e old pending (Get key) none = absurd none
   does-so e old pending (Scan low high) none = absurd none

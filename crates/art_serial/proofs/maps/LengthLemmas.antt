@@ -42,3 +42,6 @@ after_reply-few m call replies.None = after-few m call
 after_reply-few m call (replies.Some value) = after-few m call
 after_reply-few m call (replies.Pairs pairs) = after-few m call
 after_reply-few m call replies.Refused = omega arith
+after_reply-few m call replies.Done = after-few m call
+after_reply-few m call replies.Found = after-few m call
+after_reply-few m call replies.Other = after-few m call

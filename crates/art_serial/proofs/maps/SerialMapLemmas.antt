@@ -1,11 +1,12 @@
 -- Serial schedules of a tree do what the map does, since each call that runs alone does.
-use Rattle.std.proofs.Common.{◌≡◌, ℕ, ◌+◌, ◌%◌, ◌<◌, ◌≤◌, IsTrue, List, length, slice_index, slice_set, inr, Option, Some, None, refl, sym}
+use Rattle.std.proofs.Common.{◌≡◌, ℕ, ◌+◌, ◌%◌, ◌<◌, ◌≤◌, IsTrue, List, length, slice_index, slice_set, inr, refl, sym}
 use Rattle.std.proofs.Common.{subst, arith}
 use Rattle.std.proofs.Math.Nat.{mod-lt}
 use Rattle.events.specs.declared.event.Call.{Call}
 use Rattle.events.specs.declared.event.Call.TheVariants.{Get, Insert, Remove, Scan, Replace}
 use Rattle.events.specs.Limits.{call_limit}
-use Rattle.map_object.specs.MapObject.{Contents, value_at, value_reply, reply_to, after, after_reply}
+use Rattle.map_object.specs.MapObject.{Contents, reply_to, after, after_reply}
+use Rattle.map_object.proofs.TellLemmas.{tells_all, reply_to_answers, after_reply-answer}
 use Rattle.art_rows.specs.declared.table.Shape.{Shape}
 use Rattle.art_rows.specs.Table.{clock, IsWithinLimits}
 use Rattle.art_steps.specs.declared.variant.Variant.{Variant}
@@ -30,16 +31,8 @@ pub record IsMap (s : Shape) (n : ℕ) (words : List ℕ) (m : Contents) : Type 
   pub few : length m ≤ n
 
 -- what the map answers is no refusal
-after-value : (m : Contents) (call : Call) (o : Option ℕ) → after_reply m call (value_reply o) ≡ after m call
-after-value m call None = refl
-after-value m call (Some value) = refl
-
 after-answer : (m : Contents) (call : Call) → after_reply m call (reply_to m call) ≡ after m call
-after-answer m (Get key) = after-value m (Get key) (value_at m key)
-after-answer m (Insert key value) = after-value m (Insert key value) (value_at m key)
-after-answer m (Remove key) = after-value m (Remove key) (value_at m key)
-after-answer m (Scan low high) = refl
-after-answer m (Replace key expected value) = after-value m (Replace key expected value) (value_at m key)
+after-answer m call = after_reply-answer m call (reply_to m call) (reply_to_answers m call)
 
 module _ (same : SameTreesAreOne) (s : Shape) where
   -- the clock is set to a number of 64 bits
@@ -57,7 +50,7 @@ module _ (same : SameTreesAreOne) (s : Shape) where
     last = does.later;
     reply = reply_to m call;
     runs = does.runs;
-    legal = inr refl;
+    legal = inr (tells_all m call (reply_to m call) refl);
     keeps = record {
       rest = rest-more s (n + 1) (n + 1 + 1) does.later (omega arith) does.rest;
       means = subst (Means s does.later) (sym (after-answer m call)) does.means;
