@@ -1,0 +1,3 @@
+-- Past moments of a stream, answers that lose no order, and reads that go first.
+pub mod Laws
+pub mod PastCuts

@@ -1,0 +1,36 @@
+-- Laws of cuts at past moments.
+use Rattle.events.specs.declared.event.Reply.TheVariants as replies
+use Rattle.std.specs.Prelude.{◌↔◌, ℕ, Bool, List, [], ◌∷◌, ◌++◌}
+use Rattle.events.specs.declared.event.Event.{Event}
+use Rattle.events.specs.declared.event.Event.TheVariants.{Answer}
+use Rattle.events.specs.declared.operation.Operation.{Operation}
+use Rattle.events.specs.Operations.{operations}
+use Rattle.events.specs.Precedence.{NonePrecedesItself}
+use Rattle.map_object.specs.MapObject.{Contents}
+use Rattle.orders.specs.Orders.{IsLinearizable}
+use Rattle.quiet_cuts.specs.Leaves.{Leaves}
+use Rattle.quiet_cuts.specs.TimeCuts.{InvocationsRise}
+use Rattle.quiet_cuts.specs.RangeCuts.{early_of, late_of}
+use Rattle.following.specs.cuts.PastCuts.{IsPastCut}
+
+-- at any moment the calls have an order exactly where, for some choice of those that took effect before it, the others have one from some
+-- pairs that these leave
+abbrev pub PastCutsPart : Type 0
+PastCutsPart =
+    (start : Contents) (moment : ℕ) (calls : List Operation) → InvocationsRise calls → NonePrecedesItself calls → IsLinearizable start calls
+    ↔ ((is_taken : Operation → Bool) × IsPastCut moment calls is_taken
+    × ((m : Contents) × Leaves start (early_of is_taken calls) m × IsLinearizable m (late_of is_taken calls)))
+
+-- and what the calls leave is what, for some such choice, the others leave from some pairs that these leave
+abbrev pub PastCutsLeave : Type 0
+PastCutsLeave =
+    (start left : Contents) (moment : ℕ) (calls : List Operation) → InvocationsRise calls → NonePrecedesItself calls
+    → Leaves start calls left
+    ↔ ((is_taken : Operation → Bool) × IsPastCut moment calls is_taken
+    × ((m : Contents) × Leaves start (early_of is_taken calls) m × Leaves m (late_of is_taken calls) left))
+
+-- events that have an order have one with an answer `done` more: it says no more than that the call was done, which it may have been
+abbrev pub DoneLosesNoOrder : Type 0
+DoneLosesNoOrder =
+    (start : Contents) (events : List Event) (process : ℕ) → IsLinearizable start (operations events)
+    → IsLinearizable start (operations (events ++ Answer process replies.Done ∷ []))

@@ -1,0 +1,2 @@
+// The laws, by part.
+pub mod cuts;

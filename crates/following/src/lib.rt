@@ -1,0 +1,8 @@
+//! A stream of events that is followed for each key by itself: what may be dropped or chosen at a moment. Laws alone, in parts:
+//! - cuts: a past moment, before which some calls took effect and after which the others; answers that lose no order; reads that
+//!   may go first.
+#![tactic(auto)]
+
+mod laws;
+
+pub use laws::cuts::{done_loses_no_order, past_cuts, past_cuts_leave};

@@ -1,0 +1,2 @@
+mod TellLemmas
+mod ToldLemmas

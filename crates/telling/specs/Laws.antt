@@ -1,0 +1,32 @@
+-- Laws of answers that tell less.
+use Rattle.events.specs.declared.event.Reply.TheVariants as replies
+use Rattle.std.specs.Prelude.{◌≡◌, ◌≢◌, ◌↔◌, ℕ, List}
+use Rattle.events.specs.declared.event.Call.{Call}
+use Rattle.events.specs.declared.event.Reply.{Reply}
+use Rattle.events.specs.declared.operation.Operation.{Operation}
+use Rattle.map_object.specs.MapObject.{Contents, after, after_reply, IsLegalReply}
+use Rattle.orders.specs.Orders.{IsOrder, IsLinearizable}
+use Rattle.telling.specs.Finds.{FindsValue, MissesValue}
+use Rattle.telling.specs.Tellings.{AreToldCalls}
+
+-- a legal answer that is not `refused` does the call, however little it tells
+abbrev pub AnswersDoCalls : Type 0
+AnswersDoCalls =
+    (m : Contents) (call : Call) (reply : Reply) → IsLegalReply m call reply → reply ≢ replies.Refused
+    → after_reply m call reply ≡ after m call
+
+-- the answers that tell less, by the value at the key
+pub record TellByValue (m : Contents) (call : Call) : Type 0 where
+  pub done : IsLegalReply m call replies.Done
+  pub found : IsLegalReply m call replies.Found ↔ FindsValue m call
+  pub other : IsLegalReply m call replies.Other ↔ MissesValue m call
+
+abbrev pub AnswersThatTellLess : Type 0
+AnswersThatTellLess = (m : Contents) (call : Call) → TellByValue m call
+
+-- calls have an order exactly where they have it with some whole answers in the place of those that tell less
+abbrev pub Telling : Type 0
+Telling =
+    (start : Contents) (calls : List Operation)
+    → ((order : List ℕ) → IsOrder start calls order ↔ ((told : List Operation) × AreToldCalls calls told × IsOrder start told order))
+    × (IsLinearizable start calls ↔ ((told : List Operation) × AreToldCalls calls told × IsLinearizable start told))

@@ -1,0 +1,3 @@
+pub mod Finds
+pub mod Laws
+pub mod Tellings
