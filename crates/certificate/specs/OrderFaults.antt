@@ -40,7 +40,7 @@ pub record BreaksPrecedenceAt (start : Contents) (calls : List Operation) (order
   pub next : IsNewAt start calls order place a
   pub precedes_earlier : PrecedesSome calls (take place order) a
 
--- fault 4: the call at the place may not be given its recorded reply there
+-- fault 4: the call at the place may not be answered there as it was
 pub record IsIllegalAt (start : Contents) (calls : List Operation) (order : List ℕ) (place : ℕ) : Type 0 where
   pub a : Operation
   pub next : IsNewAt start calls order place a

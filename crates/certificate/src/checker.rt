@@ -12,8 +12,8 @@ use events::History;
 use std::alloc::Global;
 
 /// Whether the numbers are an order of the history, from the pairs that it starts with: they name calls, each once
-/// and each completed one among them, no later call precedes an earlier one, and the map gives each
-/// completed call its recorded reply. Otherwise the first fault: that of the least place which shows
+/// and each completed one among them, no later call precedes an earlier one, and each completed
+/// call may be answered there as it was. Otherwise the first fault: that of the least place which shows
 /// one, and there `Unknown` before `Repeated`, `Precedence` and `Reply`; at the end `Missing`. `Memory`
 /// says nothing of the numbers. It goes once over them and once over the calls, beside the map's work,
 /// and copies the starting pairs.

@@ -11,7 +11,7 @@ pub enum OrderFault {
     Repeated { place: usize },
     /// The call at this place precedes one at an earlier place.
     Precedence { place: usize },
-    /// The map does not give the call at this place its recorded reply.
+    /// The call at this place may not be answered there as it was.
     Reply { place: usize },
     /// The least completed call whose number is absent.
     Missing { call: usize },

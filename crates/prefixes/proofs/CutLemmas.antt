@@ -26,6 +26,9 @@ is_refused replies.None = false
 is_refused (replies.Some value) = false
 is_refused (replies.Pairs pairs) = false
 is_refused replies.Refused = true
+is_refused replies.Done = false
+is_refused replies.Found = false
+is_refused replies.Other = false
 
 -- whether a call without a response is refused in the whole
 abbrev pub is_refused_later : Option Response → Option Response → Bool
@@ -137,6 +140,9 @@ refused_changes_nothing m call replies.None h = absurd (false≢true h)
 refused_changes_nothing m call (replies.Some value) h = absurd (false≢true h)
 refused_changes_nothing m call (replies.Pairs pairs) h = absurd (false≢true h)
 refused_changes_nothing m call replies.Refused h = refl
+refused_changes_nothing m call replies.Done h = absurd (false≢true h)
+refused_changes_nothing m call replies.Found h = absurd (false≢true h)
+refused_changes_nothing m call replies.Other h = absurd (false≢true h)
 
 -- any other is done
 others_are_done : (m : Contents) (call : Call) (reply : Reply) → is_refused reply ≡ false → after_reply m call reply ≡ after m call
@@ -144,6 +150,9 @@ others_are_done m call replies.None h = refl
 others_are_done m call (replies.Some value) h = refl
 others_are_done m call (replies.Pairs pairs) h = refl
 others_are_done m call replies.Refused h = absurd (false≢true (sym h))
+others_are_done m call replies.Done h = refl
+others_are_done m call replies.Found h = refl
+others_are_done m call replies.Other h = refl
 
 -- a call that is left out changes nothing in the whole
 left_out : (m : Contents) (call : Call) (response whole : Option Response) → is_refused_later response whole ≡ true

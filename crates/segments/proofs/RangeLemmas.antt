@@ -181,6 +181,9 @@ after_reply_either P m n call replies.None same changed = changed
 after_reply_either P m n call (replies.Some value) same changed = changed
 after_reply_either P m n call (replies.Pairs pairs) same changed = changed
 after_reply_either P m n call replies.Refused same changed = same
+after_reply_either P m n call replies.Done same changed = changed
+after_reply_either P m n call replies.Found same changed = changed
+after_reply_either P m n call replies.Other same changed = changed
 
 -- and after a call of a history
 after_call_either : (P : Contents → Contents → Type 0) (m n : Contents) (call : Call) (response : Option Response) → P m n
