@@ -322,7 +322,7 @@ read_next start calls path n a rising here completed leaves next =
       new = next.new;
       preceded = next.preceded;
       legal = legal;
-      leaves = leaves (pairs_after start calls path) (rising_after (calls_at calls path) start rising) legal;
+      leaves = leaves;
     }
 
 -- one read alone is to be tried
