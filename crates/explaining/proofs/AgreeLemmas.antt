@@ -4,23 +4,25 @@ use Rattle.std.proofs.Common.{◌≡◌, ℕ, ◌≤◌, Bool, true, false, nat_
 use Rattle.std.proofs.Common.{inr, ⊎_elim}
 use Rattle.std.proofs.Common.{arith}
 use Rattle.std.specs.Prelude.{◌⊎◌, ◌≢◌, ◌==◌, ◌||◌, not, is_some, if◌then◌else◌}
-use Rattle.std.proofs.lemmas.Bool.{both_ways, and_from, le-leb, eq-eqb, false≢true}
+use Rattle.std.proofs.lemmas.Bool.{both_ways, and_from, and_parts, le-leb, eq-eqb, false≢true, not-false, not-true}
 use Rattle.events.specs.declared.event.Call.{Call}
 use Rattle.events.specs.declared.event.Call.TheVariants.{Get, Insert, Remove, Scan, Replace}
 use Rattle.events.specs.declared.event.Reply.{Reply}
 use Rattle.events.specs.declared.operation.Operation.{Operation}
 use Rattle.events.specs.declared.operation.Response.{Response}
 use Rattle.events.specs.Keys.{low_key, high_key, may_change}
+use Rattle.events.specs.PlainHistories.{is_replace}
+use Rattle.events.specs.Told.{is_told}
 use Rattle.map_object.specs.MapObject.{Contents, IsRising, value_at, below, above, put, is_just, value_reply, reply_to, after, after_reply}
-use Rattle.map_object.specs.MapObject.{IsLegalReply}
+use Rattle.map_object.specs.MapObject.{is_value, is_none_or_other, misses, TellsOf, IsLegalReply}
 use Rattle.map_object.proofs.MapLemmas.{AreBelow-below, AreAbove-above, value_at_found, value_at_gap}
 use Rattle.orders.specs.Orders.{after_call, IsLegalCall}
-use Rattle.map_object.proofs.TellLemmas.{reply_to_answers, after_reply-answer}
+use Rattle.map_object.proofs.TellLemmas.{after_reply-answer, tells_answers, whole_from_tells}
 use Rattle.segments.proofs.RangeLemmas.{value_at-within}
 use Rattle.quiet_cuts.proofs.ValueLemmas.{IsOut, in_or_out, same_within, value_left}
 use Rattle.call_search.specs.Replies.{says_unchanged}
 use Rattle.call_search.proofs.ReplyLemmas.{unchanged}
-use Rattle.explaining.specs.Tells.{names_key, is_same, is_told, tells, put_by, put_of}
+use Rattle.explaining.specs.Tells.{names_key, is_same, waits_for, depends_on, tells, put_by, put_of, is_sure}
 
 -- two maps have the same value at each key, or one that is hidden
 abbrev pub Agree : (ℕ → Option ℕ → Type 0) → Contents → Contents → Type 0
@@ -85,33 +87,129 @@ agree_both : (Hidden : ℕ → Option ℕ → Type 0) (m n : Contents) (call : C
     → Agree Hidden (after m call) (after n call)
 agree_both Hidden m n call agree same = agree_set Hidden m n call agree (same_here m n call same)
 
+-- ---- a call that is no replace
+
+-- it makes the same of whatever it finds
+whole_agree : (Hidden : ℕ → Option ℕ → Type 0) (m n : Contents) (call : Call) → is_replace call ≡ false → Agree Hidden m n
+    → Agree Hidden (after m call) (after n call)
+whole_agree Hidden m n (Get at) plain agree = agree
+whole_agree Hidden m n (Scan lo hi) plain agree = agree
+whole_agree Hidden m n (Insert at value) plain agree =
+    agree_set Hidden m n (Insert at value) agree (λ key low high. let is : at ≡ key = omega arith in
+    subst (λ k. value_at (put at value m) k ≡ value_at (put at value n) k) is (put_value m at value ∙ sym (put_value n at value)))
+whole_agree Hidden m n (Remove at) plain agree =
+    agree_set Hidden m n (Remove at) agree (λ key low high. let is : at ≡ key = omega arith in
+    subst (λ k. value_at (below at m ++ above at m) k ≡ value_at (below at n ++ above at n) k) is
+    (removed_value m at ∙ sym (removed_value n at)))
+whole_agree Hidden m n (Replace at expected value) plain agree = absurd (false≢true (sym plain))
+
+-- where it may change the map, it leaves the same value at its key
+whole_same : (m n : Contents) (call : Call) → is_replace call ≡ false → may_change call ≡ true
+    → value_at (after m call) (low_key call) ≡ value_at (after n call) (low_key call)
+whole_same m n (Get at) plain changes = absurd (false≢true changes)
+whole_same m n (Scan lo hi) plain changes = absurd (false≢true changes)
+whole_same m n (Insert at value) plain changes = put_value m at value ∙ sym (put_value n at value)
+whole_same m n (Remove at) plain changes = removed_value m at ∙ sym (removed_value n at)
+whole_same m n (Replace at expected value) plain changes = absurd (false≢true (sym plain))
+
 -- ---- a completed call that stays
 
 is_same_refl : (value : Option ℕ) → is_same value value ≡ true
 is_same_refl None = refl
 is_same_refl (Some value) = eq-eqb value value refl
 
-told_reply : (value : Option ℕ) (key : ℕ) → is_told (value_reply value) key value ≡ true
-told_reply None key = refl
-told_reply (Some value) key = eq-eqb value value refl
+told_reply : (call : Call) (value : Option ℕ) (key : ℕ) → depends_on call (value_reply value) key value ≡ true
+told_reply call None key = refl
+told_reply call (Some value) key = eq-eqb value value refl
 
 -- what a map answers tells its values
-told_value : (m : Contents) (call : Call) (key : ℕ) → low_key call ≤ key → key ≤ high_key call
-    → is_told (reply_to m call) key (value_at m key) ≡ true
-told_value m (Get at) key low high =
+whole_value : (m : Contents) (call : Call) (key : ℕ) → low_key call ≤ key → key ≤ high_key call
+    → depends_on call (reply_to m call) key (value_at m key) ≡ true
+whole_value m (Get at) key low high =
     let here : at ≡ key = omega arith in
-    subst (λ k. is_told (value_reply (value_at m at)) key (value_at m k) ≡ true) here (told_reply (value_at m at) key)
-told_value m (Insert at value) key low high =
+    subst (λ k. depends_on (Get at) (value_reply (value_at m at)) key (value_at m k) ≡ true) here (told_reply (Get at) (value_at m at) key)
+whole_value m (Insert at value) key low high =
     let here : at ≡ key = omega arith in
-    subst (λ k. is_told (value_reply (value_at m at)) key (value_at m k) ≡ true) here (told_reply (value_at m at) key)
-told_value m (Remove at) key low high =
+    subst (λ k. depends_on (Insert at value) (value_reply (value_at m at)) key (value_at m k) ≡ true) here
+    (told_reply (Insert at value) (value_at m at) key)
+whole_value m (Remove at) key low high =
     let here : at ≡ key = omega arith in
-    subst (λ k. is_told (value_reply (value_at m at)) key (value_at m k) ≡ true) here (told_reply (value_at m at) key)
-told_value m (Scan lo hi) key low high =
+    subst (λ k. depends_on (Remove at) (value_reply (value_at m at)) key (value_at m k) ≡ true) here
+    (told_reply (Remove at) (value_at m at) key)
+whole_value m (Scan lo hi) key low high =
     subst (λ o. is_same o (value_at m key) ≡ true) (sym (value_at-within lo hi m key low high)) (is_same_refl (value_at m key))
-told_value m (Replace at expected value) key low high =
+whole_value m (Replace at expected value) key low high =
     let here : at ≡ key = omega arith in
-    subst (λ k. is_told (value_reply (value_at m at)) key (value_at m k) ≡ true) here (told_reply (value_at m at) key)
+    subst (λ k. depends_on (Replace at expected value) (value_reply (value_at m at)) key (value_at m k) ≡ true) here
+    (told_reply (Replace at expected value) (value_at m at) key)
+
+-- that a call found a value tells it of each value
+found_some : (o : Option ℕ) → is_value (value_reply o) ≡ true → is_some o ≡ true
+found_some None found = found
+found_some (Some value) found = refl
+
+found_value : (m : Contents) (call : Call) (key : ℕ) → low_key call ≤ key → key ≤ high_key call → is_value (reply_to m call) ≡ true
+    → (is_replace call || is_some (value_at m key)) ≡ true
+found_value m (Get at) key low high found =
+    let here : at ≡ key = omega arith in
+    subst (λ k. is_some (value_at m k) ≡ true) here (found_some (value_at m at) found)
+found_value m (Insert at value) key low high found =
+    let here : at ≡ key = omega arith in
+    subst (λ k. is_some (value_at m k) ≡ true) here (found_some (value_at m at) found)
+found_value m (Remove at) key low high found =
+    let here : at ≡ key = omega arith in
+    subst (λ k. is_some (value_at m k) ≡ true) here (found_some (value_at m at) found)
+found_value m (Scan lo hi) key low high found = absurd (false≢true found)
+found_value m (Replace at expected value) key low high found = refl
+
+-- and that a replace found another value tells it of each but the one that it expects
+other_not : (expected : ℕ) (o : Option ℕ) → is_none_or_other expected (value_reply o) ≡ true → not (is_just o expected) ≡ true
+other_not expected None other = refl
+other_not expected (Some value) other = other
+
+other_value : (m : Contents) (call : Call) (key : ℕ) → low_key call ≤ key → key ≤ high_key call → misses call (reply_to m call) ≡ true
+    → (is_replace call && not (waits_for call (value_at m key))) ≡ true
+other_value m (Get at) key low high other = absurd (false≢true other)
+other_value m (Insert at value) key low high other = absurd (false≢true other)
+other_value m (Remove at) key low high other = absurd (false≢true other)
+other_value m (Scan lo hi) key low high other = absurd (false≢true other)
+other_value m (Replace at expected value) key low high other =
+    let here : at ≡ key = omega arith in
+    subst (λ k. not (is_just (value_at m k) expected) ≡ true) here (other_not expected (value_at m at) other)
+
+-- whether only is told that a call was done which makes the same of whatever it finds
+abbrev is_blank : Call → Reply → Bool
+is_blank call replies.None = false
+is_blank call (replies.Some value) = false
+is_blank call (replies.Pairs pairs) = false
+is_blank call replies.Refused = false
+is_blank call replies.Done = not (is_replace call)
+is_blank call replies.Found = false
+is_blank call replies.Other = false
+
+blank_done : (call : Call) (reply : Reply) → is_blank call reply ≡ true → (reply ≡ replies.Done) × (is_replace call ≡ false)
+blank_done call replies.None blank = absurd (false≢true blank)
+blank_done call (replies.Some value) blank = absurd (false≢true blank)
+blank_done call (replies.Pairs pairs) blank = absurd (false≢true blank)
+blank_done call replies.Refused blank = absurd (false≢true blank)
+blank_done call replies.Done blank = (refl, not-true (is_replace call) blank)
+blank_done call replies.Found blank = absurd (false≢true blank)
+blank_done call replies.Other blank = absurd (false≢true blank)
+
+-- each other answer depends on the values that it tells of
+told_value : (m : Contents) (call : Call) (reply : Reply) (key : ℕ) → low_key call ≤ key → key ≤ high_key call
+    → is_blank call reply ≡ false → TellsOf call (reply_to m call) reply → depends_on call reply key (value_at m key) ≡ true
+told_value m call replies.None key low high sees tells =
+    subst (λ r. depends_on call r key (value_at m key) ≡ true) (sym tells) (whole_value m call key low high)
+told_value m call (replies.Some value) key low high sees tells =
+    subst (λ r. depends_on call r key (value_at m key) ≡ true) (sym tells) (whole_value m call key low high)
+told_value m call (replies.Pairs pairs) key low high sees tells =
+    subst (λ r. depends_on call r key (value_at m key) ≡ true) (sym tells) (whole_value m call key low high)
+told_value m call replies.Refused key low high sees tells =
+    subst (λ r. depends_on call r key (value_at m key) ≡ true) (sym tells) (whole_value m call key low high)
+told_value m call replies.Done key low high sees tells = not-false (is_replace call) sees
+told_value m call replies.Found key low high sees tells = found_value m call key low high tells
+told_value m call replies.Other key low high sees tells = other_value m call key low high tells
 
 named : (call : Call) (key : ℕ) → low_key call ≤ key → key ≤ high_key call → names_key call key ≡ true
 named call key low high = and_from (nat_le (low_key call) key) (nat_le key (high_key call)) (le-leb (low_key call) key low)
@@ -120,12 +218,12 @@ named call key low high = and_from (nat_le (low_key call) key) (nat_le key (high
 -- maps agree on the keys of a call that tells the values of the one
 agree_on : (Hidden : ℕ → Option ℕ → Type 0) (m n : Contents) (call : Call) (inv res : ℕ) (reply : Reply)
     → IsBlind Hidden (record { call = call; inv = inv; response = Some (record { res = res; reply = reply }) })
-    → reply ≡ reply_to m call → Agree Hidden m n → AgreeOn call m n
-agree_on Hidden m n call inv res reply blind is agree key low high = ⊎_elim
+    → is_blank call reply ≡ false → TellsOf call (reply_to m call) reply → Agree Hidden m n → AgreeOn call m n
+agree_on Hidden m n call inv res reply blind sees is agree key low high = ⊎_elim
     (λ same. same)
     (λ hidden. absurd (both_ways _ (blind key (value_at m key) hidden)
-    (and_from (names_key call key) (is_told reply key (value_at m key)) (named call key low high)
-    (subst (λ r. is_told r key (value_at m key) ≡ true) (sym is) (told_value m call key low high)))))
+    (and_from (names_key call key) (depends_on call reply key (value_at m key)) (named call key low high)
+    (told_value m call reply key low high sees is))))
     (agree key)
 
 -- and gives the same reply there
@@ -184,6 +282,11 @@ put_answered : (call : Call) (reply : Reply) (res : ℕ) → is_some (put_of cal
 put_answered call reply res puts refused =
     false≢true (sym (put_says call reply res puts) ∙ (ap (says_unchanged call) refused ∙ refused_says call))
 
+-- and one that surely did so was answered
+pub sure_answered : (call : Call) (response : Option Response) → is_sure call response ≡ true → is_some response ≡ true
+sure_answered call None sure = sure
+sure_answered call (Some response) sure = refl
+
 -- maps that agree on its keys have the same value at its key
 at_key : (m n : Contents) (call : Call) → may_change call ≡ true → AgreeOn call m n → value_at m (low_key call) ≡ value_at n (low_key call)
 at_key m n (Get key) h same = absurd (false≢true h)
@@ -195,7 +298,7 @@ at_key m n (Replace key expected value) h same = same key (omega arith) (omega a
 -- maps after a call: they agree, and where it says that it put something they have the same value at its key
 pub record IsAfter (Hidden : ℕ → Option ℕ → Type 0) (call : Call) (response : Option Response) (m n : Contents) : Type 0 where
   pub agree : Agree Hidden m n
-  pub same : (is_some response && is_some (put_of call response)) ≡ true → value_at m (low_key call) ≡ value_at n (low_key call)
+  pub same : (is_some (put_of call response) && is_sure call response) ≡ true → value_at m (low_key call) ≡ value_at n (low_key call)
 
 -- what a completed call that stays comes to at the other map
 pub record IsStep (Hidden : ℕ → Option ℕ → Type 0) (m n : Contents) (call : Call) (response : Option Response) : Type 0 where
@@ -210,25 +313,47 @@ stays_step Hidden m n call inv res reply blind m_rises n_rises legal agree = ⊎
       legal = inl refused;
       follows = record {
         agree = subst (λ (r : Reply). Agree Hidden (after_reply m call r) (after_reply n call r)) (sym refused) agree;
-        same = λ puts. absurd (put_answered call reply res puts refused);
+        same = λ puts. absurd (put_answered call reply res (may_put puts) refused);
       };
     })
-    (λ is.
-    let same = agree_on Hidden m n call inv res reply blind is agree in
-    let answered : reply ≢ replies.Refused = λ refused. reply_to_answers m call (sym is ∙ refused) in
-    let m_is = after_reply-answer m call reply answered in
-    let n_is = after_reply-answer n call reply answered in
-    record {
-      legal = inr (is ∙ same_reply m n call m_rises n_rises same);
-      follows = record {
-        agree = subst (λ (a : Contents). Agree Hidden a (after_reply n call reply)) (sym m_is)
-            (subst (λ (b : Contents). Agree Hidden (after m call) b) (sym n_is) (agree_both Hidden m n call agree same));
-        same = λ puts. ap (λ (a : Contents). value_at a (low_key call)) m_is
-            ∙ (at_key (after m call) (after n call) call (put_changes call (Some (record { res = res; reply = reply })) puts)
-            (same_here m n call same) ∙ sym (ap (λ (a : Contents). value_at a (low_key call)) n_is));
-      };
-    })
+    (λ tells. answered tells (is_blank call reply) refl)
     legal
+  where
+    may_put : (is_some (put_of call (Some (record { res = res; reply = reply }))) && is_sure call (Some (record { res = res; reply = reply })))
+        ≡ true → is_some (put_of call (Some (record { res = res; reply = reply }))) ≡ true
+    may_put puts = (and_parts (is_some (put_of call (Some (record { res = res; reply = reply }))))
+        (is_sure call (Some (record { res = res; reply = reply }))) puts).0
+
+    -- one that is done at both
+    both_done : reply ≢ replies.Refused → IsLegalReply n call reply → Agree Hidden (after m call) (after n call)
+        → (may_change call ≡ true → value_at (after m call) (low_key call) ≡ value_at (after n call) (low_key call))
+        → IsStep Hidden m n call (Some (record { res = res; reply = reply }))
+    both_done done fits behind same =
+        let m_is = after_reply-answer m call reply done in
+        let n_is = after_reply-answer n call reply done in
+        record {
+          legal = fits;
+          follows = record {
+            agree = subst (λ (a : Contents). Agree Hidden a (after_reply n call reply)) (sym m_is)
+                (subst (λ (b : Contents). Agree Hidden (after m call) b) (sym n_is) behind);
+            same = λ puts. ap (λ (a : Contents). value_at a (low_key call)) m_is
+                ∙ (same (put_changes call (Some (record { res = res; reply = reply })) (may_put puts))
+                ∙ sym (ap (λ (a : Contents). value_at a (low_key call)) n_is));
+          };
+        }
+
+    answered : TellsOf call (reply_to m call) reply → (t : Bool) → is_blank call reply ≡ t
+        → IsStep Hidden m n call (Some (record { res = res; reply = reply }))
+    answered tells true blank =
+        let (done, plain) = blank_done call reply blank in
+        both_done (tells_answers m call reply tells) (subst (λ (r : Reply). IsLegalReply n call r) (sym done) (inr tt))
+        (whole_agree Hidden m n call plain agree) (whole_same m n call plain)
+    answered tells false sees =
+        let same = agree_on Hidden m n call inv res reply blind sees tells agree in
+        both_done (tells_answers m call reply tells)
+        (inr (subst (λ (whole : Reply). TellsOf call whole reply) (same_reply m n call m_rises n_rises same) tells))
+        (agree_both Hidden m n call agree same)
+        (λ changes. at_key (after m call) (after n call) call changes (same_here m n call same))
 
 -- ---- a call that stays without its answer
 
@@ -243,6 +368,9 @@ after_either m call (Some response) = by_reply response.reply
     by_reply (replies.Some value) = inr refl
     by_reply (replies.Pairs pairs) = inr refl
     by_reply replies.Refused = inl refl
+    by_reply replies.Done = inr refl
+    by_reply replies.Found = inr refl
+    by_reply replies.Other = inr refl
 
 -- it is done at the other map too, or left out there
 open_done : (Hidden : ℕ → Option ℕ → Type 0) (m n : Contents) (call : Call) (inv : ℕ)
@@ -250,13 +378,8 @@ open_done : (Hidden : ℕ → Option ℕ → Type 0) (m n : Contents) (call : Ca
     → Agree Hidden m n → Agree Hidden (after m call) (after n call) ⊎ Agree Hidden (after m call) n
 open_done Hidden m n (Get key) inv blind agree = inr agree
 open_done Hidden m n (Scan low high) inv blind agree = inr agree
-open_done Hidden m n (Insert at value) inv blind agree =
-    inl (agree_set Hidden m n (Insert at value) agree (λ key low high. let is : at ≡ key = omega arith in
-    subst (λ k. value_at (put at value m) k ≡ value_at (put at value n) k) is (put_value m at value ∙ sym (put_value n at value))))
-open_done Hidden m n (Remove at) inv blind agree =
-    inl (agree_set Hidden m n (Remove at) agree (λ key low high. let is : at ≡ key = omega arith in
-    subst (λ k. value_at (below at m ++ above at m) k ≡ value_at (below at n ++ above at n) k) is
-    (removed_value m at ∙ sym (removed_value n at))))
+open_done Hidden m n (Insert at value) inv blind agree = inl (whole_agree Hidden m n (Insert at value) refl agree)
+open_done Hidden m n (Remove at) inv blind agree = inl (whole_agree Hidden m n (Remove at) refl agree)
 open_done Hidden m n (Replace at expected value) inv blind agree = ⊎_elim
     (λ same. inl (agree_both Hidden m n (Replace at expected value) agree (λ key low high. let is : at ≡ key = omega arith in
     subst (λ k. value_at m k ≡ value_at n k) is same)))
@@ -287,23 +410,21 @@ found_expected m at expected value reply is says =
 
 -- one that says that it put something is done at the other map too, and leaves the same value at its key
 put_done : (Hidden : ℕ → Option ℕ → Type 0) (m n : Contents) (call : Call) (inv : ℕ) (reply : Reply)
-    → IsBlind Hidden (record { call = call; inv = inv; response = None }) → may_change call ≡ true → reply ≡ reply_to m call
+    → IsBlind Hidden (record { call = call; inv = inv; response = None }) → may_change call ≡ true
+    → (not (is_replace call) || is_told reply) ≡ true → TellsOf call (reply_to m call) reply
     → says_unchanged call reply ≡ false → Agree Hidden m n
     → Agree Hidden (after m call) (after n call) × (value_at (after m call) (low_key call) ≡ value_at (after n call) (low_key call))
-put_done Hidden m n (Get key) inv reply blind changes is says agree = absurd (false≢true changes)
-put_done Hidden m n (Scan low high) inv reply blind changes is says agree = absurd (false≢true changes)
-put_done Hidden m n (Insert at value) inv reply blind changes is says agree = (
-  agree_set Hidden m n (Insert at value) agree (λ key low high. let is : at ≡ key = omega arith in
-      subst (λ k. value_at (put at value m) k ≡ value_at (put at value n) k) is (put_value m at value ∙ sym (put_value n at value))),
-  put_value m at value ∙ sym (put_value n at value),
+put_done Hidden m n (Get key) inv reply blind changes sure tells says agree = absurd (false≢true changes)
+put_done Hidden m n (Scan low high) inv reply blind changes sure tells says agree = absurd (false≢true changes)
+put_done Hidden m n (Insert at value) inv reply blind changes sure tells says agree = (
+  whole_agree Hidden m n (Insert at value) refl agree,
+  whole_same m n (Insert at value) refl refl,
 )
-put_done Hidden m n (Remove at) inv reply blind changes is says agree = (
-  agree_set Hidden m n (Remove at) agree (λ key low high. let is : at ≡ key = omega arith in
-      subst (λ k. value_at (below at m ++ above at m) k ≡ value_at (below at n ++ above at n) k) is
-      (removed_value m at ∙ sym (removed_value n at))),
-  removed_value m at ∙ sym (removed_value n at),
+put_done Hidden m n (Remove at) inv reply blind changes sure tells says agree = (
+  whole_agree Hidden m n (Remove at) refl agree,
+  whole_same m n (Remove at) refl refl,
 )
-put_done Hidden m n (Replace at expected value) inv reply blind changes is says agree = ⊎_elim
+put_done Hidden m n (Replace at expected value) inv reply blind changes sure tells says agree = ⊎_elim
     (λ same.
     let here : AgreeOn (Replace at expected value) m n = λ key low high. let is : at ≡ key = omega arith in
     subst (λ k. value_at m k ≡ value_at n k) is same in (
@@ -313,7 +434,9 @@ put_done Hidden m n (Replace at expected value) inv reply blind changes is says 
     ))
     (λ hidden. absurd (both_ways _ (blind at (value_at m at) hidden)
     (and_from (names_key (Replace at expected value) at) (is_just (value_at m at) expected)
-    (named (Replace at expected value) at (omega arith) (omega arith)) (found_expected m at expected value reply is says))))
+    (named (Replace at expected value) at (omega arith) (omega arith))
+    (found_expected m at expected value reply
+    (whole_from_tells (Replace at expected value) (value_reply (value_at m at)) reply sure tells) says))))
     (agree at)
 
 pub open_step : (Hidden : ℕ → Option ℕ → Type 0) (m n : Contents) (call : Call) (inv : ℕ) (response : Option Response)
@@ -321,31 +444,37 @@ pub open_step : (Hidden : ℕ → Option ℕ → Type 0) (m n : Contents) (call 
     → IsAfter Hidden call response (after_call m call response) (after n call)
     ⊎ IsAfter Hidden call response (after_call m call response) n
 open_step Hidden m n call inv None blind legal agree = ⊎_elim
-    (λ done. inl (record { agree = done; same = λ puts. absurd (false≢true puts) }))
-    (λ one. inr (record { agree = one; same = λ puts. absurd (false≢true puts) }))
+    (λ done. inl (record { agree = done; same = λ puts. absurd (unsure puts) }))
+    (λ one. inr (record { agree = one; same = λ puts. absurd (unsure puts) }))
     (open_done Hidden m n call inv blind agree)
-open_step Hidden m n call inv (Some response) blind legal agree = by_test (is_some (put_of call (Some response))) refl
   where
+    unsure : (is_some (put_of call None) && false) ≡ true → ⊥
+    unsure puts = false≢true (and_parts (is_some (put_of call None)) false puts).1
+open_step Hidden m n call inv (Some response) blind legal agree = by_test puts_surely refl
+  where
+    puts_surely : Bool
+    puts_surely = is_some (put_of call (Some response)) && is_sure call (Some response)
+
     left : Contents
     left = after_reply m call response.reply
 
-    silent : (next : Contents) → is_some (put_of call (Some response)) ≡ false → Agree Hidden left next
-        → IsAfter Hidden call (Some response) left next
+    silent : (next : Contents) → puts_surely ≡ false → Agree Hidden left next → IsAfter Hidden call (Some response) left next
     silent next e done = record { agree = done; same = λ puts. absurd (false≢true (sym e ∙ puts)) }
 
-    loud : is_some (put_of call (Some response)) ≡ true → IsAfter Hidden call (Some response) left (after n call)
+    loud : puts_surely ≡ true → IsAfter Hidden call (Some response) left (after n call)
     loud e =
-        let answered = put_answered call response.reply response.res e in
-        let is : response.reply ≡ reply_to m call = ⊎_elim (λ refused. absurd (answered refused)) (λ same. same) legal in
-        let done = put_done Hidden m n call inv response.reply blind (put_changes call (Some response) e) is
-        (put_says call response.reply response.res e) agree in
+        let (may, sure) = and_parts (is_some (put_of call (Some response))) (is_sure call (Some response)) e in
+        let answered = put_answered call response.reply response.res may in
+        let tells : TellsOf call (reply_to m call) response.reply = ⊎_elim (λ refused. absurd (answered refused)) (λ t. t) legal in
+        let done = put_done Hidden m n call inv response.reply blind (put_changes call (Some response) may) sure tells
+        (put_says call response.reply response.res may) agree in
         let m_is = after_reply-answer m call response.reply answered in
         record {
           agree = subst (λ (a : Contents). Agree Hidden a (after n call)) (sym m_is) done.0;
           same = λ puts. ap (λ (a : Contents). value_at a (low_key call)) m_is ∙ done.1;
         }
 
-    by_test : (t : Bool) → is_some (put_of call (Some response)) ≡ t
+    by_test : (t : Bool) → puts_surely ≡ t
         → IsAfter Hidden call (Some response) left (after n call) ⊎ IsAfter Hidden call (Some response) left n
     by_test true e = inl (loud e)
     by_test false e = ⊎_elim

@@ -19,10 +19,10 @@ use Rattle.quiet_cuts.proofs.SetLemmas.{same_call, set_from_linearizable, linear
 use Rattle.quiet_cuts.proofs.ValueLemmas.{rising_kept}
 use Rattle.explaining.specs.Rest.{opened}
 use Rattle.explaining.specs.Overwriting.{says_put}
-use Rattle.explaining.specs.Tells.{put_of, tells, tells_put_at}
+use Rattle.explaining.specs.Tells.{put_of, is_sure, tells, tells_put_at}
 use Rattle.explaining.specs.Relaxed.{IsCallOf, IsLeftOut, IsRelaxed}
 use Rattle.explaining.proofs.AnyLemmas.{any_of, found_any}
-use Rattle.explaining.proofs.AgreeLemmas.{Agree, IsBlind, IsAfter, IsStep, stays_step, open_step, gone_step}
+use Rattle.explaining.proofs.AgreeLemmas.{Agree, IsBlind, IsAfter, IsStep, sure_answered, stays_step, open_step, gone_step}
 
 -- ---- a call and what is left of it
 
@@ -275,7 +275,8 @@ module _ (calls others : List Operation) (others_rise : InvocationsRise others) 
               (λ same. absurd (gone.absent o.stays.0 o.stays.1 (place ∙ sym (ap (λ (p : Operation). p.inv) same))))
               (λ later. later)
               (Contains-cases a order o.by (closed a o.by (Contains-first a order) o.known
-              (and_parts (is_completed o.by) (is_some (put_of o.by.call o.by.response)) o.puts).0 times.0));
+              (sure_answered o.by.call o.by.response
+              (and_parts (is_some (put_of o.by.call o.by.response)) (is_sure o.by.call o.by.response) o.puts).1) times.0));
           over = and_from (list_any (λ (b : Operation). b.inv == o.by.inv) others) (says_put o.by && (low_key o.by.call == low_key a.call))
               (any_of (λ (b : Operation). b.inv == o.by.inv) others o.stays.0 o.stays.1 (eq-eqb o.stays.0.inv o.by.inv place))
               (and_from (says_put o.by) (low_key o.by.call == low_key a.call) o.puts places.1);

@@ -17,7 +17,7 @@ use Rattle.list_laws.proofs.FilterLemmas.{AreRelatedAs, AllPairs-filter_map, All
 use Rattle.list_laws.proofs.FilterLemmas.{Contains-from_filter_map, Contains-from_map}
 use Rattle.quiet_cuts.specs.TimeCuts.{InvocationsRise}
 use Rattle.quiet_cuts.proofs.SetLemmas.{same_call}
-use Rattle.explaining.specs.Tells.{put_of, tells_put, tells_put_at}
+use Rattle.explaining.specs.Tells.{put_of, is_sure, tells_put, tells_put_at}
 use Rattle.explaining.specs.Overwriting.{says_put, is_between}
 use Rattle.explaining.specs.Rest.{opened, gone_of, puts_of, is_overwritten, may_tell, is_touched, is_held, if_belongs, left_of, rest_of}
 use Rattle.explaining.specs.Rest.{are_held}
@@ -168,7 +168,7 @@ module _ (places : List ℕ) (calls : List Operation) where
         by_option None e = absurd (⊎_elim
             (λ goes. false≢true (sym goes ∙ stays))
             (λ still. false≢true (sym still ∙ put_changes c.call c.response
-            (and_parts (is_completed c) (is_some (put_of c.call c.response)) says).1))
+            (and_parts (is_some (put_of c.call c.response)) (is_sure c.call c.response) says).0))
             (left_none places puts gone c e))
 
     -- where what is left of one tells what another put that goes, it precedes it, or that is overwritten before

@@ -2,12 +2,12 @@
 use Rattle.std.specs.Prelude.{◌==◌, ◌&&◌, Bool, nat_lt, is_some}
 use Rattle.events.specs.declared.operation.Operation.{Operation}
 use Rattle.events.specs.Keys.{low_key}
-use Rattle.events.specs.Precedence.{is_completed, precedes}
-use Rattle.explaining.specs.Tells.{put_of}
+use Rattle.events.specs.Precedence.{precedes}
+use Rattle.explaining.specs.Tells.{put_of, is_sure}
 
 -- whether a call was answered, and so that it put something at its key
 abbrev pub says_put : Operation → Bool
-says_put c = is_completed c && is_some (put_of c.call c.response)
+says_put c = is_some (put_of c.call c.response) && is_sure c.call c.response
 
 -- whether a call of the first one's key stands between two others in each order: the first precedes it, and it precedes the second
 abbrev pub is_between : Operation → Operation → Operation → Bool

@@ -7,7 +7,7 @@ ghost use Rattle.explaining.specs.Overwriting.{says_put, is_between};
 ghost use Rattle.explaining.specs.Rest.{opened, gone_of, puts_of, is_overwritten, may_tell, is_touched, is_held, if_belongs, left_of};
 ghost use Rattle.explaining.specs.Rest.{rest_of};
 
-use crate::telling::{puts, tells_put};
+use crate::telling::{is_sure, puts, tells_put};
 use events::{Memory, Operation};
 use std::alloc::Global;
 
@@ -71,7 +71,7 @@ pub(crate) fn puts_of(
 fn says_put(call: &Operation) -> bool
     ensures { result ≡ says_put call.now }
 {
-    call.response.is_some() && puts(call)
+    puts(call) && is_sure(call)
 }
 
 /// What becomes of a call where others go.

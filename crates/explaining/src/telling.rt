@@ -2,7 +2,9 @@
 ghost use Rattle.std.specs.Prelude.{◌≡◌, ℕ, Option, Some, None, is_some};
 ghost use Rattle.map_object.specs.MapObject.{value_at, is_just};
 ghost use Rattle.call_search.specs.Replies.{says_unchanged};
-ghost use Rattle.explaining.specs.Tells.{names_key, is_same, is_told, waits_for, is_told_by, tells, put_by, put_of, tells_put};
+ghost use Rattle.events.specs.PlainHistories.{is_replace};
+ghost use Rattle.explaining.specs.Tells.{names_key, is_same, waits_for, depends_on, is_told_by, tells, put_by, put_of, is_sure};
+ghost use Rattle.explaining.specs.Tells.{tells_put};
 
 use events::{Call, Operation, Reply, Response};
 
@@ -21,6 +23,24 @@ pub(crate) fn puts(call: &Operation) -> bool
     ensures { result ≡ is_some (put_of call.now.call call.now.response) }
 {
     put_of(&call.call, &call.response).is_some()
+}
+
+/// Whether a call, as far as its response says, does what it may do. A pending one may not be done, and a replace of which only is
+/// told that it was done, or that it found a value, may have found another one than it expects.
+pub(crate) fn is_sure(call: &Operation) -> bool
+    ensures { result ≡ is_sure call.now.call call.now.response }
+{
+    match &call.response {
+        Some(response) => !is_replace(&call.call) || response.reply.is_told(),
+        None => false,
+    }
+}
+
+/// Whether a call is a replace.
+fn is_replace(call: &Call) -> bool
+    ensures { result ≡ is_replace call.now }
+{
+    matches!(call, Call::Replace(_, _, _))
 }
 
 /// What a call may put at its key: a value, or none in place of one; nothing where its response says that it changed nothing.
@@ -49,12 +69,13 @@ fn says_unchanged(call: &Call, reply: &Reply) -> bool
     ensures { result ≡ says_unchanged call.now reply.now }
 {
     match (call, reply) {
-        (Call::Get(_) | Call::Scan(_, _), _) | (_, Reply::Refused) => true,
+        (Call::Get(_) | Call::Scan(_, _), _) | (_, Reply::Refused | Reply::Other) => true,
         (Call::Insert(_, value), Reply::Some(found)) => *found == *value,
         (Call::Remove(_), Reply::None) => true,
         (Call::Replace(_, expected, value), Reply::Some(found)) => *found != *expected
             || *expected == *value,
         (Call::Replace(_, _, _), Reply::None) => true,
+        (Call::Replace(_, expected, value), Reply::Done | Reply::Found) => *expected == *value,
         _ => false,
     }
 }
@@ -73,12 +94,12 @@ fn names_key(call: &Call, key: u64) -> bool
     call.low_key() <= key && key <= call.high_key()
 }
 
-/// Whether a response tells that a key had this value, or none; or where there is none, whether the call waits for it.
+/// Whether a call that was answered depends on a key having this value, or none; or where it was not, whether it waits for it.
 fn is_told_by(call: &Call, response: &Option<Response>, key: u64, value: Option<u64>) -> bool
     ensures { result ≡ is_told_by call.now response.now key value }
 {
     match response {
-        Some(response) => is_told(&response.reply, key, value),
+        Some(response) => depends_on(call, &response.reply, key, value),
         None => waits_for(call, value),
     }
 }
@@ -103,15 +124,19 @@ fn is_just(value: Option<u64>, expected: u64) -> bool
     }
 }
 
-/// Whether a reply tells that a key had this value, or none.
-fn is_told(reply: &Reply, key: u64, value: Option<u64>) -> bool
-    ensures { result ≡ is_told reply.now key value }
+/// Whether a call that was answered so depends on a key having this value, or none: with another one there it could not be
+/// answered so, or could leave another one.
+fn depends_on(call: &Call, reply: &Reply, key: u64, value: Option<u64>) -> bool
+    ensures { result ≡ depends_on call.now reply.now key value }
 {
     match reply {
         Reply::None => is_same(None, value),
         Reply::Some(found) => is_same(Some(*found), value),
         Reply::Pairs(pairs) => is_same(value_in(pairs.as_slice(), key), value),
         Reply::Refused => false,
+        Reply::Done => is_replace(call),
+        Reply::Found => is_replace(call) || value.is_some(),
+        Reply::Other => is_replace(call) && !waits_for(call, value),
     }
 }
 
