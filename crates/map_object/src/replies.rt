@@ -32,11 +32,7 @@ pub fn is_list(reply: &Reply, pairs: &[(u64, u64)]) -> bool
 {
     match reply {
         Reply::Pairs(listed) => listed.as_slice() == pairs,
-        Reply::None
-        | Reply::Some(_)
-        | Reply::Refused
-        | Reply::Done
-        | Reply::Found
-        | Reply::Other => false,
+        Reply::None | Reply::Some(_) | Reply::Refused | Reply::Done | Reply::Found | Reply::Other =>
+            false,
     }
 }
