@@ -2,7 +2,7 @@
 use Rattle.std.proofs.Common.{◌≡◌, ℕ, zero, suc, ◌<◌, ◌≤◌, true, List, Option, Some, None, [], ◌∷◌, ◌++◌, length, refl, sym, ap, ◌∙◌, subst}
 use Rattle.std.proofs.Common.{inl, inr, ⊎_elim}
 use Rattle.std.proofs.Common.{arith}
-use Rattle.std.specs.Prelude.{◌≢◌, ◌⊎◌, slice_get, All, Contains}
+use Rattle.std.specs.Prelude.{◌≢◌, ◌⊎◌, Bool, IsTrue, slice_get, All, Contains}
 use Rattle.std.proofs.lemmas.Bool.{both_ways, cases_Bool, cases_lt}
 use Rattle.std.proofs.lemmas.List.{append-nil, append_assoc, get_or_default}
 use Rattle.std.proofs.lemmas.List.Elements.{All-nil, All-cons, All-head, All-tail, All-push, All-append, All-contains, Contains-append_left}
@@ -17,7 +17,7 @@ use Rattle.events.specs.declared.operation.Operation.{Operation}
 use Rattle.events.specs.declared.operation.Response.{Response}
 use Rattle.list_laws.specs.Lists.{has_number}
 use Rattle.events.specs.Precedence.{is_completed, precedes, NonePrecedesItself}
-use Rattle.map_object.specs.MapObject.{Contents, reply_to, IsLegalReply}
+use Rattle.map_object.specs.MapObject.{Contents, reply_to, is_value, misses, TellsOf, IsLegalReply}
 use Rattle.orders.specs.Orders.{IsLegalCall, IsCompletedAt, IsOrder, IsLinearizable, after_calls, calls_at}
 use Rattle.configurations.specs.Fronts.{PrecedesAt, IsFront}
 use Rattle.configurations.specs.Configurations.{Configuration, LeadsTo}
@@ -48,49 +48,62 @@ same_pairs a b = ⊎_elim
     ((Decides-is_same (configuration_of [] a) (configuration_of [] b)).1 (ap (configuration_of []) is))))
     (cases_Bool (is_same (configuration_of [] a) (configuration_of [] b)))
 
--- the value of a reply, where it is one, and the pairs that it lists
-abbrev value_of : Reply → Contents
-value_of (replies.Some value) = (value, 0) ∷ []
-value_of (replies.Pairs pairs) = pairs
-value_of replies.None = []
-value_of replies.Refused = []
+true_told : (b : Bool) → IsTold (IsTrue b)
+true_told b = ⊎_elim (λ e. inl e) (λ e. inr (λ h. both_ways b e h)) (cases_Bool b)
 
--- the key of the first pair
-abbrev first_key : Contents → ℕ
-first_key [] = 0
-first_key (p ∷ ps) = p.0
+-- a reply as a list of pairs: the first tells which reply it is, and its value
+abbrev pairs_of : Reply → Contents
+pairs_of replies.None = (0, 0) ∷ []
+pairs_of (replies.Some value) = (1, value) ∷ []
+pairs_of (replies.Pairs pairs) = (2, 0) ∷ pairs
+pairs_of replies.Refused = (3, 0) ∷ []
+pairs_of replies.Done = (4, 0) ∷ []
+pairs_of replies.Found = (5, 0) ∷ []
+pairs_of replies.Other = (6, 0) ∷ []
 
-by_lists : (a b : Reply) (xs ys : Contents) → (xs ≡ ys → a ≡ b) → (a ≡ b → xs ≡ ys) → IsTold (a ≡ b)
-by_lists a b xs ys to from = ⊎_elim (λ is. inl (to is)) (λ not. inr (λ is. not (from is))) (same_pairs xs ys)
+-- and back
+abbrev reply_of : Contents → Reply
+reply_of [] = replies.None
+reply_of ((zero, value) ∷ pairs) = replies.None
+reply_of ((suc zero, value) ∷ pairs) = replies.Some value
+reply_of ((suc (suc zero), value) ∷ pairs) = replies.Pairs pairs
+reply_of ((suc (suc (suc zero)), value) ∷ pairs) = replies.Refused
+reply_of ((suc (suc (suc (suc zero))), value) ∷ pairs) = replies.Done
+reply_of ((suc (suc (suc (suc (suc zero)))), value) ∷ pairs) = replies.Found
+reply_of ((suc (suc (suc (suc (suc (suc kind))))), value) ∷ pairs) = replies.Other
+
+reply_of-pairs_of : (reply : Reply) → reply_of (pairs_of reply) ≡ reply
+reply_of-pairs_of replies.None = refl
+reply_of-pairs_of (replies.Some value) = refl
+reply_of-pairs_of (replies.Pairs pairs) = refl
+reply_of-pairs_of replies.Refused = refl
+reply_of-pairs_of replies.Done = refl
+reply_of-pairs_of replies.Found = refl
+reply_of-pairs_of replies.Other = refl
 
 same_reply : (a b : Reply) → IsTold (a ≡ b)
-same_reply replies.None replies.None = inl refl
-same_reply replies.None (replies.Some v) = inr (λ e. cc)
-same_reply replies.None (replies.Pairs ps) = inr (λ e. cc)
-same_reply replies.None replies.Refused = inr (λ e. cc)
-same_reply (replies.Some v) replies.None = inr (λ e. cc)
-same_reply (replies.Some v) (replies.Some w) =
-    by_lists (replies.Some v) (replies.Some w) ((v, 0) ∷ []) ((w, 0) ∷ []) (λ is. ap (λ (ps : Contents). replies.Some (first_key ps)) is)
-    (λ is. ap value_of is)
-same_reply (replies.Some v) (replies.Pairs ps) = inr (λ e. cc)
-same_reply (replies.Some v) replies.Refused = inr (λ e. cc)
-same_reply (replies.Pairs ps) replies.None = inr (λ e. cc)
-same_reply (replies.Pairs ps) (replies.Some v) = inr (λ e. cc)
-same_reply (replies.Pairs ps) (replies.Pairs qs) =
-    by_lists (replies.Pairs ps) (replies.Pairs qs) ps qs (λ is. ap replies.Pairs is) (λ is. ap value_of is)
-same_reply (replies.Pairs ps) replies.Refused = inr (λ e. cc)
-same_reply replies.Refused replies.None = inr (λ e. cc)
-same_reply replies.Refused (replies.Some v) = inr (λ e. cc)
-same_reply replies.Refused (replies.Pairs ps) = inr (λ e. cc)
-same_reply replies.Refused replies.Refused = inl refl
+same_reply a b = ⊎_elim
+    (λ is. inl (sym (reply_of-pairs_of a) ∙ (ap reply_of is ∙ reply_of-pairs_of b)))
+    (λ not. inr (λ is. not (ap pairs_of is)))
+    (same_pairs (pairs_of a) (pairs_of b))
+
+-- whether a reply tells of the whole answer
+tells_told : (call : Call) (whole reply : Reply) → IsTold (TellsOf call whole reply)
+tells_told call whole replies.None = same_reply replies.None whole
+tells_told call whole (replies.Some value) = same_reply (replies.Some value) whole
+tells_told call whole (replies.Pairs pairs) = same_reply (replies.Pairs pairs) whole
+tells_told call whole replies.Refused = same_reply replies.Refused whole
+tells_told call whole replies.Done = inl tt
+tells_told call whole replies.Found = true_told (is_value whole)
+tells_told call whole replies.Other = true_told (misses call whole)
 
 legal_told : (m : Contents) (call : Call) (response : Option Response) → IsTold (IsLegalCall m call response)
 legal_told m call None = inl tt
-legal_told m call (Some r) = by_cases (same_reply r.reply replies.Refused) (same_reply r.reply (reply_to m call))
+legal_told m call (Some r) = by_cases (same_reply r.reply replies.Refused) (tells_told call (reply_to m call) r.reply)
   where
-    by_cases : IsTold (r.reply ≡ replies.Refused) → IsTold (r.reply ≡ reply_to m call) → IsTold (IsLegalReply m call r.reply)
+    by_cases : IsTold (r.reply ≡ replies.Refused) → IsTold (TellsOf call (reply_to m call) r.reply) → IsTold (IsLegalReply m call r.reply)
     by_cases (inl is) k = inl (inl is)
-    by_cases (inr not) (inl is) = inl (inr is)
+    by_cases (inr not) (inl tells) = inl (inr tells)
     by_cases (inr not) (inr other) = inr (λ h. ⊎_elim not other h)
 
 -- what is told of each number below a bound is told of all
