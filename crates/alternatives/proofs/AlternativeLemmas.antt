@@ -1,9 +1,9 @@
 -- Alternatives stand for the events so far.
 use Rattle.events.specs.declared.event.Reply.TheVariants as replies
-use Rattle.std.proofs.Common.{◌≡◌, ℕ, false, List, [], ◌∷◌, ◌++◌, map, length, Option, Some, refl, sym, ap, subst, inl, inr}
+use Rattle.std.proofs.Common.{◌≡◌, ℕ, Bool, true, false, cond, ◌==◌, List, [], ◌∷◌, ◌++◌, map, length, Option, Some, refl, sym, ap, subst, inl, inr}
 use Rattle.std.proofs.Common.{⊎_elim, append_assoc, arith, IsTrue}
 use Rattle.std.specs.Prelude.{◌≢◌, ◌↔◌, ◌⊎◌, IfSome, All, Any, Contains}
-use Rattle.std.proofs.lemmas.Bool.{ne_eqb, eq-eqb}
+use Rattle.std.proofs.lemmas.Bool.{ne_eqb, eq-eqb, and_parts, and_from}
 use Rattle.std.proofs.lemmas.List.{append-nil}
 use Rattle.std.proofs.lemmas.List.Elements.{All-nil, All-cons, All-head, All-tail, All-contains, All-append}
 use Rattle.std.proofs.lemmas.List.Elements.{Contains-append_left, Contains-append_right, Contains-append_cases}
@@ -14,6 +14,7 @@ use Rattle.events.specs.declared.event.Event.{Event}
 use Rattle.events.specs.declared.event.Event.TheVariants.{Invoke, Answer}
 use Rattle.events.specs.Events.{events_of, takes_turns}
 use Rattle.events.specs.Operations.{operations}
+use Rattle.events.specs.Told.{is_told, are_told}
 use Rattle.map_object.specs.MapObject.{Contents}
 use Rattle.orders.specs.Orders.{IsLinearizable}
 use Rattle.prefixes.specs.Laws.{PrefixesHaveOrders}
@@ -29,6 +30,7 @@ use Rattle.alternatives.specs.Alternatives.{TakesAnswer, IsOpenIn, HasAllReplies
 use Rattle.alternatives.specs.Alternatives.{none_left, comes, was_ahead, goes, at_start, invoke, answer, choose, drop}
 use Rattle.alternatives.proofs.LaterLemmas.{later_call, later_linearizable}
 use Rattle.alternatives.proofs.StreamLemmas.{passed_over}
+use Rattle.alternatives.proofs.OpenCallLemmas.{either}
 
 -- an answer of a process that has no open call does not count
 pub out_of_turn : PlacesDoNotMatter → (start : Contents) (events more : List Event) (process : ℕ) (reply : Reply) → IsIdle events process
@@ -66,7 +68,7 @@ own_reply process reply more = rw (eq-eqb process process refl) refl
 -- ---- each step
 
 abbrev Exact : Contents → List Event → List Alternative → Type 0
-Exact start events all = (more : List Event) → IsLinearizable start (operations (events ++ more)) ↔ Any (HasOrderWith start more) all
+Exact start events all = (more : List Event) → are_told more ≡ true → IsLinearizable start (operations (events ++ more)) ↔ Any (HasOrderWith start more) all
 
 -- what some alternative has, one that comes of it has, and back
 through : {X Y : Type 0} (P : X → Type 0) (Q : Y → Type 0) (all : List X) (then : List Y)
@@ -75,7 +77,7 @@ through P Q all then step h = let (a, is, holds) = found P all h in step a is ho
 
 invoked_exact : (start : Contents) (events : List Event) (all : List Alternative) (process : ℕ) (call : Call) → Exact start events all
     → Exact start (events ++ Invoke process call ∷ []) (map (with_event (Invoke process call)) all)
-invoked_exact start events all process call exact more =
+invoked_exact start events all process call exact more told =
     let e = Invoke process call in
     let P = HasOrderWith start (e ∷ more) in
     let Q = HasOrderWith start more in
@@ -84,8 +86,8 @@ invoked_exact start events all process call exact more =
       λ h. through P Q all (map (with_event e) all) (λ a is holds.
           any_of Q (map (with_event e) all) (with_event e a) (Contains-map (with_event e) all a is)
           (holds.0, subst (IsLinearizable start) (sym (longer a.events)) holds.1))
-          ((exact (e ∷ more)).0 (subst (IsLinearizable start) (longer events) h)),
-      λ h. subst (IsLinearizable start) (sym (longer events)) ((exact (e ∷ more)).1 (through Q P (map (with_event e) all) all (λ b is holds.
+          ((exact (e ∷ more) told).0 (subst (IsLinearizable start) (longer events) h)),
+      λ h. subst (IsLinearizable start) (sym (longer events)) ((exact (e ∷ more) told).1 (through Q P (map (with_event e) all) all (λ b is holds.
           let (a, a_is, same) = Contains-from_map (with_event e) all b is in
           let here : Q (with_event e a) = subst Q (sym same) holds in
           any_of P all a a_is (here.0, subst (IsLinearizable start) (longer a.events) here.1)) h)),
@@ -169,6 +171,18 @@ dropped_exact law start front a back none more =
       through P P (front ++ back) (front ++ a ∷ back) (λ b is holds. any_of P (front ++ a ∷ back) b (beside front a back b is) holds),
     )
 
+-- the next answer of a process tells all where each answer does
+next_told : (process : ℕ) (more : List Event) → are_told more ≡ true → IfSome (next_reply process more) (λ given. is_told given ≡ true)
+next_told process [] told = tt
+next_told process (Invoke other call ∷ more) told = next_told process more told
+next_told process (Answer other reply ∷ more) told =
+    let parts = and_parts (is_told reply) (are_told more) told in by_test (other == process) parts.0 (next_told process more parts.1)
+  where
+    by_test : (t : Bool) → is_told reply ≡ true → IfSome (next_reply process more) (λ given. is_told given ≡ true)
+        → IfSome (cond t (Some reply) (next_reply process more)) (λ given. is_told given ≡ true)
+    by_test true here later = here
+    by_test false here later = later
+
 -- the open call of a process, in any stream
 abbrev Splits : Contents → ℕ → Call → List Event → List Event → Type 0
 Splits start process call more events =
@@ -177,9 +191,17 @@ Splits start process call more events =
     ⊎ ((reply : Reply) × IsReplyBefore more process reply
     × IsLinearizable start (operations (events ++ Answer process reply ∷ more))))
 
-module _ (law : OpenCallsAreDoneOrBegin) (prefix : PrefixesHaveOrders) (start : Contents) (a : Alternative) (process : ℕ) (call : Call)
+-- with a reply that tells all where the next answer of the process does
+abbrev SplitsAsTold : Contents → ℕ → Call → List Event → List Event → Type 0
+SplitsAsTold start process call more events =
+    IsLinearizable start (operations (events ++ more))
+    → IsLinearizable start (operations (events ++ Answer process replies.Refused ∷ Invoke process call ∷ more))
+    ⊎ ((reply : Reply) × IsReplyBefore more process reply × IsLinearizable start (operations (events ++ Answer process reply ∷ more))
+    × (IfSome (next_reply process more) (λ given. is_told given ≡ true) → is_told reply ≡ true))
+
+module _ (law : OpenCallsAreDoneOrBegin) (alike : PlacesDoNotMatter) (prefix : PrefixesHaveOrders) (start : Contents) (a : Alternative) (process : ℕ) (call : Call)
     (given : List Reply) (open_here : IsOpenIn a.events process call) (whole : HasAllReplies start a.events process given)
-    (answers : All (λ reply. reply ≢ replies.Refused) given) (more : List Event) where
+    (answers : All (λ reply. reply ≢ replies.Refused) given) (more : List Event) (told : are_told more ≡ true) where
   abbrev P : Alternative → Type 0
   P = HasOrderWith start more
 
@@ -190,6 +212,12 @@ module _ (law : OpenCallsAreDoneOrBegin) (prefix : PrefixesHaveOrders) (start : 
   splits =
       subst (Splits start process call more) (sym open_here.parts)
       (law start open_here.before open_here.between more process call
+      (subst (λ (l : List Event). IsTrue (takes_turns false (events_of process l))) open_here.parts open_here.turns) open_here.none)
+
+  splits_as_told : SplitsAsTold start process call more a.events
+  splits_as_told =
+      subst (SplitsAsTold start process call more) (sym open_here.parts)
+      (either alike start open_here.before open_here.between more process call
       (subst (λ (l : List Event). IsTrue (takes_turns false (events_of process l))) open_here.parts open_here.turns) open_here.none)
 
   begun_is : operations (begun.events ++ more) ≡ operations (a.events ++ Answer process replies.Refused ∷ Invoke process call ∷ more)
@@ -203,13 +231,13 @@ module _ (law : OpenCallsAreDoneOrBegin) (prefix : PrefixesHaveOrders) (start : 
   one_chosen (kept, has) = ⊎_elim
       (λ again. inl (kept, subst (IsLinearizable start) (sym begun_is) again))
       (λ found.
-      let (reply, before, done) = found in
+      let (reply, before, done, as_told) = found in
       let there = subst (IsLinearizable start) (sym (answered_is reply)) done in
       inr (
         reply,
-        whole reply before.done (before_has prefix start (a.events ++ Answer process reply ∷ []) more there),
+        whole reply (as_told (next_told process more told)) before.done (before_has prefix start (a.events ++ Answer process reply ∷ []) more there),
         (All-cons (λ pair. IfSome (next_reply pair.0 more) (λ given. given ≡ pair.1)) (process, reply) a.ahead before.agrees kept, there),
-      )) (splits.0 has)
+      )) (splits_as_told has)
 
   begun_back : P begun → P a
   begun_back (kept, has) = (kept, splits.1 (inl (subst (IsLinearizable start) begun_is has)))
@@ -267,29 +295,29 @@ module _ (law : OpenCallsAreDoneOrBegin) (prefix : PrefixesHaveOrders) (start : 
 
 module _ (law : OpenCallsAreDoneOrBegin) (alike : PlacesDoNotMatter) (prefix : PrefixesHaveOrders) (start : Contents) where
   pub exact : {events : List Event} {all : List Alternative} → Alternates start events all → (more : List Event)
-      → IsLinearizable start (operations (events ++ more)) ↔ Any (HasOrderWith start more) all
-  exact at_start more =
+      → are_told more ≡ true → IsLinearizable start (operations (events ++ more)) ↔ Any (HasOrderWith start more) all
+  exact at_start more told =
       let one = alternative [] [] in
       let P = HasOrderWith start more in (
         λ h. Any-first P one [] (All-nil (λ pair. IfSome (next_reply pair.0 more) (λ given. given ≡ pair.1)), h),
         λ h. let (a, is, holds) = found P (one ∷ []) h in ⊎_elim (λ here. (subst P (sym here) holds).1)
             (λ none. absurd (Contains-nil a none)) (Contains-cases one [] a is),
       )
-  exact (invoke events all process call before) more = invoked_exact start events all process call (exact before) more
-  exact (answer events all then process reply taken before) more =
+  exact (invoke events all process call before) more told = invoked_exact start events all process call (exact before) more told
+  exact (answer events all then process reply tells taken before) more told =
       let e = Answer process reply in
       let longer = ap operations (append_assoc events (e ∷ []) more) in
-      let old = exact before (e ∷ more) in
+      let old = exact before (e ∷ more) (and_from (is_told reply) (are_told more) tells told) in
       let new = answered_exact alike start process reply taken more in (
         λ h. new.0 (old.0 (subst (IsLinearizable start) longer h)),
         λ h. subst (IsLinearizable start) (sym longer) (old.1 (new.1 h)),
       )
-  exact (choose events front a back process call given open_here whole answers before) more =
-      let old = exact before more in
-      let new = chosen_exact law prefix start a process call given open_here whole answers more front back in
+  exact (choose events front a back process call given open_here whole answers before) more told =
+      let old = exact before more told in
+      let new = chosen_exact law alike prefix start a process call given open_here whole answers more told front back in
       (λ h. new.0 (old.0 h), λ h. old.1 (new.1 h))
-  exact (drop events front a back none before) more =
-      let old = exact before more in
+  exact (drop events front a back none before) more told =
+      let old = exact before more told in
       let new = dropped_exact prefix start front a back none more in
       (λ h. new.0 (old.0 h), λ h. old.1 (new.1 h))
 
@@ -298,7 +326,7 @@ module _ (law : OpenCallsAreDoneOrBegin) (alike : PlacesDoNotMatter) (prefix : P
   judged events all steps =
       let P = HasOrderWith start [] in
       let Q = λ (a : Alternative). IsLinearizable start (operations a.events) in
-      let now = exact steps [] in
+      let now = exact steps [] refl in
       let same : (l : List Event) → operations (l ++ []) ≡ operations l = λ l. ap operations (append-nil l) in (
         λ h. through P Q all all (λ a is holds. any_of Q all a is (subst (IsLinearizable start) (same a.events) holds.1))
             (now.0 (subst (IsLinearizable start) (sym (same events)) h)),
@@ -310,16 +338,16 @@ module _ (law : OpenCallsAreDoneOrBegin) (alike : PlacesDoNotMatter) (prefix : P
       )
 
   pub reduced : {events : List Event} {all : List Alternative} → Alternates start events all → (more : List Event)
-      (reductions : List Reduction) → AreReductions start all reductions
+      (reductions : List Reduction) → AreReductions start all reductions → are_told more ≡ true
       → IsLinearizable start (operations (events ++ more))
       ↔ Any (λ r. AreKept r.alternative.ahead more × IsLinearizable r.known (left_of (r.alternative.events ++ more) r.dropped)) reductions
-  reduced {events = events} {all = all} steps more reductions are =
+  reduced {events = events} {all = all} steps more reductions are told =
       let P = HasOrderWith start more in
       let Q = λ (r : Reduction). AreKept r.alternative.ahead more
       × IsLinearizable r.known (left_of (r.alternative.events ++ more) r.dropped) in
       let own = λ (r : Reduction). r.alternative in
       let R = λ (r : Reduction). IsReducedTo start r.alternative.events r.known r.dropped in
-      let whole = exact steps more in (
+      let whole = exact steps more told in (
         λ h. through P Q all reductions (λ a is holds.
             let (r, r_is, same) = Contains-from_map own reductions a (subst (λ (l : List Alternative). Contains l a) (sym are.0) is) in
             let here : P r.alternative = subst P (sym same) holds in

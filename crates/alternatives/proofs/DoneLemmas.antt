@@ -11,9 +11,10 @@ use Rattle.events.specs.declared.event.Reply.{Reply}
 use Rattle.events.specs.declared.operation.Operation.{Operation}
 use Rattle.events.specs.declared.operation.Response.{Response}
 use Rattle.events.specs.Precedence.{is_before, precedes}
+use Rattle.events.specs.Told.{is_told}
 use Rattle.map_object.specs.MapObject.{Contents, reply_to, after_reply, IsLegalReply}
 use Rattle.orders.specs.Orders.{after_call, after_calls, IsLegalCall}
-use Rattle.map_object.proofs.TellLemmas.{reply_to_answers, after_reply-answer}
+use Rattle.map_object.proofs.TellLemmas.{reply_to_answers, reply_to_told, tells_all, after_reply-answer}
 use Rattle.list_laws.proofs.Lists.{All-from_contains, AllPairs-across, Contains-split, Contains-around, Contains-later}
 use Rattle.quiet_cuts.proofs.AroundLemmas.{beside, middle, AllPairs-before, AllPairs-behind}
 use Rattle.quiet_cuts.proofs.ContinueLemmas.{before_later}
@@ -106,19 +107,29 @@ module _ (start : Contents) (n b : ℕ) (call : Call) (given : Option Response) 
           → IsLegalReply (after_calls start front) call reply
       legal_here front back reply h = (legal_parts start front (operation call b (Some (response n reply)) ∷ back) h.legal).1.0
 
+  -- where its answer tells all, if it has one, a reply does so too
+  abbrev pub TellsAsMuch : Reply → Type 0
+  TellsAsMuch reply = IfSome given (λ r. is_told r.reply ≡ true) → is_told reply ≡ true
+
   -- the reply that it had where it was done
   reply_then : (m : Contents) (given : Option Response) → IfSome given (λ r. r.reply ≢ replies.Refused) → IsLegalCall m call given
       → (reply : Reply) × (reply ≢ replies.Refused) × IfSome given (λ r. r.reply ≡ reply) × IsLegalReply m call reply
-      × (after_call m call given ≡ after_reply m call reply)
-  reply_then m None done legal =
-      (reply_to m call, reply_to_answers m call, tt, inr refl, sym (after_reply-answer m call (reply_to m call) (reply_to_answers m call)))
-  reply_then m (Some r) done legal = (r.reply, done, refl, legal, refl)
+      × (after_call m call given ≡ after_reply m call reply) × (IfSome given (λ r. is_told r.reply ≡ true) → is_told reply ≡ true)
+  reply_then m None done legal = (
+    reply_to m call,
+    reply_to_answers m call,
+    tt,
+    inr (tells_all m call (reply_to m call) refl),
+    sym (after_reply-answer m call (reply_to m call) (reply_to_answers m call)),
+    λ none. reply_to_told m call,
+  )
+  reply_then m (Some r) done legal = (r.reply, done, refl, legal, refl, λ told. told)
 
   -- where a call behind it was answered before the place, it was done before the place
   pub done_then : (calls front back : List Operation) (c : Operation) → IfSome given (λ r. r.reply ≢ replies.Refused)
       → IsOrderIn start calls (front ++ operation call b given ∷ back)
       → Contains back c → is_before c.response n ≡ true
-      → (reply : Reply) × (reply ≢ replies.Refused) × IfSome given (λ r. r.reply ≡ reply)
+      → (reply : Reply) × (reply ≢ replies.Refused) × IfSome given (λ r. r.reply ≡ reply) × TellsAsMuch reply
       × ((others : List Operation) → AreChanged calls others (operation call b given) (operation call b (Some (response n reply)))
       → (then : List Operation) × IsOrderIn start others then)
   done_then calls front back c done h c_is c_before =
@@ -126,12 +137,13 @@ module _ (start : Contents) (n b : ℕ) (call : Call) (given : Option Response) 
       let around = around_one start front x back h.in_order in
       let K = λ (a b : Operation). precedes b a ≡ false in
       let D = λ (a b : Operation). a.inv ≢ b.inv in
-      let (reply, answers, agrees, legal, same) =
+      let (reply, answers, agrees, legal, same, told) =
       reply_then (after_calls start front) given done (legal_parts start front (x ∷ back) h.in_order.legal).1.0 in
       let y = operation call b (Some (response n reply)) in (
         reply,
         answers,
         agrees,
+        told,
         λ others change. (
           front ++ y ∷ back,
           changed_order start calls others x y front back change refl h

@@ -15,6 +15,7 @@ use Rattle.events.specs.declared.operation.Response.{Response}
 use Rattle.events.specs.Events.{events_of, takes_turns}
 use Rattle.events.specs.Operations.{response_from, operations}
 use Rattle.events.specs.Precedence.{is_before, NonePrecedesItself}
+use Rattle.events.specs.Told.{is_told}
 use Rattle.events.proofs.TimeLemmas.{inv_rises, NonePrecedesItself-operations}
 use Rattle.map_object.specs.MapObject.{Contents}
 use Rattle.orders.specs.Orders.{IsLinearizable}
@@ -108,6 +109,10 @@ agrees_out : (given : Option Response) (reply : Reply) → IfSome given (λ r. r
 agrees_out None reply h = tt
 agrees_out (Some r) reply h = h
 
+told_in : (given : Option Response) → IfSome (reply_in given) (λ r. is_told r ≡ true) → IfSome given (λ r. is_told r.reply ≡ true)
+told_in None h = tt
+told_in (Some r) h = h
+
 refusal : (given : Option Response) → ((res : ℕ) × (given ≡ Some (response res replies.Refused)))
     ⊎ IfSome given (λ r. r.reply ≢ replies.Refused)
 refusal None = inr tt
@@ -119,6 +124,9 @@ refusal (Some r) = by_reply r.reply refl
     by_reply (replies.Some value) e = inr (λ is. let no : replies.Some value ≡ replies.Refused = sym e ∙ is in absurd cc)
     by_reply (replies.Pairs pairs) e = inr (λ is. let no : replies.Pairs pairs ≡ replies.Refused = sym e ∙ is in absurd cc)
     by_reply replies.Refused e = inl (r.res, ap (λ reply. Some (response r.res reply)) e)
+    by_reply replies.Done e = inr (λ is. let no : replies.Done ≡ replies.Refused = sym e ∙ is in absurd cc)
+    by_reply replies.Found e = inr (λ is. let no : replies.Found ≡ replies.Refused = sym e ∙ is in absurd cc)
+    by_reply replies.Other e = inr (λ is. let no : replies.Other ≡ replies.Refused = sym e ∙ is in absurd cc)
 
 -- ---- streams
 
@@ -255,11 +263,17 @@ module _ (law : PlacesDoNotMatter) (start : Contents) (before between more : Lis
   IsEither = IsLinearizable start again
       ⊎ ((reply : Reply) × IsReplyBefore more p reply × IsLinearizable start (done reply))
 
-  begins_again : (then : List Operation) × IsOrderIn start again then → IsEither
+  -- where a later answer of the process tells all, if there is one, so does the reply
+  abbrev IsEitherAsTold : Type 0
+  IsEitherAsTold = IsLinearizable start again
+      ⊎ ((reply : Reply) × IsReplyBefore more p reply × IsLinearizable start (done reply)
+      × (IfSome (next_reply p more) (λ given. is_told given ≡ true) → is_told reply ≡ true))
+
+  begins_again : (then : List Operation) × IsOrderIn start again then → IsEitherAsTold
   begins_again (then, h) =
       inl (linearizable_in start again then (inv_rises (events ++ Answer p replies.Refused ∷ Invoke p call ∷ more)) h)
 
-  pub either : IsLinearizable start whole → IsEither
+  pub either : IsLinearizable start whole → IsEitherAsTold
   either h =
       let (order, o) = order_in start calls rise begins (spread.0 h) in
       ⊎_elim (λ out. begins_again (again_without start n b call given below from calls again free again_retried order o out))
@@ -270,13 +284,13 @@ module _ (law : PlacesDoNotMatter) (start : Contents) (before between more : Lis
       split front back (subst (IsOrderIn start calls) is o))
       (found_at b order)
     where
-      split : (front back : List Operation) → IsOrderIn start calls (front ++ operation call b given ∷ back) → IsEither
+      split : (front back : List Operation) → IsOrderIn start calls (front ++ operation call b given ∷ back) → IsEitherAsTold
       split front back o = ⊎_elim
           (λ was. begins_again (again_refused start n b call given below from calls again free again_retried front back was.0 was.1 o))
           (λ answers. ⊎_elim
           (λ still. begins_again (again_behind start n b call given below from calls again free again_retried front back still o))
           (λ found.
-          let (reply, done_now, agrees, then) =
+          let (reply, done_now, agrees, told, then) =
           done_then start n b call given below from_now calls front back found.0 answers o found.1 found.2 in
           let (order, p_order) = then (map (later_call (suc n)) (done reply)) (done_changed reply) in
           inr (
@@ -289,6 +303,8 @@ module _ (law : PlacesDoNotMatter) (start : Contents) (before between more : Lis
             (later_linearizable law start (suc n) (done reply)).1
                 (linearizable_in start (map (later_call (suc n)) (done reply)) order
                 (later_calls_rise (suc n) (done reply) (inv_rises (events ++ Answer p reply ∷ more))) p_order),
+            λ told_later. told (told_in given (subst (λ (o : Option Reply). IfSome o (λ r. is_told r ≡ true))
+                (given_next p (suc (suc n)) more) told_later)),
           ))
           (some_or_none (λ c. is_before c.response n) back)) (refusal given)
 
@@ -314,4 +330,4 @@ module _ (law : PlacesDoNotMatter) (start : Contents) (before between more : Lis
       spread.1 (linearizable_in start calls then rise t)
 
   pub done_or_begins : IsLinearizable start whole ↔ IsEither
-  done_or_begins = (either, λ h. ⊎_elim from_again (λ done. from_done done.0 done.1 done.2) h)
+  done_or_begins = (λ h. ⊎_elim (λ again. inl again) (λ found. inr (found.0, found.1, found.2)) (either h), λ h. ⊎_elim from_again (λ done. from_done done.0 done.1 done.2) h)

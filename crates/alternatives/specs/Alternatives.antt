@@ -1,5 +1,5 @@
 -- Alternatives: streams of which one stands for the events so far, since each open call of these is done by now or begins now.
-use Rattle.std.specs.Prelude.{◌≡◌, ◌≢◌, ◌↔◌, ℕ, false, IfSome, IsTrue, List, [], ◌∷◌, ◌++◌, map, All, Any, Contains}
+use Rattle.std.specs.Prelude.{◌≡◌, ◌≢◌, ◌↔◌, ℕ, true, false, IfSome, IsTrue, List, [], ◌∷◌, ◌++◌, map, All, Any, Contains}
 use Rattle.events.specs.declared.event.Reply.TheVariants as replies
 use Rattle.events.specs.declared.event.Call.{Call}
 use Rattle.events.specs.declared.event.Reply.{Reply}
@@ -8,6 +8,7 @@ use Rattle.events.specs.declared.event.Event.TheVariants.{Invoke, Answer}
 use Rattle.events.specs.Events.{events_of, takes_turns}
 use Rattle.events.specs.HistoryFaults.{has_open_call}
 use Rattle.events.specs.Operations.{operations}
+use Rattle.events.specs.Told.{is_told, are_told}
 use Rattle.map_object.specs.MapObject.{Contents}
 use Rattle.orders.specs.Orders.{IsLinearizable}
 use Rattle.quiet_cuts.specs.Reductions.{IsReducedTo, left_of}
@@ -65,18 +66,19 @@ pub record IsOpenIn (events : List Event) (process : ℕ) (call : Call) : Type 0
   pub turns : IsTrue (takes_turns false (events_of process events))
   pub none : events_of process between ≡ []
 
--- all replies that the open call of a process may have by now, but `refused`
+-- all replies that the open call of a process may have by now and that tell all, but `refused`
 abbrev pub HasAllReplies : Contents → List Event → ℕ → List Reply → Type 0
-HasAllReplies start events process given = (reply : Reply) → reply ≢ replies.Refused
+HasAllReplies start events process given = (reply : Reply) → is_told reply ≡ true → reply ≢ replies.Refused
     → IsLinearizable start (operations (events ++ Answer process reply ∷ [])) → Contains given reply
 
--- events and alternatives, step by step: from one on, each event is taken; and between events the open call of an alternative is done
--- by now or begins now, and one that has no order goes
+-- events and alternatives, step by step: from one on, each event is taken, an answer where it tells all; and between events the open call
+-- of an alternative is done by now or begins now, and one that has no order goes
 pub data Alternates (start : Contents) : List Event → List Alternative → Type 0 where
   at_start : Alternates start [] (alternative [] [] ∷ [])
   invoke : (events : List Event) (all : List Alternative) (process : ℕ) (call : Call) → Alternates start events all
       → Alternates start (events ++ Invoke process call ∷ []) (map (with_event (Invoke process call)) all)
-  answer : (events : List Event) (all then : List Alternative) (process : ℕ) (reply : Reply) → TakesAnswer process reply all then
+  answer : (events : List Event) (all then : List Alternative) (process : ℕ) (reply : Reply) → is_told reply ≡ true
+      → TakesAnswer process reply all then
       → Alternates start events all → Alternates start (events ++ Answer process reply ∷ []) then
   choose : (events : List Event) (front : List Alternative) (a : Alternative) (back : List Alternative) (process : ℕ) (call : Call)
       (given : List Reply) → IsOpenIn a.events process call → HasAllReplies start a.events process given
@@ -92,11 +94,12 @@ AnswersOutOfTurnDoNotCount =
     (start : Contents) (events more : List Event) (process : ℕ) (reply : Reply) → IsIdle events process
     → IsLinearizable start (operations (events ++ Answer process reply ∷ more)) ↔ IsLinearizable start (operations (events ++ more))
 
--- however they came about, the events have an order, with any further ones, exactly where one of the alternatives has one with these
+-- however they came about, the events have an order, with any further ones whose answers tell all, exactly where one of the alternatives
+-- has one with these
 abbrev pub AlternativesAreExact : Type 0
 AlternativesAreExact =
     (start : Contents) (events more : List Event) (all : List Alternative) → Alternates start events all
-    → IsLinearizable start (operations (events ++ more)) ↔ Any (HasOrderWith start more) all
+    → are_told more ≡ true → IsLinearizable start (operations (events ++ more)) ↔ Any (HasOrderWith start more) all
 
 -- so they have an order now exactly where one of these has one
 abbrev pub AlternativesJudge : Type 0
@@ -119,6 +122,6 @@ AreReductions start all reductions = (map (λ r. r.alternative) reductions ≡ a
 abbrev pub AlternativesReduce : Type 0
 AlternativesReduce =
     (start : Contents) (events more : List Event) (all : List Alternative) (reductions : List Reduction) → Alternates start events all
-    → AreReductions start all reductions
+    → AreReductions start all reductions → are_told more ≡ true
     → IsLinearizable start (operations (events ++ more))
     ↔ Any (λ r. AreKept r.alternative.ahead more × IsLinearizable r.known (left_of (r.alternative.events ++ more) r.dropped)) reductions

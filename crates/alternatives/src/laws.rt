@@ -21,9 +21,9 @@ pub fn answers_out_of_turn_do_not_count()
     places_do_not_matter();
 }
 
-/// However alternatives came about, by events taken, open calls chosen to be done by now or to begin now, and alternatives without
-/// order dropped, the events have an order with any further ones exactly where an alternative has one with these that keeps the
-/// answers which it has ahead.
+/// However alternatives came about, by events taken whose answers tell all, open calls chosen to be done by now or to begin now, and
+/// alternatives without order dropped, the events have an order with any further ones whose answers tell all exactly where an
+/// alternative has one with these that keeps the answers which it has ahead.
 pub fn alternatives_are_exact()
     ensures { AlternativesAreExact }
 {

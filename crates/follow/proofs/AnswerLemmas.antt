@@ -15,6 +15,7 @@ use Rattle.events.specs.declared.operation.Operation.{Operation}
 use Rattle.events.specs.HistoryFaults.{has_open_call}
 use Rattle.events.specs.Operations.{operations}
 use Rattle.events.specs.Keys.{low_key, high_key}
+use Rattle.events.specs.Told.{is_told}
 use Rattle.events.proofs.HistoryLemmas.{has_open_call-push, IsWellFormed-push}
 use Rattle.list_laws.proofs.Lists.{All-from_contains, Contains-at, slice_get-append_left}
 use Rattle.list_laws.proofs.FilterLemmas.{Contains-map, Contains-from_map}
@@ -23,7 +24,7 @@ use Rattle.orders.specs.Orders.{IsLinearizable, IsLinearizableHistory}
 use Rattle.prefixes.specs.Laws.{PrefixesHaveOrders}
 use Rattle.prefixes.specs.Prefixes.{prefix_of, IsAnswerOf, GoesWrongAt}
 use Rattle.quiet_cuts.specs.KeptCalls.{answered_at}
-use Rattle.quiet_cuts.specs.Reductions.{ReductionsGoOn}
+use Rattle.quiet_cuts.specs.Reductions.{AreToldCalls, ReductionsGoOn}
 use Rattle.quiet_cuts.proofs.AroundLemmas.{found, any_of}
 use Rattle.quiet_cuts.proofs.ContinueLemmas.{completed_at}
 use Rattle.calls_left.specs.declared.groups.KeyRange.{KeyRange}
@@ -36,7 +37,7 @@ use Rattle.follow.specs.Following.{IsCallOf, IsFollowing}
 use Rattle.follow.specs.Judging.{IsJudgedIn, GroupHasOrder}
 use Rattle.follow.specs.Laws.{AnswersAreJudged}
 use Rattle.follow.proofs.PlaceLemmas.{same_process, one_open}
-use Rattle.follow.proofs.JudgeLemmas.{IsAnswering, answering, answered_shaped, answered_call, answered_inv}
+use Rattle.follow.proofs.JudgeLemmas.{IsAnswering, answering, answered_shaped, answered_told, answered_call, answered_inv}
 
 -- a call left, with the answer of one of them, is the same call behind the answer
 pub call_answered : (events : List Event) (e : Event) (inv place : ℕ) (reply : Reply) (c : LeftCall)
@@ -121,12 +122,13 @@ module _ (fill : AnswersFillOnePlace) (judged : AnswersAreJudged) (start : Conte
           (own ∙ sym (eqb-true call.process p is))))
       by_test false is c c_is own pending = (h.open_calls p).1 (any_of (IsOpenOf p) f.left c c_is (own, pending.0))
 
-  pub answer_follows : ReductionsGoOn → GroupHasOrder f place call reply range
+  pub answer_follows : ReductionsGoOn → is_told reply ≡ true → GroupHasOrder f place call reply range
       → IsFollowing start (events ++ Answer call.process reply ∷ []) (after_answer f place call reply)
-  answer_follows go_on has = record {
+  answer_follows go_on told has = record {
     dropped = h.dropped;
     reduced = go_on start events e f.known h.dropped h.reduced;
     left_is = a.left_is;
+    told = subst AreToldCalls (sym a.put.calls) (answered_told inv f.events reply (calls_of f.left) told h.told);
     each = subst (All (IsCallOf (events ++ e ∷ []))) (sym a.put.each) (All-map (IsCallOf (events ++ e ∷ [])) put_left f.left
         (All-from_contains (λ c. IsCallOf (events ++ e ∷ []) (put_left c)) f.left
         (λ c is. call_answered events e inv f.events reply c a.all (of_events c is))));

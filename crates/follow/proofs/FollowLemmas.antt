@@ -12,6 +12,6 @@ module _ (begin : FollowingBegins) (invokes : InvocationsFollow) (answers : Answ
   pub following : {events : List Event} {f : FollowerView} → Follows start events f → IsFollowing start events f
   following at_start = begin start rising
   following (invoke events f process call before none shaped) = invokes start events f process call (following before) none shaped
-  following (answer events f place call reply range before judged has) = answers start events f place call reply range
-      (following before) judged has
+  following (answer events f place call reply range before judged told has) = answers start events f place call reply range
+      (following before) judged told has
   following (settle events f range marks order before go is) = settles start events f range marks order (following before) go is

@@ -14,9 +14,11 @@ use Rattle.events.specs.declared.operation.Operation.{Operation}
 use Rattle.events.specs.Events.{events_of, takes_turns}
 use Rattle.events.specs.Keys.{low_key, may_change}
 use Rattle.events.specs.Operations.{operations}
+use Rattle.events.specs.Told.{is_told}
 use Rattle.list_laws.proofs.Lists.{Contains-at, Contains-split, Contains-first, Contains-later}
 use Rattle.list_laws.proofs.FilterLemmas.{Contains-map, Contains-from_map}
 use Rattle.map_object.specs.MapObject.{Contents, value_at, value_reply, is_just, after, reply_to}
+use Rattle.map_object.proofs.TellLemmas.{whole_from_tells}
 use Rattle.orders.specs.Orders.{after_call, after_calls, IsLegal, IsLinearizable}
 use Rattle.quiet_cuts.specs.KeptCalls.{answered_at}
 use Rattle.quiet_cuts.specs.Reductions.{left_of}
@@ -95,9 +97,9 @@ module _ (start : Contents) (events : List Event) (f : FollowerView) (place proc
     none = is_open.none;
   })
 
-  found_value : (reply : Reply) → reply ≢ replies.Refused → IsLinearizable start (operations (events ++ Answer call.process reply ∷ []))
+  found_value : (reply : Reply) → is_told reply ≡ true → reply ≢ replies.Refused → IsLinearizable start (operations (events ++ Answer call.process reply ∷ []))
       → (value : Option ℕ) × MayHaveBeen f key value × (reply ≡ value_reply value)
-  found_value reply done lin =
+  found_value reply told done lin =
       let n = length events in
       let f_at = answered_at call.operation.inv n reply in
       let left_is : left_of (events ++ Answer call.process reply ∷ []) h.dropped ≡ map f_at (calls_of f.left) =
@@ -119,7 +121,8 @@ module _ (start : Contents) (events : List Event) (f : FollowerView) (place proc
       let (front, back, parts) = Contains-split order y (o.complete y y_is refl) in
       let legal = (legal_parts f.known front (y ∷ back) (subst (IsLegal f.known) parts o.legal)).1.0 in
       let m = after_calls f.known front in
-      let given : reply ≡ reply_to m call.operation.call = ⊎_elim (λ refused. absurd (done refused)) (λ is. is) legal in (
+      let given : reply ≡ reply_to m call.operation.call = ⊎_elim (λ refused. absurd (done refused))
+      (λ tells. whole_from_tells call.operation.call (reply_to m call.operation.call) reply told tells) legal in (
         value_at m key,
         values_after (MayHaveBeen f key) key (inr (inl refl)) front f.known (inl refl) (λ a a_is.
             let a_in : Contains (map f_at (calls_of f.left)) a =
@@ -135,8 +138,8 @@ module _ (start : Contents) (events : List Event) (f : FollowerView) (place proc
       )
 
   pub all_replies : HasAllReplies start events process (map value_reply values)
-  all_replies reply done lin =
+  all_replies reply told done lin =
       let (value, been, is) =
-      found_value reply done
+      found_value reply told done
       (subst (λ p. IsLinearizable start (operations (events ++ Answer p reply ∷ []))) (sym open_of.0) lin) in
       subst (Contains (map value_reply values)) (sym is) (Contains-map value_reply values value (held value been))

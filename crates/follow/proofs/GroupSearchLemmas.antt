@@ -1,5 +1,5 @@
 -- The group of an answered call: that it can be searched, and what its search says of the follower.
-use Rattle.std.proofs.Common.{◌≡◌, ℕ, ◌<◌, Bool, false, List, [], ◌∷◌, ◌++◌, map, Some, None, sym, ap, ◌∙◌, subst, arith}
+use Rattle.std.proofs.Common.{◌≡◌, ℕ, ◌<◌, Bool, true, false, List, [], ◌∷◌, ◌++◌, map, Some, None, sym, ap, ◌∙◌, subst, arith}
 use Rattle.std.specs.Prelude.{slice_get, slice_set}
 use Rattle.std.proofs.Math.ListN.{length-set}
 use Rattle.std.proofs.lemmas.Option.{slice_get_within, slice_get-get_or}
@@ -10,6 +10,7 @@ use Rattle.events.specs.declared.event.Event.{Event}
 use Rattle.events.specs.declared.event.Event.TheVariants.{Answer}
 use Rattle.events.specs.declared.operation.Operation.{Operation}
 use Rattle.events.specs.Precedence.{precedes}
+use Rattle.events.specs.Told.{is_told}
 use Rattle.map_object.specs.MapObject.{Contents, within}
 use Rattle.orders.specs.Orders.{IsOrder, IsLinearizable}
 use Rattle.configurations.specs.Counts.{ReachesMoreThan}
@@ -129,13 +130,13 @@ is_lost start events f place call reply group law follows here pending at refute
 
 -- where they have one, the events are followed by the follower with the answer
 pub goes_on : (start : Contents) (events : List Event) (f : FollowerView) (place : ℕ) (call : LeftCall) (reply : Reply) (event : ℕ)
-    (group : Group) → AnswersFollow
+    (group : Group) → AnswersFollow → is_told reply ≡ true
     → IsFollowing start events f → slice_get f.left place ≡ Some call → call.operation.response ≡ None
     → IsGroupAt (after_answer f place call reply) call event group → (order : List ℕ)
     → IsOrder group.part.start.items group.part.calls.items order
     → IsFollowing start (events ++ Answer call.process reply ∷ []) (after_answer f place call reply)
-goes_on start events f place call reply event group law follows here pending at order is =
-    law start events f place call reply group.part.range follows (judged_in f place call reply event group here pending at)
+goes_on start events f place call reply event group law told follows here pending at order is =
+    law start events f place call reply group.part.range follows (judged_in f place call reply event group here pending at) told
     (group_has_order f place call reply group at.part (order, is))
 
 -- a group that has settled, by its range

@@ -18,7 +18,7 @@ use Rattle.events.proofs.HistoryLemmas.{has_open_call-push, IsWellFormed-push}
 use Rattle.list_laws.proofs.Lists.{All-from_contains, slice_get-append_left, slice_get-middle}
 use Rattle.map_object.specs.MapObject.{Contents}
 use Rattle.prefixes.specs.Laws.{InvocationsKeepOrders}
-use Rattle.quiet_cuts.specs.Reductions.{ReductionsGoOn, left_of}
+use Rattle.quiet_cuts.specs.Reductions.{IsToldCall, AreToldCalls, ReductionsGoOn, left_of}
 use Rattle.quiet_cuts.specs.KeptCalls.{begun_at}
 use Rattle.quiet_cuts.proofs.AroundLemmas.{found, any_of}
 use Rattle.quiet_cuts.proofs.EventLemmas.{operations-invoke, invocation_left}
@@ -93,6 +93,8 @@ invocation_follows go_on keep start events f process call h none shaped =
           ∙ (ap (λ (calls : List Operation). calls ++ begun_at f.events call ∷ []) h.left_is
           ∙ (ap (λ k. left_of events h.dropped ++ begun_at k call ∷ []) h.places
           ∙ sym (invocation_left events h.dropped process call h.reduced.places)));
+      told = subst AreToldCalls (sym (map-append (λ (c : LeftCall). c.operation) f.left (new ∷ [])))
+          (All-push IsToldCall (calls_of f.left) new.operation h.told tt);
       each = All-push (IsCallOf (events ++ e ∷ [])) f.left new
           (All-from_contains (IsCallOf (events ++ e ∷ [])) f.left
           (λ c is. call_stays events process call c (All-contains (IsCallOf events) f.left c h.each is)))

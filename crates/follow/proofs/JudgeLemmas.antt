@@ -12,6 +12,7 @@ use Rattle.events.specs.declared.event.Reply.{Reply}
 use Rattle.events.specs.declared.operation.Operation.{Operation}
 use Rattle.events.specs.Events.{events_of, takes_turns}
 use Rattle.events.specs.Keys.{low_key, high_key}
+use Rattle.events.specs.Told.{is_told}
 use Rattle.events.specs.Operations.{operations}
 use Rattle.events.specs.Precedence.{belongs, precedes, NonePrecedesItself}
 use Rattle.events.proofs.TimeLemmas.{inv_rises, NonePrecedesItself-operations}
@@ -24,7 +25,7 @@ use Rattle.quiet_cuts.specs.TimeCuts.{InvocationsRise}
 use Rattle.quiet_cuts.specs.RangeCuts.{early_of, late_of}
 use Rattle.quiet_cuts.specs.Groups.{GroupsJudge, RangesSuffice}
 use Rattle.quiet_cuts.specs.KeptCalls.{answered_at, PendingReadsMayGo}
-use Rattle.quiet_cuts.specs.Reductions.{ReductionsGoOn, ReductionsJudge, left_of}
+use Rattle.quiet_cuts.specs.Reductions.{IsToldCall, AreToldCalls, ReductionsGoOn, ReductionsJudge, left_of}
 use Rattle.quiet_cuts.proofs.EventLemmas.{operations-answer, answer_left}
 use Rattle.quiet_cuts.proofs.LeftLemmas.{left_rises}
 use Rattle.quiet_cuts.proofs.SetLemmas.{same_call}
@@ -215,6 +216,21 @@ answered_shaped inv place reply calls shaped =
     (λ a. low_key (answered_at inv place reply a).call ≤ high_key (answered_at inv place reply a).call) calls
     (λ a is. subst (λ call. low_key call ≤ high_key call) (sym (answered_call inv place reply a))
     (All-contains (λ a. low_key a.call ≤ high_key a.call) calls a shaped is)))
+
+-- an answer that tells all leaves none that tells less
+pub answered_told : (inv place : ℕ) (reply : Reply) (calls : List Operation) → is_told reply ≡ true → AreToldCalls calls
+    → AreToldCalls (map (answered_at inv place reply) calls)
+answered_told inv place reply calls tells told =
+    All-map IsToldCall (answered_at inv place reply) calls (All-from_contains (λ a. IsToldCall (answered_at inv place reply a)) calls
+    (λ a is. one a (All-contains IsToldCall calls a told is)))
+  where
+    one : (a : Operation) → IsToldCall a → IsToldCall (answered_at inv place reply a)
+    one a h = by_test (a.inv == inv)
+      where
+        by_test : (t : Bool)
+            → IsToldCall (cond t (record { call = a.call; inv = a.inv; response = Some (record { res = place; reply = reply }) }) a)
+        by_test true = tells
+        by_test false = h
 
 module _ (go_on : ReductionsGoOn) (judge : ReductionsJudge) (fill : AnswersFillOnePlace) (reads : PendingReadsMayGo)
     (parts : GroupsAreParts) (groups : GroupsJudge) (ranges : RangesSuffice) where

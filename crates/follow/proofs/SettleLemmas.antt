@@ -22,7 +22,7 @@ use Rattle.quiet_cuts.specs.TimeCuts.{InvocationsRise}
 use Rattle.quiet_cuts.specs.RangeCuts.{early_of, late_of, IsRangeCut}
 use Rattle.quiet_cuts.specs.Groups.{RangesSuffice, OrdersLeave}
 use Rattle.quiet_cuts.specs.Laws.{RangeCutsPart}
-use Rattle.quiet_cuts.specs.Reductions.{ReductionsJudge, ReductionsSettle, SettledAreNotLeft, left_of}
+use Rattle.quiet_cuts.specs.Reductions.{IsToldCall, AreToldCalls, ReductionsJudge, ReductionsSettle, SettledAreNotLeft, left_of}
 use Rattle.quiet_cuts.specs.Steps.{places_of}
 use Rattle.quiet_cuts.proofs.AroundLemmas.{found, any_of}
 use Rattle.calls_left.specs.declared.groups.KeyRange.{KeyRange}
@@ -137,7 +137,9 @@ settlement_follows are_a_cut are_early are_late ranges leave settle not_left sta
     let late = are_late f.left marks g.rise go.size in
     record {
       dropped = h.dropped ++ places_of (early_of p (left_of events h.dropped));
-      reduced = settle start events f.known next h.dropped p h.reduced (subst (λ calls. IsRangeCut calls p) h.left_is g.cut) leaves;
+      reduced = settle start events f.known next h.dropped p h.reduced (subst (λ calls. IsRangeCut calls p) h.left_is g.cut)
+          (All-filter p IsToldCall (left_of events h.dropped) (subst AreToldCalls h.left_is h.told)) leaves;
+      told = subst AreToldCalls (sym late) (All-filter (λ a. not (p a)) IsToldCall calls h.told);
       left_is = late ∙ (ap (late_of p) h.left_is ∙ sym (not_left events h.dropped p));
       each = All-from_contains (IsCallOf events) (marked (map not marks) f.left)
           (λ c c_is. All-contains (IsCallOf events) f.left c h.each (Contains-from_marked (map not marks) f.left c c_is));

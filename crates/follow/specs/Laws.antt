@@ -7,6 +7,7 @@ use Rattle.events.specs.declared.event.Event.TheVariants.{Invoke, Answer}
 use Rattle.events.specs.Keys.{low_key, high_key}
 use Rattle.events.specs.Operations.{operations}
 use Rattle.events.specs.Precedence.{is_completed}
+use Rattle.events.specs.Told.{is_told}
 use Rattle.map_object.specs.MapObject.{Contents, IsRising, within}
 use Rattle.orders.specs.Orders.{IsLinearizable}
 use Rattle.prefixes.specs.Prefixes.{GoesWrongAt}
@@ -48,11 +49,11 @@ AnswersRefute =
     → let all = events ++ Answer call.process reply ∷ more in
     (IsLinearizable start (operations all) → ⊥) × GoesWrongAt (record { start = start; events = all }) call.number f.events
 
--- where they have one, the follower goes on
+-- where they have one, and the answer tells all, the follower goes on
 abbrev pub AnswersFollow : Type 0
 AnswersFollow =
     (start : Contents) (events : List Event) (f : FollowerView) (place : ℕ) (call : LeftCall) (reply : Reply) (range : KeyRange)
-    → IsFollowing start events f → IsJudgedIn f place call reply range → GroupHasOrder f place call reply range
+    → IsFollowing start events f → IsJudgedIn f place call reply range → is_told reply ≡ true → GroupHasOrder f place call reply range
     → IsFollowing start (events ++ Answer call.process reply ∷ []) (after_answer f place call reply)
 
 -- some calls of a range that may go have an order from its pairs

@@ -25,7 +25,8 @@ abbrev pub MayHaveBeen : FollowerView → ℕ → Option ℕ → Type 0
 MayHaveBeen f key value =
     (value ≡ value_at f.known key) ⊎ ((value ≡ None) ⊎ Any (λ c. put_at key c.operation.call ≡ value) f.left)
 
--- a call that may change the map is open in the events, and these are all values that it may have found by now, with others
+-- a call that may change the map is open in the events, and these are all values that it may have found by now, with others: all that a
+-- reply which tells all may tell
 pub record AreFound (start : Contents) (events : List Event) (process : ℕ) (change : OpenChange) : Type 0 where
   pub is_open : IsOpenIn events process change.call
   pub changes : may_change change.call ≡ true
@@ -38,7 +39,7 @@ HasNoOpenChange f process =
     → ((n : ℕ) (other : LeftCall) → n < place → slice_get f.left n ≡ Some other → IsOpenOf process other → ⊥)
     → may_change call.operation.call ≡ false
 
--- the replies of an open call that may change the map are values that its key may have had
+-- the replies of an open call that may change the map, where they tell all, are values that its key may have had
 abbrev pub ChangesFindValues : Type 0
 ChangesFindValues =
     (start : Contents) (events : List Event) (f : FollowerView) (place process : ℕ) (call : LeftCall) (values : List (Option ℕ))

@@ -4,6 +4,7 @@ ghost use Rattle.std.specs.Prelude.{IfOk, IfErr, IfSome, IfNone, OnOk, OnErr};
 ghost use Rattle.events.specs.declared.event.Event.{Event};
 ghost use Rattle.events.specs.declared.event.Event.TheVariants.{Invoke};
 ghost use Rattle.events.specs.Precedence.{is_completed};
+ghost use Rattle.events.specs.Told.{is_told};
 ghost use Rattle.map_object.specs.MapObject.{Contents, IsRising};
 ghost use Rattle.follow.specs.FollowerView.{new_follower, after_invocation};
 ghost use Rattle.follow.specs.Following.{IsFollowing};
@@ -133,7 +134,8 @@ impl Follower {
     /// Takes the answer of the open call of a process, and judges: a search of the group of its call, and then, where some of
     /// the group may go, but not all, a search of those. Each is given up where it meets more configurations than the budget.
     /// An answer of a process that has no open call is refused (`NotWellFormed`), and one after 2^64 - 1 events (`TooMany`).
-    /// On `Memory` the follower is lost.
+    /// On `Memory` the follower is lost. The reply has to tell all that the map answers (`Reply::is_told`): calls that are answered
+    /// with less leave more contents than one.
     pub fn answer(
         self,
         alloc: Global,
@@ -141,6 +143,7 @@ impl Follower {
         reply: Reply,
         budget: u32,
     ) -> Result<Answered, Memory>
+        requires told { is_told reply ≡ true }
         ensures { (start : Contents) (events : List Event) → IsFollowing start events self
             → IfOk result (IsAnswered start events self process reply budget) }
     {
@@ -163,6 +166,7 @@ impl Follower {
     ) -> Result<Answered, Memory>
         requires open { IsOpenAt self.left place }
         requires room { self.events < 2 ^ 64 - 1 }
+        requires told { is_told reply ≡ true }
         ensures { (start : Contents) (events : List Event) (call : LeftCall) → IsFollowing start events self
             → slice_get self.left place ≡ Some call → IfOk result (IsJudged start events self place call reply budget) }
     {

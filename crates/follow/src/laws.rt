@@ -63,7 +63,7 @@ pub fn answers_refute()
     prefixes_have_orders();
 }
 
-/// Where they have one, the follower goes on.
+/// Where they have one, and the answer tells all, the follower goes on.
 pub fn answers_follow()
     ensures { AnswersFollow }
 {
@@ -139,7 +139,8 @@ pub fn quiet_followers_keep_no_call()
     ensures { QuietFollowersKeepNoCall }
 {}
 
-/// The replies that an open call which may change the map may have had by now are values that its key may have had.
+/// The replies that an open call which may change the map may have had by now, and which tell all, are values that its key may
+/// have had.
 pub fn changes_find_values()
     ensures { ChangesFindValues }
 {}

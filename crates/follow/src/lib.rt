@@ -1,7 +1,8 @@
 //! Follows a stream of events as it comes, of any length: after each event it says whether all events so far have an order.
 //!
-//! It keeps no history. Completed calls leave one contents at most, whatever their order (`quiet_cuts`), so that of what went
-//! before the known pairs are kept, and of the calls those that some open call holds: where none is open, none is kept.
+//! It keeps no history. Completed calls whose answers tell all leave one contents at most, whatever their order (`quiet_cuts`), so
+//! that of what went before the known pairs are kept, and of the calls those that some open call holds: where none is open, none is
+//! kept. Streams with answers that tell less are not followed.
 #![tactic(auto)]
 
 mod answered;

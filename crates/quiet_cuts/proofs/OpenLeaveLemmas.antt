@@ -22,8 +22,8 @@ use Rattle.quiet_cuts.specs.KeptCalls.{begun_at}
 use Rattle.quiet_cuts.specs.OpenLeaves.{LeavesOrWith}
 use Rattle.quiet_cuts.proofs.AroundLemmas.{beside, middle, AllPairs-before, AllPairs-behind, AllPairs-beside}
 use Rattle.quiet_cuts.proofs.ValueLemmas.{same_pairs, rising_after}
-use Rattle.quiet_cuts.proofs.SetLemmas.{Completed, Each, IsOrderOfSet, HasOrderTo, set_from_leaves}
-use Rattle.quiet_cuts.proofs.OneContentsLemmas.{code, turned, touches, put_by, found_by, code_tells, value_turned, untouched, telescoped}
+use Rattle.quiet_cuts.proofs.SetLemmas.{Each, IsOrderOfSet, HasOrderTo, set_from_leaves}
+use Rattle.quiet_cuts.proofs.OneContentsLemmas.{TellsAll, code, turned, touches, put_by, found_by, code_tells, value_turned, untouched, telescoped}
 use Rattle.quiet_cuts.proofs.OneContentsLemmas.{commuted}
 use Rattle.quiet_cuts.proofs.OneContentsLemmas.{same_sum}
 
@@ -80,7 +80,7 @@ value_then m call k is =
 
 module _ (start : Contents) (front back : List Operation) (place : ℕ) (call : Call) (rise : InvocationsRise (front ++ begun_at place
     call ∷ back))
-    (completed : All Completed (front ++ back)) (k : ℕ) where
+    (tell : All TellsAll (front ++ back)) (k : ℕ) where
   abbrev a : Operation
   a = begun_at place call
 
@@ -106,7 +106,7 @@ module _ (start : Contents) (front back : List Operation) (place : ℕ) (call : 
   balanced_without left (order, o, is) w =
       let into : (x : Operation) → Contains order x → Contains calls x = λ x x_is. All-contains (Contains calls) order x o.known x_is in
       let back_in : (x : Operation) → Contains calls x → Contains order x = λ x x_is. o.complete x x_is tt in
-      let all : All Completed order = All-from_contains Completed order (λ x x_is. All-contains Completed calls x completed (into x
+      let all : All TellsAll order = All-from_contains TellsAll order (λ x x_is. All-contains TellsAll calls x tell (into x
       x_is)) in
       let whole = telescoped w k order start all o.legal in
       let puts = same_sum (put_by w k) order calls o.distinct differ into back_in in
@@ -144,8 +144,8 @@ module _ (start : Contents) (front back : List Operation) (place : ℕ) (call : 
           λ x x_is. ⊎_elim (λ here. absurd (out x x_is (ap (λ (y : Operation). y.inv) (sym here)))) (λ there. there)
           (Contains-around first a second x
           (subst (λ (l : List Operation). Contains l x) parts (o.complete x (beside front a back x x_is) tt))) in
-          let all : All Completed (first ++ second) =
-          All-from_contains Completed (first ++ second) (λ x x_is. All-contains Completed calls x completed (into x x_is)) in
+          let all : All TellsAll (first ++ second) =
+          All-from_contains TellsAll (first ++ second) (λ x x_is. All-contains TellsAll calls x tell (into x x_is)) in
           let legal = legal_parts start first (a ∷ second) (subst (IsLegal start) parts o.legal) in
           let before = after_calls start first in
           let last : left ≡ after_calls (after before call) second =
@@ -153,8 +153,8 @@ module _ (start : Contents) (front back : List Operation) (place : ℕ) (call : 
           record {
             before = before;
             sums = λ w.
-                let one = telescoped w k first start (All-front Completed first second all) legal.0 in
-                let two = telescoped w k second (after before call) (All-back Completed first second all) legal.1.1 in
+                let one = telescoped w k first start (All-front TellsAll first second all) legal.0 in
+                let two = telescoped w k second (after before call) (All-back TellsAll first second all) legal.1.1 in
                 let puts = same_sum (put_by w k) (first ++ second) calls distinct differ into back_in in
                 let finds = same_sum (found_by w k) (first ++ second) calls distinct differ into back_in in
                 let end = ap (λ (m : Contents). w (value_at m k)) last in
@@ -259,11 +259,11 @@ module _ (start : Contents) (front back : List Operation) (place : ℕ) (call : 
           (is_or_not h g)) (is_or_not f g)
 
 pub two_left : (start m n o : Contents) (front back : List Operation) (place : ℕ) (call : Call) → IsRising start
-    → InvocationsRise (front ++ begun_at place call ∷ back) → All Completed (front ++ back)
+    → InvocationsRise (front ++ begun_at place call ∷ back) → All TellsAll (front ++ back)
     → LeavesOrWith start front (begun_at place call) back m → LeavesOrWith start front (begun_at place call) back n
     → LeavesOrWith start front (begun_at place call) back o
     → (m ≡ n) ⊎ ((n ≡ o) ⊎ (m ≡ o))
-two_left start m n o front back place call rising rise completed to_m to_n to_o =
+two_left start m n o front back place call rising rise tell to_m to_n to_o =
     by_call (may_change call) refl
   where
     rises : (left : Contents) → LeavesOrWith start front (begun_at place call) back left → IsRising left
@@ -276,7 +276,7 @@ two_left start m n o front back place call rising rise completed to_m to_n to_o 
       where
         by_key : (k : ℕ) (t : Bool) → may_touch k call ≡ t → value_at x k ≡ value_at y k
         by_key k true e = own k e
-        by_key k false e = one_value start front back place call rise completed k x y e to_x to_y
+        by_key k false e = one_value start front back place call rise tell k x y e to_x to_y
 
     at_own : (x y : Contents) → value_at x (low_key call) ≡ value_at y (low_key call) → (k : ℕ) → may_touch k call ≡ true
         → value_at x k ≡ value_at y k
@@ -291,4 +291,4 @@ two_left start m n o front back place call rising rise completed to_m to_n to_o 
         let own : may_touch (low_key call) call ≡ true = rw (e, eq-eqb (low_key call) (low_key call) refl) refl in
         ⊎_elim (λ one. inl (same m n to_m to_n (at_own m n one))) (λ rest. ⊎_elim
         (λ two. inr (inl (same n o to_n to_o (at_own n o two)))) (λ three. inr (inr (same m o to_m to_o (at_own m o three)))) rest)
-        (two_values start front back place call rise completed (low_key call) m n o own to_m to_n to_o)
+        (two_values start front back place call rise tell (low_key call) m n o own to_m to_n to_o)

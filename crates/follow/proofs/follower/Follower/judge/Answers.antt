@@ -92,7 +92,7 @@ returns-in-Going c = λ start events call follows here.
     let order : IsOrder group.part.start.items group.part.calls.items c.in-Order.order.items =
     rw c.in-Order.is at c.in_ok-searched.ensures.found in
     let all = events ++ Answer call.process c.args.reply ∷ [] in
-    let goes = goes_on start events f c.args.place call c.args.reply f.events group c.answers_follow.ensures follows here
+    let goes = goes_on start events f c.args.place call c.args.reply f.events group c.answers_follow.ensures c.requires.told follows here
     (still_open f.left c.args.place call c.requires.open here) p.at c.in-Order.order.items order in
     let settled : HasSettled c.take_answer-standing.result group.marks.items c.in-Going.standing =
     rw c.in-Going.is at c.in_ok-standing-in-Order.ensures.settled in
@@ -110,7 +110,7 @@ returns-in-Lost c = λ start events call follows here.
     let order : IsOrder group.part.start.items group.part.calls.items c.in-Order.order.items =
     rw c.in-Order.is at c.in_ok-searched.ensures.found in
     let all = events ++ Answer call.process c.args.reply ∷ [] in
-    let goes = goes_on start events f c.args.place call c.args.reply f.events group c.answers_follow.ensures follows here
+    let goes = goes_on start events f c.args.place call c.args.reply f.events group c.answers_follow.ensures c.requires.told follows here
     (still_open f.left c.args.place call c.requires.open here) p.at c.in-Order.order.items order in
     let none : ⊥ = rw c.in-Lost.is at
     (c.in_ok-standing-in-Order.ensures.follows start all (subst (λ (g : FollowerView). IsFollowing start all g) (sym p.put) goes)) in
@@ -125,7 +125,7 @@ returns-in-Spent-2 c = λ start events call follows here.
     let order : IsOrder group.part.start.items group.part.calls.items c.in-Order.order.items =
     rw c.in-Order.is at c.in_ok-searched.ensures.found in
     let all = events ++ Answer call.process c.args.reply ∷ [] in
-    let goes = goes_on start events f c.args.place call c.args.reply f.events group c.answers_follow.ensures follows here
+    let goes = goes_on start events f c.args.place call c.args.reply f.events group c.answers_follow.ensures c.requires.told follows here
     (still_open f.left c.args.place call c.requires.open here) p.at c.in-Order.order.items order in
     let spent : IsSpentOf c.take_answer-standing.result group c.args.budget c.in-Spent-2.loss = rw c.in-Spent-2.is at
     (c.in_ok-standing-in-Order.ensures.follows start all (subst (λ (g : FollowerView). IsFollowing start all g) (sym p.put) goes)) in
