@@ -123,6 +123,9 @@ no_reply vs none replies.None h = cc
 no_reply vs none (replies.Some value) h = cc
 no_reply vs none (replies.Pairs pairs) h = none pairs (list_data_injective (map view vs) (map pair_data pairs) h)
 no_reply vs none replies.Refused h = cc
+no_reply vs none replies.Done h = cc
+no_reply vs none replies.Found h = cc
+no_reply vs none replies.Other h = cc
 
 -- what is said of no value holds where no value was mapped
 pub IfNone-mapped : {A B : Type 0} {P Q : Type 0} (o : Option A) (r : Option B) → is_some r ≡ is_some o → (P → Q) → IfNone o P → IfNone r Q

@@ -1,6 +1,7 @@
 -- Which history a text spells, by its value.
-use Rattle.std.proofs.Common.{◌≡◌, ℕ, Bool, true, false, cond, List, [], ◌∷◌, map, Option, Some, None, is_some, Result, Ok, Err, IfOk, refl}
-use Rattle.std.proofs.Common.{ap, ◌∙◌}
+use Rattle.history_text.specs.declared.version.TextVersion.TheVariants.{One, Two, Three}
+use Rattle.std.proofs.Common.{◌≡◌, ℕ, Bool, true, false, not, ◌&&◌, cond, List, [], ◌∷◌, map, Option, Some, None, Result, Ok, Err, IfOk}
+use Rattle.std.proofs.Common.{inl, refl, sym, ap, ◌∙◌}
 use Rattle.std.specs.Prelude.{IsTrue}
 use Rattle.std.specs.List.{list_all}
 use Rattle.std.proofs.lemmas.Bool.{and_parts}
@@ -8,36 +9,115 @@ use Rattle.serde_json.specs.Data.{Data}
 use Rattle.events.specs.declared.event.Event.{Event}
 use Rattle.events.specs.declared.fault.HistoryFault.{HistoryFault}
 use Rattle.events.specs.HistoryView.{HistoryView}
-use Rattle.events.specs.PlainHistories.{is_plain_event, has_no_pairs, is_plain}
-use Rattle.history_text.specs.Texts.{pair_data, event_data, document, start_data, start_pairs, may_stand, history_data, IsJson, SpellsAs}
-use Rattle.history_text.specs.Texts.{Spells}
+use Rattle.events.specs.declared.event.Event.TheVariants.{Invoke, Answer}
+use Rattle.events.specs.PlainHistories.{is_replace, is_plain_event, has_no_pairs, is_plain}
+use Rattle.events.specs.Told.{is_told, are_told}
+use Rattle.history_text.specs.declared.version.TextVersion.{TextVersion}
+use Rattle.history_text.specs.Versions.{has_start}
+use Rattle.history_text.specs.Texts.{event_data, SpellEvents, document, IsDocument, start_data, start_pairs, may_stand, least_version}
+use Rattle.history_text.specs.Texts.{written_start, history_data, IsJson, SpellsAs, Spells}
 
--- any event may stand in a text with a start
-pub all_stand : (events : List Event) → list_all (may_stand true) events ≡ true
-all_stand [] = refl
-all_stand (e ∷ events) = all_stand events
+-- ---- the events of what is written
+
+-- any event may stand in a text of version 3, one that tells all in one of version 2, and a plain one in one of version 1
+any_stand : (events : List Event) → list_all (may_stand Three) events ≡ true
+any_stand [] = refl
+any_stand (Invoke p call ∷ events) = any_stand events
+any_stand (Answer p reply ∷ events) = any_stand events
+
+told_stand : (events : List Event) → are_told events ≡ list_all (may_stand Two) events
+told_stand [] = refl
+told_stand (Invoke p call ∷ events) = told_stand events
+told_stand (Answer p reply ∷ events) = ap (λ b. is_told reply && b) (told_stand events)
+
+plain_stand : (events : List Event) → list_all is_plain_event events ≡ list_all (may_stand One) events
+plain_stand [] = refl
+plain_stand (Invoke p call ∷ events) = ap (λ b. not (is_replace call) && b) (plain_stand events)
+plain_stand (Answer p reply ∷ events) = ap (λ b. is_told reply && b) (plain_stand events)
+
+-- the values of events spell them in each version
+values_spell : (version : TextVersion) (events : List Event) → SpellEvents version (map event_data events) events
+values_spell version [] = tt
+values_spell version (e ∷ events) = (inl refl, values_spell version events)
 
 no_pairs : (pairs : List (ℕ × ℕ)) → has_no_pairs pairs ≡ true → pairs ≡ []
 no_pairs [] h = refl
 no_pairs (pair ∷ pairs) h = cc
 
+-- ---- what is written
+
+-- the value of a history, by its version
+abbrev written_as : TextVersion → HistoryView → Data
+written_as version history = document version (written_start version history.start) (map event_data history.events)
+
+-- it spells the history, where the history has a start in a version that has one, and its events may stand there
+abbrev MayBe : TextVersion → HistoryView → Type 0
+MayBe version history = (has_start version ≡ false → history.start ≡ []) × IsTrue (list_all (may_stand version) history.events)
+
+spelled_as : (version : TextVersion) (history : HistoryView) → MayBe version history → SpellsAs (written_as version history) history
+spelled_as One history may = record {
+  version = One;
+  start = None;
+  items = map event_data history.events;
+  value = (refl, refl);
+  starts = may.0 refl;
+  spelled = values_spell One history.events;
+  standing = may.1;
+}
+spelled_as Two history may = record {
+  version = Two;
+  start = Some history.start;
+  items = map event_data history.events;
+  value = (refl, refl);
+  starts = refl;
+  spelled = values_spell Two history.events;
+  standing = may.1;
+}
+spelled_as Three history may = record {
+  version = Three;
+  start = Some history.start;
+  items = map event_data history.events;
+  value = (refl, refl);
+  starts = refl;
+  spelled = values_spell Three history.events;
+  standing = may.1;
+}
+
+-- the least version says all of a history
+least_may_be : (history : HistoryView) → MayBe (least_version history) history
+least_may_be history = by_tests (is_plain history) refl (are_told history.events) refl
+  where
+    by_tests : (b : Bool) → is_plain history ≡ b → (c : Bool) → are_told history.events ≡ c
+        → MayBe (cond b One (cond c Two Three)) history
+    by_tests true plain c told =
+        let parts = and_parts (has_no_pairs history.start) (list_all is_plain_event history.events) plain in
+        (λ none. no_pairs history.start parts.0, sym (plain_stand history.events) ∙ parts.1)
+    by_tests false plain true told = (λ none. cc, sym (told_stand history.events) ∙ told)
+    by_tests false plain false told = (λ none. cc, any_stand history.events)
+
 -- the text that a history is written as spells it
 pub Spells-written : (text : List ℕ) (history : HistoryView) → IsJson text (history_data history) → Spells text history
-Spells-written text history json = record { value = history_data history; json = json; spelled = either (is_plain history) refl }
-  where
-    either : (b : Bool) → is_plain history ≡ b
-        → SpellsAs (cond b (document None (map event_data history.events))
-        (document (Some (map pair_data history.start)) (map event_data history.events)))
-        history
-    either true plain =
-        let parts = and_parts (has_no_pairs history.start) (list_all is_plain_event history.events) plain in
-        record { start = None; value = refl; starts = no_pairs history.start parts.0; standing = parts.1 }
-    either false other = record { start = Some history.start; value = refl; starts = refl; standing = all_stand history.events }
+Spells-written text history json = record {
+  value = history_data history;
+  json = json;
+  spelled = spelled_as (least_version history) history (least_may_be history);
+}
+
+-- ---- what is read
 
 -- what the values of the events spell, after those of a start
-pub spelled_with : (d : Data) (start : Option (List (ℕ × ℕ))) (items : List Data) (r : Result HistoryView HistoryFault)
-    → d ≡ document (start_data start) items → IfOk r (λ h. h.start ≡ start_pairs start) → IfOk r (λ h. items ≡ map event_data h.events)
-    → IfOk r (λ h. IsTrue (list_all (may_stand (is_some start)) h.events)) → IfOk r (SpellsAs d)
-spelled_with d start items (Ok h) is starts events standing =
-    record { start = start; value = is ∙ ap (document (start_data start)) events; starts = starts; standing = standing }
-spelled_with d start items (Err e) is starts events standing = tt
+pub spelled_with : (d : Data) (version : TextVersion) (start : Option (List (ℕ × ℕ))) (items : List Data)
+    (r : Result HistoryView HistoryFault)
+    → IsDocument version (start_data start) items d → IfOk r (λ h. h.start ≡ start_pairs start)
+    → IfOk r (λ h. SpellEvents version items h.events)
+    → IfOk r (λ h. IsTrue (list_all (may_stand version) h.events)) → IfOk r (SpellsAs d)
+spelled_with d version start items (Ok h) is starts spelled standing = record {
+  version = version;
+  start = start;
+  items = items;
+  value = is;
+  starts = starts;
+  spelled = spelled;
+  standing = standing;
+}
+spelled_with d version start items (Err e) is starts spelled standing = tt

@@ -1,11 +1,12 @@
 -- The first faulty value of a list: it spells no pair or event, or one that may not follow those before it.
 use Rattle.events.specs.declared.fault.HistoryFault.TheVariants as faults
-use Rattle.std.proofs.Common.{◌≡◌, ℕ, ◌+◌, ◌<◌, Bool, true, false, not, ◌||◌, nat_le, cond, List, ◌∷◌, ◌++◌, length, map, take, drop}
+use Rattle.std.proofs.Common.{◌≡◌, ℕ, ◌+◌, ◌<◌, Bool, true, false, not, ◌||◌, nat_le, cond, List, [], ◌∷◌, ◌++◌, length, map, take, drop}
 use Rattle.std.proofs.Common.{get_or, Some, None}
 use Rattle.std.proofs.Common.{subst, refl, sym, ap, ◌∙◌, arith, inl, inr, leb-false}
 use Rattle.std.specs.Prelude.{IsTrue}
 use Rattle.std.proofs.lemmas.Bool.{leb-true}
-use Rattle.std.proofs.lemmas.List.{map-append, length-map, length-take-le}
+use Rattle.std.proofs.lemmas.List.{map-append, map_more, length-map, length-take-le}
+use Rattle.std.proofs.lemmas.List.Folds.{list_all-append}
 use Rattle.std.proofs.lemmas.Option.{same_Some}
 use Rattle.serde_json.specs.Data.{Data}
 use Rattle.serde_json.specs.View.{view}
@@ -15,32 +16,41 @@ use Rattle.events.specs.declared.fault.HistoryFault.{HistoryFault}
 use Rattle.events.specs.Limits.{start_limit}
 use Rattle.events.specs.Starts.{IsStart}
 use Rattle.events.specs.Events.{process_of}
-use Rattle.events.specs.Histories.{is_shaped, is_small, call_count}
+use Rattle.events.specs.Histories.{is_shaped, is_small, call_count, AreHistoryEvents}
 use Rattle.events.specs.HistoryFaults.{is_out_of_turn, is_call_too_many, has_open_call, fault_after, IsRefusedAfter, is_above}
 use Rattle.events.specs.HistoryFaults.{pair_fault_after}
 use Rattle.events.specs.HistoryFaults.{IsPairRefusedAfter}
-use Rattle.history_text.specs.Texts.{pair_data, event_data, may_stand}
+use Rattle.history_text.specs.declared.version.TextVersion.{TextVersion}
+use Rattle.history_text.specs.Texts.{pair_data, IsEventData, SpellEvents, may_stand}
 use Rattle.history_text.specs.TextFaults.{IsPairFaultAfter, AreEventsOfText}
 use Rattle.history_text.specs.ValueFaults.{IsValueFault, IsPairValueFault, ShowsPairFaultAmong, IsPairFaultAmong, ShowsFaultAmong}
 use Rattle.history_text.specs.ValueFaults.{IsFaultAmong}
 use Rattle.list_laws.proofs.Places.{parts_at}
+use Rattle.history_text.proofs.SplitLemmas.{same_length, spelled_more}
 use Rattle.history_text.proofs.TextLemmas.{pair_data_injective}
 
-module _ {A : Type 0} (f : A → Data) where
-  -- where the values before a place spell items, there are as many items
-  pub length_before : (vs : List Value) (before : List A) (i : ℕ) → i < length vs → map view (take i vs) ≡ map f before → length before ≡ i
-  length_before vs before i within spelled =
-      omega (arith, length-map (take i vs) view, length-map before f, ap length spelled, length-take-le i vs (omega arith))
+-- the values are those before a place, the one there, and the rest
+pub split_at : (vs : List Value) (i : ℕ) (v : Value) → i < length vs → v ≡ get_or vs i v
+    → map view vs ≡ map view (take i vs) ++ view v ∷ map view (drop (i + 1) vs)
+split_at vs i v within here = ap (map view) (parts_at vs i v within here) ∙ map-append view (take i vs) (v ∷ drop (i + 1) vs)
 
-  -- the values are those of the items, the value at the place, and the rest
-  pub values_at : (vs : List Value) (before : List A) (i : ℕ) (v : Value) → i < length vs → v ≡ get_or vs i v
-      → map view (take i vs) ≡ map f before
-      → map view vs ≡ map f before ++ view v ∷ map view (drop (i + 1) vs)
-  values_at vs before i v within here spelled =
-      ap (map view) (parts_at vs i v within here)
-      ∙ (map-append view (take i vs) (v ∷ drop (i + 1) vs) ∙ ap (λ xs. xs ++ view v ∷ map view (drop (i + 1) vs)) spelled)
+-- so many values stand before a place
+length_before : (vs : List Value) (i : ℕ) → i < length vs → length (map view (take i vs)) ≡ i
+length_before vs i within = length-map (take i vs) view ∙ length-take-le i vs (omega arith)
 
 -- ---- pairs
+
+-- where the values before a place spell pairs, there are as many pairs
+pub pairs_before : (vs : List Value) (before : List (ℕ × ℕ)) (i : ℕ) → i < length vs → map view (take i vs) ≡ map pair_data before
+    → length before ≡ i
+pairs_before vs before i within spelled = sym (length-map before pair_data) ∙ (ap length (sym spelled) ∙ length_before vs i within)
+
+-- the values are those of the pairs, the value at the place, and the rest
+pub pairs_and_value : (vs : List Value) (before : List (ℕ × ℕ)) (i : ℕ) (v : Value) → i < length vs → v ≡ get_or vs i v
+    → map view (take i vs) ≡ map pair_data before
+    → map view vs ≡ map pair_data before ++ view v ∷ map view (drop (i + 1) vs)
+pairs_and_value vs before i v within here spelled =
+    split_at vs i v within here ∙ ap (λ xs. xs ++ view v ∷ map view (drop (i + 1) vs)) spelled
 
 -- a value that is refused by itself is faulty wherever it stands
 pub pair_fault_alone : (before : List (ℕ × ℕ)) (d : Data) (fault : HistoryFault) → IsPairValueFault (length before) d fault
@@ -109,21 +119,60 @@ pair_fault_on_taking before pair d fault rest items h is parts start = by_fault 
 
 -- ---- events
 
+-- where the values before a place spell events, there are as many events
+pub events_before : (version : TextVersion) (vs : List Value) (before : List Event) (i : ℕ) → i < length vs
+    → SpellEvents version (map view (take i vs)) before → length before ≡ i
+events_before version vs before i within spelled =
+    sym (same_length (IsEventData version) (map view (take i vs)) before spelled) ∙ length_before vs i within
+
+-- the values up to a place spell an event more, where the value there spells it
+pub events_more : (version : TextVersion) (vs : List Value) (before : List Event) (i : ℕ) (v : Value) (e : Event) → i < length vs
+    → v ≡ get_or vs i v → SpellEvents version (map view (take i vs)) before → IsEventData version (view v) e
+    → SpellEvents version (map view (take (i + 1) vs)) (before ++ e ∷ [])
+events_more version vs before i v e within here spelled is =
+    subst (λ (ds : List Data). SpellEvents version ds (before ++ e ∷ []))
+    (sym (map_more view vs i v within ∙ ap (λ x. map view (take i vs) ++ view x ∷ []) (sym here)))
+    (spelled_more (IsEventData version) (map view (take i vs)) before (view v) e spelled is)
+
+-- events of a text with one more that may stand there
+pub stands_more : (version : TextVersion) (before : List Event) (e : Event) → AreEventsOfText version before
+    → AreHistoryEvents (before ++ e ∷ []) → IsTrue (may_stand version e) → AreEventsOfText version (before ++ e ∷ [])
+stands_more version before e events history standing = record {
+  history = history;
+  standing = list_all-append (may_stand version) before (e ∷ []) ∙ rw (events.standing, standing) refl;
+}
+
 -- a value that is refused by itself is faulty wherever it stands
-pub fault_alone : (has_start : Bool) (before : List Event) (d : Data) (fault : HistoryFault)
-    → IsValueFault has_start (length before) d fault
-    → (rest items : List Data) → items ≡ map event_data before ++ d ∷ rest → AreEventsOfText has_start before
-    → IsFaultAmong has_start items fault
-fault_alone has_start before d faults.TooLong h rest items parts events = h
-fault_alone has_start before d faults.NotJson h rest items parts events = h
-fault_alone has_start before d faults.Version h rest items parts events = h
-fault_alone has_start before d (faults.Shape at) h rest items parts events =
-    record { before = before; next = d; rest = rest; parts = parts; events = events; shows = inl (ap faults.Shape h.0, h.1) }
-fault_alone has_start before d faults.TooMany h rest items parts events =
-    record { before = before; next = d; rest = rest; parts = parts; events = events; shows = inr (h.0, h.1, h.4, rw (h.2, h.3) refl) }
-fault_alone has_start before d (faults.NotWellFormed at) h rest items parts events = absurd h
-fault_alone has_start before d faults.Memory h rest items parts events = tt
-fault_alone has_start before d (faults.Start at) h rest items parts events = h
+pub fault_alone : (version : TextVersion) (first : List Data) (before : List Event) (d : Data) (fault : HistoryFault)
+    → IsValueFault version (length before) d fault
+    → (rest items : List Data) → items ≡ first ++ d ∷ rest → SpellEvents version first before → AreEventsOfText version before
+    → IsFaultAmong version items fault
+fault_alone version first before d faults.TooLong h rest items parts spelled events = h
+fault_alone version first before d faults.NotJson h rest items parts spelled events = h
+fault_alone version first before d faults.Version h rest items parts spelled events = h
+fault_alone version first before d (faults.Shape at) h rest items parts spelled events = record {
+  first = first;
+  before = before;
+  next = d;
+  rest = rest;
+  parts = parts;
+  spelled = spelled;
+  events = events;
+  shows = inl (ap faults.Shape h.0, h.1);
+}
+fault_alone version first before d faults.TooMany h rest items parts spelled events = record {
+  first = first;
+  before = before;
+  next = d;
+  rest = rest;
+  parts = parts;
+  spelled = spelled;
+  events = events;
+  shows = inr (h.0, h.1, h.4, rw (h.2, h.3) refl);
+}
+fault_alone version first before d (faults.NotWellFormed at) h rest items parts spelled events = absurd h
+fault_alone version first before d faults.Memory h rest items parts spelled events = tt
+fault_alone version first before d (faults.Start at) h rest items parts spelled events = h
 
 -- which fault an event shows at a place, by whether it has a range where it needs one
 abbrev IsFaultBy : ℕ → Bool → HistoryFault → Type 0
@@ -152,15 +201,25 @@ IsFaultBy-fault_after before e fault h =
     (length before) fault h
 
 -- a value whose event was refused after those before it is faulty there, unless memory ran out
-pub fault_on_taking : (has_start : Bool) (before : List Event) (e : Event) (d : Data) (fault : HistoryFault) (rest items : List Data)
-    → IsRefusedAfter before e fault → d ≡ event_data e → IsTrue (may_stand has_start e) → items ≡ map event_data before ++ d ∷ rest
-    → AreEventsOfText has_start before → IsFaultAmong has_start items fault
-fault_on_taking has_start before e d fault rest items h spelled standing parts events = by_fault fault h
+pub fault_on_taking : (version : TextVersion) (first : List Data) (before : List Event) (e : Event) (d : Data) (fault : HistoryFault)
+    (rest items : List Data)
+    → IsRefusedAfter before e fault → IsEventData version d e → IsTrue (may_stand version e) → items ≡ first ++ d ∷ rest
+    → SpellEvents version first before → AreEventsOfText version before → IsFaultAmong version items fault
+fault_on_taking version first before e d fault rest items h is standing parts spelled events = by_fault fault h
   where
-    shown : (g : HistoryFault) → fault_after before e ≡ Some g → ShowsFaultAmong has_start items g
-    shown g k = record { before = before; next = d; rest = rest; parts = parts; events = events; shows = inr (e, spelled, standing, k) }
+    shown : (g : HistoryFault) → fault_after before e ≡ Some g → ShowsFaultAmong version items g
+    shown g k = record {
+      first = first;
+      before = before;
+      next = d;
+      rest = rest;
+      parts = parts;
+      spelled = spelled;
+      events = events;
+      shows = inr (e, is, standing, k);
+    }
 
-    by_fault : (g : HistoryFault) → IsRefusedAfter before e g → IsFaultAmong has_start items g
+    by_fault : (g : HistoryFault) → IsRefusedAfter before e g → IsFaultAmong version items g
     by_fault faults.TooLong k = IsFaultBy-fault_after before e faults.TooLong k
     by_fault faults.NotJson k = IsFaultBy-fault_after before e faults.NotJson k
     by_fault faults.Version k = IsFaultBy-fault_after before e faults.Version k

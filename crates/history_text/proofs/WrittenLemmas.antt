@@ -1,6 +1,7 @@
 -- The value of a history has no float, and nests five deep at most.
 use Rattle.events.specs.declared.event.Reply.TheVariants as replies
-use Rattle.std.proofs.Common.{◌≡◌, ℕ, ◌≤◌, Bool, List, [], ◌∷◌, map, true, false, cond, Some, None, refl, arith}
+use Rattle.history_text.specs.declared.version.TextVersion.TheVariants.{One, Two, Three}
+use Rattle.std.proofs.Common.{◌≡◌, ℕ, ◌≤◌, List, [], ◌∷◌, map, false, refl, arith}
 use Rattle.serde_json.specs.Data.{Data, depth, items_depth}
 use Rattle.serde_json.specs.View.{items_of}
 use Rattle.serde_json.specs.Written.{has_float, items_have_float}
@@ -9,9 +10,9 @@ use Rattle.events.specs.declared.event.Call.TheVariants.{Get, Insert, Remove, Sc
 use Rattle.events.specs.declared.event.Reply.{Reply}
 use Rattle.events.specs.declared.event.Event.{Event}
 use Rattle.events.specs.declared.event.Event.TheVariants.{Invoke, Answer}
-use Rattle.history_text.specs.Texts.{pair_data, call_data, reply_data, event_data, document, history_data}
+use Rattle.history_text.specs.declared.version.TextVersion.{TextVersion}
+use Rattle.history_text.specs.Texts.{pair_data, call_data, reply_data, event_data, document, least_version, written_start, history_data}
 use Rattle.events.specs.HistoryView.{HistoryView}
-use Rattle.events.specs.PlainHistories.{is_plain}
 
 module _ {A : Type 0} (f : A → Data) where
   -- a list has no float where no item has one
@@ -38,6 +39,9 @@ has_float-reply replies.None = refl
 has_float-reply (replies.Some value) = refl
 has_float-reply (replies.Pairs pairs) = items_have_float-map pair_data (λ pair. refl) pairs
 has_float-reply replies.Refused = refl
+has_float-reply replies.Done = refl
+has_float-reply replies.Found = refl
+has_float-reply replies.Other = refl
 
 -- an event has no float
 pub has_float-event : (e : Event) → has_float (event_data e) ≡ false
@@ -46,7 +50,7 @@ has_float-event (Answer p reply) = rw (has_float-reply reply) refl
 
 -- a history has no float
 pub has_float-history : (history : HistoryView) → has_float (history_data history) ≡ false
-has_float-history history = either (is_plain history)
+has_float-history history = by_version (least_version history)
   where
     events : items_have_float (items_of (map event_data history.events)) ≡ false
     events = items_have_float-map event_data has_float-event history.events
@@ -54,12 +58,11 @@ has_float-history history = either (is_plain history)
     pairs : items_have_float (items_of (map pair_data history.start)) ≡ false
     pairs = items_have_float-map pair_data (λ pair. refl) history.start
 
-    either : (b : Bool)
-        → has_float (cond b (document None (map event_data history.events))
-        (document (Some (map pair_data history.start)) (map event_data history.events)))
-        ≡ false
-    either true = rw events refl
-    either false = rw (events, pairs) refl
+    by_version : (version : TextVersion)
+        → has_float (document version (written_start version history.start) (map event_data history.events)) ≡ false
+    by_version One = rw events refl
+    by_version Two = rw (events, pairs) refl
+    by_version Three = rw (events, pairs) refl
 
 -- a call nests two deep at most
 pub depth-call : (call : Call) → depth (call_data call) ≤ 2
@@ -75,6 +78,9 @@ depth-reply replies.None = omega arith
 depth-reply (replies.Some value) = omega arith
 depth-reply (replies.Pairs pairs) = omega (arith, items_depth-map pair_data 1 (λ pair. omega arith) pairs)
 depth-reply replies.Refused = omega arith
+depth-reply replies.Done = omega arith
+depth-reply replies.Found = omega arith
+depth-reply replies.Other = omega arith
 
 -- an event nests three deep at most
 pub depth-event : (e : Event) → depth (event_data e) ≤ 3
@@ -83,15 +89,16 @@ depth-event (Answer p reply) = omega (arith, depth-reply reply)
 
 -- a history nests five deep at most
 pub depth-history : (history : HistoryView) → depth (history_data history) ≤ 5
-depth-history history = either (is_plain history)
+depth-history history = by_version (least_version history)
   where
-    either : (b : Bool)
-        → depth (cond b (document None (map event_data history.events))
-        (document (Some (map pair_data history.start)) (map event_data history.events))) ≤ 5
-    either true = omega (arith, items_depth-map event_data 3 depth-event history.events)
-    either false = omega (
-      arith,
-      items_depth-map event_data 3 depth-event history.events,
-      items_depth-map pair_data 1
-          (λ pair. omega arith) history.start,
-    )
+    events : items_depth (items_of (map event_data history.events)) ≤ 3
+    events = items_depth-map event_data 3 depth-event history.events
+
+    pairs : items_depth (items_of (map pair_data history.start)) ≤ 1
+    pairs = items_depth-map pair_data 1 (λ pair. omega arith) history.start
+
+    by_version : (version : TextVersion)
+        → depth (document version (written_start version history.start) (map event_data history.events)) ≤ 5
+    by_version One = omega (arith, events)
+    by_version Two = omega (arith, events, pairs)
+    by_version Three = omega (arith, events, pairs)

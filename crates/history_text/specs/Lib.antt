@@ -4,3 +4,4 @@ pub mod TextFaults
 pub mod TextLaws
 pub mod Texts
 pub mod ValueFaults
+pub mod Versions

@@ -1,6 +1,6 @@
 -- The first fault of a text that spells no history.
 use Rattle.events.specs.declared.fault.HistoryFault.TheVariants as faults
-use Rattle.std.specs.Prelude.{◌≡◌, ◌⊎◌, ℕ, ◌<◌, ◌≤◌, Bool, false, List, ◌∷◌, ◌++◌, length, map, Option, Some, is_some, IsTrue, ⊤}
+use Rattle.std.specs.Prelude.{◌≡◌, ◌⊎◌, ℕ, ◌<◌, ◌≤◌, false, List, ◌∷◌, ◌++◌, length, map, Option, Some, IsTrue, ⊤}
 use Rattle.std.specs.List.{list_all}
 use Rattle.serde_json.specs.Data.{Data}
 use Rattle.events.specs.declared.event.Event.{Event}
@@ -10,7 +10,8 @@ use Rattle.events.specs.Starts.{IsStart}
 use Rattle.events.specs.Histories.{is_shaped, AreHistoryEvents}
 use Rattle.events.specs.HistoryFaults.{is_above, fault_after}
 use Rattle.history_text.specs.JsonFaults.{IsTooLong, IsNoJson}
-use Rattle.history_text.specs.Texts.{pair_data, event_data, document, start_data, start_pairs, may_stand, IsJson}
+use Rattle.history_text.specs.Texts.{pair_data, IsEventData, SpellEvents, IsDocument, start_data, start_pairs, may_stand, IsJson}
+use Rattle.history_text.specs.declared.version.TextVersion.{TextVersion}
 
 -- ---- starting pairs
 
@@ -23,41 +24,45 @@ IsPairFaultAfter before d fault =
 
 -- the start begins with pairs that a history may start with, and what stands after them shows the fault, whatever the events are
 pub record ShowsPairFault (d : Data) (fault : HistoryFault) : Type 0 where
+  pub version : TextVersion
   pub before : List (ℕ × ℕ)
   pub next : Data
   pub rest : List Data
   pub events : List Data
-  pub parts : d ≡ document (Some (map pair_data before ++ next ∷ rest)) events
+  pub parts : IsDocument version (Some (map pair_data before ++ next ∷ rest)) events d
   pub start : IsStart before
   pub shows : IsPairFaultAfter before next fault
 
 -- ---- events
 
 -- no event that may stand there, and has a range where it needs one, has this value
-abbrev pub SpellsNoEvent : Bool → Data → Type 0
-SpellsNoEvent has_start d = (e : Event) → d ≡ event_data e → IsTrue (is_shaped e) → IsTrue (may_stand has_start e) → ⊥
+abbrev pub SpellsNoEvent : TextVersion → Data → Type 0
+SpellsNoEvent version d = (e : Event) → IsEventData version d e → IsTrue (is_shaped e) → IsTrue (may_stand version e) → ⊥
 
 -- what is wrong with the value that stands after these events: it spells none, or one with a fault
-abbrev pub IsFaultAfter : Bool → List Event → Data → HistoryFault → Type 0
-IsFaultAfter has_start before d fault =
-    ((fault ≡ faults.Shape (length before)) × SpellsNoEvent has_start d)
-    ⊎ ((e : Event) × (d ≡ event_data e) × IsTrue (may_stand has_start e) × (fault_after before e ≡ Some fault))
+abbrev pub IsFaultAfter : TextVersion → List Event → Data → HistoryFault → Type 0
+IsFaultAfter version before d fault =
+    ((fault ≡ faults.Shape (length before)) × SpellsNoEvent version d)
+    ⊎ ((e : Event) × IsEventData version d e × IsTrue (may_stand version e) × (fault_after before e ≡ Some fault))
 
--- events of a history that may stand in a text with a start, or without one
-pub record AreEventsOfText (has_start : Bool) (events : List Event) : Type 0 where
+-- events of a history that may stand in a text of a version
+pub record AreEventsOfText (version : TextVersion) (events : List Event) : Type 0 where
   pub history : AreHistoryEvents events
-  pub standing : IsTrue (list_all (may_stand has_start) events)
+  pub standing : IsTrue (list_all (may_stand version) events)
 
--- nothing is wrong with the start, the events begin with those of a history, and what stands after them shows the fault
+-- nothing is wrong with the start, the first items spell events of a history, and what stands after them shows the fault
 pub record ShowsEventFault (d : Data) (fault : HistoryFault) : Type 0 where
+  pub version : TextVersion
   pub start : Option (List (ℕ × ℕ))
+  pub first : List Data
   pub before : List Event
   pub next : Data
   pub rest : List Data
-  pub parts : d ≡ document (start_data start) (map event_data before ++ next ∷ rest)
+  pub parts : IsDocument version (start_data start) (first ++ next ∷ rest) d
   pub is_start : IsStart (start_pairs start)
-  pub events : AreEventsOfText (is_some start) before
-  pub shows : IsFaultAfter (is_some start) before next fault
+  pub spelled : SpellEvents version first before
+  pub events : AreEventsOfText version before
+  pub shows : IsFaultAfter version before next fault
 
 -- ---- the whole text
 
@@ -65,7 +70,8 @@ pub record ShowsEventFault (d : Data) (fault : HistoryFault) : Type 0 where
 abbrev pub IsDocumentFault : Data → HistoryFault → Type 0
 IsDocumentFault d faults.TooLong = ⊥
 IsDocumentFault d faults.NotJson = ⊥
-IsDocumentFault d faults.Version = (start : Option (List Data)) (events : List Data) → d ≡ document start events → ⊥
+IsDocumentFault d faults.Version = (version : TextVersion) (start : Option (List Data)) (events : List Data)
+    → IsDocument version start events d → ⊥
 IsDocumentFault d faults.Memory = ⊤
 IsDocumentFault d fault = ShowsPairFault d fault ⊎ ShowsEventFault d fault
 

@@ -1,7 +1,8 @@
--- The text of a history: JSON whose value is that of its starting pairs and its events, in one of two versions.
+-- The text of a history: JSON whose value is that of its starting pairs and its events, in one of three versions.
 use Rattle.events.specs.declared.event.Reply.TheVariants as replies
-use Rattle.std.specs.Prelude.{◌≡◌, ℕ, ◌≤◌, Bool, ◌||◌, if◌then◌else◌, List, [], ◌∷◌, length, map, Option, Some, None, is_some, codes}
-use Rattle.std.specs.Prelude.{IsTrue}
+use Rattle.history_text.specs.declared.version.TextVersion.TheVariants.{One, Two, Three}
+use Rattle.std.specs.Prelude.{◌≡◌, ◌⊎◌, ⊤, ℕ, ◌≤◌, Bool, ◌||◌, not, if◌then◌else◌, List, [], ◌∷◌, length, map, Option, Some, None}
+use Rattle.std.specs.Prelude.{is_some, codes, IsTrue}
 use Rattle.std.specs.List.{list_all}
 use Rattle.std.specs.Str.{IsUtf8}
 use Rattle.serde_json.specs.Data.{unsigned, Data, null, number, string, array, object, no_members, member}
@@ -13,8 +14,11 @@ use Rattle.events.specs.declared.event.Reply.{Reply}
 use Rattle.events.specs.declared.event.Event.{Event}
 use Rattle.events.specs.declared.event.Event.TheVariants.{Invoke, Answer}
 use Rattle.events.specs.HistoryView.{HistoryView}
-use Rattle.events.specs.PlainHistories.{is_plain_event, is_plain}
+use Rattle.events.specs.PlainHistories.{is_replace, is_plain}
+use Rattle.events.specs.Told.{is_told, are_told}
+use Rattle.history_text.specs.declared.version.TextVersion.{TextVersion}
 use Rattle.history_text.specs.Limits.{text_limit}
+use Rattle.history_text.specs.Versions.{version_number, has_start, may_tell_less, has_notes}
 
 -- ---- the values that JSON gives them
 
@@ -39,16 +43,53 @@ reply_data replies.None = null
 reply_data (replies.Some value) = number_data value
 reply_data (replies.Pairs pairs) = list_data (map pair_data pairs)
 reply_data replies.Refused = string (codes "refused")
+reply_data replies.Done = string (codes "done")
+reply_data replies.Found = string (codes "found")
+reply_data replies.Other = string (codes "other")
 
 abbrev pub event_data : Event → Data
 event_data (Invoke p call) = object (member (codes "invoke") (call_data call) (member (codes "process") (number_data p) no_members))
 event_data (Answer p reply) = object (member (codes "answer") (reply_data reply) (member (codes "process") (number_data p) no_members))
 
--- the whole text, with these items for its events: of version 1, or of version 2 with these items for its start
-abbrev pub document : Option (List Data) → List Data → Data
-document None items = object (member (codes "events") (list_data items) (member (codes "version") (number_data 1) no_members))
-document (Some start) items =
-    object (member (codes "events") (list_data items) (member (codes "start") (list_data start) (member (codes "version") (number_data 2) no_members)))
+-- the value of an event with a note, of which the event says nothing
+abbrev pub noted_data : Data → Event → Data
+noted_data note (Invoke p call) =
+    object (member (codes "invoke") (call_data call) (member (codes "note") note (member (codes "process") (number_data p) no_members)))
+noted_data note (Answer p reply) =
+    object (member (codes "answer") (reply_data reply) (member (codes "note") note (member (codes "process") (number_data p) no_members)))
+
+-- the value spells this event in a text of a version: alone, or from version 3 on with a note, which may be any value
+abbrev pub IsEventData : TextVersion → Data → Event → Type 0
+IsEventData version d e = (d ≡ event_data e) ⊎ (IsTrue (has_notes version) × (note : Data) × (d ≡ noted_data note e))
+
+-- values that spell items one by one, in the same order
+abbrev pub AreSpelled : {A : Type 0} → (Data → A → Type 0) → List Data → List A → Type 0
+AreSpelled IsSpelled [] [] = ⊤
+AreSpelled IsSpelled [] (x ∷ xs) = ⊥
+AreSpelled IsSpelled (d ∷ ds) [] = ⊥
+AreSpelled IsSpelled (d ∷ ds) (x ∷ xs) = IsSpelled d x × AreSpelled IsSpelled ds xs
+
+-- the values spell these events in a text of a version
+abbrev pub SpellEvents : TextVersion → List Data → List Event → Type 0
+SpellEvents version items events = AreSpelled (IsEventData version) items events
+
+-- whether an event may stand in a text of a version: a replace in one with a start, an answer that tells less than the map answers in
+-- version 3 alone
+abbrev pub may_stand : TextVersion → Event → Bool
+may_stand version (Invoke p call) = has_start version || not (is_replace call)
+may_stand version (Answer p reply) = may_tell_less version || is_told reply
+
+-- the value of a whole text, with these items for its start, if it has one, and these for its events
+abbrev pub document : TextVersion → Option (List Data) → List Data → Data
+document version None items =
+    object (member (codes "events") (list_data items) (member (codes "version") (number_data (version_number version)) no_members))
+document version (Some start) items =
+    object (member (codes "events") (list_data items)
+    (member (codes "start") (list_data start) (member (codes "version") (number_data (version_number version)) no_members)))
+
+-- the value is that of a whole text of a version, which has a start or has none
+abbrev pub IsDocument : TextVersion → Option (List Data) → List Data → Data → Type 0
+IsDocument version start items d = (is_some start ≡ has_start version) × (d ≡ document version start items)
 
 -- the items of starting pairs, where a text has a start
 abbrev pub start_data : Option (List (ℕ × ℕ)) → Option (List Data)
@@ -60,15 +101,17 @@ abbrev pub start_pairs : Option (List (ℕ × ℕ)) → List (ℕ × ℕ)
 start_pairs None = []
 start_pairs (Some pairs) = pairs
 
--- whether an event may stand in a text with a start, or without one: a replace only in one with
-abbrev pub may_stand : Bool → Event → Bool
-may_stand has_start e = has_start || is_plain_event e
+-- the least version whose texts say all of a history
+abbrev pub least_version : HistoryView → TextVersion
+least_version history = if is_plain history then One else if are_told history.events then Two else Three
 
--- the value that a history is written as: of version 1 where that says it all
+-- the items of the start that a history is written with: none in a version whose texts have no start
+abbrev pub written_start : TextVersion → List (ℕ × ℕ) → Option (List Data)
+written_start version pairs = if has_start version then Some (map pair_data pairs) else None
+
+-- the value that a history is written as: of the least version that says it all, and without notes
 abbrev pub history_data : HistoryView → Data
-history_data history =
-    if is_plain history then document None (map event_data history.events)
-    else document (Some (map pair_data history.start)) (map event_data history.events)
+history_data history = document (least_version history) (written_start (least_version history) history.start) (map event_data history.events)
 
 -- ---- texts
 
@@ -78,12 +121,15 @@ pub record IsJson (text : List ℕ) (d : Data) : Type 0 where
   pub utf8 : IsUtf8 text
   pub value : read text ≡ Some d
 
--- the value of a text spells this history
+-- the value of a text spells this history: its items spell the starting pairs and the events, which may stand in its version
 pub record SpellsAs (d : Data) (history : HistoryView) : Type 0 where
+  pub version : TextVersion
   pub start : Option (List (ℕ × ℕ))
-  pub value : d ≡ document (start_data start) (map event_data history.events)
+  pub items : List Data
+  pub value : IsDocument version (start_data start) items d
   pub starts : history.start ≡ start_pairs start
-  pub standing : IsTrue (list_all (may_stand (is_some start)) history.events)
+  pub spelled : SpellEvents version items history.events
+  pub standing : IsTrue (list_all (may_stand version) history.events)
 
 -- the text spells this history
 pub record Spells (text : List ℕ) (history : HistoryView) : Type 0 where

@@ -1,13 +1,15 @@
 -- What is wrong with values that are to spell pairs or events.
 use Rattle.events.specs.declared.fault.HistoryFault.TheVariants as faults
-use Rattle.std.specs.Prelude.{◌≡◌, ℕ, ◌<◌, ◌≤◌, Bool, false, List, ◌∷◌, ◌++◌, map, codes, IsTrue, ⊤}
+use Rattle.std.specs.Prelude.{◌≡◌, ◌⊎◌, ℕ, ◌<◌, ◌≤◌, false, List, ◌∷◌, ◌++◌, map, codes, IsTrue, ⊤}
 use Rattle.serde_json.specs.Data.{Data, object, no_members, member}
 use Rattle.events.specs.declared.event.Event.{Event}
 use Rattle.events.specs.declared.fault.HistoryFault.{HistoryFault}
 use Rattle.events.specs.Limits.{start_limit}
 use Rattle.events.specs.Starts.{IsStart}
 use Rattle.events.specs.Histories.{is_shaped, is_small}
-use Rattle.history_text.specs.Texts.{pair_data, event_data, may_stand}
+use Rattle.history_text.specs.declared.version.TextVersion.{TextVersion}
+use Rattle.history_text.specs.Versions.{has_notes}
+use Rattle.history_text.specs.Texts.{pair_data, IsEventData, SpellEvents, may_stand}
 use Rattle.history_text.specs.TextFaults.{IsPairFaultAfter, SpellsNoEvent, IsFaultAfter, AreEventsOfText}
 
 -- an object of two members, and of three
@@ -25,13 +27,19 @@ invocation_data call process = object_of_two (codes "invoke") call (codes "proce
 abbrev pub response_data : Data → Data → Data
 response_data reply process = object_of_two (codes "answer") reply (codes "process") process
 
+-- the value of an event: what was done, under its name, and the process; in a text whose events may have notes also with one of these
+abbrev pub IsTurnData : TextVersion → List ℕ → Data → Data → Data → Type 0
+IsTurnData version name done process d =
+    (d ≡ object_of_two name done (codes "process") process)
+    ⊎ (IsTrue (has_notes version) × (note : Data) × (d ≡ object_of_three name done (codes "note") note (codes "process") process))
+
 -- why a value at a place was refused, whatever stands before it: it spells no event, or one past a limit
-abbrev pub IsValueFault : Bool → ℕ → Data → HistoryFault → Type 0
-IsValueFault has_start place d (faults.Shape at) = (at ≡ place) × SpellsNoEvent has_start d
-IsValueFault has_start place d faults.TooMany =
-    (e : Event) × (d ≡ event_data e) × IsTrue (is_shaped e) × (is_small e ≡ false) × IsTrue (may_stand has_start e)
-IsValueFault has_start place d faults.Memory = ⊤
-IsValueFault has_start place d fault = ⊥
+abbrev pub IsValueFault : TextVersion → ℕ → Data → HistoryFault → Type 0
+IsValueFault version place d (faults.Shape at) = (at ≡ place) × SpellsNoEvent version d
+IsValueFault version place d faults.TooMany =
+    (e : Event) × IsEventData version d e × IsTrue (is_shaped e) × (is_small e ≡ false) × IsTrue (may_stand version e)
+IsValueFault version place d faults.Memory = ⊤
+IsValueFault version place d fault = ⊥
 
 -- why a value at a place of a start was refused, whatever stands before it: it is one too many, or it spells no pair
 abbrev pub IsPairValueFault : ℕ → Data → HistoryFault → Type 0
@@ -53,20 +61,22 @@ abbrev pub IsPairFaultAmong : List Data → HistoryFault → Type 0
 IsPairFaultAmong items faults.Memory = ⊤
 IsPairFaultAmong items fault = ShowsPairFaultAmong items fault
 
--- the values begin with the events of a history, and what stands after them shows the fault
-pub record ShowsFaultAmong (has_start : Bool) (items : List Data) (fault : HistoryFault) : Type 0 where
+-- the first values spell events of a history, and what stands after them shows the fault
+pub record ShowsFaultAmong (version : TextVersion) (items : List Data) (fault : HistoryFault) : Type 0 where
+  pub first : List Data
   pub before : List Event
   pub next : Data
   pub rest : List Data
-  pub parts : items ≡ map event_data before ++ next ∷ rest
-  pub events : AreEventsOfText has_start before
-  pub shows : IsFaultAfter has_start before next fault
+  pub parts : items ≡ first ++ next ∷ rest
+  pub spelled : SpellEvents version first before
+  pub events : AreEventsOfText version before
+  pub shows : IsFaultAfter version before next fault
 
 -- why a list of values was refused as events: its first faulty value, unless memory ran out
-abbrev pub IsFaultAmong : Bool → List Data → HistoryFault → Type 0
-IsFaultAmong has_start items faults.TooLong = ⊥
-IsFaultAmong has_start items faults.NotJson = ⊥
-IsFaultAmong has_start items faults.Version = ⊥
-IsFaultAmong has_start items faults.Memory = ⊤
-IsFaultAmong has_start items (faults.Start at) = ⊥
-IsFaultAmong has_start items fault = ShowsFaultAmong has_start items fault
+abbrev pub IsFaultAmong : TextVersion → List Data → HistoryFault → Type 0
+IsFaultAmong version items faults.TooLong = ⊥
+IsFaultAmong version items faults.NotJson = ⊥
+IsFaultAmong version items faults.Version = ⊥
+IsFaultAmong version items faults.Memory = ⊤
+IsFaultAmong version items (faults.Start at) = ⊥
+IsFaultAmong version items fault = ShowsFaultAmong version items fault

@@ -7,14 +7,16 @@ mod parts;
 mod read_event;
 mod read_text;
 mod text_laws;
+mod version;
 mod write_text;
 
 pub use json_fault::JsonFault;
 pub use json_text::json_of;
 pub use parts::{items_of, two_members};
-pub use read_event::{call_of, may_stand, pair_of, pairs_of, reply_of};
-pub use read_text::read_history;
+pub use read_event::{call_of, pair_of, pairs_of, reply_of, turn_of};
+pub use read_text::{read_history, version_with_start};
 pub use text_laws::{one_history, one_text_fault};
+pub use version::TextVersion;
 pub use write_text::{call_value, pairs_value, reply_value, write_history};
 
 /// The most bytes that a text has.

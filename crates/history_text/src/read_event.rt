@@ -1,91 +1,108 @@
 // From a JSON value to an event.
-ghost use Rattle.std.specs.Prelude.{◌≡◌, ◌≤◌, ◌<◌, ◌||◌, not, ◌∷◌, [], List, ℕ, map, IsTrue, IfOk, IfErr, IfSome, IfNone, OnOk};
-ghost use Rattle.serde_json.specs.Data.{string};
+ghost use Rattle.std.specs.Prelude.{◌≡◌, ◌≤◌, ◌<◌, ◌∷◌, [], List, ℕ, map, IsTrue, IfOk, IfErr, IfSome, IfNone, OnOk};
+ghost use Rattle.serde_json.specs.Data.{Data, string};
 ghost use Rattle.serde_json.specs.View.{view};
 ghost use Rattle.events.specs.declared.event.Call.{Call};
 ghost use Rattle.events.specs.declared.event.Reply.{Reply};
 ghost use Rattle.events.specs.declared.event.Reply.TheVariants as replies;
 ghost use Rattle.events.specs.declared.fault.HistoryFault.TheVariants as faults;
 ghost use Rattle.events.specs.Histories.{has_range};
-ghost use Rattle.events.specs.PlainHistories.{is_replace};
-ghost use Rattle.history_text.specs.Texts.{number_data, list_data, pair_data, call_data, reply_data, event_data, may_stand};
-ghost use Rattle.history_text.specs.ValueFaults.{invocation_data, response_data, IsValueFault};
+ghost use Rattle.history_text.specs.Texts.{number_data, list_data, pair_data, call_data, reply_data, event_data, IsEventData, may_stand};
+ghost use Rattle.history_text.specs.ValueFaults.{invocation_data, response_data, IsTurnData, IsValueFault};
 ghost use Rattle.history_text.specs.ValueFaults.{IsPairValueFault};
 ghost use Rattle.events.specs.Limits.{process_limit, start_limit};
 
-use crate::parts::{items_of, two_members};
+use crate::parts::{items_of, three_members, two_members};
+use crate::version::TextVersion;
 use events::{Call, Event, HistoryFault, MAX_START, Memory, Pairs, Reply};
 use serde_json::Value;
 use std::alloc::Global;
 
-/// The event at a place of a history's text, which has a start or none. Otherwise why it is refused: `Shape`, a
-/// replace in a text without a start among them, `TooMany` for a process number that no `u8` holds, or `Memory`.
+/// The event at a place of a history's text, which is of a version. Otherwise why it is refused: `Shape`, what may not
+/// stand in that version among it, `TooMany` for a process number that no `u8` holds, or `Memory`.
 pub fn event_of(
     alloc: Global,
     place: usize,
-    has_start: bool,
+    version: TextVersion,
     value: &Value,
 ) -> Result<Event, HistoryFault>
-    ensures ok { IfOk result (λ e. view value.now ≡ event_data e) }
-    ensures standing { IfOk result (λ e. IsTrue (may_stand has_start e)) }
-    ensures refused { IfErr result (IsValueFault has_start place (view value.now)) }
+    ensures ok { IfOk result (IsEventData version (view value.now)) }
+    ensures standing { IfOk result (λ e. IsTrue (may_stand version e)) }
+    ensures refused { IfErr result (IsValueFault version place (view value.now)) }
 {
-    if let Some((call, process)) = two_members(value, "invoke", "process") {
-        return invocation_of(place, has_start, call, process);
+    if let Some((call, process)) = turn_of(version, "invoke", value) {
+        return invocation_of(place, version, call, process);
     }
-    if let Some((reply, process)) = two_members(value, "answer", "process") {
-        return response_of(alloc, place, has_start, reply, process);
+    if let Some((reply, process)) = turn_of(version, "answer", value) {
+        return response_of(alloc, place, version, reply, process);
     }
     Err(HistoryFault::Shape { event: place })
+}
+
+/// The values of what was done and of the process, where an object has these members alone, what was done under this
+/// name; or a note beside them, where the version has notes.
+pub fn turn_of<'a>(
+    version: TextVersion,
+    name: &str,
+    value: &'a Value,
+) -> Option<(&'a Value, &'a Value)>
+    ensures some { IfSome result (λ found. IsTurnData version name.now (view found.0.now) (view found.1.now) (view value.now)) }
+    ensures none { IfNone result ((done process : Data)
+        → IsTurnData version name.now done process (view value.now) → ⊥) }
+{
+    if let Some(found) = two_members(value, name, "process") {
+        return Some(found);
+    }
+    if !version.has_notes() {
+        return None;
+    }
+    let (done, _note, process) = three_members(value, name, "note", "process")?;
+    Some((done, process))
 }
 
 /// The invocation that the values of its call and its process spell.
 fn invocation_of(
     place: usize,
-    has_start: bool,
+    version: TextVersion,
     call: &Value,
     process: &Value,
 ) -> Result<Event, HistoryFault>
     ensures ok { IfOk result (λ e. event_data e
         ≡ invocation_data (view call.now) (view process.now)) }
-    ensures standing { IfOk result (λ e. IsTrue (may_stand has_start e)) }
-    ensures refused { IfErr result (IsValueFault has_start place
+    ensures standing { IfOk result (λ e. IsTrue (may_stand version e)) }
+    ensures refused { IfErr result (IsValueFault version place
         (invocation_data (view call.now) (view process.now))) }
 {
     let (Some(call), Some(process)) = (call_of(call), process.as_u64()) else {
         return Err(HistoryFault::Shape { event: place });
     };
-    if !may_stand(has_start, &call) {
+    if !version.may_have_call(&call) {
         return Err(HistoryFault::Shape { event: place });
     }
     let process = process_number(process)?;
     Ok(Event::Invoke { process, call })
 }
 
-/// Whether a call may stand in a text with a start, or without one.
-pub fn may_stand(has_start: bool, call: &Call) -> bool
-    ensures { result ≡ (has_start || not (is_replace call.now)) }
-{
-    has_start || !matches!(call, Call::Replace(..))
-}
-
 /// The response that the values of its reply and its process spell.
 fn response_of(
     alloc: Global,
     place: usize,
-    has_start: bool,
+    version: TextVersion,
     reply: &Value,
     process: &Value,
 ) -> Result<Event, HistoryFault>
     ensures ok { IfOk result (λ e. event_data e
         ≡ response_data (view reply.now) (view process.now)) }
-    ensures standing { IfOk result (λ e. IsTrue (may_stand has_start e)) }
-    ensures refused { IfErr result (IsValueFault has_start place
+    ensures standing { IfOk result (λ e. IsTrue (may_stand version e)) }
+    ensures refused { IfErr result (IsValueFault version place
         (response_data (view reply.now) (view process.now))) }
 {
     let (Some(reply), Some(process)) = (reply_of(alloc, reply)?, process.as_u64()) else {
         return Err(HistoryFault::Shape { event: place });
     };
+    if !version.may_have_reply(&reply) {
+        return Err(HistoryFault::Shape { event: place });
+    }
     let process = process_number(process)?;
     Ok(Event::Answer { process, reply })
 }
@@ -206,9 +223,23 @@ pub fn reply_of(alloc: Global, value: &Value) -> Result<Option<Reply>, Memory>
     match value {
         Value::Null => Ok(Some(Reply::None)),
         Value::Number(number) => Ok(number.as_u64().map(Reply::Some)),
-        Value::String(text) if text.as_str() == "refused" => Ok(Some(Reply::Refused)),
+        Value::String(name) => Ok(named_reply(name.as_str())),
         Value::Array(items) => Ok(pairs_of(alloc, items)?.map(pairs_reply)),
         _ => Ok(None),
+    }
+}
+
+/// The reply of this name.
+fn named_reply(name: &str) -> Option<Reply>
+    ensures some { IfSome result (λ reply. reply_data reply ≡ string name.now) }
+    ensures none { IfNone result ((reply : Reply) → reply_data reply ≡ string name.now → ⊥) }
+{
+    match name {
+        "refused" => Some(Reply::Refused),
+        "done" => Some(Reply::Done),
+        "found" => Some(Reply::Found),
+        "other" => Some(Reply::Other),
+        _ => None,
     }
 }
 

@@ -1,12 +1,15 @@
 // From a text to a history.
-ghost use Rattle.std.specs.Prelude.{◌≡◌, [], List, Option, None, Some, Bool, is_some, map, IsTrue, IfOk, IfErr, IfSome, IfNone, OnOk};
+ghost use Rattle.std.specs.Prelude.{◌≡◌, [], List, None, Some, map, IsTrue, IfOk, IfErr, IfSome, IfNone};
 ghost use Rattle.std.specs.List.{list_all};
 ghost use Rattle.serde_json.specs.Data.{Data};
 ghost use Rattle.serde_json.specs.View.{view};
 ghost use Rattle.events.specs.HistoryView.{HistoryView};
 ghost use Rattle.events.specs.declared.fault.HistoryFault.TheVariants as faults;
 ghost use Rattle.events.specs.Histories.{IsHistory};
-ghost use Rattle.history_text.specs.Texts.{pair_data, event_data, document, may_stand, IsJson, SpellsAs, Spells};
+ghost use Rattle.history_text.specs.declared.version.TextVersion.{TextVersion};
+ghost use Rattle.history_text.specs.declared.version.TextVersion.TheVariants as versions;
+ghost use Rattle.history_text.specs.Versions.{version_number, has_start};
+ghost use Rattle.history_text.specs.Texts.{number_data, pair_data, SpellEvents, document, IsDocument, may_stand, IsJson, SpellsAs, Spells};
 ghost use Rattle.history_text.specs.TextFaults.{IsDocumentFault, IsTextFault};
 ghost use Rattle.history_text.specs.ValueFaults.{IsFaultAmong, IsPairFaultAmong};
 
@@ -14,6 +17,7 @@ use crate::json_fault::JsonFault;
 use crate::json_text::json_of;
 use crate::parts::{is_number, items_of, three_members, two_members};
 use crate::read_event::{event_of, starting_pair};
+use crate::version::TextVersion;
 use events::{History, HistoryFault, Turns};
 use serde_json::Value;
 use std::alloc::Global;
@@ -55,30 +59,37 @@ fn turns_of(alloc: Global, value: &Value) -> Result<Turns, HistoryFault>
     ensures refused { IfErr result (IsDocumentFault (view value.now)) }
 {
     if let Some(items) = events_alone(value) {
-        return events_of(alloc, Turns::new(alloc), false, items);
+        return events_of(alloc, Turns::new(alloc), TextVersion::One, items);
     }
     match start_and_events(value) {
-        Some((pairs, items)) => turns_after(alloc, pairs, items),
+        Some((version, pairs, items)) => turns_after(alloc, version, pairs, items),
         None => Err(HistoryFault::Version),
     }
 }
 
 /// The starting pairs that the first values spell, and the events that the others spell after them.
-fn turns_after(alloc: Global, pairs: &[Value], items: &[Value]) -> Result<Turns, HistoryFault>
+fn turns_after(
+    alloc: Global,
+    version: TextVersion,
+    pairs: &[Value],
+    items: &[Value],
+) -> Result<Turns, HistoryFault>
+    requires { IsTrue (has_start version) }
     ensures spelled { IfOk result
-        (SpellsAs (document (Some (map view pairs.now)) (map view items.now))) }
+        (SpellsAs (document version (Some (map view pairs.now)) (map view items.now))) }
     ensures history { IfOk result IsHistory }
     ensures refused { IfErr result
-        (IsDocumentFault (document (Some (map view pairs.now)) (map view items.now))) }
+        (IsDocumentFault (document version (Some (map view pairs.now)) (map view items.now))) }
 {
     let start = start_of(alloc, pairs)?;
-    events_of(alloc, start, true, items)
+    events_of(alloc, start, version, items)
 }
 
 /// The values of the events of a document without a start, where its top level is right.
 fn events_alone(value: &Value) -> Option<&[Value]>
-    ensures some { IfSome result (λ items. view value.now ≡ document None (map view items.now)) }
-    ensures none { IfNone result ((items : List Data) → view value.now ≡ document None items → ⊥) }
+    ensures some { IfSome result (λ items. IsDocument versions.One None (map view items.now) (view value.now)) }
+    ensures none { IfNone result ((version : TextVersion) (items : List Data)
+        → IsDocument version None items (view value.now) → ⊥) }
 {
     let (events, version) = two_members(value, "events", "version")?;
     if is_number(version, 1) {
@@ -88,18 +99,28 @@ fn events_alone(value: &Value) -> Option<&[Value]>
     }
 }
 
-/// The values of the start and of the events of a document with a start, where its top level is right.
-fn start_and_events(value: &Value) -> Option<(&[Value], &[Value])>
-    ensures some { IfSome result (λ found. view value.now
-        ≡ document (Some (map view found.0.now)) (map view found.1.now)) }
-    ensures none { IfNone result ((start items : List Data)
-        → view value.now ≡ document (Some start) items → ⊥) }
+/// The version of a document with a start, and the values of its start and of its events, where its top level is right.
+fn start_and_events(value: &Value) -> Option<(TextVersion, &[Value], &[Value])>
+    ensures some { IfSome result (λ found. IsDocument found.0 (Some (map view found.1.now)) (map view found.2.now) (view value.now)) }
+    ensures none { IfNone result ((version : TextVersion) (start items : List Data)
+        → IsDocument version (Some start) items (view value.now) → ⊥) }
 {
     let (events, start, version) = three_members(value, "events", "start", "version")?;
-    if is_number(version, 2) {
-        Some((items_of(start)?, items_of(events)?))
-    } else {
-        None
+    let version = version_with_start(version)?;
+    Some((version, items_of(start)?, items_of(events)?))
+}
+
+/// The version that a value names, of those whose texts have a start.
+pub fn version_with_start(value: &Value) -> Option<TextVersion>
+    ensures some { IfSome result (λ version. view value.now ≡ number_data (version_number version)) }
+    ensures start { IfSome result (λ version. IsTrue (has_start version)) }
+    ensures none { IfNone result ((version : TextVersion) → IsTrue (has_start version)
+        → view value.now ≡ number_data (version_number version) → ⊥) }
+{
+    match value.as_u64()? {
+        2 => Some(TextVersion::Two),
+        3 => Some(TextVersion::Three),
+        _ => None,
     }
 }
 
@@ -122,20 +143,20 @@ fn start_of(alloc: Global, items: &[Value]) -> Result<Turns, HistoryFault>
 fn events_of(
     alloc: Global,
     start: Turns,
-    has_start: bool,
+    version: TextVersion,
     items: &[Value],
 ) -> Result<Turns, HistoryFault>
     requires history { IsHistory start }
     requires no_event { start.events ≡ [] }
     ensures start { IfOk result (λ h. h.start ≡ start.start) }
-    ensures spelled { IfOk result (λ h. map view items.now ≡ map event_data h.events) }
-    ensures standing { IfOk result (λ h. IsTrue (list_all (may_stand has_start) h.events)) }
+    ensures spelled { IfOk result (λ h. SpellEvents version (map view items.now) h.events) }
+    ensures standing { IfOk result (λ h. IsTrue (list_all (may_stand version) h.events)) }
     ensures history { IfOk result IsHistory }
-    ensures refused { IfErr result (IsFaultAmong has_start (map view items.now)) }
+    ensures refused { IfErr result (IsFaultAmong version (map view items.now)) }
 {
     let mut turns = start;
     for (place, item) in items.iter().enumerate() {
-        let event = event_of(alloc, place, has_start, item)?;
+        let event = event_of(alloc, place, version, item)?;
         turns.take(event)?;
     }
     Ok(turns)

@@ -5,16 +5,19 @@ ghost use Rattle.serde_json.specs.View.{view, members_view};
 ghost use Rattle.serde_json.specs.Written.{compact_text};
 ghost use Rattle.std.specs.List.{list_all};
 ghost use Rattle.events.specs.PlainHistories.{is_plain_event, is_plain};
-ghost use Rattle.history_text.specs.Texts.{number_data, list_data, pair_data, call_data, reply_data, event_data, history_data, Spells};
+ghost use Rattle.events.specs.Told.{is_told_event, are_told};
+ghost use Rattle.history_text.specs.Texts.{number_data, list_data, pair_data, call_data, reply_data, event_data, least_version, history_data, Spells};
 ghost use Rattle.history_text.specs.ValueFaults.{invocation_data, response_data};
 ghost use Rattle.history_text.specs.Limits.{text_limit};
 
+use crate::version::TextVersion;
 use events::{Call, Event, History, Memory, Reply};
 use serde_json::{Map, Value, push, put};
 use std::alloc::{AllocError, Global};
 
 /// The text of a history in the compact form: no spaces, members by rising bytes, numbers in plain decimal. It is
-/// of version 1 where the history has neither starting pairs nor a replace, else of version 2.
+/// of version 1 where the history has neither starting pairs nor a replace and its answers tell all, else of version 2
+/// where these tell all, else of version 3.
 /// A text of more than `MAX_TEXT` bytes is written too, and the reader refuses it.
 pub fn write_history(alloc: Global, history: &History) -> Result<String, Memory>
     ensures compact { IfOk result
@@ -50,8 +53,9 @@ fn put_history(
         "events",
         events_value(alloc, history.events())?,
     )?;
-    if is_plain(history) {
-        return put(members, alloc, "version", Value::from(1u64));
+    let version = least_version(history);
+    if !version.has_start() {
+        return put(members, alloc, "version", Value::from(version.number()));
     }
     put(
         members,
@@ -59,10 +63,23 @@ fn put_history(
         "start",
         pairs_value(alloc, history.start())?,
     )?;
-    put(members, alloc, "version", Value::from(2u64))
+    put(members, alloc, "version", Value::from(version.number()))
 }
 
-/// Whether a history has neither starting pairs nor a replace.
+/// The least version whose texts say all of a history.
+fn least_version(history: &History) -> TextVersion
+    ensures { result ≡ least_version history.now }
+{
+    if is_plain(history) {
+        TextVersion::One
+    } else if are_told(history.events()) {
+        TextVersion::Two
+    } else {
+        TextVersion::Three
+    }
+}
+
+/// Whether a history has neither starting pairs nor a replace, and its answers tell all.
 fn is_plain(history: &History) -> bool
     ensures { result ≡ is_plain history.now }
 {
@@ -85,7 +102,28 @@ fn is_plain_event(event: &Event) -> bool
 {
     match event {
         Event::Invoke { call, .. } => !matches!(call, Call::Replace(..)),
-        Event::Answer { .. } => true,
+        Event::Answer { reply, .. } => reply.is_told(),
+    }
+}
+
+/// Whether the answers of the events tell all.
+fn are_told(events: &[Event]) -> bool
+    ensures { result ≡ are_told events.now }
+{
+    for event in events {
+        if !is_told_event(event) {
+            return false;
+        }
+    }
+    true
+}
+
+fn is_told_event(event: &Event) -> bool
+    ensures { result ≡ is_told_event event.now }
+{
+    match event {
+        Event::Invoke { .. } => true,
+        Event::Answer { reply, .. } => reply.is_told(),
     }
 }
 
@@ -183,6 +221,9 @@ pub fn reply_value(alloc: Global, reply: &Reply) -> Result<Value, AllocError>
         Reply::Some(value) => Ok(Value::from(*value)),
         Reply::Pairs(pairs) => pairs_value(alloc, pairs.as_slice()),
         Reply::Refused => Value::try_from_str(alloc, "refused"),
+        Reply::Done => Value::try_from_str(alloc, "done"),
+        Reply::Found => Value::try_from_str(alloc, "found"),
+        Reply::Other => Value::try_from_str(alloc, "other"),
     }
 }
 

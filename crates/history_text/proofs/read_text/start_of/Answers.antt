@@ -3,18 +3,18 @@ use Rattle.std.proofs.Common.{◌≡◌, ◌+◌, ◌∷◌, ◌++◌, length, m
 use Rattle.std.proofs.lemmas.Result.{err_from_is_err_and}
 use Rattle.serde_json.specs.View.{view}
 use Rattle.history_text.specs.Texts.{pair_data}
-use Rattle.history_text.proofs.ValueFaultLemmas.{length_before, values_at, pair_fault_alone, pair_fault_on_taking}
+use Rattle.history_text.proofs.ValueFaultLemmas.{pairs_before, pairs_and_value, pair_fault_alone, pair_fault_on_taking}
 use Rattle.history_text.proofs.read_text.start_of.Goals as goal
 use Rattle.history_text.proofs.read_text.start_of.Goals.{After-starting_pair}
 
 module _ (c : After-starting_pair) where
   size : length c.loop-place.turns.start ≡ c.loop-place.place
-  size = length_before pair_data c.args.items.now c.loop-place.turns.start c.loop-place.place c.loop-place-test.true
+  size = pairs_before c.args.items.now c.loop-place.turns.start c.loop-place.place c.loop-place-test.true
       c.loop-place.invariant.spelled
 
   parts : map view c.args.items.now ≡ map pair_data c.loop-place.turns.start ++ view c.index-items-place.result ∷ map view
       (drop (c.loop-place.place + 1) c.args.items.now)
-  parts = values_at pair_data c.args.items.now c.loop-place.turns.start c.loop-place.place c.index-items-place.result c.loop-place-test.true
+  parts = pairs_and_value c.args.items.now c.loop-place.turns.start c.loop-place.place c.index-items-place.result c.loop-place-test.true
       c.index-items-place.is c.loop-place.invariant.spelled
 
 pub returns-in_err-pair-clause-refused : goal.returns-in_err-pair-clause-refused

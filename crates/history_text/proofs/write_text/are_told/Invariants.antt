@@ -1,0 +1,7 @@
+-- All answers so far tell all.
+use Rattle.std.proofs.Common.{◌≡◌, take, true}
+use Rattle.events.specs.Told.{are_told}
+use Rattle.history_text.proofs.write_text.are_told.Given as goal
+
+abbrev pub invariant-loop-event : goal.invariant-loop-event
+invariant-loop-event l = are_told (take l.event-index l.events) ≡ true

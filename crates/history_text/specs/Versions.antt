@@ -1,0 +1,28 @@
+-- The versions of the texts of histories, and what texts of each may say.
+use Rattle.history_text.specs.declared.version.TextVersion.TheVariants.{One, Two, Three}
+use Rattle.std.specs.Prelude.{ℕ, Bool, true, false}
+use Rattle.history_text.specs.declared.version.TextVersion.{TextVersion}
+
+-- the number of a version, by which a text names it
+abbrev pub version_number : TextVersion → ℕ
+version_number One = 1
+version_number Two = 2
+version_number Three = 3
+
+-- whether texts of a version have a start, and may have a replace
+abbrev pub has_start : TextVersion → Bool
+has_start One = false
+has_start Two = true
+has_start Three = true
+
+-- whether answers of a text of a version may tell less than the map answers
+abbrev pub may_tell_less : TextVersion → Bool
+may_tell_less One = false
+may_tell_less Two = false
+may_tell_less Three = true
+
+-- whether events of a text of a version may have a note
+abbrev pub has_notes : TextVersion → Bool
+has_notes One = false
+has_notes Two = false
+has_notes Three = true

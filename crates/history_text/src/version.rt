@@ -1,0 +1,59 @@
+// The versions of the texts of histories.
+ghost use Rattle.std.specs.Prelude.{◌≡◌, ◌||◌, not};
+ghost use Rattle.events.specs.PlainHistories.{is_replace};
+ghost use Rattle.events.specs.Told.{is_told};
+ghost use Rattle.history_text.specs.Versions.{version_number, has_start, may_tell_less, has_notes};
+
+use events::{Call, Reply};
+
+/// The version of a text: what it may say.
+#[derive(Clone, Copy, Debug, PartialEq, Eq)]
+pub enum TextVersion {
+    /// The map is empty at the start, and there is no replace.
+    One,
+    /// It says what the map holds at the start, and may have a replace.
+    Two,
+    /// Its answers may tell less than the map answers, and its events may have notes, which nothing reads.
+    Three,
+}
+
+impl TextVersion {
+    /// The number by which a text names it.
+    pub fn number(self) -> u64
+        ensures { result ≡ version_number self }
+    {
+        match self {
+            TextVersion::One => 1,
+            TextVersion::Two => 2,
+            TextVersion::Three => 3,
+        }
+    }
+
+    /// Whether its texts have a start.
+    pub fn has_start(self) -> bool
+        ensures { result ≡ has_start self }
+    {
+        !matches!(self, TextVersion::One)
+    }
+
+    /// Whether the events of its texts may have a note.
+    pub fn has_notes(self) -> bool
+        ensures { result ≡ has_notes self }
+    {
+        matches!(self, TextVersion::Three)
+    }
+
+    /// Whether a call may stand in its texts: a replace in those with a start alone.
+    pub fn may_have_call(self, call: &Call) -> bool
+        ensures { result ≡ (has_start self || not (is_replace call.now)) }
+    {
+        self.has_start() || !matches!(call, Call::Replace(..))
+    }
+
+    /// Whether a reply may stand in its texts: one that tells less than the map answers in version 3 alone.
+    pub fn may_have_reply(self, reply: &Reply) -> bool
+        ensures { result ≡ (may_tell_less self || is_told reply.now) }
+    {
+        matches!(self, TextVersion::Three) || reply.is_told()
+    }
+}
