@@ -25,3 +25,6 @@ reply_words replies.None = codes "none"
 reply_words (replies.Some value) = decimal value
 reply_words (replies.Pairs pairs) = pairs_words pairs
 reply_words replies.Refused = codes "refused"
+reply_words replies.Done = codes "done"
+reply_words replies.Found = codes "found"
+reply_words replies.Other = codes "other"

@@ -50,7 +50,7 @@ fn words_of_replace(alloc: Global, key: u64, old: u64, new: u64) -> Result<Strin
     format!(in alloc; "replace {key} {old} {new}")
 }
 
-/// A reply in words: `none`, a value, the pairs of a scan as in a history's text, or `refused`.
+/// A reply in words: `none`, a value, the pairs of a scan as in a history's text, or `refused`, `done`, `found`, `other`.
 pub fn reply_words(alloc: Global, reply: &Reply) -> Result<String, AllocError>
     ensures { IfOk result (λ text. string_bytes text ≡ reply_words reply.now) }
 {
@@ -59,6 +59,9 @@ pub fn reply_words(alloc: Global, reply: &Reply) -> Result<String, AllocError>
         Reply::Some(value) => format!(in alloc; "{value}"),
         Reply::Pairs(pairs) => pairs_words(alloc, pairs.as_slice()),
         Reply::Refused => String::from_str(alloc, "refused"),
+        Reply::Done => String::from_str(alloc, "done"),
+        Reply::Found => String::from_str(alloc, "found"),
+        Reply::Other => String::from_str(alloc, "other"),
     }
 }
 
