@@ -5,4 +5,4 @@
 
 mod laws;
 
-pub use laws::cuts::{done_loses_no_order, past_cuts, past_cuts_leave};
+pub use laws::cuts::{done_loses_no_order, past_cuts, past_cuts_leave, reads_first};

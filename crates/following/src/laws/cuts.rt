@@ -1,5 +1,5 @@
 // Laws of cuts at past moments: each function only carries its clause.
-ghost use Rattle.following.specs.cuts.Laws.{DoneLosesNoOrder, PastCutsLeave, PastCutsPart};
+ghost use Rattle.following.specs.cuts.Laws.{DoneLosesNoOrder, PastCutsLeave, PastCutsPart, ReadsFirst};
 
 /// At any moment, quiet or not, the calls have an order exactly where some of those invoked before it, all that ended before it among
 /// them, leave pairs from which the others have one.
@@ -15,4 +15,10 @@ pub fn past_cuts_leave()
 /// Events that have an order have one with an answer `done` more at their end.
 pub fn done_loses_no_order()
     ensures { DoneLosesNoOrder }
+{}
+
+/// A completed call whose reply says that it changed nothing, that may be answered so at each of some pairs, and that no other call precedes,
+/// may be left out: the calls have an order from one of these pairs exactly where the others have one, and leave the same.
+pub fn reads_first()
+    ensures { ReadsFirst }
 {}
