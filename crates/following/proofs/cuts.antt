@@ -2,3 +2,4 @@
 pub mod DoneLemmas
 pub mod PastLemmas
 pub mod ReadLemmas
+pub mod WiderLemmas

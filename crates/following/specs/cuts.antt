@@ -2,3 +2,4 @@
 pub mod FirstReads
 pub mod Laws
 pub mod PastCuts
+pub mod WiderReads

@@ -13,6 +13,7 @@ use Rattle.quiet_cuts.specs.TimeCuts.{InvocationsRise}
 use Rattle.quiet_cuts.specs.RangeCuts.{early_of, late_of}
 use Rattle.following.specs.cuts.FirstReads.{without, IsFirstRead}
 use Rattle.following.specs.cuts.PastCuts.{IsPastCut}
+use Rattle.following.specs.cuts.WiderReads.{NarrowingReadsFirst, UnchangedHereFirst}
 
 -- at any moment the calls have an order exactly where, for some choice of those that took effect before it, the others have one from some
 -- pairs that these leave
@@ -43,3 +44,11 @@ ReadsFirst =
     (values : List Contents) (calls : List Operation) (n : ℕ) → All IsRising values → IsFirstRead values calls n
     → (Any (λ m. IsLinearizable m calls) values ↔ Any (λ m. IsLinearizable m (without n calls)) values)
     × ((left : Contents) → Any (λ m. Leaves m calls left) values ↔ Any (λ m. Leaves m (without n calls) left) values)
+
+-- it is not enough that a read may be answered so at some of these pairs, and the others go from these
+abbrev pub NarrowingReadsLoseOrders : Type 0
+NarrowingReadsLoseOrders = NarrowingReadsFirst → ⊥
+
+-- nor that a call changes nothing at each of these pairs
+abbrev pub UnchangedHereLosesOrders : Type 0
+UnchangedHereLosesOrders = UnchangedHereFirst → ⊥
