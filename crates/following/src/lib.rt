@@ -5,4 +5,7 @@
 
 mod laws;
 
-pub use laws::cuts::{done_loses_no_order, past_cuts, past_cuts_leave};
+pub use laws::cuts::{
+    done_loses_no_order, narrowing_reads_lose_orders, past_cuts, past_cuts_leave, reads_first,
+    unchanged_here_loses_orders,
+};

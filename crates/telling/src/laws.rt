@@ -6,8 +6,8 @@ pub fn answers_do_calls()
     ensures { AnswersDoCalls }
 {}
 
-/// `done` is legal at each call; `found` exactly where a value is at the key of a call that names one; `other` exactly at a replace where
-/// another value than the expected one is at its key, or none.
+/// `done` is legal at each call; `found` exactly where a value is at the key of a call that names one; `other` exactly at a
+/// replace where another value than the expected one is at its key, or none.
 pub fn answers_that_tell_less()
     ensures { AnswersThatTellLess }
 {}

@@ -1,17 +1,19 @@
 -- Laws of cuts at past moments.
 use Rattle.events.specs.declared.event.Reply.TheVariants as replies
-use Rattle.std.specs.Prelude.{◌↔◌, ℕ, Bool, List, [], ◌∷◌, ◌++◌}
+use Rattle.std.specs.Prelude.{◌↔◌, ℕ, Bool, List, [], ◌∷◌, ◌++◌, All, Any}
 use Rattle.events.specs.declared.event.Event.{Event}
 use Rattle.events.specs.declared.event.Event.TheVariants.{Answer}
 use Rattle.events.specs.declared.operation.Operation.{Operation}
 use Rattle.events.specs.Operations.{operations}
 use Rattle.events.specs.Precedence.{NonePrecedesItself}
-use Rattle.map_object.specs.MapObject.{Contents}
+use Rattle.map_object.specs.MapObject.{Contents, IsRising}
 use Rattle.orders.specs.Orders.{IsLinearizable}
 use Rattle.quiet_cuts.specs.Leaves.{Leaves}
 use Rattle.quiet_cuts.specs.TimeCuts.{InvocationsRise}
 use Rattle.quiet_cuts.specs.RangeCuts.{early_of, late_of}
+use Rattle.following.specs.cuts.FirstReads.{without, IsFirstRead}
 use Rattle.following.specs.cuts.PastCuts.{IsPastCut}
+use Rattle.following.specs.cuts.WiderReads.{NarrowingReadsFirst, UnchangedHereFirst}
 
 -- at any moment the calls have an order exactly where, for some choice of those that took effect before it, the others have one from some
 -- pairs that these leave
@@ -34,3 +36,19 @@ abbrev pub DoneLosesNoOrder : Type 0
 DoneLosesNoOrder =
     (start : Contents) (events : List Event) (process : ℕ) → IsLinearizable start (operations events)
     → IsLinearizable start (operations (events ++ Answer process replies.Done ∷ []))
+
+-- a read that may go first is left out: the calls have an order from one of some pairs exactly where the others have one from one of these,
+-- and leave the same from one of them
+abbrev pub ReadsFirst : Type 0
+ReadsFirst =
+    (values : List Contents) (calls : List Operation) (n : ℕ) → All IsRising values → IsFirstRead values calls n
+    → (Any (λ m. IsLinearizable m calls) values ↔ Any (λ m. IsLinearizable m (without n calls)) values)
+    × ((left : Contents) → Any (λ m. Leaves m calls left) values ↔ Any (λ m. Leaves m (without n calls) left) values)
+
+-- it is not enough that a read may be answered so at some of these pairs, and the others go from these
+abbrev pub NarrowingReadsLoseOrders : Type 0
+NarrowingReadsLoseOrders = NarrowingReadsFirst → ⊥
+
+-- nor that a call changes nothing at each of these pairs
+abbrev pub UnchangedHereLosesOrders : Type 0
+UnchangedHereLosesOrders = UnchangedHereFirst → ⊥
