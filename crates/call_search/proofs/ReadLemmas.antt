@@ -16,7 +16,6 @@ use Rattle.quiet_cuts.proofs.AroundLemmas.{AllPairs-around, AllPairs-beside}
 use Rattle.quiet_cuts.proofs.ValueLemmas.{rising_after}
 use Rattle.search.specs.Standing.{pairs_after}
 use Rattle.call_search.specs.Reads.{HasOrderAfter, IsReadNext, ReadsGoFirst}
-use Rattle.call_search.proofs.ReplyLemmas.{leaves_too}
 
 -- an element among others is taken to a place further in front
 module _ {X : Type 0} (path front : List X) (x : X) (back : List X) where
@@ -107,15 +106,16 @@ module _ (start : Contents) (calls : List Operation) (path : List ℕ) (n : ℕ)
     legal_rest : IsLegal (pairs_after start calls path) (calls_at calls front ++ a ∷ calls_at calls back)
     legal_rest = IsLegal-back start (calls_at calls path) (calls_at calls front ++ a ∷ calls_at calls back) legal_whole
 
+    path_rises : IsRising (pairs_after start calls path)
+    path_rises = rising_after (calls_at calls path) start rising
+
     -- where it stood, it left the pairs as they were, too
     leaves_there : after_call (after_calls (pairs_after start calls path) (calls_at calls front)) a.call a.response
         ≡ after_calls (pairs_after start calls path) (calls_at calls front)
     leaves_there =
         let rest = IsLegal-back (pairs_after start calls path) (calls_at calls front) (a ∷ calls_at calls back) legal_rest in
-        leaves_too (pairs_after start calls path) (after_calls (pairs_after start calls path) (calls_at calls front)) a.call
-        a.response read.completed
-        (rising_after (calls_at calls front) (pairs_after start calls path) (rising_after (calls_at calls path) start rising)) read.legal
-        read.leaves rest.0
+        read.leaves (after_calls (pairs_after start calls path) (calls_at calls front))
+        (rising_after (calls_at calls front) (pairs_after start calls path) path_rises) rest.0
 
     others : All (λ k. k ≢ n) front
     others = AllPairs-before (λ k l. k ≢ l) front n back (AllPairs-back (λ k l. k ≢ l) path (front ++ n ∷ back) legal_order.distinct)
@@ -131,8 +131,8 @@ module _ (start : Contents) (calls : List Operation) (path : List ℕ) (n : ℕ)
         legal = subst (IsLegal start) (sym forward_parts)
             (IsLegal-append start (calls_at calls path) (a ∷ (calls_at calls front ++ calls_at calls back))
             (IsLegal-front start (calls_at calls path) (calls_at calls front ++ a ∷ calls_at calls back) legal_whole)
-            (legal_forward (pairs_after start calls path) (calls_at calls front) (calls_at calls back) a read.legal read.leaves
-            leaves_there legal_rest));
+            (legal_forward (pairs_after start calls path) (calls_at calls front) (calls_at calls back) a read.legal
+            (read.leaves (pairs_after start calls path) path_rises read.legal) leaves_there legal_rest));
       };
       complete = λ k done. Contains-forward path front n back k (order.complete k done);
     }

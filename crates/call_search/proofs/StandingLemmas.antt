@@ -11,8 +11,7 @@ use Rattle.std.proofs.lemmas.Option.{none-some, same_Some, slice_get_within}
 use Rattle.events.specs.declared.operation.Operation.{Operation}
 use Rattle.events.specs.Precedence.{is_completed, NonePrecedesItself}
 use Rattle.map_object.specs.MapObject.{Contents, IsRising}
-use Rattle.quiet_cuts.proofs.ValueLemmas.{rising_after}
-use Rattle.orders.specs.Orders.{calls_at, IsLegalCall, after_call, IsOrder, IsLinearizable}
+use Rattle.orders.specs.Orders.{IsLegalCall, after_call, IsOrder, IsLinearizable}
 use Rattle.orders.proofs.OrderLemmas.{after_calls-push}
 use Rattle.configurations.specs.Fronts.{IsFront}
 use Rattle.configurations.specs.Configurations.{Configuration, LeadsTo, IsReachable}
@@ -322,7 +321,7 @@ read_next start calls path n a rising here completed leaves next =
       new = next.new;
       preceded = next.preceded;
       legal = legal;
-      leaves = leaves (pairs_after start calls path) (rising_after (calls_at calls path) start rising) legal;
+      leaves = leaves;
     }
 
 -- one read alone is to be tried

@@ -1,7 +1,9 @@
 -- Completed calls that leave the map as it is: they may go first.
-use Rattle.std.specs.Prelude.{◌≡◌, ◌↔◌, ℕ, true, List, [], ◌∷◌, ◌++◌, Some, slice_get, Contains}
+use Rattle.std.specs.Prelude.{◌≡◌, ◌↔◌, ℕ, Bool, true, false, List, [], ◌∷◌, ◌++◌, Option, Some, None, slice_get, Contains}
 use Rattle.events.specs.declared.operation.Operation.{Operation}
+use Rattle.events.specs.declared.operation.Response.{Response}
 use Rattle.events.specs.Precedence.{is_completed}
+use Rattle.events.specs.Told.{is_told}
 use Rattle.map_object.specs.MapObject.{Contents, IsRising}
 use Rattle.orders.specs.Orders.{IsLegalCall, after_call, IsOrder}
 use Rattle.configurations.specs.Fronts.{PrecedesAt}
@@ -11,8 +13,12 @@ use Rattle.search.specs.Standing.{pairs_after}
 abbrev pub HasOrderAfter : Contents → List Operation → List ℕ → Type 0
 HasOrderAfter start calls path = (tail : List ℕ) × IsOrder start calls (path ++ tail)
 
+-- a call leaves the pairs as they are wherever it may be answered so
+abbrev pub LeavesAll : Operation → Type 0
+LeavesAll a = (m : Contents) → IsRising m → IsLegalCall m a.call a.response → after_call m a.call a.response ≡ m
+
 -- a completed call that is left, that none which is left precedes, that does its reply where these calls lead, and leaves the pairs as they
--- are there
+-- are wherever it may be answered so
 pub record IsReadNext (start : Contents) (calls : List Operation) (path : List ℕ) (n : ℕ) : Type 0 where
   pub call : Operation
   pub here : slice_get calls n ≡ Some call
@@ -20,10 +26,21 @@ pub record IsReadNext (start : Contents) (calls : List Operation) (path : List �
   pub new : Contains path n → ⊥
   pub preceded : (m : ℕ) → PrecedesAt calls m n → Contains path m
   pub legal : IsLegalCall (pairs_after start calls path) call.call call.response
-  pub leaves : after_call (pairs_after start calls path) call.call call.response ≡ pairs_after start calls path
+  pub leaves : LeavesAll call
 
 -- what is left has an order exactly where it has one that begins with such a call
 abbrev pub ReadsGoFirst : Type 0
 ReadsGoFirst =
     (start : Contents) (calls : List Operation) (path : List ℕ) (n : ℕ) → IsRising start → IsReadNext start calls path n
     → HasOrderAfter start calls path ↔ HasOrderAfter start calls (path ++ n ∷ [])
+
+-- whether a response tells all that the map answers
+abbrev pub is_told_response : Option Response → Bool
+is_told_response None = false
+is_told_response (Some response) = is_told response.reply
+
+-- a call that is told all leaves the pairs as they are wherever it may be answered so, where it leaves them so once
+abbrev pub ToldCallsLeaveAll : Type 0
+ToldCallsLeaveAll =
+    (m : Contents) (a : Operation) → is_told_response a.response ≡ true → IsLegalCall m a.call a.response
+    → after_call m a.call a.response ≡ m → LeavesAll a

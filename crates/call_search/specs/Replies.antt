@@ -5,13 +5,17 @@ use Rattle.events.specs.declared.event.Call.{Call}
 use Rattle.events.specs.declared.event.Call.TheVariants.{Get, Insert, Remove, Scan, Replace}
 use Rattle.events.specs.declared.event.Reply.{Reply}
 
--- whether a reply, where it is legal, says that the call changed nothing
+-- whether a reply, where it is legal, says that the call changed nothing. Of one that tells less than the map answers the call says so,
+-- where whatever it found leaves the pairs as they are
 abbrev pub says_unchanged : Call → Reply → Bool
 says_unchanged call replies.Refused = true
+says_unchanged call replies.Other = true
 says_unchanged (Get key) reply = true
 says_unchanged (Scan low high) reply = true
 says_unchanged (Insert key value) (replies.Some found) = found == value
 says_unchanged (Remove key) replies.None = true
 says_unchanged (Replace key expected value) (replies.Some found) = not (found == expected) || (expected == value)
 says_unchanged (Replace key expected value) replies.None = true
+says_unchanged (Replace key expected value) replies.Done = expected == value
+says_unchanged (Replace key expected value) replies.Found = expected == value
 says_unchanged call reply = false

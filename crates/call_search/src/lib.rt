@@ -2,8 +2,8 @@
 //! none may, with the memo of Lowe 2017.
 //!
 //! The calls may be of any places, as those that are left of a stream of events are. A completed call that may come next and
-//! leaves the map as it is is taken at once, and no other in its stead: what is left has an order exactly where it has one that
-//! begins with this call (`reads_go_first`). So it says of the calls only whether they have an order, and gives one; which
+//! leaves the map as it is, wherever it may be answered so, is taken at once, and no other in its stead: what is left has an order
+//! exactly where it has one that begins with this call (`reads_go_first`). So it says of the calls only whether they have an order, and gives one; which
 //! configurations it counts is its own. The exact search of a segment, which counts what its definitions say, is `search`'s.
 #![tactic(auto)]
 
@@ -15,5 +15,5 @@ mod searching;
 mod standing;
 
 pub use found::Found;
-pub use laws::reads_go_first;
+pub use laws::{reads_go_first, told_calls_leave_all};
 pub use searching::search_calls;

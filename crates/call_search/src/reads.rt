@@ -20,17 +20,19 @@ pub(crate) fn is_read(call: &Operation) -> bool
 }
 
 /// Whether a reply says that the call changed nothing: it was refused, or it reads alone, or it put the value that it found,
-/// or removed what was not there, or did not find what it was to replace.
+/// or removed what was not there, or did not find what it was to replace. A replace of a value by the same one changes nothing,
+/// whatever it found.
 fn says_unchanged(call: &Call, reply: &Reply) -> bool
     ensures { result ≡ says_unchanged call.now reply.now }
 {
     match (call, reply) {
-        (Call::Get(_) | Call::Scan(_, _), _) | (_, Reply::Refused) => true,
+        (Call::Get(_) | Call::Scan(_, _), _) | (_, Reply::Refused | Reply::Other) => true,
         (Call::Insert(_, value), Reply::Some(found)) => *found == *value,
         (Call::Remove(_), Reply::None) => true,
         (Call::Replace(_, expected, value), Reply::Some(found)) => *found != *expected
             || *expected == *value,
         (Call::Replace(_, _, _), Reply::None) => true,
+        (Call::Replace(_, expected, value), Reply::Done | Reply::Found) => *expected == *value,
         _ => false,
     }
 }
