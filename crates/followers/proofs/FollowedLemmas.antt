@@ -14,6 +14,7 @@ use Rattle.events.specs.declared.event.Event.TheVariants.{Invoke, Answer}
 use Rattle.events.specs.HistoryFaults.{has_open_call}
 use Rattle.events.specs.Keys.{low_key, high_key}
 use Rattle.events.specs.Operations.{operations}
+use Rattle.events.specs.Told.{is_told as tells_all}
 use Rattle.events.proofs.HistoryLemmas.{IsWellFormed-push}
 use Rattle.list_laws.proofs.Lists.{AllPairs-nil, Any-first, Contains-at, Contains-nil}
 use Rattle.map_object.specs.MapObject.{Contents}
@@ -162,10 +163,10 @@ module _ (start : Contents) (events : List Event) (fs : Followers) (process : �
     is_part = part_of single.Spent part searched;
   }
 
-  module _ (judge : AlternativesJudge) (kept : List Branch) (told : Option Part)
+  module _ (judge : AlternativesJudge) (tells : tells_all reply ≡ true) (kept : List Branch) (told : Option Part)
       (t : AreTurned start events h.all process reply budget kept told) where
     steps : Alternates start then t.stay
-    steps = t.thins then (answer events h.all t.taken process reply t.takes h.steps)
+    steps = t.thins then (answer events h.all t.taken process reply tells t.takes h.steps)
 
     -- some branch stays
     pub gone_on : (new : Followers) → new.branches.items ≡ kept → 1 ≤ length kept → AreTaken then new.taken → IsFollowedBy start then new

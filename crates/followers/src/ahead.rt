@@ -32,6 +32,9 @@ pub(crate) fn is_same_reply(reply: &Reply, other: &Reply) -> bool
     match reply {
         Reply::None => matches!(other, Reply::None),
         Reply::Refused => matches!(other, Reply::Refused),
+        Reply::Done => matches!(other, Reply::Done),
+        Reply::Found => matches!(other, Reply::Found),
+        Reply::Other => matches!(other, Reply::Other),
         Reply::Some(value) => match other {
             Reply::Some(other) => *value == *other,
             _ => false,

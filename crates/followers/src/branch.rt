@@ -1,7 +1,8 @@
 // One alternative, as it is followed.
-ghost use Rattle.std.specs.Prelude.{◌≡◌, List, IsTrue, IfOk, OnOk};
+ghost use Rattle.std.specs.Prelude.{◌≡◌, true, List, IsTrue, IfOk, OnOk};
 ghost use Rattle.events.specs.declared.event.Event.{Event};
 ghost use Rattle.events.specs.HistoryFaults.{has_open_call};
+ghost use Rattle.events.specs.Told.{is_told};
 ghost use Rattle.map_object.specs.MapObject.{Contents};
 ghost use Rattle.alternatives.specs.Alternatives.{Alternative};
 ghost use Rattle.followers.specs.Followed.{IsBranchOf};
@@ -54,6 +55,7 @@ impl Branch {
         reply: Reply,
         budget: u32,
     ) -> Result<Turned, Memory>
+        requires told { is_told reply ≡ true }
         ensures { (start : Contents) (events : List Event) (a : Alternative) → IsBranchOf start events a self
             → IsTrue (has_open_call process events) → IfOk result (IsTurned start events a process reply budget) }
     {

@@ -4,6 +4,7 @@ ghost use Rattle.events.specs.declared.event.Event.{Event};
 ghost use Rattle.events.specs.declared.event.Event.TheVariants.{Answer};
 ghost use Rattle.events.specs.declared.event.Reply.TheVariants as replies;
 ghost use Rattle.events.specs.HistoryFaults.{has_open_call};
+ghost use Rattle.events.specs.Told.{is_told};
 ghost use Rattle.map_object.specs.MapObject.{Contents, value_reply};
 ghost use Rattle.alternatives.specs.Alternatives.{Alternative, Alternates, IsOpenIn, answered_now, begun_now};
 ghost use Rattle.follow.specs.Following.{IsFollowing};
@@ -236,7 +237,7 @@ fn begun_again(
     }
 }
 
-/// The call of a process is done by now in a branch, with this reply.
+/// The call of a process is done by now in a branch, with this reply, which tells all.
 fn done(
     alloc: Global,
     branch: &Branch,
@@ -244,6 +245,7 @@ fn done(
     reply: Reply,
     budget: u32,
 ) -> Result<Tried, Memory>
+    requires told { is_told reply ≡ true }
     ensures { (start : Contents) (events : List Event) (a : Alternative) → IsBranchOf start events a branch.now
         → has_open_call process a.events ≡ true
         → IfOk result (IsTriedAs start events a branch.now process budget (answered_now a process reply)) }
@@ -272,6 +274,7 @@ fn answered(
     reply: Reply,
     budget: u32,
 ) -> Result<Answered, Memory>
+    requires told { is_told reply ≡ true }
     ensures { (start : Contents) (events : List Event) → IsFollowing start events branch.now.follower
         → IfOk result (single.IsAnswered start events branch.now.follower process reply budget) }
 {
@@ -281,7 +284,8 @@ fn answered(
 
 /// A value or none, as a reply.
 fn reply_of(value: Option<u64>) -> Reply
-    ensures { result ≡ value_reply value }
+    ensures value { result ≡ value_reply value }
+    ensures told { is_told result ≡ true }
 {
     match value {
         None => Reply::None,

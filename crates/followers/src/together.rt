@@ -1,8 +1,9 @@
 // Followers of the alternatives of a stream.
-ghost use Rattle.std.specs.Prelude.{◌≡◌, ◌++◌, ◌∷◌, [], List, length, None, IfOk, IfErr};
+ghost use Rattle.std.specs.Prelude.{◌≡◌, ◌++◌, ◌∷◌, [], true, List, length, None, IfOk, IfErr};
 ghost use Rattle.events.specs.declared.event.Event.{Event};
 ghost use Rattle.events.specs.declared.event.Event.TheVariants.{Invoke};
 ghost use Rattle.events.specs.Operations.{operations};
+ghost use Rattle.events.specs.Told.{is_told};
 ghost use Rattle.map_object.specs.MapObject.{Contents, IsRising};
 ghost use Rattle.follow.specs.Faults.{invocation_fault, shown};
 ghost use Rattle.followers.specs.Followed.{IsFollowedBy};
@@ -81,7 +82,8 @@ impl Followers {
 
     /// Takes the answer of the open call of a process, and judges it in each alternative. An answer of a process that has no open
     /// call is refused (`NotWellFormed`), and one after 2^64 - 1 events (`TooMany`). On `Memory`, also where an alternative has as
-    /// many events, the followers are lost.
+    /// many events, the followers are lost. The reply has to tell all that the map answers (`Reply::is_told`): an alternative has
+    /// such replies alone ahead.
     pub fn answer(
         self,
         alloc: Global,
@@ -89,6 +91,7 @@ impl Followers {
         reply: Reply,
         budget: u32,
     ) -> Result<Answered, Memory>
+        requires told { is_told reply ≡ true }
         ensures { (start : Contents) (events : List Event) → IsFollowedBy start events self
             → IfOk result (IsAnswered start events self process reply budget) }
     {

@@ -1,7 +1,8 @@
 // What an event makes of all branches.
-ghost use Rattle.std.specs.Prelude.{◌≡◌, List, map, IsTrue, IfOk};
+ghost use Rattle.std.specs.Prelude.{◌≡◌, true, List, map, IsTrue, IfOk};
 ghost use Rattle.events.specs.declared.event.Event.{Event};
 ghost use Rattle.events.specs.HistoryFaults.{has_open_call};
+ghost use Rattle.events.specs.Told.{is_told};
 ghost use Rattle.map_object.specs.MapObject.{Contents};
 ghost use Rattle.alternatives.specs.Alternatives.{Alternative};
 ghost use Rattle.followers.specs.Followed.{AreBranchesOf};
@@ -40,6 +41,7 @@ pub(crate) fn turned(
     reply: &Reply,
     budget: u32,
 ) -> Result<Turns, Memory>
+    requires told { is_told reply.now ≡ true }
     ensures { (start : Contents) (events : List Event) (all : List Alternative) → AreBranchesOf start events all branches.items
         → IsTrue (has_open_call process events) → IfOk result (AreTurnedTo start events all process reply.now budget) }
 {

@@ -19,7 +19,7 @@ loop-place-preserved c = λ start events a h is_open ways.
     let so_far = c.loop-place.invariant start events a h is_open ways in
     let next = value_next start events a p values i d c.loop-place.ways.items c.loop-place-test.true so_far in
     let tried : IsTriedAs start events a b p budget (answered_now a p (value_reply (get_or values i d))) c.in_ok-tried.tried =
-    subst (λ (r : Reply). IsTriedAs start events a b p budget (answered_now a p r) c.in_ok-tried.tried) c.reply_of.ensures
+    subst (λ (r : Reply). IsTriedAs start events a b p budget (answered_now a p r) c.in_ok-tried.tried) c.reply_of.ensures.value
     (c.in_ok-tried.ensures start events a h is_open) in
     subst (λ (s : Split). IsSplitAs start events a b p budget (map (answered_now a p) (map value_reply (drop (i + 1) values))) s)
     c.in-Going.is
@@ -37,7 +37,7 @@ returns-in-Spent c = λ start events a h is_open ways.
     let so_far = c.loop-place.invariant start events a h is_open ways in
     let next = value_next start events a p values i d c.loop-place.ways.items c.loop-place-test.true so_far in
     let tried : IsTriedAs start events a b p budget (answered_now a p (value_reply (get_or values i d))) c.in_ok-tried.tried =
-    subst (λ (r : Reply). IsTriedAs start events a b p budget (answered_now a p r) c.in_ok-tried.tried) c.reply_of.ensures
+    subst (λ (r : Reply). IsTriedAs start events a b p budget (answered_now a p r) c.in_ok-tried.tried) c.reply_of.ensures.value
     (c.in_ok-tried.ensures start events a h is_open) in
     subst (λ (s : Split). IsSplitAs start events a b p budget (map (answered_now a p) (map value_reply (drop (i + 1) values))) s)
     c.in-Spent.is

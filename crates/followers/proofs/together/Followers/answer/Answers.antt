@@ -67,7 +67,7 @@ returns-then-is_empty c = λ start events h.
     (c.in_ok-part.ensures start events h.all h.branches own) in
     let empty : c.in-Kept.branches.items ≡ [] =
     nil_from_length c.in-Kept.branches.items (grind (arith, c.if-is_empty.true, c.is_empty.ensures, c.in-Kept.branches.ok.0)) in
-    lost start events fs process reply budget place h first c.alternatives_judge.ensures c.in-Kept.branches.items c.in-Kept.part t
+    lost start events fs process reply budget place h first c.alternatives_judge.ensures c.requires.told c.in-Kept.branches.items c.in-Kept.part t
     c.prefixes_have_orders.ensures empty room _ refl (ap (λ (call : LeftCall). call.number) one) refl
 
 pub returns-else-is_empty : goal.returns-else-is_empty
@@ -87,6 +87,6 @@ returns-else-is_empty c = λ start events h.
     let nonzero = eqb-false (vec_len c.in-Kept.branches) 0 (sym c.is_empty.ensures ∙ c.if-is_empty.false) in
     let some : 1 ≤ length c.in-Kept.branches.items = omega (arith, nonzero, c.in-Kept.branches.ok.0) in (
       accepted start events fs process reply budget place h first room,
-      gone_on start events fs process reply budget place h first c.alternatives_judge.ensures c.in-Kept.branches.items c.in-Kept.part t _
+      gone_on start events fs process reply budget place h first c.alternatives_judge.ensures c.requires.told c.in-Kept.branches.items c.in-Kept.part t _
           refl some (c.end_call-taken.ensures events reply h.taken h.well_formed own),
     )
