@@ -56,11 +56,12 @@ found-whole text (faults.Start pair) h = ap (λ t. found_in t (faults.Start pair
 found-whole text faults.Memory h = refl
 
 -- a refusal of the text read is one of the whole
-pub IsHistoryRefusal-whole : (text bytes : List ℕ) → IsHistoryRefusal (take (text_limit + 1) text) bytes → IsHistoryRefusal text bytes
-IsHistoryRefusal-whole text bytes h = (
+pub IsHistoryRefusal-whole : (text bytes hint : List ℕ) → IsHistoryRefusal (take (text_limit + 1) text) bytes hint
+    → IsHistoryRefusal text bytes hint
+IsHistoryRefusal-whole text bytes hint h = (
   h.0,
   record { refused = IsTextFault-whole text h.0 h.1.refused; not_memory = h.1.not_memory },
-  (h.2.0, subst (λ (d : Option Data). IsTextOfFound d h.2.0) (found-whole text h.0 h.1.refused) h.2.1, h.2.2),
+  (h.2.0, subst (λ (d : Option Data). IsTextOfFound d h.2.0) (found-whole text h.0 h.1.refused) h.2.1, h.2.2, h.2.3),
 )
 
 -- an answer of `check` to the text read is one to the whole

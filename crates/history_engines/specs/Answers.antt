@@ -17,7 +17,7 @@ use Rattle.judge.specs.Judged.{IsJudged}
 use Rattle.outcomes.specs.declared.outcome.Answer.{Answer}
 use Rattle.outcomes.specs.declared.outcome.Answer.TheVariants.{Yes, No, Undecided}
 use Rattle.outcomes.specs.Lines.{line, ok_line, order_fault_line}
-use Rattle.history_engines.specs.Refusals.{AreFaultLines}
+use Rattle.history_engines.specs.Refusals.{IsToldFault}
 
 -- the text spells this, and it is a history
 pub record IsTextOf (text : List ℕ) (history : HistoryView) : Type 0 where
@@ -40,9 +40,9 @@ pub record SpellsNone (text : List ℕ) (fault : HistoryFault) : Type 0 where
   pub refused : IsTextFault text fault
   pub not_memory : fault ≢ histories.Memory
 
--- a text that spells no history is refused with these lines, those of its first fault
-abbrev pub IsHistoryRefusal : List ℕ → List ℕ → Type 0
-IsHistoryRefusal text bytes = (fault : HistoryFault) × SpellsNone text fault × AreFaultLines text fault bytes
+-- a text that spells no history is refused with this line and this hint, those of its first fault
+abbrev pub IsHistoryRefusal : List ℕ → List ℕ → List ℕ → Type 0
+IsHistoryRefusal text bytes hint = (fault : HistoryFault) × SpellsNone text fault × IsToldFault text fault bytes hint
 
 -- `check` answers the order and the text so: yes with `ok`, or no with the order's first fault
 abbrev pub IsCheckAnswer : List ℕ → List ℕ → Answer → List ℕ → Type 0

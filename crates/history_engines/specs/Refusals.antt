@@ -9,8 +9,8 @@ use Rattle.events.specs.declared.fault.HistoryFault.TheVariants as histories
 use Rattle.outcomes.specs.declared.outcome.Outcome.{Outcome}
 use Rattle.outcomes.specs.declared.outcome.Outcome.TheVariants.{Refused, Memory}
 use Rattle.outcomes.specs.Lines.{history_fault_line}
-use Rattle.outcomes.specs.Found.{with_found}
-use Rattle.outcomes.specs.Wanted.{history_wanted, with_wanted}
+use Rattle.outcomes.specs.Found.{found_hint}
+use Rattle.outcomes.specs.Wanted.{history_wanted, wanted_hint}
 
 -- the item at a place of the array that is this member of a value
 abbrev pub item_of : List ℕ → ℕ → Data → Option Data
@@ -42,17 +42,18 @@ IsTextOfFound None None = ⊤
 IsTextOfFound (Some d) (Some text) = IsTextOfValue d text
 IsTextOfFound found text = ⊥
 
--- the lines of a fault: its own, and one with what stands in its place, where that is known, and what was wanted
-abbrev pub fault_lines : HistoryFault → Option (List ℕ) → List ℕ
-fault_lines fault None = with_wanted (history_fault_line fault) (history_wanted fault)
-fault_lines fault (Some text) = with_wanted (with_found (history_fault_line fault) text) (history_wanted fault)
+-- the hint on a fault: what stands in its place, where that is known, and what was wanted
+abbrev pub fault_hint : HistoryFault → Option (List ℕ) → List ℕ
+fault_hint fault None = wanted_hint (history_wanted fault)
+fault_hint fault (Some text) = found_hint text (history_wanted fault)
 
--- these are those of this fault in a text
-abbrev pub AreFaultLines : List ℕ → HistoryFault → List ℕ → Type 0
-AreFaultLines text fault bytes = (found : Option (List ℕ)) × IsTextOfFound (found_in text fault) found × (bytes ≡ fault_lines fault found)
+-- these are the line of this fault in a text, and the hint on it
+abbrev pub IsToldFault : List ℕ → HistoryFault → List ℕ → List ℕ → Type 0
+IsToldFault text fault bytes hint = (found : Option (List ℕ)) × IsTextOfFound (found_in text fault) found
+    × (bytes ≡ history_fault_line fault) × (hint ≡ fault_hint fault found)
 
 -- the outcome of a text with this fault
 abbrev pub IsRefusedText : List ℕ → HistoryFault → Outcome → Type 0
-IsRefusedText text fault (Refused bytes) = (fault ≢ histories.Memory) × AreFaultLines text fault (string_bytes bytes)
+IsRefusedText text fault (Refused bytes hint) = (fault ≢ histories.Memory) × IsToldFault text fault (string_bytes bytes) (string_bytes hint)
 IsRefusedText text fault Memory = ⊤
 IsRefusedText text fault outcome = ⊥

@@ -17,25 +17,28 @@ use streams::{Sink, Source};
 
 /// Reads a history text to the end of the source, or until it is too long, and tests whether the numbers
 /// are an order of its calls. Answers the exit status.
-pub fn run_check<S: Source, O: Sink, F: Sink>(
+pub fn run_check<S: Source, O: Sink, F: Sink, H: Sink>(
     alloc: Global,
     source: &mut S,
     output: &mut O,
     faults: &mut F,
+    hints: &mut H,
     order: &[u32],
 ) -> u8
     requires source { S.failures source.old < u64.MAX }
     requires output { O.failures output.old < u64.MAX }
     requires faults { F.failures faults.old < u64.MAX }
+    requires hints { H.failures hints.old < u64.MAX }
     ensures run { IsRun
         (IsCheckOutcome order.now (change S.remaining S.failures source.old source.new))
         (change O.written O.failures output.old output.new)
-        (change F.written F.failures faults.old faults.new) result }
+        (change F.written F.failures faults.old faults.new)
+        (change H.written H.failures hints.old hints.new) result }
     ensures read { IsTextRead text_limit (change S.remaining S.failures source.old source.new) result }
 {
     match text_from(alloc, source, MAX_TEXT) {
-        Ok(text) => write_outcome(output, faults, &check_outcome(alloc, &text, order)),
-        Err(outcome) => write_outcome(output, faults, &outcome),
+        Ok(text) => write_outcome(output, faults, hints, &check_outcome(alloc, &text, order)),
+        Err(outcome) => write_outcome(output, faults, hints, &outcome),
     }
 }
 

@@ -4,11 +4,11 @@ ghost use Rattle.serde_json.specs.Data.{Data};
 ghost use Rattle.serde_json.specs.View.{view};
 ghost use Rattle.history_text.specs.Texts.{IsJson};
 ghost use Rattle.history_text.specs.TextFaults.{IsTextFault};
-ghost use Rattle.history_engines.specs.Refusals.{item_of, item_in, found_in, fault_lines, IsTextOfFound, IsRefusedText};
+ghost use Rattle.history_engines.specs.Refusals.{item_of, item_in, found_in, fault_hint, IsTextOfFound, IsRefusedText};
 
 use events::{HistoryFault, Memory};
 use history_text::{JsonFault, json_of};
-use outcomes::{Outcome, history_fault_line, history_wanted, push_found, push_wanted};
+use outcomes::{Outcome, found_hint, history_fault_line, history_wanted, wanted_hint};
 use serde_json::Value;
 use std::alloc::{AllocError, Global};
 
@@ -21,25 +21,26 @@ pub fn refused_text(alloc: Global, text: &[u8], fault: &HistoryFault) -> Outcome
         return Outcome::Memory;
     }
     match found_in(alloc, text, fault) {
-        Ok(found) => Outcome::refused(fault_lines(alloc, fault, &found)),
+        Ok(found) => Outcome::refused(
+            history_fault_line(alloc, fault),
+            fault_hint(alloc, fault, &found),
+        ),
         Err(_) => Outcome::Memory,
     }
 }
 
-/// The lines of a fault, with the text of what stands in its place.
-fn fault_lines(
+/// The hint on a fault, with the text of what stands in its place.
+fn fault_hint(
     alloc: Global,
     fault: &HistoryFault,
     found: &Option<String>,
 ) -> Result<String, AllocError>
-    ensures { IfOk result (λ lines. string_bytes lines ≡ fault_lines fault.now (option_map string_bytes found.now)) }
+    ensures { IfOk result (λ hint. string_bytes hint ≡ fault_hint fault.now (option_map string_bytes found.now)) }
 {
-    let mut lines = history_fault_line(alloc, fault)?;
-    if let Some(text) = found {
-        push_found(&mut lines, text.as_bytes())?;
+    match found {
+        Some(text) => found_hint(alloc, text.as_bytes(), history_wanted(fault)),
+        None => wanted_hint(alloc, history_wanted(fault)),
     }
-    push_wanted(&mut lines, history_wanted(fault))?;
-    Ok(lines)
 }
 
 /// The text of what stands in the place that a fault names.

@@ -25,12 +25,13 @@ use streams::{Sink, Source};
 /// Reads a history text to the end of the source, or until it is too long, and judges it: so many workers
 /// search its segments side by side, at most `budget` configurations of each, and pass the gate before each
 /// segment. Answers the exit status.
-pub fn run_judge<R: Threads + Sync, S: Source, O: Sink, F: Sink, G: Gate + Sync>(
+pub fn run_judge<R: Threads + Sync, S: Source, O: Sink, F: Sink, H: Sink, G: Gate + Sync>(
     rt: &R,
     alloc: Global,
     source: &mut S,
     output: &mut O,
     faults: &mut F,
+    hints: &mut H,
     budget: u32,
     workers: u32,
     gate: &G,
@@ -40,19 +41,21 @@ pub fn run_judge<R: Threads + Sync, S: Source, O: Sink, F: Sink, G: Gate + Sync>
     requires source { S.failures source.old < u64.MAX }
     requires output { O.failures output.old < u64.MAX }
     requires faults { F.failures faults.old < u64.MAX }
+    requires hints { H.failures hints.old < u64.MAX }
     ensures run { IsRun
         (IsJudgeOutcome budget (change S.remaining S.failures source.old source.new))
         (change O.written O.failures output.old output.new)
-        (change F.written F.failures faults.old faults.new) result }
+        (change F.written F.failures faults.old faults.new)
+        (change H.written H.failures hints.old hints.new) result }
     ensures read { IsTextRead text_limit (change S.remaining S.failures source.old source.new) result }
     ensures passed { OnAnswerStatus result (IfSome (S.remaining source.old) (WasPassedForText (G.was_passed gate.now))) }
 {
     match text_from(alloc, source, MAX_TEXT) {
         Ok(text) => {
             let outcome = judge_outcome(rt, alloc, &text, budget, workers, gate);
-            write_outcome(output, faults, &outcome)
+            write_outcome(output, faults, hints, &outcome)
         }
-        Err(outcome) => write_outcome(output, faults, &outcome),
+        Err(outcome) => write_outcome(output, faults, hints, &outcome),
     }
 }
 

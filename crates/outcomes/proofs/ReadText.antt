@@ -7,26 +7,27 @@ use Rattle.outcomes.specs.Ends.{Change, IsSound}
 use Rattle.outcomes.specs.Outcomes.{IsTextOutcome, IsReadOutcome}
 
 -- an outcome of what was read is one of what was to come, where each answer and each refusal is
-IsTextOutcome-told : (IsAnswer : List ℕ → Answer → List ℕ → Type 0) (IsRefusal : List ℕ → List ℕ → Type 0) (limit : ℕ)
+IsTextOutcome-told : (IsAnswer : List ℕ → Answer → List ℕ → Type 0) (IsRefusal : List ℕ → List ℕ → List ℕ → Type 0) (limit : ℕ)
     → ((text : List ℕ) (answer : Answer) (bytes : List ℕ) → IsAnswer (take (limit + 1) text) answer bytes → IsAnswer text answer bytes)
-    → ((text bytes : List ℕ) → IsRefusal (take (limit + 1) text) bytes → IsRefusal text bytes)
+    → ((text bytes hint : List ℕ) → IsRefusal (take (limit + 1) text) bytes hint → IsRefusal text bytes hint)
     → (told : Option (List ℕ)) (read : List ℕ) (outcome : Outcome) → IfSome told (λ text. read ≡ take (limit + 1) text)
     → IsTextOutcome IsAnswer IsRefusal (Some read) outcome → IsTextOutcome IsAnswer IsRefusal told outcome
 IsTextOutcome-told IsAnswer IsRefusal limit answers refuses None read (Answered answer bytes) is h = tt
-IsTextOutcome-told IsAnswer IsRefusal limit answers refuses None read (Refused bytes) is h = tt
+IsTextOutcome-told IsAnswer IsRefusal limit answers refuses None read (Refused bytes hint) is h = tt
 IsTextOutcome-told IsAnswer IsRefusal limit answers refuses (Some text) read (Answered answer bytes) is h =
     answers text answer (string_bytes bytes) (subst (λ (t : List ℕ). IsAnswer t answer (string_bytes bytes)) is h)
-IsTextOutcome-told IsAnswer IsRefusal limit answers refuses (Some text) read (Refused bytes) is h =
-    refuses text (string_bytes bytes) (subst (λ (t : List ℕ). IsRefusal t (string_bytes bytes)) is h)
+IsTextOutcome-told IsAnswer IsRefusal limit answers refuses (Some text) read (Refused bytes hint) is h =
+    refuses text (string_bytes bytes) (string_bytes hint)
+    (subst (λ (t : List ℕ). IsRefusal t (string_bytes bytes) (string_bytes hint)) is h)
 IsTextOutcome-told IsAnswer IsRefusal limit answers refuses told read (Noted answer bytes note) is h = h
 IsTextOutcome-told IsAnswer IsRefusal limit answers refuses told read Memory is h = tt
 IsTextOutcome-told IsAnswer IsRefusal limit answers refuses told read (Words bytes) is h = h
 IsTextOutcome-told IsAnswer IsRefusal limit answers refuses told read Failed is h = h
 
 -- an outcome of what was read is one of the run that read it
-pub IsReadOutcome-read : (IsAnswer : List ℕ → Answer → List ℕ → Type 0) (IsRefusal : List ℕ → List ℕ → Type 0) (limit : ℕ)
+pub IsReadOutcome-read : (IsAnswer : List ℕ → Answer → List ℕ → Type 0) (IsRefusal : List ℕ → List ℕ → List ℕ → Type 0) (limit : ℕ)
     → ((text : List ℕ) (answer : Answer) (bytes : List ℕ) → IsAnswer (take (limit + 1) text) answer bytes → IsAnswer text answer bytes)
-    → ((text bytes : List ℕ) → IsRefusal (take (limit + 1) text) bytes → IsRefusal text bytes)
+    → ((text bytes hint : List ℕ) → IsRefusal (take (limit + 1) text) bytes hint → IsRefusal text bytes hint)
     → (source : Change) (read : List ℕ) (outcome : Outcome)
     → IfSome source.old.bytes (λ text. read ≡ take (limit + 1) text) → IsSound source
     → IsTextOutcome IsAnswer IsRefusal (Some read) outcome → IsReadOutcome IsAnswer IsRefusal source outcome

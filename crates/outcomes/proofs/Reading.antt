@@ -12,16 +12,16 @@ use Rattle.outcomes.specs.Runs.{Leaves}
 use Rattle.outcomes.specs.Statuses.{answer_status, OnAnswerStatus}
 
 -- a run without a text read no more than that
-pub IsTextRead-unread : (limit : ℕ) (source output faults : Change) (outcome : Outcome) (status : ℕ) → IsUnread source outcome
-    → ReadsAtMost (limit + 1) source → Leaves outcome output faults status → IsTextRead limit source status
-IsTextRead-unread limit source output faults Memory status unread most leaves =
-    record { whole = λ not_memory not_failed. absurd (not_memory leaves.2); most = most }
-IsTextRead-unread limit source output faults Failed status unread most leaves =
-    record { whole = λ not_memory not_failed. absurd (not_failed leaves.2); most = most }
-IsTextRead-unread limit source output faults (Answered answer bytes) status unread most leaves = absurd unread
-IsTextRead-unread limit source output faults (Noted answer bytes note) status unread most leaves = absurd unread
-IsTextRead-unread limit source output faults (Refused bytes) status unread most leaves = absurd unread
-IsTextRead-unread limit source output faults (Words bytes) status unread most leaves = absurd unread
+pub IsTextRead-unread : (limit : ℕ) (source output faults hints : Change) (outcome : Outcome) (status : ℕ) → IsUnread source outcome
+    → ReadsAtMost (limit + 1) source → Leaves outcome output faults hints status → IsTextRead limit source status
+IsTextRead-unread limit source output faults hints Memory status unread most leaves =
+    record { whole = λ not_memory not_failed. absurd (not_memory leaves.3); most = most }
+IsTextRead-unread limit source output faults hints Failed status unread most leaves =
+    record { whole = λ not_memory not_failed. absurd (not_failed leaves.3); most = most }
+IsTextRead-unread limit source output faults hints (Answered answer bytes) status unread most leaves = absurd unread
+IsTextRead-unread limit source output faults hints (Noted answer bytes note) status unread most leaves = absurd unread
+IsTextRead-unread limit source output faults hints (Refused bytes hint) status unread most leaves = absurd unread
+IsTextRead-unread limit source output faults hints (Words bytes) status unread most leaves = absurd unread
 
 -- no answer has a status past those of answers
 no-answer : (status : ℕ) → 3 ≤ status → (answer : Answer) → status ≡ answer_status answer → ⊥
@@ -30,30 +30,30 @@ no-answer status past No is = omega (arith, past, is)
 no-answer status past Undecided is = omega (arith, past, is)
 
 -- so what holds of an answer holds where the status is that of one
-pub answered-status : (P : Type 0) (outcome : Outcome) (output faults : Change) (status : ℕ) → Leaves outcome output faults status
+pub answered-status : (P : Type 0) (outcome : Outcome) (output faults hints : Change) (status : ℕ) → Leaves outcome output faults hints status
     → OnAnswered outcome P → OnAnswerStatus status P
-answered-status P (Answered given bytes) output faults status leaves h answer is = h
-answered-status P (Noted given bytes note) output faults status leaves h answer is = h
-answered-status P (Refused bytes) output faults status leaves h answer is = absurd (no-answer status (omega (arith, leaves.2)) answer is)
-answered-status P Memory output faults status leaves h answer is = absurd (no-answer status (omega (arith, leaves.2)) answer is)
-answered-status P (Words bytes) output faults status leaves h answer is = absurd (no-answer status (omega (arith, leaves.2)) answer is)
-answered-status P Failed output faults status leaves h answer is = absurd (no-answer status (omega (arith, leaves.2)) answer is)
+answered-status P (Answered given bytes) output faults hints status leaves h answer is = h
+answered-status P (Noted given bytes note) output faults hints status leaves h answer is = h
+answered-status P (Refused bytes hint) output faults hints status leaves h answer is = absurd (no-answer status (omega (arith, leaves.3)) answer is)
+answered-status P Memory output faults hints status leaves h answer is = absurd (no-answer status (omega (arith, leaves.3)) answer is)
+answered-status P (Words bytes) output faults hints status leaves h answer is = absurd (no-answer status (omega (arith, leaves.3)) answer is)
+answered-status P Failed output faults hints status leaves h answer is = absurd (no-answer status (omega (arith, leaves.3)) answer is)
 
 -- without a text there is no answer
-pub unread-status : (P : Type 0) (source output faults : Change) (outcome : Outcome) (status : ℕ) → IsUnread source outcome
-    → Leaves outcome output faults status → OnAnswerStatus status P
-unread-status P source output faults (Answered given bytes) status unread leaves = absurd unread
-unread-status P source output faults (Noted given bytes note) status unread leaves = absurd unread
-unread-status P source output faults (Refused bytes) status unread leaves = absurd unread
-unread-status P source output faults (Words bytes) status unread leaves = absurd unread
-unread-status P source output faults Memory status unread leaves = answered-status P Memory output faults status leaves tt
-unread-status P source output faults Failed status unread leaves = answered-status P Failed output faults status leaves tt
+pub unread-status : (P : Type 0) (source output faults hints : Change) (outcome : Outcome) (status : ℕ) → IsUnread source outcome
+    → Leaves outcome output faults hints status → OnAnswerStatus status P
+unread-status P source output faults hints (Answered given bytes) status unread leaves = absurd unread
+unread-status P source output faults hints (Noted given bytes note) status unread leaves = absurd unread
+unread-status P source output faults hints (Refused bytes hint) status unread leaves = absurd unread
+unread-status P source output faults hints (Words bytes) status unread leaves = absurd unread
+unread-status P source output faults hints Memory status unread leaves = answered-status P Memory output faults hints status leaves tt
+unread-status P source output faults hints Failed status unread leaves = answered-status P Failed output faults hints status leaves tt
 
 -- what holds of an answer is weakened
 pub OnAnswered-map : (P Q : Type 0) (outcome : Outcome) → (P → Q) → OnAnswered outcome P → OnAnswered outcome Q
 OnAnswered-map P Q (Answered given bytes) f h = f h
 OnAnswered-map P Q (Noted given bytes note) f h = f h
-OnAnswered-map P Q (Refused bytes) f h = tt
+OnAnswered-map P Q (Refused bytes hint) f h = tt
 OnAnswered-map P Q Memory f h = tt
 OnAnswered-map P Q (Words bytes) f h = tt
 OnAnswered-map P Q Failed f h = tt
@@ -64,10 +64,10 @@ ok-holds P (Ok v) h is = h
 ok-holds P (Err e) h is = cc
 
 -- what holds of an answer to the text that was read holds, by the status, of the whole where it is told
-pub told-status : (Q : List ℕ → Type 0) (limit : ℕ) (told : Option (List ℕ)) (read : List ℕ) (outcome : Outcome) (output faults : Change)
+pub told-status : (Q : List ℕ → Type 0) (limit : ℕ) (told : Option (List ℕ)) (read : List ℕ) (outcome : Outcome) (output faults hints : Change)
     (status : ℕ) → ((text : List ℕ) → Q (take (limit + 1) text) → Q text) → IfSome told (λ text. read ≡ take (limit + 1) text)
-    → Leaves outcome output faults status → OnAnswered outcome (Q read) → OnAnswerStatus status (IfSome told Q)
-told-status Q limit None read outcome output faults status whole is leaves h = λ answer same. tt
-told-status Q limit (Some text) read outcome output faults status whole is leaves h =
-    answered-status (Q text) outcome output faults status leaves
+    → Leaves outcome output faults hints status → OnAnswered outcome (Q read) → OnAnswerStatus status (IfSome told Q)
+told-status Q limit None read outcome output faults hints status whole is leaves h = λ answer same. tt
+told-status Q limit (Some text) read outcome output faults hints status whole is leaves h =
+    answered-status (Q text) outcome output faults hints status leaves
     (OnAnswered-map (Q read) (Q text) outcome (λ q. whole text (subst Q is q)) h)

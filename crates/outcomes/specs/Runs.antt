@@ -1,4 +1,4 @@
--- What a run leaves at its ends, for the outcome that it has.
+-- What a run leaves at its three ends, for the outcome that it has.
 use Rattle.std.specs.Prelude.{◌≡◌, ◌⊎◌, ℕ, string_bytes}
 use Rattle.outcomes.specs.declared.outcome.Outcome.{Outcome}
 use Rattle.outcomes.specs.declared.outcome.Outcome.TheVariants.{Answered, Noted, Refused, Memory, Words, Failed}
@@ -6,22 +6,24 @@ use Rattle.outcomes.specs.Ends.{Change, IsSilent, Says, BreaksOff, Tries}
 use Rattle.outcomes.specs.Lines.{memory_line, io_line}
 use Rattle.outcomes.specs.Statuses.{answer_status, refused_status, memory_status, words_status, failed_status}
 
--- an answer is written to the output, all of it or a beginning until a call fails, and its note is told to the faults behind it; anything
--- else is told to the faults, and the output is left alone; and this is the exit status
-abbrev pub Leaves : Outcome → Change → Change → ℕ → Type 0
-Leaves (Answered answer bytes) output faults status =
-    (Says output (string_bytes bytes) × IsSilent faults × (status ≡ answer_status answer))
-    ⊎ (BreaksOff output (string_bytes bytes) × Tries faults io_line × (status ≡ failed_status))
-Leaves (Noted answer bytes note) output faults status =
-    (Says output (string_bytes bytes) × Tries faults (string_bytes note) × (status ≡ answer_status answer))
-    ⊎ (BreaksOff output (string_bytes bytes) × Tries faults io_line × (status ≡ failed_status))
-Leaves (Refused bytes) output faults status = IsSilent output × Tries faults (string_bytes bytes) × (status ≡ refused_status)
-Leaves Memory output faults status = IsSilent output × Tries faults memory_line × (status ≡ memory_status)
-Leaves (Words bytes) output faults status = IsSilent output × Tries faults (string_bytes bytes) × (status ≡ words_status)
-Leaves Failed output faults status = IsSilent output × Tries faults io_line × (status ≡ failed_status)
+-- an answer is written to the output, all of it or a beginning until a call fails, and its note is told to the hints behind it; anything
+-- else is told to the faults, with its hint to the hints behind it, and the output is left alone; and this is the exit status
+abbrev pub Leaves : Outcome → Change → Change → Change → ℕ → Type 0
+Leaves (Answered answer bytes) output faults hints status =
+    (Says output (string_bytes bytes) × IsSilent faults × IsSilent hints × (status ≡ answer_status answer))
+    ⊎ (BreaksOff output (string_bytes bytes) × Tries faults io_line × IsSilent hints × (status ≡ failed_status))
+Leaves (Noted answer bytes note) output faults hints status =
+    (Says output (string_bytes bytes) × IsSilent faults × Tries hints (string_bytes note) × (status ≡ answer_status answer))
+    ⊎ (BreaksOff output (string_bytes bytes) × Tries faults io_line × IsSilent hints × (status ≡ failed_status))
+Leaves (Refused bytes hint) output faults hints status =
+    IsSilent output × Tries faults (string_bytes bytes) × Tries hints (string_bytes hint) × (status ≡ refused_status)
+Leaves Memory output faults hints status = IsSilent output × Tries faults memory_line × IsSilent hints × (status ≡ memory_status)
+Leaves (Words bytes) output faults hints status =
+    IsSilent output × Tries faults (string_bytes bytes) × IsSilent hints × (status ≡ words_status)
+Leaves Failed output faults hints status = IsSilent output × Tries faults io_line × IsSilent hints × (status ≡ failed_status)
 
 -- a run has one of these outcomes, and leaves at its sinks what that outcome leaves
-pub record IsRun (IsOutcome : Outcome → Type 0) (output faults : Change) (status : ℕ) : Type 0 where
+pub record IsRun (IsOutcome : Outcome → Type 0) (output faults hints : Change) (status : ℕ) : Type 0 where
   pub outcome : Outcome
   pub comes : IsOutcome outcome
-  pub leaves : Leaves outcome output faults status
+  pub leaves : Leaves outcome output faults hints status

@@ -1,12 +1,12 @@
--- What is said behind the line of a fault of a text: what was wanted.
+-- What is said beside the line of a fault of a text: what was wanted.
 use Rattle.std.specs.Prelude.{ℕ, List, [], ◌++◌, codes}
 use Rattle.events.specs.declared.fault.HistoryFault.{HistoryFault}
 use Rattle.events.specs.declared.fault.HistoryFault.TheVariants as histories
 use Rattle.outcomes.specs.Lines.{line}
 
--- the same lines, with one more that says what was wanted
-abbrev pub with_wanted : List ℕ → List ℕ → List ℕ
-with_wanted lines wanted = line (lines ++ codes "wanted " ++ wanted)
+-- the hint that says what was wanted
+abbrev pub wanted_hint : List ℕ → List ℕ
+wanted_hint wanted = line (codes "wanted " ++ wanted)
 
 -- how long a text may be, and what it is
 abbrev pub length_wanted : List ℕ

@@ -29,13 +29,20 @@ pub fn text_from<S: Source>(alloc: Global, source: &mut S, limit: usize) -> Resu
     }
 }
 
-/// Writes an outcome to the output or to the faults, and answers the exit status; a note goes to the faults behind its answer.
-/// A failed write to the faults changes nothing else.
-pub fn write_outcome<O: Sink, F: Sink>(output: &mut O, faults: &mut F, outcome: &Outcome) -> u8
+/// Writes an outcome to the output or to the faults, and answers the exit status; the hint on a refusal goes to the hints behind its
+/// line, and a note behind its answer. A failed write to the faults or to the hints changes nothing else.
+pub fn write_outcome<O: Sink, F: Sink, H: Sink>(
+    output: &mut O,
+    faults: &mut F,
+    hints: &mut H,
+    outcome: &Outcome,
+) -> u8
     requires output { O.failures output.old < u64.MAX }
     requires faults { F.failures faults.old < u64.MAX }
+    requires hints { H.failures hints.old < u64.MAX }
     ensures { Leaves outcome.now (change O.written O.failures output.old output.new)
-        (change F.written F.failures faults.old faults.new) result }
+        (change F.written F.failures faults.old faults.new)
+        (change H.written H.failures hints.old hints.new) result }
 {
     match outcome {
         Outcome::Answered { answer, line } => match write_whole(output, line.as_bytes()) {
@@ -46,21 +53,24 @@ pub fn write_outcome<O: Sink, F: Sink>(output: &mut O, faults: &mut F, outcome: 
             if write_whole(output, line.as_bytes()).is_err() {
                 return tell(faults, b"io\n", FAILED);
             }
-            tell(faults, note.as_bytes(), answer.status())
+            tell(hints, note.as_bytes(), answer.status())
         }
-        Outcome::Refused(line) => tell(faults, line.as_bytes(), REFUSED),
+        Outcome::Refused { line, hint } => {
+            tell(faults, line.as_bytes(), REFUSED);
+            tell(hints, hint.as_bytes(), REFUSED)
+        }
         Outcome::Memory => tell(faults, b"memory\n", MEMORY),
         Outcome::Words(text) => tell(faults, text.as_bytes(), WORDS),
         Outcome::Failed => tell(faults, b"io\n", FAILED),
     }
 }
 
-// Writes bytes to the faults, and answers the status.
-fn tell<F: Sink>(faults: &mut F, bytes: &[u8], status: u8) -> u8
-    requires { F.failures faults.old < u64.MAX }
-    ensures told { Tries (change F.written F.failures faults.old faults.new) bytes.now }
+// Writes bytes to a sink, whether it takes them or not, and answers the status.
+fn tell<K: Sink>(sink: &mut K, bytes: &[u8], status: u8) -> u8
+    requires { K.failures sink.old < u64.MAX }
+    ensures told { Tries (change K.written K.failures sink.old sink.new) bytes.now }
     ensures status { result ≡ status }
 {
-    let _ = write_whole(faults, bytes);
+    let _ = write_whole(sink, bytes);
     status
 }

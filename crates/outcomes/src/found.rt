@@ -1,19 +1,22 @@
-// What is said of a text in the place of a fault: what stands there.
-ghost use Rattle.std.specs.Prelude.{◌≡◌, ◌∷◌, [], ◌++◌, map, OnOk, string_bytes};
-ghost use Rattle.outcomes.specs.Found.{shown_byte, shown, with_found};
+// What is said of a text in the place of a fault: what stands there, and what was wanted.
+ghost use Rattle.std.specs.Prelude.{◌≡◌, ◌∷◌, [], ◌++◌, map, IfOk, OnOk, string_bytes};
+ghost use Rattle.outcomes.specs.Found.{shown_byte, shown, found_hint};
 
-use std::alloc::AllocError;
+use std::alloc::{AllocError, Global};
 
 /// The most bytes that are shown of a text.
 const MAX_SHOWN: usize = 80;
 
-/// Adds what stands in the place of a fault, at the front of a line that says what was wanted there.
-pub fn push_found(lines: &mut String, text: &[u8]) -> Result<(), AllocError>
-    ensures { OnOk result (string_bytes lines.new ≡ with_found (string_bytes lines.old) text.now) }
+/// The hint that says what stands in the place of a fault, and what was wanted there.
+pub fn found_hint(alloc: Global, text: &[u8], wanted: &str) -> Result<String, AllocError>
+    ensures { IfOk result (λ hint. string_bytes hint ≡ found_hint text.now wanted.now) }
 {
-    lines.push_str("found ")?;
-    push_shown(lines, text)?;
-    lines.push_str("; ")
+    let mut hint = String::from_str(alloc, "found ")?;
+    push_shown(&mut hint, text)?;
+    hint.push_str("; wanted ")?;
+    hint.push_str(wanted)?;
+    hint.push_str("\n")?;
+    Ok(hint)
 }
 
 /// Adds a text, cut with two dots where it is long.

@@ -9,9 +9,9 @@ mod outcome;
 mod wanted;
 
 pub use ends::{text_from, write_outcome};
-pub use found::push_found;
+pub use found::found_hint;
 pub use lines::{history_fault_line, line_of};
 pub use outcome::{Answer, FAILED, MEMORY, NO, Outcome, REFUSED, UNDECIDED, WORDS, YES};
 pub use wanted::{
-    event_wanted, history_wanted, json_wanted, length_wanted, pair_wanted, push_wanted, turn_wanted,
+    event_wanted, history_wanted, json_wanted, length_wanted, pair_wanted, turn_wanted, wanted_hint,
 };

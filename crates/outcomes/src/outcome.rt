@@ -60,14 +60,17 @@ pub enum Outcome {
         answer: Answer,
         line: String,
     },
-    /// The same, with a note on the answer for standard error.
+    /// The same, with a note on the answer for who reads along.
     Noted {
         answer: Answer,
         line: String,
         note: String,
     },
-    /// The input is refused, with these lines for standard error.
-    Refused(String),
+    /// The input is refused, with this line for standard error, and a hint on it for who reads along: what was found and wanted.
+    Refused {
+        line: String,
+        hint: String,
+    },
     /// Want of memory.
     Memory,
     /// The words of the command line ask for nothing that can be done, or for help. The text is what the user is
@@ -108,13 +111,17 @@ impl Outcome {
         }
     }
 
-    /// A refusal with these lines, if there was memory for them.
-    pub fn refused(lines: Result<String, AllocError>) -> Outcome
-        ensures { MatchResult lines (λ text. result ≡ Outcome.Refused text)
+    /// A refusal with this line and this hint, if there was memory for both.
+    pub fn refused(line: Result<String, AllocError>, hint: Result<String, AllocError>) -> Outcome
+        ensures { MatchResult line
+            (λ text. MatchResult hint (λ told. result ≡ Outcome.Refused text told) (λ _. result ≡ Outcome.Memory))
             (λ _. result ≡ Outcome.Memory) }
     {
-        match lines {
-            Ok(lines) => Outcome::Refused(lines),
+        let Ok(line) = line else {
+            return Outcome::Memory;
+        };
+        match hint {
+            Ok(hint) => Outcome::Refused { line, hint },
             Err(_) => Outcome::Memory,
         }
     }

@@ -1,17 +1,18 @@
-// What is said behind the line of a fault of a text: what was wanted.
-ghost use Rattle.std.specs.Prelude.{◌≡◌, OnOk, string_bytes};
-ghost use Rattle.outcomes.specs.Wanted.{with_wanted, length_wanted, json_wanted, event_wanted, turn_wanted, pair_wanted, history_wanted};
+// What is said beside the line of a fault of a text: what was wanted.
+ghost use Rattle.std.specs.Prelude.{◌≡◌, IfOk, string_bytes};
+ghost use Rattle.outcomes.specs.Wanted.{wanted_hint, length_wanted, json_wanted, event_wanted, turn_wanted, pair_wanted, history_wanted};
 
 use events::HistoryFault;
-use std::alloc::AllocError;
+use std::alloc::{AllocError, Global};
 
-/// Adds the line that says what was wanted.
-pub fn push_wanted(lines: &mut String, wanted: &str) -> Result<(), AllocError>
-    ensures { OnOk result (string_bytes lines.new ≡ with_wanted (string_bytes lines.old) wanted.now) }
+/// The hint that says what was wanted.
+pub fn wanted_hint(alloc: Global, wanted: &str) -> Result<String, AllocError>
+    ensures { IfOk result (λ hint. string_bytes hint ≡ wanted_hint wanted.now) }
 {
-    lines.push_str("wanted ")?;
-    lines.push_str(wanted)?;
-    lines.push_str("\n")
+    let mut hint = String::from_str(alloc, "wanted ")?;
+    hint.push_str(wanted)?;
+    hint.push_str("\n")?;
+    Ok(hint)
 }
 
 /// How long a text may be.

@@ -37,12 +37,13 @@ use streams::{Sink, Source};
 /// as `run_judge` finds it; for a no the event at which the history goes wrong is marked, where the budget suffices to
 /// locate it, and for a no or an undecided the longest front that a search of the named segment meets. Of the picture the part
 /// that the view asks for is drawn. Answers the exit status, that of the verdict.
-pub fn run_draw<R: Threads + Sync, S: Source, O: Sink, F: Sink, G: Gate + Sync>(
+pub fn run_draw<R: Threads + Sync, S: Source, O: Sink, F: Sink, H: Sink, G: Gate + Sync>(
     rt: &R,
     alloc: Global,
     source: &mut S,
     output: &mut O,
     faults: &mut F,
+    hints: &mut H,
     budget: u32,
     workers: u32,
     view: View,
@@ -53,19 +54,21 @@ pub fn run_draw<R: Threads + Sync, S: Source, O: Sink, F: Sink, G: Gate + Sync>(
     requires source { S.failures source.old < u64.MAX }
     requires output { O.failures output.old < u64.MAX }
     requires faults { F.failures faults.old < u64.MAX }
+    requires hints { H.failures hints.old < u64.MAX }
     ensures run { IsRun
         (IsDrawOutcome budget view (change S.remaining S.failures source.old source.new))
         (change O.written O.failures output.old output.new)
-        (change F.written F.failures faults.old faults.new) result }
+        (change F.written F.failures faults.old faults.new)
+        (change H.written H.failures hints.old hints.new) result }
     ensures read { IsTextRead text_limit (change S.remaining S.failures source.old source.new) result }
     ensures passed { OnAnswerStatus result (IfSome (S.remaining source.old) (WasPassedForText (G.was_passed gate.now))) }
 {
     match text_from(alloc, source, MAX_TEXT) {
         Ok(text) => {
             let outcome = draw_outcome(rt, alloc, &text, budget, workers, view, gate);
-            write_outcome(output, faults, &outcome)
+            write_outcome(output, faults, hints, &outcome)
         }
-        Err(outcome) => write_outcome(output, faults, &outcome),
+        Err(outcome) => write_outcome(output, faults, hints, &outcome),
     }
 }
 

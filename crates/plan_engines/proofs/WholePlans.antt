@@ -53,9 +53,15 @@ module _ (IsHistoryOf : List (List Call) → HistoryView → Type 0) where
   IsDrivenAnswer-whole text answer bytes h =
       record { history = h.history; driven = IsDriven-whole text h.history h.driven; answer_is = h.answer_is; bytes_are = h.bytes_are }
 
-pub IsDriveRefusal-whole : (text bytes : List ℕ) → IsDriveRefusal (take (text_limit + 1) text) bytes → IsDriveRefusal text bytes
-IsDriveRefusal-whole text bytes h =
-    record { fault = h.fault; refused = IsUndriven-whole text h.fault h.refused; not_memory = h.not_memory; bytes_are = h.bytes_are }
+pub IsDriveRefusal-whole : (text bytes hint : List ℕ) → IsDriveRefusal (take (text_limit + 1) text) bytes hint
+    → IsDriveRefusal text bytes hint
+IsDriveRefusal-whole text bytes hint h = record {
+  fault = h.fault;
+  refused = IsUndriven-whole text h.fault h.refused;
+  not_memory = h.not_memory;
+  bytes_are = h.bytes_are;
+  hint_is = h.hint_is;
+}
 
 -- the gate that was passed for the text read was passed for the whole
 pub planned-whole : (WasPassed : ℕ → Type 0) (text : List ℕ) → WasPassedForPlan WasPassed (take (text_limit + 1) text)

@@ -49,6 +49,12 @@ IsReplayAnswer-whole text answer bytes h = record {
   bytes_are = h.bytes_are;
 }
 
-pub IsReplayRefusal-whole : (text bytes : List ℕ) → IsReplayRefusal (take (text_limit + 1) text) bytes → IsReplayRefusal text bytes
-IsReplayRefusal-whole text bytes h =
-    record { fault = h.fault; refused = IsUnplayed-whole text h.fault h.refused; not_memory = h.not_memory; bytes_are = h.bytes_are }
+pub IsReplayRefusal-whole : (text bytes hint : List ℕ) → IsReplayRefusal (take (text_limit + 1) text) bytes hint
+    → IsReplayRefusal text bytes hint
+IsReplayRefusal-whole text bytes hint h = record {
+  fault = h.fault;
+  refused = IsUnplayed-whole text h.fault h.refused;
+  not_memory = h.not_memory;
+  bytes_are = h.bytes_are;
+  hint_is = h.hint_is;
+}

@@ -15,7 +15,9 @@ use Rattle.replays.specs.Played.{IsPlayed, IsUnplayed}
 use Rattle.outcomes.specs.declared.outcome.Answer.{Answer}
 use Rattle.outcomes.specs.declared.outcome.Answer.TheVariants.{Yes}
 use Rattle.outcomes.specs.Lines.{line}
-use Rattle.plan_engines.specs.Faults.{plan_fault_lines, replay_fault_lines}
+use Rattle.outcomes.specs.Wanted.{wanted_hint}
+use Rattle.plan_engines.specs.Faults.{plan_fault_line, replay_fault_line}
+use Rattle.plan_engines.specs.Wanted.{plan_wanted, replay_wanted}
 
 -- `generate` answers so: yes, with the compact text of the plan that is drawn
 pub record IsGenerateAnswer (seed : ℕ) (mix : Mix) (processes calls : ℕ) (answer : Answer) (bytes : List ℕ) : Type 0 where
@@ -25,12 +27,13 @@ pub record IsGenerateAnswer (seed : ℕ) (mix : Mix) (processes calls : ℕ) (an
   pub answer_is : answer ≡ Yes
   pub bytes_are : bytes ≡ line (compact_text (written_data (scripts_of seed mix processes calls)))
 
--- what no plan is drawn from is refused with these lines, those of its first fault
-pub record IsGenerateRefusal (mix : Mix) (processes calls : ℕ) (bytes : List ℕ) : Type 0 where
+-- what no plan is drawn from is refused with this line and this hint, those of its first fault
+pub record IsGenerateRefusal (mix : Mix) (processes calls : ℕ) (bytes hint : List ℕ) : Type 0 where
   pub fault : PlanFault
   pub refused : IsDrawFault mix processes calls fault
   pub not_memory : fault ≢ plans.Memory
-  pub bytes_are : bytes ≡ plan_fault_lines fault
+  pub bytes_are : bytes ≡ plan_fault_line fault
+  pub hint_is : hint ≡ wanted_hint (plan_wanted fault)
 
 -- `replay` answers the text so: yes, with the text of the history that its run records
 pub record IsReplayAnswer (text : List ℕ) (answer : Answer) (bytes : List ℕ) : Type 0 where
@@ -39,9 +42,10 @@ pub record IsReplayAnswer (text : List ℕ) (answer : Answer) (bytes : List ℕ)
   pub answer_is : answer ≡ Yes
   pub bytes_are : bytes ≡ line (compact_text (history_data history))
 
--- a text that gives no history of a replay is refused with these lines
-pub record IsReplayRefusal (text bytes : List ℕ) : Type 0 where
+-- a text that gives no history of a replay is refused with this line and this hint
+pub record IsReplayRefusal (text bytes hint : List ℕ) : Type 0 where
   pub fault : ReplayFault
   pub refused : IsUnplayed text fault
   pub not_memory : fault ≢ replays.Memory
-  pub bytes_are : bytes ≡ replay_fault_lines fault
+  pub bytes_are : bytes ≡ replay_fault_line fault
+  pub hint_is : hint ≡ wanted_hint (replay_wanted fault)

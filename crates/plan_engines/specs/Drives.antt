@@ -17,7 +17,9 @@ use Rattle.arena_drives.specs.ArenaDrives.{IsArenaDriveOf}
 use Rattle.outcomes.specs.declared.outcome.Answer.{Answer}
 use Rattle.outcomes.specs.declared.outcome.Answer.TheVariants.{Yes}
 use Rattle.outcomes.specs.Lines.{line}
-use Rattle.plan_engines.specs.Faults.{plan_fault_lines}
+use Rattle.outcomes.specs.Wanted.{wanted_hint}
+use Rattle.plan_engines.specs.Faults.{plan_fault_line}
+use Rattle.plan_engines.specs.Wanted.{plan_wanted}
 
 -- the text spells a plan for which there is room
 pub record SpellsDrivable (text : List ℕ) (scripts : List (List Call)) : Type 0 where
@@ -61,9 +63,10 @@ IsDriveAnswer may_answer = IsDrivenAnswer (IsDriveOf may_answer)
 abbrev pub IsTreeDriveAnswer : Shape → Variant → ℕ → List ℕ → Answer → List ℕ → Type 0
 IsTreeDriveAnswer shape variant limit = IsDrivenAnswer (IsArenaDriveOf shape variant limit)
 
--- a text that gives no history of a plan is refused with these lines
-pub record IsDriveRefusal (text bytes : List ℕ) : Type 0 where
+-- a text that gives no history of a plan is refused with this line and this hint
+pub record IsDriveRefusal (text bytes hint : List ℕ) : Type 0 where
   pub fault : PlanFault
   pub refused : IsUndriven text fault
   pub not_memory : fault ≢ plans.Memory
-  pub bytes_are : bytes ≡ plan_fault_lines fault
+  pub bytes_are : bytes ≡ plan_fault_line fault
+  pub hint_is : hint ≡ wanted_hint (plan_wanted fault)

@@ -1,4 +1,4 @@
--- How the fault of a plan or of a replay is told: its line, and the outcome.
+-- How the fault of a plan or of a replay is told: its line, and the outcome with a hint beside it.
 use Rattle.std.specs.Prelude.{◌≡◌, ◌≢◌, ⊤, ℕ, List, ◌++◌, codes, decimal, string_bytes}
 use Rattle.plans.specs.declared.fault.PlanFault.{PlanFault}
 use Rattle.plans.specs.declared.fault.PlanFault.TheVariants as plans
@@ -10,8 +10,8 @@ use Rattle.replays.specs.declared.fault.ReplayFault.TheVariants as replays
 use Rattle.outcomes.specs.declared.outcome.Outcome.{Outcome}
 use Rattle.outcomes.specs.declared.outcome.Outcome.TheVariants.{Refused, Memory}
 use Rattle.outcomes.specs.Lines.{line, memory_line}
-use Rattle.outcomes.specs.Wanted.{with_wanted}
-use Rattle.plan_engines.specs.Wanted.{plan_wanted, machine_wanted}
+use Rattle.outcomes.specs.Wanted.{wanted_hint}
+use Rattle.plan_engines.specs.Wanted.{plan_wanted, replay_wanted}
 
 -- why there is no plan
 abbrev pub plan_fault_line : PlanFault → List ℕ
@@ -44,23 +44,16 @@ replay_fault_line (replays.Replay fault) = line (codes "replay: " ++ machine_fau
 replay_fault_line (replays.Schedule stop) = stop_line stop
 replay_fault_line replays.Memory = memory_line
 
--- these lines with those that say what was wanted
-abbrev pub plan_fault_lines : PlanFault → List ℕ
-plan_fault_lines fault = with_wanted (plan_fault_line fault) (plan_wanted fault)
-
-abbrev pub replay_fault_lines : ReplayFault → List ℕ
-replay_fault_lines (replays.Replay fault) = with_wanted (replay_fault_line (replays.Replay fault)) (machine_wanted fault)
-replay_fault_lines (replays.Schedule stop) = with_wanted (stop_line stop) (machine_wanted stop.fault)
-replay_fault_lines replays.Memory = memory_line
-
 -- the outcome where there is no plan, for this fault
 abbrev pub IsPlanFaultOutcome : PlanFault → Outcome → Type 0
-IsPlanFaultOutcome fault (Refused bytes) = (fault ≢ plans.Memory) × (string_bytes bytes ≡ plan_fault_lines fault)
+IsPlanFaultOutcome fault (Refused bytes hint) = (fault ≢ plans.Memory) × (string_bytes bytes ≡ plan_fault_line fault)
+    × (string_bytes hint ≡ wanted_hint (plan_wanted fault))
 IsPlanFaultOutcome fault Memory = ⊤
 IsPlanFaultOutcome fault outcome = ⊥
 
 -- the outcome where a replay gives no history, for this fault
 abbrev pub IsReplayFaultOutcome : ReplayFault → Outcome → Type 0
-IsReplayFaultOutcome fault (Refused bytes) = (fault ≢ replays.Memory) × (string_bytes bytes ≡ replay_fault_lines fault)
+IsReplayFaultOutcome fault (Refused bytes hint) = (fault ≢ replays.Memory) × (string_bytes bytes ≡ replay_fault_line fault)
+    × (string_bytes hint ≡ wanted_hint (replay_wanted fault))
 IsReplayFaultOutcome fault Memory = ⊤
 IsReplayFaultOutcome fault outcome = ⊥

@@ -20,7 +20,8 @@ use Rattle.plan_engines.specs.Drives.{IsDriveAnswer, IsTreeDriveAnswer, IsDriveR
 -- the outcome of `generate` from this seed, mix and numbers of processes and calls
 abbrev pub IsGenerateOutcome : ℕ → Mix → ℕ → ℕ → Outcome → Type 0
 IsGenerateOutcome seed mix processes calls (Answered answer bytes) = IsGenerateAnswer seed mix processes calls answer (string_bytes bytes)
-IsGenerateOutcome seed mix processes calls (Refused bytes) = IsGenerateRefusal mix processes calls (string_bytes bytes)
+IsGenerateOutcome seed mix processes calls (Refused bytes hint) =
+    IsGenerateRefusal mix processes calls (string_bytes bytes) (string_bytes hint)
 IsGenerateOutcome seed mix processes calls Memory = ⊤
 IsGenerateOutcome seed mix processes calls outcome = ⊥
 
@@ -38,7 +39,7 @@ IsTreeDriveOutcome shape variant limit source outcome = IsReadOutcome (IsTreeDri
 
 -- how it comes out where a text spells no plan that can be driven
 abbrev pub IsUndrivenOutcome : List ℕ → Outcome → Type 0
-IsUndrivenOutcome text (Refused bytes) = IsDriveRefusal text (string_bytes bytes)
+IsUndrivenOutcome text (Refused bytes hint) = IsDriveRefusal text (string_bytes bytes) (string_bytes hint)
 IsUndrivenOutcome text Memory = ⊤
 IsUndrivenOutcome text outcome = ⊥
 

@@ -1,9 +1,11 @@
--- What is said behind the line of a fault of a plan or of a replay: what was wanted.
+-- What is said beside the line of a fault of a plan or of a replay: what was wanted.
 use Rattle.std.specs.Prelude.{ℕ, List, [], ◌++◌, codes}
 use Rattle.plans.specs.declared.fault.PlanFault.{PlanFault}
 use Rattle.plans.specs.declared.fault.PlanFault.TheVariants as plans
 use Rattle.plans.specs.declared.fault.MachineFault.{MachineFault}
 use Rattle.plans.specs.declared.fault.MachineFault.TheVariants as machines
+use Rattle.replays.specs.declared.fault.ReplayFault.{ReplayFault}
+use Rattle.replays.specs.declared.fault.ReplayFault.TheVariants as replays
 use Rattle.outcomes.specs.Wanted.{length_wanted, json_wanted}
 
 -- in the place of each fault of a plan
@@ -31,3 +33,9 @@ machine_wanted machines.Shape =
     codes "{\"version\":1,\"variant\":NAME,\"rows\":[N,N,N,N],\"limit\":N,\"scripts\":[[C,..],..],\"schedule\":[ITEM,..]}, and in "
     ++ codes "version 2 \"start\":[[K,V],..]; ITEM is [P,\"turns\",N], [P,\"end\"] or [P,\"until\",POINT]; C is as in a plan"
 machine_wanted machines.StartRefused = codes "rows that have room for the starting pairs"
+
+-- and where a text of a replay gives no history
+abbrev pub replay_wanted : ReplayFault → List ℕ
+replay_wanted (replays.Replay fault) = machine_wanted fault
+replay_wanted (replays.Schedule stop) = machine_wanted stop.fault
+replay_wanted replays.Memory = []

@@ -19,29 +19,32 @@ use streams::{Sink, Source};
 
 /// Reads a plan text to the end of the source, or until it is too long, does each script of the plan at the subject, in a
 /// thread of its own, and writes the text of the history that is recorded. Answers the exit status.
-pub fn run_drive<R: Threads + Sync, S: Source, O: Sink, F: Sink, J: Subject + Sync>(
+pub fn run_drive<R: Threads + Sync, S: Source, O: Sink, F: Sink, H: Sink, J: Subject + Sync>(
     rt: &R,
     alloc: Global,
     source: &mut S,
     output: &mut O,
     faults: &mut F,
+    hints: &mut H,
     subject: &J,
 ) -> u8
     requires source { S.failures source.old < u64.MAX }
     requires output { O.failures output.old < u64.MAX }
     requires faults { F.failures faults.old < u64.MAX }
+    requires hints { H.failures hints.old < u64.MAX }
     ensures run { IsRun
         (IsDriveOutcome (J.may_answer subject.now) (change S.remaining S.failures source.old source.new))
         (change O.written O.failures output.old output.new)
-        (change F.written F.failures faults.old faults.new) result }
+        (change F.written F.failures faults.old faults.new)
+        (change H.written H.failures hints.old hints.new) result }
     ensures read { IsTextRead text_limit (change S.remaining S.failures source.old source.new) result }
 {
     match text_from(alloc, source, MAX_TEXT) {
         Ok(text) => {
             let outcome = drive_outcome(rt, alloc, &text, subject);
-            write_outcome(output, faults, &outcome)
+            write_outcome(output, faults, hints, &outcome)
         }
-        Err(outcome) => write_outcome(output, faults, &outcome),
+        Err(outcome) => write_outcome(output, faults, hints, &outcome),
     }
 }
 

@@ -1,10 +1,10 @@
 // How the fault of a plan or of a replay is told.
 ghost use Rattle.std.specs.Prelude.{◌≡◌, IfOk, string_bytes};
-ghost use Rattle.plan_engines.specs.Faults.{plan_fault_line, machine_fault_name, stop_line, replay_fault_line, plan_fault_lines};
-ghost use Rattle.plan_engines.specs.Faults.{replay_fault_lines, IsPlanFaultOutcome, IsReplayFaultOutcome};
+ghost use Rattle.plan_engines.specs.Faults.{plan_fault_line, machine_fault_name, stop_line, replay_fault_line};
+ghost use Rattle.plan_engines.specs.Faults.{IsPlanFaultOutcome, IsReplayFaultOutcome};
 
-use crate::wanted::{machine_wanted, plan_wanted};
-use outcomes::{Outcome, push_wanted};
+use crate::wanted::{plan_wanted, replay_wanted};
+use outcomes::{Outcome, wanted_hint};
 use plans::{MachineFault, PlanFault, RunFault};
 use replays::ReplayFault;
 use std::alloc::{AllocError, Global};
@@ -15,7 +15,10 @@ pub(crate) fn plan_fault_outcome(alloc: Global, fault: PlanFault) -> Outcome
 {
     match fault {
         PlanFault::Memory => Outcome::Memory,
-        _ => Outcome::refused(plan_fault_lines(alloc, fault)),
+        _ => Outcome::refused(
+            plan_fault_line(alloc, fault),
+            wanted_hint(alloc, plan_wanted(fault)),
+        ),
     }
 }
 
@@ -25,17 +28,11 @@ pub(crate) fn replay_fault_outcome(alloc: Global, fault: &ReplayFault) -> Outcom
 {
     match fault {
         ReplayFault::Memory => Outcome::Memory,
-        _ => Outcome::refused(replay_fault_lines(alloc, fault)),
+        _ => Outcome::refused(
+            replay_fault_line(alloc, fault),
+            wanted_hint(alloc, replay_wanted(fault)),
+        ),
     }
-}
-
-/// Why there is no plan, and what was wanted.
-fn plan_fault_lines(alloc: Global, fault: PlanFault) -> Result<String, AllocError>
-    ensures { IfOk result (λ lines. string_bytes lines ≡ plan_fault_lines fault) }
-{
-    let mut lines = plan_fault_line(alloc, fault)?;
-    push_wanted(&mut lines, plan_wanted(fault))?;
-    Ok(lines)
 }
 
 /// Why there is no plan.
@@ -81,19 +78,6 @@ fn stop_line(alloc: Global, stop: &RunFault) -> Result<String, AllocError>
     line.push_str(machine_fault_name(stop.fault))?;
     line.push_str("\n")?;
     Ok(line)
-}
-
-/// Why a text of a replay gives no history, and what was wanted.
-fn replay_fault_lines(alloc: Global, fault: &ReplayFault) -> Result<String, AllocError>
-    ensures { IfOk result (λ lines. string_bytes lines ≡ replay_fault_lines fault.now) }
-{
-    let mut lines = replay_fault_line(alloc, fault)?;
-    match fault {
-        ReplayFault::Replay(fault) => push_wanted(&mut lines, machine_wanted(*fault))?,
-        ReplayFault::Schedule(stop) => push_wanted(&mut lines, machine_wanted(stop.fault))?,
-        ReplayFault::Memory => {}
-    }
-    Ok(lines)
 }
 
 /// Why a text of a replay gives no history.

@@ -13,10 +13,11 @@ use workload::{Mix, plan};
 
 /// Writes the text of the plan of so many processes, with so many calls each, that is drawn from a seed. It reads nothing.
 /// Answers the exit status.
-pub fn run_generate<O: Sink, F: Sink>(
+pub fn run_generate<O: Sink, F: Sink, H: Sink>(
     alloc: Global,
     output: &mut O,
     faults: &mut F,
+    hints: &mut H,
     seed: u64,
     mix: &Mix,
     processes: u32,
@@ -24,12 +25,14 @@ pub fn run_generate<O: Sink, F: Sink>(
 ) -> u8
     requires output { O.failures output.old < u64.MAX }
     requires faults { F.failures faults.old < u64.MAX }
+    requires hints { H.failures hints.old < u64.MAX }
     ensures { IsRun (IsGenerateOutcome seed mix.now processes calls)
         (change O.written O.failures output.old output.new)
-        (change F.written F.failures faults.old faults.new) result }
+        (change F.written F.failures faults.old faults.new)
+        (change H.written H.failures hints.old hints.new) result }
 {
     let outcome = generate_outcome(alloc, seed, mix, processes, calls);
-    write_outcome(output, faults, &outcome)
+    write_outcome(output, faults, hints, &outcome)
 }
 
 /// The text of the plan that is drawn, or why none is.

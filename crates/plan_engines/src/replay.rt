@@ -17,24 +17,27 @@ use streams::{Sink, Source};
 
 /// Reads a replay text to the end of the source, or until it is too long, runs its whole schedule, and writes the text of
 /// the history. Answers the exit status.
-pub fn run_replay<S: Source, O: Sink, F: Sink>(
+pub fn run_replay<S: Source, O: Sink, F: Sink, H: Sink>(
     alloc: Global,
     source: &mut S,
     output: &mut O,
     faults: &mut F,
+    hints: &mut H,
 ) -> u8
     requires source { S.failures source.old < u64.MAX }
     requires output { O.failures output.old < u64.MAX }
     requires faults { F.failures faults.old < u64.MAX }
+    requires hints { H.failures hints.old < u64.MAX }
     ensures run { IsRun
         (IsReplayOutcome (change S.remaining S.failures source.old source.new))
         (change O.written O.failures output.old output.new)
-        (change F.written F.failures faults.old faults.new) result }
+        (change F.written F.failures faults.old faults.new)
+        (change H.written H.failures hints.old hints.new) result }
     ensures read { IsTextRead text_limit (change S.remaining S.failures source.old source.new) result }
 {
     match text_from(alloc, source, MAX_TEXT) {
-        Ok(text) => write_outcome(output, faults, &replay_outcome(alloc, &text)),
-        Err(outcome) => write_outcome(output, faults, &outcome),
+        Ok(text) => write_outcome(output, faults, hints, &replay_outcome(alloc, &text)),
+        Err(outcome) => write_outcome(output, faults, hints, &outcome),
     }
 }
 

@@ -23,12 +23,13 @@ use streams::{Sink, Source};
 /// Reads a plan text to the end of the source, or until it is too long, does each script of the plan on one tree of the shape
 /// and the variant, in a thread of its own that enters the gate first, with at most `limit` steps of each call, and writes the
 /// text of the history. Answers the exit status.
-pub fn run_tree_drive<R: Threads + Sync, S: Source, O: Sink, F: Sink, G: Gate + Sync>(
+pub fn run_tree_drive<R: Threads + Sync, S: Source, O: Sink, F: Sink, H: Sink, G: Gate + Sync>(
     rt: &R,
     alloc: Global,
     source: &mut S,
     output: &mut O,
     faults: &mut F,
+    hints: &mut H,
     shape: Shape,
     variant: Variant,
     limit: u32,
@@ -37,20 +38,22 @@ pub fn run_tree_drive<R: Threads + Sync, S: Source, O: Sink, F: Sink, G: Gate + 
     requires source { S.failures source.old < u64.MAX }
     requires output { O.failures output.old < u64.MAX }
     requires faults { F.failures faults.old < u64.MAX }
+    requires hints { H.failures hints.old < u64.MAX }
     requires shape { IsWithinLimits shape }
     ensures run { IsRun
         (IsTreeDriveOutcome shape variant limit (change S.remaining S.failures source.old source.new))
         (change O.written O.failures output.old output.new)
-        (change F.written F.failures faults.old faults.new) result }
+        (change F.written F.failures faults.old faults.new)
+        (change H.written H.failures hints.old hints.new) result }
     ensures read { IsTextRead text_limit (change S.remaining S.failures source.old source.new) result }
     ensures passed { OnAnswerStatus result (IfSome (S.remaining source.old) (WasPassedForPlan (G.was_passed gate.now))) }
 {
     match text_from(alloc, source, MAX_TEXT) {
         Ok(text) => {
             let outcome = tree_drive_outcome(rt, alloc, &text, shape, variant, limit, gate);
-            write_outcome(output, faults, &outcome)
+            write_outcome(output, faults, hints, &outcome)
         }
-        Err(outcome) => write_outcome(output, faults, &outcome),
+        Err(outcome) => write_outcome(output, faults, hints, &outcome),
     }
 }
 

@@ -1,9 +1,10 @@
-// What is said behind the line of a fault of a plan or of a replay: what was wanted.
+// What is said beside the line of a fault of a plan or of a replay: what was wanted.
 ghost use Rattle.std.specs.Prelude.{◌≡◌};
-ghost use Rattle.plan_engines.specs.Wanted.{plan_wanted, machine_wanted};
+ghost use Rattle.plan_engines.specs.Wanted.{plan_wanted, machine_wanted, replay_wanted};
 
 use outcomes::{json_wanted, length_wanted};
 use plans::{MachineFault, PlanFault};
+use replays::ReplayFault;
 
 /// What was wanted in the place of a fault of a plan.
 pub(crate) fn plan_wanted(fault: PlanFault) -> &'static str
@@ -25,8 +26,19 @@ pub(crate) fn plan_wanted(fault: PlanFault) -> &'static str
     }
 }
 
+/// What was wanted where a text of a replay gives no history.
+pub(crate) fn replay_wanted(fault: &ReplayFault) -> &'static str
+    ensures { result.now ≡ replay_wanted fault.now }
+{
+    match fault {
+        ReplayFault::Replay(fault) => machine_wanted(*fault),
+        ReplayFault::Schedule(stop) => machine_wanted(stop.fault),
+        ReplayFault::Memory => "",
+    }
+}
+
 /// What was wanted in the place of a fault of a replay or of its schedule.
-pub(crate) fn machine_wanted(fault: MachineFault) -> &'static str
+fn machine_wanted(fault: MachineFault) -> &'static str
     ensures { result.now ≡ machine_wanted fault }
 {
     match fault {

@@ -14,7 +14,7 @@ use Rattle.stream_engines.specs.declared.handed.LineFollower.TheVariants.{Going,
 use Rattle.stream_engines.specs.Handed.{IsHanded}
 use Rattle.stream_engines.specs.Leaves.{IsManyRefusal}
 use Rattle.stream_engines.specs.Outcomes.{IsStreamOutcome}
-use Rattle.stream_engines.specs.Refusals.{many_told, most_lines}
+use Rattle.stream_engines.specs.Refusals.{too_many_name, most_lines}
 use Rattle.stream_engines.specs.StreamTexts.{BeginsWith}
 use Rattle.stream_engines.proofs.ReadingLemmas.{with_byte}
 use Rattle.stream_engines.proofs.RefusalLemmas.{refusal_of, next_of, numbered}
@@ -85,11 +85,11 @@ handed_many budget given count number lines line f outcome handed many numbers i
     refused told (Noted answer bytes note) begins is = absurd is
     refused told (Words bytes) begins is = absurd is
     refused told Failed begins is = absurd is
-    refused None (Refused bytes) begins is = tt
-    refused (Some text) (Refused bytes) begins is =
-        refusal_of text lines (line ∷ begins.0) f many_told (string_bytes bytes) handed.3 (next_of text lines begins.0 line begins.1)
-        (inr (inr (record { count = most; name_is = refl })))
-        (numbered (length lines + 1) number many_told (string_bytes bytes) (ap (λ n. n + 1) most ∙ sym numbers) is)
+    refused None (Refused bytes hint) begins is = tt
+    refused (Some text) (Refused bytes hint) begins is =
+        refusal_of text lines (line ∷ begins.0) f too_many_name (string_bytes bytes) (string_bytes hint) handed.3 (next_of text lines begins.0 line begins.1)
+        (inr (inr (record { count = most; name_is = refl; hint_is = is.1 })))
+        (numbered (length lines + 1) number too_many_name (string_bytes bytes) (ap (λ n. n + 1) most ∙ sym numbers) is.0)
 
 -- ---- lines more
 

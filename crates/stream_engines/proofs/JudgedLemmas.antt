@@ -70,7 +70,7 @@ pub lost_at : (budget : ℕ) (told : Option (List ℕ)) (read : List (List ℕ))
     → IsLost followed.stream.start followed.stream.events process reply budget reason
     → IsLostOutcome reason outcome → IsStreamOutcome budget told outcome
 lost_at budget told read next f process reply reason Memory followed spelled begins judged is = tt
-lost_at budget told read next f process reply reason (Refused bytes) followed spelled begins judged is = absurd is
+lost_at budget told read next f process reply reason (Refused bytes hint) followed spelled begins judged is = absurd is
 lost_at budget told read next f process reply reason (Noted answer bytes note) followed spelled begins judged is = absurd is
 lost_at budget told read next f process reply reason (Words bytes) followed spelled begins judged is = absurd is
 lost_at budget told read next f process reply reason Failed followed spelled begins judged is = absurd is
@@ -86,7 +86,7 @@ pub spent_at : (budget : ℕ) (told : Option (List ℕ)) (read : List (List ℕ)
     → IsSpent followed.stream.start followed.stream.events process reply budget reason
     → IsAnsweredBy Undecided (line (compact_text (reason_data reason (codes "undecided")))) outcome → IsStreamOutcome budget told outcome
 spent_at budget told read next f process reply reason Memory followed spelled begins judged is = tt
-spent_at budget told read next f process reply reason (Refused bytes) followed spelled begins judged is = absurd is
+spent_at budget told read next f process reply reason (Refused bytes hint) followed spelled begins judged is = absurd is
 spent_at budget told read next f process reply reason (Noted answer bytes note) followed spelled begins judged is = absurd is
 spent_at budget told read next f process reply reason (Words bytes) followed spelled begins judged is = absurd is
 spent_at budget told read next f process reply reason Failed followed spelled begins judged is = absurd is
@@ -128,7 +128,7 @@ pub whole_at : (budget : ℕ) (told : Option (List ℕ)) (read : List (List ℕ)
     (followed : IsFollowed read f) → AreLinesOf told read → calls ≡ length (operations followed.stream.events)
     → overlap ≡ overlap_of followed.stream.events → IsYesOutcome calls overlap outcome → IsStreamOutcome budget told outcome
 whole_at budget told read f calls overlap Memory followed lines count many is = tt
-whole_at budget told read f calls overlap (Refused bytes) followed lines count many is = absurd is
+whole_at budget told read f calls overlap (Refused bytes hint) followed lines count many is = absurd is
 whole_at budget told read f calls overlap (Words bytes) followed lines count many is = absurd is
 whole_at budget told read f calls overlap Failed followed lines count many is = absurd is
 whole_at budget None read f calls overlap (Answered answer bytes) followed lines count many is = tt

@@ -14,7 +14,7 @@ use Rattle.stream_engines.specs.declared.followed.Followed.{Followed}
 use Rattle.stream_engines.specs.Followed.{IsFollowed}
 use Rattle.stream_engines.specs.StreamTexts.{BeginsWith}
 use Rattle.stream_engines.specs.Reading.{HasRead, AreLinesOf}
-use Rattle.stream_engines.specs.Refusals.{line_fault_told, many_told, IsLineFaultAfter, stream_fault_line, most_lines}
+use Rattle.stream_engines.specs.Refusals.{line_fault_name, too_many_name, IsLineFaultAfter, stream_fault_line, most_lines}
 use Rattle.stream_engines.specs.Leaves.{IsLineRefusal, IsManyRefusal}
 use Rattle.stream_engines.specs.Outcomes.{IsStreamOutcome, IsFollowOutcome}
 use Rattle.stream_engines.proofs.RefusalLemmas.{refusal_of}
@@ -137,11 +137,11 @@ long_at budget told read f number old (Answered answer bytes) followed count has
 long_at budget told read f number old (Noted answer bytes note) followed count has long is = absurd is
 long_at budget told read f number old (Words bytes) followed count has long is = absurd is
 long_at budget told read f number old Failed followed count has long is = absurd is
-long_at budget None read f number old (Refused bytes) followed count has long is = tt
-long_at budget (Some text) read f number old (Refused bytes) followed count has long is =
+long_at budget None read f number old (Refused bytes hint) followed count has long is = tt
+long_at budget (Some text) read f number old (Refused bytes hint) followed count has long is =
     let begins = too_long has.0 (subst BeginsTooLong has.1 long) in
     let size = begins.long in
-    refusal_of text read (begins.next ∷ begins.rest) f (line_fault_told begins.next faults.TooLong) (string_bytes bytes) followed
+    refusal_of text read (begins.next ∷ begins.rest) f (line_fault_name faults.TooLong) (string_bytes bytes) (string_bytes hint) followed
     (has.2 ∙ ap (λ (ls : List (List ℕ)). read ++ ls) begins.parts)
     (inl (record {
       next = begins.next;
@@ -151,7 +151,8 @@ long_at budget (Some text) read f number old (Refused bytes) followed count has 
       is_fault = is_too_long read f.has_start begins.next (omega arith);
       not_memory = is.0;
       name_is = refl;
-    })) (is.1 ∙ ap (λ (n : ℕ). stream_fault_line n (line_fault_told begins.next faults.TooLong)) (sym count))
+      hint_is = is.2;
+    })) (is.1 ∙ ap (λ (n : ℕ). stream_fault_line n (line_fault_name faults.TooLong)) (sym count))
 
 -- ---- too many lines
 
@@ -164,11 +165,11 @@ many_at budget told read f number new (Answered answer bytes) followed many coun
 many_at budget told read f number new (Noted answer bytes note) followed many count has is = absurd is
 many_at budget told read f number new (Words bytes) followed many count has is = absurd is
 many_at budget told read f number new Failed followed many count has is = absurd is
-many_at budget None read f number new (Refused bytes) followed many count has is = tt
-many_at budget (Some text) read f number new (Refused bytes) followed many count has is =
-    refusal_of text read (lines_of has.0) f many_told (string_bytes bytes) followed has.2
-    (inr (inr (record { count = many; name_is = refl })))
-    (is ∙ ap (λ (n : ℕ). stream_fault_line n many_told) (sym count))
+many_at budget None read f number new (Refused bytes hint) followed many count has is = tt
+many_at budget (Some text) read f number new (Refused bytes hint) followed many count has is =
+    refusal_of text read (lines_of has.0) f too_many_name (string_bytes bytes) (string_bytes hint) followed has.2
+    (inr (inr (record { count = many; name_is = refl; hint_is = is.1 })))
+    (is.0 ∙ ap (λ (n : ℕ). stream_fault_line n too_many_name) (sym count))
 
 -- ---- the next line was taken, or was not
 

@@ -14,17 +14,18 @@ use Rattle.outcomes.specs.declared.outcome.Outcome.TheVariants.{Answered, Noted,
 use Rattle.stream_engines.specs.declared.followed.Followed.{Followed}
 use Rattle.stream_engines.specs.Followed.{IsFollowed}
 use Rattle.stream_engines.specs.StreamTexts.{BeginsWith}
-use Rattle.stream_engines.specs.Refusals.{line_fault_told, turn_fault_told, turn_fault, stream_fault_line, IsLineFaultAfter, StopsFor}
+use Rattle.stream_engines.specs.Refusals.{line_fault_name, turn_fault_name, line_fault_hint, turn_fault_hint}
+use Rattle.stream_engines.specs.Refusals.{turn_fault, stream_fault_line, IsLineFaultAfter, StopsFor}
 use Rattle.stream_engines.specs.Answers.{IsStreamRefusal}
 use Rattle.stream_engines.specs.Leaves.{IsLineRefusal, IsTurnRefusal}
 use Rattle.stream_engines.specs.Outcomes.{IsStreamOutcome}
 
 -- a text that begins with lines that are followed, and stops behind them
-pub refusal_of : (text : List ℕ) (read more : List (List ℕ)) (f : Followed) (name bytes : List ℕ) (followed : IsFollowed read f)
+pub refusal_of : (text : List ℕ) (read more : List (List ℕ)) (f : Followed) (name bytes hint : List ℕ) (followed : IsFollowed read f)
     → lines_of text ≡ read ++ more
-    → StopsFor read f.has_start followed.stream.events more name → bytes ≡ stream_fault_line (length read + 1) name
-    → IsStreamRefusal text bytes
-refusal_of text read more f name bytes followed parts stops is = record {
+    → StopsFor read f.has_start followed.stream.events more name hint → bytes ≡ stream_fault_line (length read + 1) name
+    → IsStreamRefusal text bytes hint
+refusal_of text read more f name bytes hint followed parts stops is = record {
   stream = followed.stream;
   has_start = f.has_start;
   read = read;
@@ -57,9 +58,9 @@ refused_at budget told read line f number fault (Answered answer bytes) followed
 refused_at budget told read line f number fault (Noted answer bytes note) followed count wrong begins is = absurd is
 refused_at budget told read line f number fault (Words bytes) followed count wrong begins is = absurd is
 refused_at budget told read line f number fault Failed followed count wrong begins is = absurd is
-refused_at budget None read line f number fault (Refused bytes) followed count wrong begins is = tt
-refused_at budget (Some text) read line f number fault (Refused bytes) followed count wrong begins is =
-    refusal_of text read (line ∷ begins.0) f (line_fault_told line fault) (string_bytes bytes) followed
+refused_at budget None read line f number fault (Refused bytes hint) followed count wrong begins is = tt
+refused_at budget (Some text) read line f number fault (Refused bytes hint) followed count wrong begins is =
+    refusal_of text read (line ∷ begins.0) f (line_fault_name fault) (string_bytes bytes) (string_bytes hint) followed
     (next_of text read begins.0 line begins.1)
     (inl (record {
       next = line;
@@ -69,7 +70,8 @@ refused_at budget (Some text) read line f number fault (Refused bytes) followed 
       is_fault = wrong;
       not_memory = is.0;
       name_is = refl;
-    })) (numbered (length read + 1) number (line_fault_told line fault) (string_bytes bytes) count is.1)
+      hint_is = is.2;
+    })) (numbered (length read + 1) number (line_fault_name fault) (string_bytes bytes) count is.1)
 
 -- the event of the next line is out of its turn
 pub refused_turn : (budget : ℕ) (told : Option (List ℕ)) (read : List (List ℕ)) (line : List ℕ) (f : Followed) (number : ℕ) (e : Event)
@@ -82,9 +84,9 @@ refused_turn budget told read line f number e fault (Answered answer bytes) foll
 refused_turn budget told read line f number e fault (Noted answer bytes note) followed count spelled wrong begins is = absurd is
 refused_turn budget told read line f number e fault (Words bytes) followed count spelled wrong begins is = absurd is
 refused_turn budget told read line f number e fault Failed followed count spelled wrong begins is = absurd is
-refused_turn budget None read line f number e fault (Refused bytes) followed count spelled wrong begins is = tt
-refused_turn budget (Some text) read line f number e fault (Refused bytes) followed count spelled wrong begins is =
-    refusal_of text read (line ∷ begins.0) f (turn_fault_told line fault) (string_bytes bytes) followed
+refused_turn budget None read line f number e fault (Refused bytes hint) followed count spelled wrong begins is = tt
+refused_turn budget (Some text) read line f number e fault (Refused bytes hint) followed count spelled wrong begins is =
+    refusal_of text read (line ∷ begins.0) f (turn_fault_name fault) (string_bytes bytes) (string_bytes hint) followed
     (next_of text read begins.0 line begins.1)
     (inr (inl (record {
       next = line;
@@ -95,7 +97,8 @@ refused_turn budget (Some text) read line f number e fault (Refused bytes) follo
       fault = fault;
       is_fault = wrong is.0;
       name_is = refl;
-    }))) (numbered (length read + 1) number (turn_fault_told line fault) (string_bytes bytes) count is.1)
+      hint_is = is.2;
+    }))) (numbered (length read + 1) number (turn_fault_name fault) (string_bytes bytes) count is.1)
 
 -- what an error shows of an event, unless memory was wanting
 pub shown_some : (fault : FollowFault) (seen : Option FollowFault) → seen ≡ shown fault → fault ≢ turns.Memory → seen ≡ Some fault

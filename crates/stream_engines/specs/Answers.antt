@@ -87,8 +87,8 @@ IsLinesAnswer budget lines verdicts.Undecided bytes note =
     (reason : Reason) × IsJudgedAnswer budget lines IsSpent reason
     × (bytes ≡ line (compact_text (reason_data reason (codes "undecided")))) × (note ≡ [])
 
--- with this line `follow` refuses the lines: those before it are followed, and there it stops
-pub record IsLinesRefusal (lines : List (List ℕ)) (bytes : List ℕ) : Type 0 where
+-- with this line and this hint `follow` refuses the lines: those before are followed, and there it stops
+pub record IsLinesRefusal (lines : List (List ℕ)) (bytes hint : List ℕ) : Type 0 where
   pub stream : HistoryView
   pub has_start : Bool
   pub read : List (List ℕ)
@@ -98,12 +98,12 @@ pub record IsLinesRefusal (lines : List (List ℕ)) (bytes : List ℕ) : Type 0 
   pub well_formed : IsWellFormed stream.events
   pub linearizable : IsLinearizable stream.start (operations stream.events)
   pub name : List ℕ
-  pub stops : StopsFor read has_start stream.events more name
+  pub stops : StopsFor read has_start stream.events more name hint
   pub bytes_are : bytes ≡ stream_fault_line (length read + 1) name
 
 -- the same of a text
 abbrev pub IsFollowAnswer : ℕ → List ℕ → outcomes.Answer → List ℕ → List ℕ → Type 0
 IsFollowAnswer budget text answer bytes note = IsLinesAnswer budget (lines_of text) answer bytes note
 
-abbrev pub IsStreamRefusal : List ℕ → List ℕ → Type 0
-IsStreamRefusal text bytes = IsLinesRefusal (lines_of text) bytes
+abbrev pub IsStreamRefusal : List ℕ → List ℕ → List ℕ → Type 0
+IsStreamRefusal text bytes hint = IsLinesRefusal (lines_of text) bytes hint

@@ -11,28 +11,30 @@ use Rattle.outcomes.specs.declared.outcome.Answer.TheVariants.{Yes, No}
 use Rattle.outcomes.specs.declared.outcome.Outcome.{Outcome}
 use Rattle.outcomes.specs.declared.outcome.Outcome.TheVariants.{Answered, Noted, Refused, Memory}
 use Rattle.outcomes.specs.Lines.{line}
-use Rattle.stream_engines.specs.Refusals.{line_fault_told, turn_fault_told, many_told, stream_fault_line}
+use Rattle.stream_engines.specs.Refusals.{line_fault_name, turn_fault_name, too_many_name, stream_fault_line}
+use Rattle.stream_engines.specs.Refusals.{line_fault_hint, turn_fault_hint, too_many_hint}
 use Rattle.stream_engines.specs.Reports.{yes_data}
 use Rattle.stream_engines.specs.Notes.{note_of}
 use Rattle.stream_engines.specs.Answers.{IsLostText}
 
 -- the outcome of the line of this number, which has this fault
 abbrev pub IsLineRefusal : ℕ → List ℕ → LineFault → Outcome → Type 0
-IsLineRefusal number next fault (Refused bytes) = (fault ≢ lines.Memory)
-    × (string_bytes bytes ≡ stream_fault_line number (line_fault_told next fault))
+IsLineRefusal number next fault (Refused bytes hint) = (fault ≢ lines.Memory)
+    × (string_bytes bytes ≡ stream_fault_line number (line_fault_name fault)) × (string_bytes hint ≡ line_fault_hint next fault)
 IsLineRefusal number next fault Memory = ⊤
 IsLineRefusal number next fault outcome = ⊥
 
 -- the same of its event
 abbrev pub IsTurnRefusal : ℕ → List ℕ → FollowFault → Outcome → Type 0
-IsTurnRefusal number next fault (Refused bytes) = (fault ≢ turns.Memory)
-    × (string_bytes bytes ≡ stream_fault_line number (turn_fault_told next fault))
+IsTurnRefusal number next fault (Refused bytes hint) = (fault ≢ turns.Memory)
+    × (string_bytes bytes ≡ stream_fault_line number (turn_fault_name fault)) × (string_bytes hint ≡ turn_fault_hint next fault)
 IsTurnRefusal number next fault Memory = ⊤
 IsTurnRefusal number next fault outcome = ⊥
 
 -- the outcome where there are too many lines
 abbrev pub IsManyRefusal : ℕ → Outcome → Type 0
-IsManyRefusal number (Refused bytes) = string_bytes bytes ≡ stream_fault_line number many_told
+IsManyRefusal number (Refused bytes hint) = (string_bytes bytes ≡ stream_fault_line number too_many_name)
+    × (string_bytes hint ≡ too_many_hint)
 IsManyRefusal number Memory = ⊤
 IsManyRefusal number outcome = ⊥
 

@@ -6,12 +6,13 @@ use Rattle.outcomes.specs.Ends.{Change, IsSound}
 use Rattle.outcomes.specs.Outcomes.{IsUnread}
 use Rattle.stream_engines.specs.Answers.{IsFollowAnswer, IsStreamRefusal}
 
--- the outcome of a text, as far as it is told: an answer with its note, or without where it has none, or a refusal, or want of memory
+-- the outcome of a text, as far as it is told: an answer with its note, or without where it has none, or a refusal with its hint, or want
+-- of memory
 abbrev pub IsStreamOutcome : ℕ → Option (List ℕ) → Outcome → Type 0
 IsStreamOutcome budget told (Answered answer bytes) = IfSome told (λ text. IsFollowAnswer budget text answer (string_bytes bytes) [])
 IsStreamOutcome budget told (Noted answer bytes note) =
     IfSome told (λ text. IsFollowAnswer budget text answer (string_bytes bytes) (string_bytes note))
-IsStreamOutcome budget told (Refused bytes) = IfSome told (λ text. IsStreamRefusal text (string_bytes bytes))
+IsStreamOutcome budget told (Refused bytes hint) = IfSome told (λ text. IsStreamRefusal text (string_bytes bytes) (string_bytes hint))
 IsStreamOutcome budget told Memory = ⊤
 IsStreamOutcome budget told (Words bytes) = ⊥
 IsStreamOutcome budget told Failed = ⊥

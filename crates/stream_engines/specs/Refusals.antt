@@ -10,7 +10,9 @@ use Rattle.stream_text.specs.LineFaults.{IsEventLineFault, IsFirstLineFault}
 use Rattle.follow.specs.declared.fault.FollowFault.{FollowFault}
 use Rattle.follow.specs.Faults.{invocation_fault, answer_fault}
 use Rattle.outcomes.specs.Lines.{line}
-use Rattle.stream_engines.specs.Wanted.{too_many_wanted, line_wanted, turn_wanted_for, name_with_wanted, name_with_found}
+use Rattle.outcomes.specs.Found.{found_hint}
+use Rattle.outcomes.specs.Wanted.{wanted_hint}
+use Rattle.stream_engines.specs.Wanted.{too_many_wanted, line_wanted, turn_wanted_for}
 
 -- how many lines are read at most
 abbrev pub most_lines : ℕ
@@ -36,19 +38,19 @@ turn_fault_name turns.NotWellFormed = codes "6 NotWellFormed"
 turn_fault_name turns.TooMany = too_many_name
 turn_fault_name turns.Memory = codes "7 Memory"
 
--- what is told of a line with a fault: its name, the line, but of one that is too long, and what was wanted
-abbrev pub line_fault_told : List ℕ → LineFault → List ℕ
-line_fault_told next lines.TooLong = name_with_wanted (line_fault_name lines.TooLong) (line_wanted lines.TooLong)
-line_fault_told next fault = name_with_found (line_fault_name fault) next (line_wanted fault)
+-- the hint on a line with a fault: the line, but of one that is too long, and what was wanted
+abbrev pub line_fault_hint : List ℕ → LineFault → List ℕ
+line_fault_hint next lines.TooLong = wanted_hint (line_wanted lines.TooLong)
+line_fault_hint next fault = found_hint next (line_wanted fault)
 
-abbrev pub turn_fault_told : List ℕ → FollowFault → List ℕ
-turn_fault_told next fault = name_with_found (turn_fault_name fault) next (turn_wanted_for fault)
+abbrev pub turn_fault_hint : List ℕ → FollowFault → List ℕ
+turn_fault_hint next fault = found_hint next (turn_wanted_for fault)
 
 -- and where there are too many lines
-abbrev pub many_told : List ℕ
-many_told = name_with_wanted too_many_name too_many_wanted
+abbrev pub too_many_hint : List ℕ
+too_many_hint = wanted_hint too_many_wanted
 
--- the lines of a fault; lines are numbered from 1
+-- the line of a fault; lines of a stream are numbered from 1
 abbrev pub stream_fault_line : ℕ → List ℕ → List ℕ
 stream_fault_line number name = line (codes "stream: line " ++ decimal number ++ codes ": " ++ name)
 
@@ -63,17 +65,18 @@ IsLineFaultAfter [] has_start next fault = IsFirstLineFault next fault
 IsLineFaultAfter (line ∷ lines) has_start next fault = IsEventLineFault has_start next fault
 
 -- the next line spells nothing that may stand there
-pub record IsFaulty (read : List (List ℕ)) (has_start : Bool) (more : List (List ℕ)) (name : List ℕ) : Type 0 where
+pub record IsFaulty (read : List (List ℕ)) (has_start : Bool) (more : List (List ℕ)) (name hint : List ℕ) : Type 0 where
   pub next : List ℕ
   pub rest : List (List ℕ)
   pub parts : more ≡ next ∷ rest
   pub fault : LineFault
   pub is_fault : IsLineFaultAfter read has_start next fault
   pub not_memory : fault ≢ lines.Memory
-  pub name_is : name ≡ line_fault_told next fault
+  pub name_is : name ≡ line_fault_name fault
+  pub hint_is : hint ≡ line_fault_hint next fault
 
 -- the next line spells an event that is not in its turn
-pub record IsOutOfTurn (has_start : Bool) (events : List Event) (more : List (List ℕ)) (name : List ℕ) : Type 0 where
+pub record IsOutOfTurn (has_start : Bool) (events : List Event) (more : List (List ℕ)) (name hint : List ℕ) : Type 0 where
   pub next : List ℕ
   pub rest : List (List ℕ)
   pub parts : more ≡ next ∷ rest
@@ -81,13 +84,16 @@ pub record IsOutOfTurn (has_start : Bool) (events : List Event) (more : List (Li
   pub spelled : SpellsEvent has_start next event
   pub fault : FollowFault
   pub is_fault : turn_fault events event ≡ Some fault
-  pub name_is : name ≡ turn_fault_told next fault
+  pub name_is : name ≡ turn_fault_name fault
+  pub hint_is : hint ≡ turn_fault_hint next fault
 
 -- as many lines were read as may be
-pub record AreMany (read : List (List ℕ)) (name : List ℕ) : Type 0 where
+pub record AreMany (read : List (List ℕ)) (name hint : List ℕ) : Type 0 where
   pub count : length read ≡ most_lines
-  pub name_is : name ≡ many_told
+  pub name_is : name ≡ too_many_name
+  pub hint_is : hint ≡ too_many_hint
 
 -- why reading stops behind these lines, which spell these events
-abbrev pub StopsFor : List (List ℕ) → Bool → List Event → List (List ℕ) → List ℕ → Type 0
-StopsFor read has_start events more name = IsFaulty read has_start more name ⊎ IsOutOfTurn has_start events more name ⊎ AreMany read name
+abbrev pub StopsFor : List (List ℕ) → Bool → List Event → List (List ℕ) → List ℕ → List ℕ → Type 0
+StopsFor read has_start events more name hint =
+    IsFaulty read has_start more name hint ⊎ IsOutOfTurn has_start events more name hint ⊎ AreMany read name hint

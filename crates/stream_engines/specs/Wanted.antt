@@ -1,11 +1,9 @@
 -- What was wanted in the place of a line that is refused, as the program says it.
-use Rattle.std.specs.Prelude.{ℕ, List, [], ◌++◌, codes}
+use Rattle.std.specs.Prelude.{ℕ, List, [], codes}
 use Rattle.stream_text.specs.declared.line_fault.LineFault.{LineFault}
 use Rattle.stream_text.specs.declared.line_fault.LineFault.TheVariants as lines
 use Rattle.follow.specs.declared.fault.FollowFault.{FollowFault}
 use Rattle.follow.specs.declared.fault.FollowFault.TheVariants as turns
-use Rattle.outcomes.specs.Lines.{line}
-use Rattle.outcomes.specs.Found.{with_found}
 use Rattle.outcomes.specs.Wanted.{json_wanted, event_wanted, turn_wanted, pair_wanted}
 
 abbrev pub too_many_wanted : List ℕ
@@ -27,11 +25,3 @@ turn_wanted_for turns.Shape = event_wanted
 turn_wanted_for turns.NotWellFormed = turn_wanted
 turn_wanted_for turns.TooMany = too_many_wanted
 turn_wanted_for turns.Memory = []
-
--- the name of a fault, and what was wanted on a line of its own
-abbrev pub name_with_wanted : List ℕ → List ℕ → List ℕ
-name_with_wanted name wanted = line name ++ codes "wanted " ++ wanted
-
--- the same, with the line that was read
-abbrev pub name_with_found : List ℕ → List ℕ → List ℕ → List ℕ
-name_with_found name next wanted = with_found (line name) next ++ codes "wanted " ++ wanted

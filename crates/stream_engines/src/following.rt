@@ -21,24 +21,27 @@ pub(crate) const MOST_LINES: u64 = u64::MAX - 1;
 /// Reads the lines of a stream one by one, each at most `MAX_LINE` bytes, and judges each answer as it comes: a search of its
 /// group meets at most `budget` configurations. It ends at the end of the source, or at the first line that goes wrong. Memory
 /// is taken for the longest line, and for what `Followers` keep. Behind each line it is told how far this is. Answers the exit status.
-pub fn run_follow<S: Source, O: Sink, F: Sink, P: Progress>(
+pub fn run_follow<S: Source, O: Sink, F: Sink, H: Sink, P: Progress>(
     alloc: Global,
     source: &mut S,
     output: &mut O,
     faults: &mut F,
+    hints: &mut H,
     budget: u32,
     progress: &mut P,
 ) -> u8
     requires source { S.failures source.old < u64.MAX }
     requires output { O.failures output.old < u64.MAX }
     requires faults { F.failures faults.old < u64.MAX }
+    requires hints { H.failures hints.old < u64.MAX }
     ensures { IsRun
         (IsFollowOutcome budget (change S.remaining S.failures source.old source.new))
         (change O.written O.failures output.old output.new)
-        (change F.written F.failures faults.old faults.new) result }
+        (change F.written F.failures faults.old faults.new)
+        (change H.written H.failures hints.old hints.new) result }
 {
     let outcome = follow_outcome(alloc, source, budget, progress);
-    write_outcome(output, faults, &outcome)
+    write_outcome(output, faults, hints, &outcome)
 }
 
 /// What a stream is answered, before anything is written.

@@ -1,12 +1,13 @@
 // Why a line of a stream is refused, as an outcome.
 ghost use Rattle.std.specs.Prelude.{◌≡◌, IfOk, string_bytes};
 ghost use Rattle.stream_engines.specs.Leaves.{IsLineRefusal, IsTurnRefusal, IsManyRefusal};
-ghost use Rattle.stream_engines.specs.Refusals.{line_fault_name, turn_fault_name, line_fault_told, turn_fault_told, many_told};
-ghost use Rattle.stream_engines.specs.Refusals.{stream_fault_line};
-ghost use Rattle.stream_engines.specs.Wanted.{too_many_wanted, line_wanted, turn_wanted_for, name_with_wanted, name_with_found};
+ghost use Rattle.stream_engines.specs.Refusals.{line_fault_name, turn_fault_name, line_fault_hint, stream_fault_line};
+ghost use Rattle.stream_engines.specs.Wanted.{too_many_wanted, line_wanted, turn_wanted_for};
 
 use follow::FollowFault;
-use outcomes::{Outcome, event_wanted, json_wanted, line_of, pair_wanted, push_found, turn_wanted};
+use outcomes::{
+    Outcome, event_wanted, found_hint, json_wanted, pair_wanted, turn_wanted, wanted_hint,
+};
 use std::alloc::{AllocError, Global};
 use stream_text::LineFault;
 
@@ -17,10 +18,10 @@ pub fn refused_line(alloc: Global, number: u64, line: &[u8], fault: LineFault) -
     if matches!(fault, LineFault::Memory) {
         return Outcome::Memory;
     }
-    match line_fault_told(alloc, line, fault) {
-        Ok(told) => Outcome::refused(fault_line(alloc, number, told.as_str())),
-        Err(_) => Outcome::Memory,
-    }
+    Outcome::refused(
+        line_fault_line(alloc, number, fault),
+        line_fault_hint(alloc, line, fault),
+    )
 }
 
 /// The refusal of the event of the line of this number, or want of memory.
@@ -29,10 +30,10 @@ pub fn refused_event(alloc: Global, number: u64, line: &[u8], fault: &FollowFaul
 {
     match fault {
         FollowFault::Memory => Outcome::Memory,
-        _ => match turn_fault_told(alloc, line, fault) {
-            Ok(told) => Outcome::refused(fault_line(alloc, number, told.as_str())),
-            Err(_) => Outcome::Memory,
-        },
+        _ => Outcome::refused(
+            fault_line(alloc, number, turn_fault_name(fault)),
+            found_hint(alloc, line, turn_wanted_for(fault)),
+        ),
     }
 }
 
@@ -40,67 +41,38 @@ pub fn refused_event(alloc: Global, number: u64, line: &[u8], fault: &FollowFaul
 pub fn refused_many(alloc: Global, number: u64) -> Outcome
     ensures { IsManyRefusal number result }
 {
-    match many_told(alloc) {
-        Ok(told) => Outcome::refused(fault_line(alloc, number, told.as_str())),
-        Err(_) => Outcome::Memory,
-    }
+    Outcome::refused(
+        fault_line(alloc, number, "5 TooMany"),
+        wanted_hint(alloc, too_many_wanted()),
+    )
 }
 
-/// The lines of a fault of which this is told, at the line of this number.
-fn fault_line(alloc: Global, number: u64, told: &str) -> Result<String, AllocError>
-    ensures { IfOk result (λ text. string_bytes text ≡ stream_fault_line number told.now) }
+/// The line of a fault of this name, at the line of this number.
+fn fault_line(alloc: Global, number: u64, name: &str) -> Result<String, AllocError>
+    ensures { IfOk result (λ text. string_bytes text ≡ stream_fault_line number name.now) }
 {
     let mut line = format!(in alloc; "stream: line {number}: ")?;
-    line.push_str(told)?;
+    line.push_str(name)?;
     line.push_str("\n")?;
     Ok(line)
 }
 
-/// What is told of a line with a fault.
-fn line_fault_told(alloc: Global, line: &[u8], fault: LineFault) -> Result<String, AllocError>
-    ensures { IfOk result (λ told. string_bytes told ≡ line_fault_told line.now fault) }
+/// The line of the fault of a line.
+fn line_fault_line(alloc: Global, number: u64, fault: LineFault) -> Result<String, AllocError>
+    ensures { IfOk result (λ text. string_bytes text ≡ stream_fault_line number (line_fault_name fault)) }
 {
     let name = line_fault_name(alloc, fault)?;
+    fault_line(alloc, number, name.as_str())
+}
+
+/// The hint on a line with a fault.
+fn line_fault_hint(alloc: Global, line: &[u8], fault: LineFault) -> Result<String, AllocError>
+    ensures { IfOk result (λ hint. string_bytes hint ≡ line_fault_hint line.now fault) }
+{
     match fault {
-        LineFault::TooLong => name_with_wanted(name, line_wanted(fault)),
-        _ => name_with_found(name, line, line_wanted(fault)),
+        LineFault::TooLong => wanted_hint(alloc, line_wanted(fault)),
+        _ => found_hint(alloc, line, line_wanted(fault)),
     }
-}
-
-/// What is told of the fault of an event after others.
-fn turn_fault_told(alloc: Global, line: &[u8], fault: &FollowFault) -> Result<String, AllocError>
-    ensures { IfOk result (λ told. string_bytes told ≡ turn_fault_told line.now fault.now) }
-{
-    let name = String::from_str(alloc, turn_fault_name(fault))?;
-    name_with_found(name, line, turn_wanted_for(fault))
-}
-
-/// What is told of a line behind as many as are read.
-fn many_told(alloc: Global) -> Result<String, AllocError>
-    ensures { IfOk result (λ told. string_bytes told ≡ many_told) }
-{
-    name_with_wanted(String::from_str(alloc, "5 TooMany")?, too_many_wanted())
-}
-
-/// A name, and on a line of its own what was read and what was wanted.
-fn name_with_found(name: String, line: &[u8], wanted: &str) -> Result<String, AllocError>
-    ensures { IfOk result (λ told. string_bytes told ≡ name_with_found (string_bytes name) line.now wanted.now) }
-{
-    let mut told = line_of(name)?;
-    push_found(&mut told, line)?;
-    told.push_str("wanted ")?;
-    told.push_str(wanted)?;
-    Ok(told)
-}
-
-/// A name, and what was wanted on a line of its own.
-fn name_with_wanted(name: String, wanted: &str) -> Result<String, AllocError>
-    ensures { IfOk result (λ told. string_bytes told ≡ name_with_wanted (string_bytes name) wanted.now) }
-{
-    let mut told = line_of(name)?;
-    told.push_str("wanted ")?;
-    told.push_str(wanted)?;
-    Ok(told)
 }
 
 /// The number and the name of the fault of a line.

@@ -1,2 +1,3 @@
 pub mod MemoryEnd
 pub mod Progress
+pub mod Optional

@@ -7,6 +7,7 @@
 
 mod fault;
 pub mod memory_ends;
+mod optional;
 mod readers;
 mod reading;
 mod sink;
@@ -15,6 +16,7 @@ mod writers;
 mod writing;
 
 pub use fault::{Failed, ReadFault};
+pub use optional::terminal_of;
 pub use readers::{ReaderSource, StandardInput};
 pub use reading::read_up_to;
 pub use sink::Sink;

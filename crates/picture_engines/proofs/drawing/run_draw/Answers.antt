@@ -30,7 +30,8 @@ pub returns-in-Err-clause-read : goal.returns-in-Err-clause-read
 returns-in-Err-clause-read g c =
     IsTextRead-unread text_limit (change g.S.Source.remaining g.S.Source.failures c.args.source.now c.text_from.new.source)
     (change g.O.Sink.written g.O.Sink.failures c.args.output.now c.write_outcome-in-Err.new.output)
-    (change g.F.Sink.written g.F.Sink.failures c.args.faults.now c.write_outcome-in-Err.new.faults) c.in-Err.outcome
+    (change g.F.Sink.written g.F.Sink.failures c.args.faults.now c.write_outcome-in-Err.new.faults)
+    (change g.H.Sink.written g.H.Sink.failures c.args.hints.now c.write_outcome-in-Err.new.hints) c.in-Err.outcome
     c.write_outcome-in-Err.result
     c.in-Err.ensures.unread c.text_from.ensures.most c.write_outcome-in-Err.ensures
 
@@ -40,7 +41,8 @@ returns-in-Ok-clause-passed g c =
     told-status (WasPassedForText WasPassed) text_limit (g.S.Source.remaining c.args.source.now) c.deref.result.now
     c.draw_outcome-outcome.result
     (change g.O.Sink.written g.O.Sink.failures c.args.output.now c.write_outcome.new.output)
-    (change g.F.Sink.written g.F.Sink.failures c.args.faults.now c.write_outcome.new.faults) c.write_outcome.result (passed-whole WasPassed)
+    (change g.F.Sink.written g.F.Sink.failures c.args.faults.now c.write_outcome.new.faults)
+    (change g.H.Sink.written g.H.Sink.failures c.args.hints.now c.write_outcome.new.hints) c.write_outcome.result (passed-whole WasPassed)
     (rw c.deref.ensures.value c.in-Ok.ensures.text) c.write_outcome.ensures c.draw_outcome-outcome.ensures.passed
 
 pub returns-in-Err-clause-passed : goal.returns-in-Err-clause-passed
@@ -48,6 +50,7 @@ returns-in-Err-clause-passed g c =
     unread-status (IfSome (g.S.Source.remaining c.args.source.now) (WasPassedForText (g.G.Gate.was_passed c.args.gate.now)))
     (change g.S.Source.remaining g.S.Source.failures c.args.source.now c.text_from.new.source)
     (change g.O.Sink.written g.O.Sink.failures c.args.output.now c.write_outcome-in-Err.new.output)
-    (change g.F.Sink.written g.F.Sink.failures c.args.faults.now c.write_outcome-in-Err.new.faults) c.in-Err.outcome
+    (change g.F.Sink.written g.F.Sink.failures c.args.faults.now c.write_outcome-in-Err.new.faults)
+    (change g.H.Sink.written g.H.Sink.failures c.args.hints.now c.write_outcome-in-Err.new.hints) c.in-Err.outcome
     c.write_outcome-in-Err.result
     c.in-Err.ensures.unread c.write_outcome-in-Err.ensures

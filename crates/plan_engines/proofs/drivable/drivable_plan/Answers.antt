@@ -22,7 +22,8 @@ undriven : (text : List ℕ) (fault : PlanFault) (outcome : Outcome) → IsUndri
     → IsUndrivenOutcome text outcome
 undriven text fault (Answered answer bytes) is h = h
 undriven text fault (Noted answer bytes note) is h = h
-undriven text fault (Refused bytes) is h = record { fault = fault; refused = is; not_memory = h.0; bytes_are = h.1 }
+undriven text fault (Refused bytes hint) is h =
+    record { fault = fault; refused = is; not_memory = h.0; bytes_are = h.1; hint_is = h.2 }
 undriven text fault Memory is h = tt
 undriven text fault (Words bytes) is h = h
 undriven text fault Failed is h = h

@@ -27,7 +27,8 @@ pub returns-in-Err-clause-read : goal.returns-in-Err-clause-read
 returns-in-Err-clause-read g c =
     IsTextRead-unread text_limit (change g.S.Source.remaining g.S.Source.failures c.args.source.now c.text_from.new.source)
     (change g.O.Sink.written g.O.Sink.failures c.args.output.now c.write_outcome-in-Err.new.output)
-    (change g.F.Sink.written g.F.Sink.failures c.args.faults.now c.write_outcome-in-Err.new.faults) c.in-Err.outcome
+    (change g.F.Sink.written g.F.Sink.failures c.args.faults.now c.write_outcome-in-Err.new.faults)
+    (change g.H.Sink.written g.H.Sink.failures c.args.hints.now c.write_outcome-in-Err.new.hints) c.in-Err.outcome
     c.write_outcome-in-Err.result
     c.in-Err.ensures.unread c.text_from.ensures.most c.write_outcome-in-Err.ensures
 
@@ -38,6 +39,7 @@ returns-in-Ok-clause-passed g c =
     c.tree_drive_outcome-outcome.result
     (change g.O.Sink.written g.O.Sink.failures c.args.output.now c.write_outcome.new.output)
     (change g.F.Sink.written g.F.Sink.failures c.args.faults.now c.write_outcome.new.faults)
+    (change g.H.Sink.written g.H.Sink.failures c.args.hints.now c.write_outcome.new.hints)
     c.write_outcome.result (planned-whole WasPassed)
     (rw c.deref.ensures.value c.in-Ok.ensures.text) c.write_outcome.ensures c.tree_drive_outcome-outcome.ensures.passed
 
@@ -46,6 +48,7 @@ returns-in-Err-clause-passed g c =
     unread-status (IfSome (g.S.Source.remaining c.args.source.now) (WasPassedForPlan (g.G.Gate.was_passed c.args.gate.now)))
     (change g.S.Source.remaining g.S.Source.failures c.args.source.now c.text_from.new.source)
     (change g.O.Sink.written g.O.Sink.failures c.args.output.now c.write_outcome-in-Err.new.output)
-    (change g.F.Sink.written g.F.Sink.failures c.args.faults.now c.write_outcome-in-Err.new.faults) c.in-Err.outcome
+    (change g.F.Sink.written g.F.Sink.failures c.args.faults.now c.write_outcome-in-Err.new.faults)
+    (change g.H.Sink.written g.H.Sink.failures c.args.hints.now c.write_outcome-in-Err.new.hints) c.in-Err.outcome
     c.write_outcome-in-Err.result
     c.in-Err.ensures.unread c.write_outcome-in-Err.ensures

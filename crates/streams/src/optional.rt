@@ -1,0 +1,31 @@
+// A sink that may be left out.
+ghost use Rattle.std.specs.Prelude.{◌≡◌, option_and_then};
+ghost use Rattle.streams.specs.Optional.{failures_of};
+
+use crate::{Failed, Sink, StandardError};
+use std::io::{IsTerminal, Stderr};
+
+/// Standard error where it is a terminal: for what helps a person who reads there, and is no part of what a program reads.
+pub fn terminal_of(error: Stderr) -> Option<StandardError>
+    ensures { ⟦<Option<StandardError> as Sink>⟧.failures result ≡ 0 }
+{
+    if error.is_terminal() {
+        Some(StandardError::new(error))
+    } else {
+        None
+    }
+}
+
+impl<K: Sink> Sink for Option<K> {
+    ghost written = { λ sink. option_and_then K.written sink };
+
+    ghost failures = { λ sink. failures_of K.failures sink };
+
+    /// Where there is no sink, the bytes are dropped, and no call fails.
+    fn write(&mut self, bytes: &[u8]) -> Result<usize, Failed> {
+        match self {
+            Some(sink) => sink.write(bytes),
+            None => Ok(bytes.len()),
+        }
+    }
+}
