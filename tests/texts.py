@@ -36,16 +36,19 @@ OTHER_TOP_LEVELS = [
     '{"events":[]}',
     '{"version":1}',
     '{"events":[],"version":3}',
+    '{"events":[],"version":4}',
     '{"events":[],"version":"1"}',
     '{"events":{},"version":1}',
     '{"Events":[],"version":1}',
     '{"events":[],"more":0,"version":1}',
     '{"events":[],"start":[],"version":1}',
     '{"events":[],"version":2}',
-    '{"events":[],"start":[],"version":3}',
+    '{"events":[],"start":[],"version":4}',
     '{"events":[],"start":{},"version":2}',
+    '{"events":[],"start":{},"version":3}',
     '{"events":{},"start":[7],"version":2}',
     '{"events":[],"more":[],"start":[],"version":2}',
+    '{"events":[],"note":0,"start":[],"version":3}',
 ]
 
 # First events of another form.
@@ -80,6 +83,56 @@ OTHER_FORMS = [
     '{"answer":[[1,2],[1,2,3]],"process":0}',
     '{"answer":[[1,null]],"process":300}',
 ]
+
+# First events that version 3 alone has, with faults that come later there.
+LATER_FORMS = [
+    '{"answer":"done","process":0}',
+    '{"answer":"found","process":0}',
+    '{"answer":"other","process":300}',
+    '{"invoke":["get",5],"note":0,"process":0}',
+    '{"answer":null,"note":{"line":[7,null]},"process":0}',
+    '{"answer":"done","note":"","process":0}',
+]
+
+# First events of a form that no version has, some with a note.
+OTHER_NOTED_FORMS = [
+    '{"note":0}',
+    '{"note":"done","process":0}',
+    '{"invoke":["get",5],"note":0}',
+    '{"invoke":["get",5],"more":0,"process":0}',
+    '{"invoke":["get",5],"notes":0,"process":0}',
+    '{"invoke":["get",5],"note":0,"process":0,"time":1}',
+    '{"answer":null,"invoke":["get",5],"note":0,"process":0}',
+    '{"answer":true,"note":7,"process":0}',
+    '{"answer":"Done","note":"done","process":0}',
+    '{"answer":["done"],"process":0}',
+    '{"invoke":["scan",2,1],"note":0,"process":300}',
+    '{"invoke":["get",5],"note":0,"process":-1}',
+]
+
+# Events of version 3, and the two lines of a text that has them.
+NOTED_EVENTS = [
+    ('{"invoke":["get",5],"note":[],"process":64}', "history: 5 TooMany\n" + LIMITS),
+    ('{"answer":"done","note":1.5,"process":300}', "history: 5 TooMany\n" + LIMITS),
+    (
+        '{"answer":"other","note":false,"process":1}',
+        'history: 6 NotWellFormed at event 0\nfound {"answer":"other","note":false,"process":1}; ' + TURN,
+    ),
+    (
+        '{"invoke":["get",5],"note":1,"process":0},{"invoke":["get",5],"process":0}',
+        'history: 6 NotWellFormed at event 1\nfound {"invoke":["get",5],"process":0}; ' + TURN,
+    ),
+]
+
+# A text of version 3 with notes of several kinds, of which 0 1 2 3 is an order.
+NOTED = """
+{"start": [[5, 7]], "version": 3, "events": [
+    {"note": {"line": [1, null, -2.5e300, "12:00"]}, "process": 0, "invoke": ["insert", 5, 8]},
+    {"note": {"answer": null, "process": 9}, "process": 0, "answer": "found"},
+    {"note": null, "process": 0, "invoke": ["remove", 6]}, {"process": 0, "answer": "done", "note": [[]]},
+    {"process": 1, "invoke": ["replace", 5, 7, 9]}, {"process": 1, "answer": "other"},
+    {"process": 1, "note": true, "invoke": ["get", 5]}, {"process": 1, "note": "refused", "answer": 8}]}
+"""
 
 # Events, and the two lines of a text that has them.
 OTHER_EVENTS = [
@@ -146,6 +199,15 @@ def refused_texts():
         yield text, f"history: 4 Shape at event 1\nfound {shown}; {EVENT}"
     for pairs, events, told in STARTS:
         yield f'{{"events":[{events}],"start":[{pairs}],"version":2}}', told
+    for event in LATER_FORMS:
+        for text in (history(event), f'{{"events":[{event}],"start":[],"version":2}}'):
+            yield text, f"history: 4 Shape at event 0\nfound {event}; {EVENT}"
+    for event in OTHER_NOTED_FORMS:
+        for text in (history(event), *(f'{{"events":[{event}],"start":[],"version":{version}}}' for version in (2, 3))):
+            yield text, f"history: 4 Shape at event 0\nfound {event}; {EVENT}"
+    for events, told in NOTED_EVENTS:
+        yield f'{{"events":[{events}],"start":[],"version":3}}', told
+    yield '{"events":[{}],"start":[7],"version":3}', "history: 8 Start at pair 0\nfound 7; " + PAIR
     yield history(gets(MOST_CALLS + 1)), "history: 5 TooMany\n" + LIMITS
     pairs = ",".join(["[5,7]"] * 4097)
     yield history(f'{{"invoke":["scan",0,9],"process":0}},{{"answer":[{pairs}],"process":0}}'), "history: 5 TooMany\n" + LIMITS
@@ -191,7 +253,9 @@ OTHER_LINES = [
 # First lines with the members of starting pairs, or nearly so, and their faults.
 FIRST_LINES = [
     ('{"start":[],"version":1}', "3 Version", START),
+    ('{"start":[],"version":4}', "3 Version", START),
     ('{"start":[],"version":"2"}', "3 Version", START),
+    ('{"start":{},"version":3}', "3 Version", START),
     ('{"start":{},"version":2}', "3 Version", START),
     ('{"start":[7],"version":1}', "3 Version", START),
     ('{"start":[7],"version":2}', "8 Start at pair 0", PAIR),
@@ -200,6 +264,8 @@ FIRST_LINES = [
     ('{"start":[[5,7],[5,8]],"version":2}', "8 Start at pair 1", PAIR),
     ('{"start":[[7,1],[7,2]],"version":2}', "8 Start at pair 1", PAIR),
     ('{"start":[[3,2],[4,2],[1,2],7],"version":2}', "8 Start at pair 2", PAIR),
+    ('{"start":[[5,7],[5,8]],"version":3}', "8 Start at pair 1", PAIR),
+    ('{"note":0,"start":[],"version":3}', "4 Shape", EVENT),
     ('{"start":[]}', "4 Shape", EVENT),
     ('{"version":2}', "4 Shape", EVENT),
     ('{"events":[],"start":[],"version":2}', "4 Shape", EVENT),
@@ -208,6 +274,7 @@ FIRST_LINES = [
 # An event of a process that no other line names, and a line of starting pairs.
 ONE_EVENT = '{"invoke":["get",5],"process":9}'
 NO_PAIRS = '{"start":[],"version":2}'
+NO_PAIRS_3 = '{"start":[],"version":3}'
 
 
 def refused_streams():
@@ -217,6 +284,16 @@ def refused_streams():
         yield f"{ONE_EVENT}\n{line}\n", f"stream: line 2: {fault}\nfound {line}; {wanted}"
     for line, fault, wanted in FIRST_LINES:
         yield f"{line}\n", f"stream: line 1: {fault}\nfound {line}; {wanted}"
+    # What version 3 alone has, and what no version has.
+    for line in LATER_FORMS:
+        for front in (ONE_EVENT, NO_PAIRS):
+            yield f"{front}\n{line}\n", f"stream: line 2: 4 Shape\nfound {line}; {EVENT}"
+        yield f"{line}\n", f"stream: line 1: 4 Shape\nfound {line}; {EVENT}"
+    for line in OTHER_NOTED_FORMS:
+        for front in (ONE_EVENT, NO_PAIRS, NO_PAIRS_3):
+            yield f"{front}\n{line}\n", f"stream: line 2: 4 Shape\nfound {line}; {EVENT}"
+    for line in ('{"answer":"done","process":65536}', '{"invoke":["get",5],"note":{},"process":65536}'):
+        yield f"{NO_PAIRS_3}\n{line}\n", f"stream: line 2: 5 TooMany\nfound {line}; {PROCESSES}"
     # Starting pairs stand in a first line alone, and behind them a replace is no fault of form.
     yield f"{ONE_EVENT}\n{NO_PAIRS}\n", f"stream: line 2: 4 Shape\nfound {NO_PAIRS}; {EVENT}"
     replace = '{"invoke":["replace",1,2,3],"process":65536}'
@@ -243,6 +320,8 @@ def rows():
         for words in (["check", "0", "1"], ["judge"], ["locate"], ["explain"], ["draw"]):
             yield words, text, 3, "", told
     yield ["check"], spaced(history(""), LONGEST_TEXT), 0, "ok\n", ""
+    yield ["check", "0", "1", "2", "3"], NOTED, 0, "ok\n", ""
+    yield ["judge"], NOTED, 0, '{"order":[0,1,2,3],"verdict":"yes"}\n', ""
     for text, told in refused_streams():
         yield ["follow"], text, 3, "", told
     # The longest lines that spell an event, and starting pairs.
@@ -250,6 +329,9 @@ def rows():
     yield ["follow"], longest, 0, '{"calls":1,"overlap":0,"verdict":"yes"}\n', ""
     longest = spaced('{"start":[[5,7]],"version":2}', LONGEST_LINE) + f'\n{ONE_EVENT}\n{{"answer":7,"process":9}}\n'
     yield ["follow"], longest, 0, '{"calls":1,"overlap":0,"verdict":"yes"}\n', ""
+    noted = spaced('{"invoke":["insert",5,8],"note":{"line":[1.5,null]},"process":9}', LONGEST_LINE)
+    noted = f'{{"start":[[5,7]],"version":3}}\n{noted}\n{{"answer":"found","note":"12:00","process":9}}\n'
+    yield ["follow"], noted, 0, '{"calls":1,"overlap":0,"verdict":"yes"}\n', ""
 
 
 def main():

@@ -18,7 +18,7 @@ pub same_value : (text : List ℕ) (d e : Data) → IsJson text d → IsJson tex
 same_value text d e a b = same_Some d e (sym a.value ∙ b.value)
 
 -- a number names one version only
-same_version : (v w : TextVersion) → version_number v ≡ version_number w → v ≡ w
+pub same_version : (v w : TextVersion) → version_number v ≡ version_number w → v ≡ w
 same_version One One h = refl
 same_version Two Two h = refl
 same_version Three Three h = refl

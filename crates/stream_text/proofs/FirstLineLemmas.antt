@@ -4,7 +4,7 @@ use Rattle.stream_text.specs.declared.event.FirstLine.TheVariants as first
 use Rattle.events.specs.declared.event.Event.TheVariants as events
 use Rattle.std.proofs.Common.{◌≡◌, ◌≢◌, ℕ, ◌<◌, true, false, true≢false, List, [], ◌∷◌, ◌++◌, length, map, codes, get_or, inl, inr, subst}
 use Rattle.std.proofs.Common.{refl, sym, ap, ◌∙◌, arith, Result, Ok, Err, IfOk, IfErr}
-use Rattle.std.specs.Prelude.{◌⊎◌, All}
+use Rattle.std.specs.Prelude.{◌⊎◌, All, IsTrue}
 use Rattle.std.proofs.lemmas.Bool.{lt-ltb}
 use Rattle.std.proofs.lemmas.List.Elements.{All-head, All-weaker}
 use Rattle.std.proofs.lemmas.List.Sums.{AllPass-from_list_all, list_all-from_AllPass}
@@ -15,11 +15,15 @@ use Rattle.serde_json.specs.Data.{Data}
 use Rattle.events.specs.declared.event.Event.{Event}
 use Rattle.events.specs.Starts.{KeysRise}
 use Rattle.events.specs.HistoryFaults.{is_above}
-use Rattle.history_text.specs.Texts.{number_data, list_data, pair_data, call_data, reply_data, event_data}
+use Rattle.history_text.specs.declared.version.TextVersion.{TextVersion}
+use Rattle.history_text.specs.declared.version.TextVersion.TheVariants.{One}
+use Rattle.history_text.specs.Versions.{version_number, has_start}
+use Rattle.history_text.specs.Texts.{number_data, list_data, pair_data, call_data, reply_data, event_data, IsEventData, AreSpelled}
 use Rattle.history_text.proofs.DataLemmas.{list_data_injective, first_names}
-use Rattle.history_text.proofs.TextLemmas.{pair_data_injective, pairs_injective}
+use Rattle.history_text.proofs.TextLemmas.{pairs_injective}
+use Rattle.history_text.proofs.DocumentLemmas.{same_version, IsPairData, one_pair, pairs_spelled}
 use Rattle.history_text.proofs.SplitLemmas.{GoesOnWith, SplitsAlike, item_at, two_splits}
-use Rattle.stream_text.specs.Lines.{as_event, start_object, start_line_data, IsLine, IsFirstOf, SpellsFirst}
+use Rattle.stream_text.specs.Lines.{as_event, start_object, NamesVersion, start_line_data, IsLine, IsFirstOf, SpellsFirst}
 use Rattle.stream_text.specs.LineFaults.{ShowsPairFault, IsStartFault, IsFirstFault, IsFirstLineFault}
 use Rattle.stream_text.specs.LineLaws.{SpellsOneFirst, HasOneFirstFault, FaultySpellsNoFirst}
 use Rattle.stream_text.specs.declared.event.FirstLine.{FirstLine}
@@ -54,7 +58,7 @@ KeysRise-here before rest pair h =
     (λ a later. All-head (λ (b : ℕ × ℕ). a.0 < b.0) pair rest later) before across)
 
 -- a faulty value is none of those of pairs by rising key
-no_pair_fault : (pairs before : List (ℕ × ℕ)) (next : Data) → GoesOnWith pair_data pairs before next → KeysRise pairs
+no_pair_fault : (pairs before : List (ℕ × ℕ)) (next : Data) → GoesOnWith IsPairData pairs before next → KeysRise pairs
     → ((pair : ℕ × ℕ) → next ≡ pair_data pair → is_above before pair.0 ≡ false) → ⊥
 no_pair_fault pairs before next on rising shows =
     true≢false (sym (KeysRise-here before on.more on.item (subst KeysRise on.parts rising)) ∙ shows on.item on.spelled)
@@ -79,6 +83,11 @@ event_is_no_start (events.Answer p reply) s v h =
     answer_is_no_start (first_names (codes "answer") (codes "process") (codes "start") (codes "version") (reply_data reply) (number_data p)
     s v h)
 
+-- and no value that spells one in a stream of version 1 is of starting pairs
+no_start_of_event : (d : Data) (e : Event) (s v : Data) → IsEventData One d e → d ≡ start_object s v → ⊥
+no_start_of_event d e s v (inl h) is = event_is_no_start e s v (sym h ∙ is)
+no_start_of_event d e s v (inr h) is = cc
+
 -- an event of a stream is that of one event
 as_event_injective : (a b : StreamEvent) → as_event a ≡ as_event b → a ≡ b
 as_event_injective (Invoke p call) (Invoke q call2) h = cc
@@ -86,76 +95,85 @@ as_event_injective (Invoke p call) (Answer q reply2) h = cc
 as_event_injective (Answer p reply) (Invoke q call2) h = cc
 as_event_injective (Answer p reply) (Answer q reply2) h = cc
 
+-- a number names one version
+same_number : (v w : TextVersion) → number_data (version_number v) ≡ number_data (version_number w) → v ≡ w
+same_number v w h = same_version v w (cc)
+
 -- a first line spells one thing only
 pub one_first : SpellsOneFirst
-one_first line (first.Start a) (first.Start b) x y =
-    ap first.Start
-    (pairs_injective a b
-    (list_data_injective (map pair_data a) (map pair_data b)
-    (start_apart (list_data (map pair_data a)) (list_data (map pair_data b)) (number_data 2) (number_data 2)
-    (one_line_value line (start_line_data a) (start_line_data b) x.value y.value)).0))
-one_first line (first.Start a) (first.Event e) x y =
-    absurd (event_is_no_start (as_event e) (list_data (map pair_data a)) (number_data 2)
-    (one_line_value line (event_data (as_event e)) (start_line_data a) y.value x.value))
-one_first line (first.Event e) (first.Start b) x y =
-    absurd (event_is_no_start (as_event e) (list_data (map pair_data b)) (number_data 2)
-    (one_line_value line (event_data (as_event e)) (start_line_data b) x.value y.value))
+one_first line (first.Start v a) (first.Start w b) x y =
+    let parts = start_apart (list_data (map pair_data a)) (list_data (map pair_data b)) (number_data (version_number v))
+    (number_data (version_number w)) (one_line_value line (start_line_data v a) (start_line_data w b) x.value y.value) in
+    let pairs : a ≡ b = pairs_injective a b (list_data_injective (map pair_data a) (map pair_data b) parts.0) in
+    let version : v ≡ w = same_number v w parts.1 in
+    cc
+one_first line (first.Start v a) (first.Event e) x y =
+    absurd (no_start_of_event y.value (as_event e) (list_data (map pair_data a)) (number_data (version_number v)) y.spelled
+    (one_line_value line y.value (start_line_data v a) y.is_line x.value))
+one_first line (first.Event e) (first.Start w b) x y =
+    absurd (no_start_of_event x.value (as_event e) (list_data (map pair_data b)) (number_data (version_number w)) x.spelled
+    (one_line_value line x.value (start_line_data w b) x.is_line y.value))
 one_first line (first.Event e) (first.Event g) x y = ap first.Event
-    (as_event_injective e g (one_event false line (as_event e) (as_event g) x y))
+    (as_event_injective e g (one_event One line (as_event e) (as_event g) x y))
 
 -- ---- faults of starting pairs
 
--- no array of values, or not the number 2
+-- no array of values, or not the number of a version with a start
 abbrev SpellsNoStart : Data → Data → Type 0
-SpellsNoStart start version = (items : List Data) → start ≡ list_data items → version ≡ number_data 2 → ⊥
+SpellsNoStart start number = (items : List Data) (version : TextVersion) → start ≡ list_data items → NamesVersion number version → ⊥
 
 -- an array of values, of which the one at this place is faulty
 abbrev HasFaultyPair : Data → Data → ℕ → Type 0
-HasFaultyPair start version place = (items : List Data) × (start ≡ list_data items) × (version ≡ number_data 2) × ShowsPairFault items place
+HasFaultyPair start number place =
+    (items : List Data) × (version : TextVersion) × (start ≡ list_data items) × NamesVersion number version × ShowsPairFault items place
 
 abbrev StartKind : Data → Data → LineFault → Type 0
-StartKind start version f =
-    ((f ≡ faults.Version) × SpellsNoStart start version) ⊎ ((place : ℕ) × (f ≡ faults.Start place) × HasFaultyPair start version place)
+StartKind start number f =
+    ((f ≡ faults.Version) × SpellsNoStart start number) ⊎ ((place : ℕ) × (f ≡ faults.Start place) × HasFaultyPair start number place)
 
-StartKind-from_fault : (start version : Data) (f : LineFault) → IsStartFault start version f → f ≢ faults.Memory → StartKind start version f
-StartKind-from_fault start version faults.TooLong h other = absurd h
-StartKind-from_fault start version faults.NotJson h other = absurd h
-StartKind-from_fault start version faults.Version h other = inl (refl, h)
-StartKind-from_fault start version faults.Shape h other = absurd h
-StartKind-from_fault start version faults.TooMany h other = absurd h
-StartKind-from_fault start version faults.Memory h other = absurd (other refl)
-StartKind-from_fault start version (faults.Start at) h other = inr (at, refl, h)
+StartKind-from_fault : (start number : Data) (f : LineFault) → IsStartFault start number f → f ≢ faults.Memory → StartKind start number f
+StartKind-from_fault start number faults.TooLong h other = absurd h
+StartKind-from_fault start number faults.NotJson h other = absurd h
+StartKind-from_fault start number faults.Version h other = inl (refl, h)
+StartKind-from_fault start number faults.Shape h other = absurd h
+StartKind-from_fault start number faults.TooMany h other = absurd h
+StartKind-from_fault start number faults.Memory h other = absurd (other refl)
+StartKind-from_fault start number (faults.Start at) h other = inr (at, refl, h)
 
 -- values have one faulty pair at most
 one_place : (items : List Data) (p q : ℕ) → ShowsPairFault items p → ShowsPairFault items q → p ≡ q
 one_place items p q a b = by_splits
-    (two_splits pair_data pair_data_injective a.before b.before a.next b.next a.rest b.rest (sym a.parts ∙ b.parts))
+    (two_splits IsPairData one_pair (map pair_data a.before) a.before (map pair_data b.before) b.before a.next b.next a.rest b.rest
+    (pairs_spelled a.before) (pairs_spelled b.before) (sym a.parts ∙ b.parts))
   where
-    by_splits : SplitsAlike pair_data a.before b.before a.next b.next → p ≡ q
+    by_splits : SplitsAlike IsPairData a.before b.before a.next b.next → p ≡ q
     by_splits (inl same) = sym a.here ∙ (ap (λ (ps : List (ℕ × ℕ)). length ps) same.0 ∙ b.here)
     by_splits (inr (inl on)) = absurd (no_pair_fault a.before b.before b.next on a.rising b.shows)
     by_splits (inr (inr on)) = absurd (no_pair_fault b.before a.before a.next on b.rising a.shows)
 
-one_start_kind : (start version : Data) (f g : LineFault) → StartKind start version f → StartKind start version g → f ≡ g
-one_start_kind start version f g (inl a) (inl b) = a.0 ∙ sym b.0
-one_start_kind start version f g (inl a) (inr b) = let there = b.2 in absurd (a.1 there.0 there.1 there.2)
-one_start_kind start version f g (inr a) (inl b) = let there = a.2 in absurd (b.1 there.0 there.1 there.2)
-one_start_kind start version f g (inr a) (inr b) =
+one_start_kind : (start number : Data) (f g : LineFault) → StartKind start number f → StartKind start number g → f ≡ g
+one_start_kind start number f g (inl a) (inl b) = a.0 ∙ sym b.0
+one_start_kind start number f g (inl a) (inr b) = let there = b.2 in absurd (a.1 there.0 there.1 there.2 there.3)
+one_start_kind start number f g (inr a) (inl b) = let there = a.2 in absurd (b.1 there.0 there.1 there.2 there.3)
+one_start_kind start number f g (inr a) (inr b) =
     let one = a.2 in
     let other = b.2 in
-    let items : other.0 ≡ one.0 = list_data_injective other.0 one.0 (sym other.1 ∙ one.1) in
-    let place : a.0 ≡ b.0 = one_place one.0 a.0 b.0 one.3 (subst (λ (ds : List Data). ShowsPairFault ds b.0) items other.3) in
+    let items : other.0 ≡ one.0 = list_data_injective other.0 one.0 (sym other.2 ∙ one.2) in
+    let place : a.0 ≡ b.0 = one_place one.0 a.0 b.0 one.4 (subst (λ (ds : List Data). ShowsPairFault ds b.0) items other.4) in
     a.1 ∙ (ap faults.Start place ∙ sym b.1)
 
 -- starting pairs have none
-no_start_kind : (pairs : List (ℕ × ℕ)) (f : LineFault) → StartKind (list_data (map pair_data pairs)) (number_data 2) f → KeysRise pairs → ⊥
-no_start_kind pairs f (inl a) rising = a.1 (map pair_data pairs) refl refl
-no_start_kind pairs f (inr a) rising =
+no_start_kind : (version : TextVersion) (pairs : List (ℕ × ℕ)) (f : LineFault)
+    → StartKind (list_data (map pair_data pairs)) (number_data (version_number version)) f → IsTrue (has_start version) → KeysRise pairs
+    → ⊥
+no_start_kind version pairs f (inl a) starts rising = a.1 (map pair_data pairs) version refl (starts, refl)
+no_start_kind version pairs f (inr a) starts rising =
     let there = a.2 in
-    let shown = there.3 in
-    let items = list_data_injective (map pair_data pairs) there.0 there.1 in
+    let shown = there.4 in
+    let items = list_data_injective (map pair_data pairs) there.0 there.2 in
     no_pair_fault pairs shown.before shown.next
-    (item_at pair_data pair_data_injective shown.before pairs shown.next shown.rest (sym shown.parts ∙ sym items)) rising shown.shows
+    (item_at IsPairData one_pair (map pair_data shown.before) shown.before pairs shown.next shown.rest (pairs_spelled shown.before)
+    (subst (λ (ds : List Data). AreSpelled IsPairData ds pairs) (items ∙ shown.parts) (pairs_spelled pairs))) rising shown.shows
 
 -- ---- faults of first values
 
@@ -170,7 +188,7 @@ one_first_value d f g (inl a) b not_f not_g =
     let other = first_start a.0 a.1 g (subst (λ (x : Data). IsFirstFault x g) a.2 b) in
     one_start_kind a.0 a.1 f g (StartKind-from_fault a.0 a.1 f a.3 not_f) (StartKind-from_fault a.0 a.1 g other not_g)
 one_first_value d f g (inr a) (inl b) not_f not_g = absurd (a.0 b.0 b.1 b.2)
-one_first_value d f g (inr a) (inr b) not_f not_g = one_event_fault false d f g a.1 b.1 not_f not_g
+one_first_value d f g (inr a) (inr b) not_f not_g = one_event_fault One d f g a.1 b.1 not_f not_g
 
 -- ---- the laws
 
@@ -178,23 +196,24 @@ pub one_first_fault : HasOneFirstFault
 one_first_fault = one_fault_of_lines IsFirstFault one_first_value
 
 pub no_first : FaultySpellsNoFirst
-no_first line f (first.Start pairs) h other spelled =
+no_first line f (first.Start version pairs) h other spelled =
     let start = list_data (map pair_data pairs) in
-    let shown = first_start start (number_data 2) f (value_fault IsFirstFault line (start_line_data pairs) f h other spelled.value) in
-    no_start_kind pairs f (StartKind-from_fault start (number_data 2) f shown other) spelled.rising
-no_first line f (first.Event e) h other spelled =
-    by_value (value_fault IsFirstFault line (event_data (as_event e)) f h other spelled.value)
+    let number = number_data (version_number version) in
+    let shown = first_start start number f (value_fault IsFirstFault line (start_line_data version pairs) f h other spelled.value) in
+    no_start_kind version pairs f (StartKind-from_fault start number f shown other) spelled.starts spelled.rising
+no_first line f (first.Event e) h other spelled = by_value (value_fault IsFirstFault line spelled.value f h other spelled.is_line)
   where
-    by_value : IsFirstFault (event_data (as_event e)) f → ⊥
-    by_value (inl a) = event_is_no_start (as_event e) a.0 a.1 a.2
-    by_value (inr a) = no_event_fault false (as_event e) f a.1 other spelled.stands
+    by_value : IsFirstFault spelled.value f → ⊥
+    by_value (inl a) = no_start_of_event spelled.value (as_event e) a.0 a.1 spelled.spelled a.2
+    by_value (inr a) = no_event_fault One spelled.value (as_event e) f a.1 other spelled.spelled spelled.stands
 
 -- ---- what is read of a first line, by what is read of its value
 
 pub first_spelled : (line : List ℕ) (d : Data) (r : Result FirstLine LineFault) → IsLine line d → IfOk r (IsFirstOf d)
     → IfOk r (SpellsFirst line)
-first_spelled line d (Ok (first.Start pairs)) is ok = record { value = subst (IsLine line) ok.0 is; rising = ok.1 }
-first_spelled line d (Ok (first.Event e)) is ok = record { value = subst (IsLine line) ok.0 is; stands = ok.1 }
+first_spelled line d (Ok (first.Start version pairs)) is ok =
+    record { starts = ok.0; value = subst (IsLine line) ok.1 is; rising = ok.2 }
+first_spelled line d (Ok (first.Event e)) is ok = record { value = d; is_line = is; spelled = ok.0; stands = ok.1 }
 first_spelled line d (Err f) is ok = tt
 
 pub first_refused : (line : List ℕ) (d : Data) (r : Result FirstLine LineFault) → IsLine line d → IfErr r (IsFirstFault d)

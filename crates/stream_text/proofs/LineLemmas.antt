@@ -1,6 +1,6 @@
 -- A line has one meaning: it spells one event, or has one fault.
 use Rattle.stream_text.specs.declared.line_fault.LineFault.TheVariants as faults
-use Rattle.std.proofs.Common.{◌≡◌, ◌≢◌, ℕ, ◌<◌, ◌≤◌, Bool, List, length, Some, inl, inr, subst, refl, sym, ap, ◌∙◌, arith}
+use Rattle.std.proofs.Common.{◌≡◌, ◌≢◌, ℕ, ◌<◌, ◌≤◌, List, length, Some, inl, inr, subst, refl, sym, ap, ◌∙◌, arith}
 use Rattle.std.specs.Prelude.{◌⊎◌, IsTrue}
 use Rattle.std.specs.Str.{IsUtf8}
 use Rattle.serde_json.specs.Data.{Data}
@@ -8,10 +8,11 @@ use Rattle.serde_json.specs.Read.{read}
 use Rattle.events.specs.declared.event.Event.{Event}
 use Rattle.events.specs.Events.{process_of}
 use Rattle.events.specs.Histories.{is_shaped}
-use Rattle.history_text.specs.Texts.{event_data, may_stand}
+use Rattle.history_text.specs.declared.version.TextVersion.{TextVersion}
+use Rattle.history_text.specs.Texts.{IsEventData, may_stand}
 use Rattle.history_text.specs.TextFaults.{SpellsNoEvent}
 use Rattle.history_text.proofs.DocumentLemmas.{same_value}
-use Rattle.history_text.proofs.TextLemmas.{event_data_injective}
+use Rattle.history_text.proofs.TextLemmas.{one_event as same_event}
 use Rattle.stream_text.specs.LineLimits.{line_limit, number_limit}
 use Rattle.stream_text.specs.Lines.{IsLine, MayStandIn}
 use Rattle.stream_text.specs.LineFaults.{IsByteFault, IsEventFault, IsLineFault}
@@ -24,8 +25,11 @@ one_line_value line d e a b = same_value line d e a.json b.json
 
 -- a line spells one event only
 pub one_event : SpellsOneEvent
-one_event has_start line a b first second =
-    event_data_injective a b (one_line_value line (event_data a) (event_data b) first.value second.value)
+one_event version line a b first second =
+    same_event version second.value a b
+    (subst (λ (d : Data). IsEventData version d a) (one_line_value line first.value second.value first.is_line second.is_line)
+    first.spelled)
+    second.spelled
 
 -- ---- faults of the bytes
 
@@ -83,54 +87,56 @@ module _ (IsValueFault : Data → LineFault → Type 0) where
 -- ---- faults of events
 
 -- an event of this value is past the limit of processes
-abbrev SpellsLarge : Bool → Data → Type 0
-SpellsLarge has_start d = (e : Event) × (d ≡ event_data e) × IsTrue (is_shaped e) × IsTrue
-    (may_stand has_start e) × (number_limit ≤ process_of e)
+abbrev SpellsLarge : TextVersion → Data → Type 0
+SpellsLarge version d = (e : Event) × IsEventData version d e × IsTrue (is_shaped e) × IsTrue
+    (may_stand version e) × (number_limit ≤ process_of e)
 
 -- which fault the value of an event has
-abbrev EventKind : Bool → Data → LineFault → Type 0
-EventKind has_start d f = ((f ≡ faults.Shape) × SpellsNoEvent has_start d) ⊎ ((f ≡ faults.TooMany) × SpellsLarge has_start d)
+abbrev EventKind : TextVersion → Data → LineFault → Type 0
+EventKind version d f = ((f ≡ faults.Shape) × SpellsNoEvent version d) ⊎ ((f ≡ faults.TooMany) × SpellsLarge version d)
 
-EventKind-from_fault : (has_start : Bool) (d : Data) (f : LineFault) → IsEventFault has_start d f → f ≢ faults.Memory
-    → EventKind has_start d f
-EventKind-from_fault has_start d faults.TooLong h other = absurd h
-EventKind-from_fault has_start d faults.NotJson h other = absurd h
-EventKind-from_fault has_start d faults.Version h other = absurd h
-EventKind-from_fault has_start d faults.Shape h other = inl (refl, h)
-EventKind-from_fault has_start d faults.TooMany h other = inr (refl, h)
-EventKind-from_fault has_start d faults.Memory h other = absurd (other refl)
-EventKind-from_fault has_start d (faults.Start at) h other = absurd h
+EventKind-from_fault : (version : TextVersion) (d : Data) (f : LineFault) → IsEventFault version d f → f ≢ faults.Memory
+    → EventKind version d f
+EventKind-from_fault version d faults.TooLong h other = absurd h
+EventKind-from_fault version d faults.NotJson h other = absurd h
+EventKind-from_fault version d faults.Version h other = absurd h
+EventKind-from_fault version d faults.Shape h other = inl (refl, h)
+EventKind-from_fault version d faults.TooMany h other = inr (refl, h)
+EventKind-from_fault version d faults.Memory h other = absurd (other refl)
+EventKind-from_fault version d (faults.Start at) h other = absurd h
 
-one_event_kind : (has_start : Bool) (d : Data) (f g : LineFault) → EventKind has_start d f → EventKind has_start d g → f ≡ g
-one_event_kind has_start d f g (inl a) (inl b) = a.0 ∙ sym b.0
-one_event_kind has_start d f g (inl a) (inr b) = absurd (a.1 b.1.0 b.1.1 b.1.2 b.1.3)
-one_event_kind has_start d f g (inr a) (inl b) = absurd (b.1 a.1.0 a.1.1 a.1.2 a.1.3)
-one_event_kind has_start d f g (inr a) (inr b) = a.0 ∙ sym b.0
+one_event_kind : (version : TextVersion) (d : Data) (f g : LineFault) → EventKind version d f → EventKind version d g → f ≡ g
+one_event_kind version d f g (inl a) (inl b) = a.0 ∙ sym b.0
+one_event_kind version d f g (inl a) (inr b) = absurd (a.1 b.1.0 b.1.1 b.1.2 b.1.3)
+one_event_kind version d f g (inr a) (inl b) = absurd (b.1 a.1.0 a.1.1 a.1.2 a.1.3)
+one_event_kind version d f g (inr a) (inr b) = a.0 ∙ sym b.0
 
-pub one_event_fault : (has_start : Bool) (d : Data) (f g : LineFault) → IsEventFault has_start d f → IsEventFault has_start d g
+pub one_event_fault : (version : TextVersion) (d : Data) (f g : LineFault) → IsEventFault version d f → IsEventFault version d g
     → f ≢ faults.Memory → g ≢ faults.Memory → f ≡ g
-one_event_fault has_start d f g a b not_f not_g =
-    one_event_kind has_start d f g (EventKind-from_fault has_start d f a not_f) (EventKind-from_fault has_start d g b not_g)
+one_event_fault version d f g a b not_f not_g =
+    one_event_kind version d f g (EventKind-from_fault version d f a not_f) (EventKind-from_fault version d g b not_g)
 
 -- the value of an event that may stand there has none
-no_event_kind : (has_start : Bool) (e : Event) (f : LineFault) → EventKind has_start (event_data e) f → MayStandIn has_start e → ⊥
-no_event_kind has_start e f (inl a) stands = a.1 e refl stands.shaped stands.standing
-no_event_kind has_start e f (inr a) stands =
-    let same : process_of e ≡ process_of a.1.0 = ap process_of (event_data_injective e a.1.0 a.1.1) in
+no_event_kind : (version : TextVersion) (d : Data) (e : Event) (f : LineFault) → EventKind version d f → IsEventData version d e
+    → MayStandIn version e → ⊥
+no_event_kind version d e f (inl a) is stands = a.1 e is stands.shaped stands.standing
+no_event_kind version d e f (inr a) is stands =
+    let same : process_of e ≡ process_of a.1.0 = ap process_of (same_event version d e a.1.0 is a.1.1) in
     omega (arith, same, stands.few, a.1.4)
 
-pub no_event_fault : (has_start : Bool) (e : Event) (f : LineFault) → IsEventFault has_start (event_data e) f → f ≢ faults.Memory
-    → MayStandIn has_start e → ⊥
-no_event_fault has_start e f h other stands = no_event_kind has_start e f (EventKind-from_fault has_start (event_data e) f h other) stands
+pub no_event_fault : (version : TextVersion) (d : Data) (e : Event) (f : LineFault) → IsEventFault version d f → f ≢ faults.Memory
+    → IsEventData version d e → MayStandIn version e → ⊥
+no_event_fault version d e f h other is stands = no_event_kind version d e f (EventKind-from_fault version d f h other) is stands
 
 -- ---- the laws
 
 pub one_line_fault : HasOneLineFault
-one_line_fault has_start = one_fault_of_lines (IsEventFault has_start) (one_event_fault has_start)
+one_line_fault version = one_fault_of_lines (IsEventFault version) (one_event_fault version)
 
 pub no_event : FaultySpellsNoEvent
-no_event has_start line f e h other spelled =
-    no_event_fault has_start e f (value_fault (IsEventFault has_start) line (event_data e) f h other spelled.value) other spelled.stands
+no_event version line f e h other spelled =
+    no_event_fault version spelled.value e f (value_fault (IsEventFault version) line spelled.value f h other spelled.is_line) other
+    spelled.spelled spelled.stands
 
 -- a fault that cannot be another than want of memory is that
 pub memory_alone : (f : LineFault) → (f ≢ faults.Memory → ⊥) → f ≡ faults.Memory

@@ -1,7 +1,7 @@
 -- What the values of a line are, one by one.
 use Rattle.stream_text.specs.declared.line_fault.LineFault.TheVariants as faults
-use Rattle.std.proofs.Common.{◌≡◌, ℕ, ◌+◌, ◌<◌, ◌≤◌, Bool, true, false, ◌||◌, List, [], ◌∷◌, ◌++◌, length, map, take, drop, get_or, subst}
-use Rattle.std.proofs.Common.{refl, sym, ap, ap₂, ◌∙◌}
+use Rattle.std.proofs.Common.{◌≡◌, ℕ, ◌+◌, ◌<◌, ◌≤◌, false, List, [], ◌∷◌, ◌++◌, length, map, take, drop, get_or, subst}
+use Rattle.std.proofs.Common.{inl, refl, sym, ap, ap₂, ◌∙◌}
 use Rattle.std.specs.Prelude.{IsTrue}
 use Rattle.std.proofs.lemmas.List.{map-append, take_more}
 use Rattle.serde_json.specs.Data.{Data}
@@ -13,28 +13,26 @@ use Rattle.events.specs.declared.event.Event.TheVariants.{Invoke, Answer}
 use Rattle.events.specs.Histories.{has_range}
 use Rattle.events.specs.HistoryFaults.{is_above}
 use Rattle.events.specs.Starts.{KeysRise}
+use Rattle.history_text.specs.declared.version.TextVersion.{TextVersion}
 use Rattle.history_text.specs.Texts.{number_data, pair_data, call_data, reply_data, may_stand}
 use Rattle.history_text.specs.ValueFaults.{invocation_data, response_data}
 use Rattle.history_text.proofs.TextLemmas.{pair_data_injective}
-use Rattle.history_text.proofs.ValueFaultLemmas.{length_before, values_at}
+use Rattle.history_text.proofs.ValueFaultLemmas.{pairs_before, pairs_and_value}
 use Rattle.stream_text.specs.LineLimits.{number_limit}
 use Rattle.stream_text.specs.LineFaults.{IsEventFault, ShowsPairFault}
 
 -- an invocation by a process past the limit is too many
-pub too_many-invocation : (has_start : Bool) (p : ℕ) (call : Call) (c d : Data) → c ≡ call_data call → d ≡ number_data p
+pub too_many-invocation : (version : TextVersion) (p : ℕ) (call : Call) (c d : Data) → c ≡ call_data call → d ≡ number_data p
     → IsTrue (has_range call)
-    → number_limit ≤ p → IsTrue (may_stand has_start (Invoke p call)) → IsEventFault has_start (invocation_data c d) faults.TooMany
-too_many-invocation has_start p call c d spelled number range h standing = (Invoke p call, rw (spelled, number) refl, range, standing, h)
-
-or_true : (b : Bool) → (b || true) ≡ true
-or_true true = refl
-or_true false = refl
+    → number_limit ≤ p → IsTrue (may_stand version (Invoke p call)) → IsEventFault version (invocation_data c d) faults.TooMany
+too_many-invocation version p call c d spelled number range h standing =
+    (Invoke p call, inl (rw (spelled, number) refl), range, standing, h)
 
 -- and so is a response
-pub too_many-response : (has_start : Bool) (p : ℕ) (reply : Reply) (c d : Data) → c ≡ reply_data reply → d ≡ number_data p
-    → number_limit ≤ p
-    → IsEventFault has_start (response_data c d) faults.TooMany
-too_many-response has_start p reply c d spelled number h = (Answer p reply, rw (spelled, number) refl, refl, or_true has_start, h)
+pub too_many-response : (version : TextVersion) (p : ℕ) (reply : Reply) (c d : Data) → c ≡ reply_data reply → d ≡ number_data p
+    → number_limit ≤ p → IsTrue (may_stand version (Answer p reply))
+    → IsEventFault version (response_data c d) faults.TooMany
+too_many-response version p reply c d spelled number h standing = (Answer p reply, inl (rw (spelled, number) refl), refl, standing, h)
 
 -- one pair more is spelled
 pub pairs_more : (vs : List Value) (before : List (ℕ × ℕ)) (i : ℕ) (v : Value) (pair : ℕ × ℕ) → i < length vs → v ≡ get_or vs i v
@@ -54,9 +52,9 @@ faulty_pair vs before i v within here spelled rising shows = record {
   before = before;
   next = view v;
   rest = map view (drop (i + 1) vs);
-  parts = values_at pair_data vs before i v within here spelled;
+  parts = pairs_and_value vs before i v within here spelled;
   rising = rising;
-  here = length_before pair_data vs before i within spelled;
+  here = pairs_before vs before i within spelled;
   shows = shows;
 }
 

@@ -115,6 +115,18 @@ refused_plain : IsPlain (quoted (codes "refused"))
 unfolding escape_byte
 refused_plain = refl
 
+done_plain : IsPlain (quoted (codes "done"))
+unfolding escape_byte
+done_plain = refl
+
+found_plain : IsPlain (quoted (codes "found"))
+unfolding escape_byte
+found_plain = refl
+
+other_plain : IsPlain (quoted (codes "other"))
+unfolding escape_byte
+other_plain = refl
+
 invoke_plain : IsPlain (quoted (codes "invoke"))
 unfolding escape_byte
 invoke_plain = refl
@@ -145,6 +157,9 @@ reply_plain replies.None = refl
 reply_plain (replies.Some value) = number_plain value
 reply_plain (replies.Pairs pairs) = items_plain pair_data pair_plain pairs false
 reply_plain replies.Refused = refused_plain
+reply_plain replies.Done = done_plain
+reply_plain replies.Found = found_plain
+reply_plain replies.Other = other_plain
 
 -- an object of two members, the second a process
 member_plain : (name : List ℕ) (d : Data) (p : ℕ) → IsPlain (quoted name) → IsPlain (compact_text d)

@@ -1,6 +1,6 @@
 -- The first fault of a line that spells nothing that may stand there.
 use Rattle.stream_text.specs.declared.line_fault.LineFault.TheVariants as faults
-use Rattle.std.specs.Prelude.{◌≡◌, ◌⊎◌, ℕ, ◌<◌, ◌≤◌, Bool, false, List, ◌∷◌, ◌++◌, length, map, Some, IsTrue, ⊤}
+use Rattle.std.specs.Prelude.{◌≡◌, ◌⊎◌, ℕ, ◌<◌, ◌≤◌, false, List, ◌∷◌, ◌++◌, length, map, Some, IsTrue, ⊤}
 use Rattle.std.specs.Str.{IsUtf8}
 use Rattle.serde_json.specs.Data.{Data}
 use Rattle.serde_json.specs.Read.{read}
@@ -9,10 +9,12 @@ use Rattle.events.specs.Events.{process_of}
 use Rattle.events.specs.Histories.{is_shaped}
 use Rattle.events.specs.HistoryFaults.{is_above}
 use Rattle.events.specs.Starts.{KeysRise}
-use Rattle.history_text.specs.Texts.{number_data, list_data, pair_data, event_data, may_stand}
+use Rattle.history_text.specs.declared.version.TextVersion.TheVariants as versions
+use Rattle.history_text.specs.declared.version.TextVersion.{TextVersion}
+use Rattle.history_text.specs.Texts.{list_data, pair_data, IsEventData, may_stand}
 use Rattle.history_text.specs.TextFaults.{SpellsNoEvent}
 use Rattle.stream_text.specs.LineLimits.{line_limit, number_limit}
-use Rattle.stream_text.specs.Lines.{IsLine, start_object}
+use Rattle.stream_text.specs.Lines.{IsLine, start_object, NamesVersion}
 use Rattle.stream_text.specs.declared.line_fault.LineFault.{LineFault}
 
 -- ---- of the bytes alone
@@ -27,12 +29,12 @@ IsByteFault line fault = ⊥
 -- ---- of the value of an event
 
 -- it has no form that an event has, then its process number is past the limit; or memory ran out
-abbrev pub IsEventFault : Bool → Data → LineFault → Type 0
-IsEventFault has_start d faults.Shape = SpellsNoEvent has_start d
-IsEventFault has_start d faults.TooMany =
-    (e : Event) × (d ≡ event_data e) × IsTrue (is_shaped e) × IsTrue (may_stand has_start e) × (number_limit ≤ process_of e)
-IsEventFault has_start d faults.Memory = ⊤
-IsEventFault has_start d fault = ⊥
+abbrev pub IsEventFault : TextVersion → Data → LineFault → Type 0
+IsEventFault version d faults.Shape = SpellsNoEvent version d
+IsEventFault version d faults.TooMany =
+    (e : Event) × IsEventData version d e × IsTrue (is_shaped e) × IsTrue (may_stand version e) × (number_limit ≤ process_of e)
+IsEventFault version d faults.Memory = ⊤
+IsEventFault version d fault = ⊥
 
 -- ---- of the value of starting pairs
 
@@ -52,20 +54,21 @@ IsPairFault items (faults.Start place) = ShowsPairFault items place
 IsPairFault items faults.Memory = ⊤
 IsPairFault items fault = ⊥
 
--- the members are no array and the number 2, then the first faulty pair; or memory ran out
+-- the members are no array and the number of a version with a start, then the first faulty pair; or memory ran out
 abbrev pub IsStartFault : Data → Data → LineFault → Type 0
-IsStartFault start version faults.Version = (items : List Data) → start ≡ list_data items → version ≡ number_data 2 → ⊥
-IsStartFault start version (faults.Start place) = (items : List Data) × (start ≡ list_data items) × (version ≡ number_data
-    2) × ShowsPairFault items place
-IsStartFault start version faults.Memory = ⊤
-IsStartFault start version fault = ⊥
+IsStartFault start number faults.Version = (items : List Data) (version : TextVersion) → start ≡ list_data items
+    → NamesVersion number version → ⊥
+IsStartFault start number (faults.Start place) =
+    (items : List Data) × (version : TextVersion) × (start ≡ list_data items) × NamesVersion number version × ShowsPairFault items place
+IsStartFault start number faults.Memory = ⊤
+IsStartFault start number fault = ⊥
 
 -- ---- of a first value, which is that of starting pairs where its members say so
 
 abbrev pub IsFirstFault : Data → LineFault → Type 0
 IsFirstFault d fault =
-    ((start version : Data) × (d ≡ start_object start version) × IsStartFault start version fault)
-    ⊎ (((start version : Data) → d ≡ start_object start version → ⊥) × IsEventFault false d fault)
+    ((start number : Data) × (d ≡ start_object start number) × IsStartFault start number fault)
+    ⊎ (((start number : Data) → d ≡ start_object start number → ⊥) × IsEventFault versions.One d fault)
 
 -- ---- of lines
 
@@ -74,8 +77,8 @@ abbrev pub IsLineFault : (Data → LineFault → Type 0) → List ℕ → LineFa
 IsLineFault IsValueFault line fault = IsByteFault line fault ⊎ ((d : Data) × IsLine line d × IsValueFault d fault)
 
 -- why a line spells no event, and why a first line spells nothing
-abbrev pub IsEventLineFault : Bool → List ℕ → LineFault → Type 0
-IsEventLineFault has_start line fault = IsLineFault (IsEventFault has_start) line fault
+abbrev pub IsEventLineFault : TextVersion → List ℕ → LineFault → Type 0
+IsEventLineFault version line fault = IsLineFault (IsEventFault version) line fault
 
 abbrev pub IsFirstLineFault : List ℕ → LineFault → Type 0
 IsFirstLineFault line fault = IsLineFault IsFirstFault line fault

@@ -1,7 +1,8 @@
 -- Laws of the lines of streams.
 use Rattle.stream_text.specs.declared.line_fault.LineFault.TheVariants as faults
-use Rattle.std.specs.Prelude.{◌≡◌, ◌≢◌, ℕ, Bool, List, ◌∷◌, Some}
+use Rattle.std.specs.Prelude.{◌≡◌, ◌≢◌, ℕ, List, ◌∷◌, Some}
 use Rattle.events.specs.declared.event.Event.{Event}
+use Rattle.history_text.specs.declared.version.TextVersion.{TextVersion}
 use Rattle.stream_text.specs.declared.event.FirstLine.{FirstLine}
 use Rattle.stream_text.specs.declared.line_fault.LineFault.{LineFault}
 use Rattle.stream_text.specs.Lines.{SpellsEvent, SpellsFirst}
@@ -10,7 +11,7 @@ use Rattle.stream_text.specs.Cuts.{lines_of, TakesLine}
 
 -- a line spells one event only
 abbrev pub SpellsOneEvent : Type 0
-SpellsOneEvent = (has_start : Bool) (line : List ℕ) (a b : Event) → SpellsEvent has_start line a → SpellsEvent has_start line b → a ≡ b
+SpellsOneEvent = (version : TextVersion) (line : List ℕ) (a b : Event) → SpellsEvent version line a → SpellsEvent version line b → a ≡ b
 
 -- a first line spells one thing only: starting pairs, or an event
 abbrev pub SpellsOneFirst : Type 0
@@ -19,7 +20,7 @@ SpellsOneFirst = (line : List ℕ) (a b : FirstLine) → SpellsFirst line a → 
 -- a line has one fault only, apart from want of memory
 abbrev pub HasOneLineFault : Type 0
 HasOneLineFault =
-    (has_start : Bool) (line : List ℕ) (f g : LineFault) → IsEventLineFault has_start line f → IsEventLineFault has_start line g
+    (version : TextVersion) (line : List ℕ) (f g : LineFault) → IsEventLineFault version line f → IsEventLineFault version line g
     → f ≢ faults.Memory → g ≢ faults.Memory → f ≡ g
 
 -- and so has a first line
@@ -30,8 +31,8 @@ HasOneFirstFault =
 -- a line with a fault spells no event
 abbrev pub FaultySpellsNoEvent : Type 0
 FaultySpellsNoEvent =
-    (has_start : Bool) (line : List ℕ) (f : LineFault) (e : Event) → IsEventLineFault has_start line f → f ≢ faults.Memory
-    → SpellsEvent has_start line e → ⊥
+    (version : TextVersion) (line : List ℕ) (f : LineFault) (e : Event) → IsEventLineFault version line f → f ≢ faults.Memory
+    → SpellsEvent version line e → ⊥
 
 -- and a first line with a fault spells nothing
 abbrev pub FaultySpellsNoFirst : Type 0

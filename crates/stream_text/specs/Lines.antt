@@ -1,12 +1,15 @@
 -- What a line of a stream spells: an event, or at the head of a stream the pairs that it starts with.
-use Rattle.std.specs.Prelude.{◌≡◌, ℕ, ◌<◌, ◌≤◌, Bool, false, List, length, map, codes, IsTrue}
+use Rattle.history_text.specs.declared.version.TextVersion.TheVariants as versions
+use Rattle.std.specs.Prelude.{◌≡◌, ℕ, ◌<◌, ◌≤◌, List, length, map, codes, IsTrue}
 use Rattle.serde_json.specs.Data.{Data}
 use Rattle.events.specs.declared.event.Event.{Event}
 use Rattle.events.specs.declared.event.Event.TheVariants as events
 use Rattle.events.specs.Events.{process_of}
 use Rattle.events.specs.Histories.{is_shaped}
 use Rattle.events.specs.Starts.{KeysRise}
-use Rattle.history_text.specs.Texts.{number_data, list_data, pair_data, event_data, may_stand, IsJson}
+use Rattle.history_text.specs.declared.version.TextVersion.{TextVersion}
+use Rattle.history_text.specs.Versions.{version_number, has_start}
+use Rattle.history_text.specs.Texts.{number_data, list_data, pair_data, IsEventData, may_stand, IsJson}
 use Rattle.history_text.specs.ValueFaults.{object_of_two}
 use Rattle.stream_text.specs.LineLimits.{line_limit, number_limit}
 use Rattle.stream_text.specs.declared.event.StreamEvent.{StreamEvent}
@@ -24,36 +27,44 @@ pub record IsLine (line : List ℕ) (d : Data) : Type 0 where
   pub short : length line ≤ line_limit
   pub json : IsJson line d
 
--- an event that may stand in a stream with starting pairs, or in one without: a scan has its ends in order, a replace needs starting pairs
-pub record MayStandIn (has_start : Bool) (e : Event) : Type 0 where
+-- an event that may stand in a stream of a version: a scan has its ends in order, a replace needs starting pairs, and an answer that tells
+-- less than the map answers needs version 3
+pub record MayStandIn (version : TextVersion) (e : Event) : Type 0 where
   pub shaped : IsTrue (is_shaped e)
-  pub standing : IsTrue (may_stand has_start e)
+  pub standing : IsTrue (may_stand version e)
   pub few : process_of e < number_limit
 
--- the line spells this event, as an item of the events of a history's text does
-pub record SpellsEvent (has_start : Bool) (line : List ℕ) (e : Event) : Type 0 where
-  pub value : IsLine line (event_data e)
-  pub stands : MayStandIn has_start e
+-- the line spells this event, as an item of the events of a history's text of that version does
+pub record SpellsEvent (version : TextVersion) (line : List ℕ) (e : Event) : Type 0 where
+  pub value : Data
+  pub is_line : IsLine line value
+  pub spelled : IsEventData version value e
+  pub stands : MayStandIn version e
 
 -- an object with exactly the members `start` and `version`
 abbrev pub start_object : Data → Data → Data
-start_object start version = object_of_two (codes "start") start (codes "version") version
+start_object start number = object_of_two (codes "start") start (codes "version") number
 
--- the value of starting pairs
-abbrev pub start_line_data : List (ℕ × ℕ) → Data
-start_line_data pairs = start_object (list_data (map pair_data pairs)) (number_data 2)
+-- the value is the number of a version whose streams have a start
+abbrev pub NamesVersion : Data → TextVersion → Type 0
+NamesVersion number version = IsTrue (has_start version) × (number ≡ number_data (version_number version))
 
--- the line spells these starting pairs
-pub record SpellsStart (line : List ℕ) (pairs : List (ℕ × ℕ)) : Type 0 where
-  pub value : IsLine line (start_line_data pairs)
+-- the value of starting pairs, of a stream of a version
+abbrev pub start_line_data : TextVersion → List (ℕ × ℕ) → Data
+start_line_data version pairs = start_object (list_data (map pair_data pairs)) (number_data (version_number version))
+
+-- the line spells these starting pairs, and this version
+pub record SpellsStart (version : TextVersion) (line : List ℕ) (pairs : List (ℕ × ℕ)) : Type 0 where
+  pub starts : IsTrue (has_start version)
+  pub value : IsLine line (start_line_data version pairs)
   pub rising : KeysRise pairs
 
 -- the value of a first line is that of starting pairs by rising key, or of an event of a stream without
 abbrev pub IsFirstOf : Data → FirstLine → Type 0
-IsFirstOf d (first.Start pairs) = (d ≡ start_line_data pairs) × KeysRise pairs
-IsFirstOf d (first.Event e) = (d ≡ event_data (as_event e)) × MayStandIn false (as_event e)
+IsFirstOf d (first.Start version pairs) = IsTrue (has_start version) × (d ≡ start_line_data version pairs) × KeysRise pairs
+IsFirstOf d (first.Event e) = IsEventData versions.One d (as_event e) × MayStandIn versions.One (as_event e)
 
--- what the first line of a stream spells: starting pairs, or an event of a stream without
+-- what the first line of a stream spells: starting pairs, or an event of a stream without, which is of version 1
 abbrev pub SpellsFirst : List ℕ → FirstLine → Type 0
-SpellsFirst line (first.Start pairs) = SpellsStart line pairs
-SpellsFirst line (first.Event e) = SpellsEvent false line (as_event e)
+SpellsFirst line (first.Start version pairs) = SpellsStart version line pairs
+SpellsFirst line (first.Event e) = SpellsEvent versions.One line (as_event e)

@@ -1,5 +1,6 @@
 // What the lines of a stream spell.
 use events::{Call, Pairs, Reply};
+use history_text::TextVersion;
 
 /// One event of a stream: a process begins a call, or its open call is answered.
 #[derive(Debug, Drop)]
@@ -11,8 +12,8 @@ pub enum StreamEvent {
 /// What the first line of a stream spells.
 #[derive(Debug, Drop)]
 pub enum FirstLine {
-    /// The pairs that the map holds at the start, by rising key: the stream is of version 2, and may have a replace.
-    Start(Pairs),
+    /// The version of the stream, 2 or 3, and the pairs that the map holds at the start, by rising key.
+    Start { version: TextVersion, pairs: Pairs },
     /// An event: the stream is of version 1, and starts with the empty map.
     Event(StreamEvent),
 }

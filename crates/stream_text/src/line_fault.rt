@@ -12,7 +12,7 @@ pub enum LineFault {
     /// The line is no JSON in UTF-8.
     #[error("2 NotJson")]
     NotJson,
-    /// The first line has the members `start` and `version` alone, and these are no array and the number 2.
+    /// The first line has the members `start` and `version` alone, and these are no array and the number 2 or 3.
     #[error("3 Version")]
     Version,
     /// The line has no form that an event has.

@@ -5,12 +5,12 @@ ghost use Rattle.serde_json.specs.View.{view};
 ghost use Rattle.events.specs.declared.event.Event.{Event};
 ghost use Rattle.events.specs.Starts.{KeysRise};
 ghost use Rattle.events.specs.HistoryFaults.{is_above};
-ghost use Rattle.history_text.specs.Texts.{pair_data, event_data};
+ghost use Rattle.history_text.specs.Texts.{pair_data, event_data, IsEventData};
 ghost use Rattle.history_text.specs.ValueFaults.{invocation_data, response_data};
 ghost use Rattle.stream_text.specs.declared.line_fault.LineFault.TheVariants as faults;
 ghost use Rattle.stream_text.specs.declared.event.FirstLine.{FirstLine};
 ghost use Rattle.stream_text.specs.LineLimits.{number_limit};
-ghost use Rattle.stream_text.specs.Lines.{as_event, start_object, start_line_data, IsLine};
+ghost use Rattle.stream_text.specs.Lines.{as_event, start_object, IsLine};
 ghost use Rattle.stream_text.specs.Lines.{MayStandIn, IsFirstOf, SpellsEvent, SpellsFirst};
 ghost use Rattle.stream_text.specs.LineFaults.{IsByteFault, IsEventFault, IsStartFault, IsPairFault, IsFirstFault, IsEventLineFault, IsFirstLineFault};
 
@@ -18,24 +18,27 @@ use crate::MAX_LINE;
 use crate::event::{FirstLine, StreamEvent};
 use crate::line_fault::LineFault;
 use events::Pairs;
-use history_text::{JsonFault, call_of, json_of, may_stand, pair_of, reply_of, two_members};
+use history_text::{
+    JsonFault, TextVersion, call_of, items_of, json_of, pair_of, reply_of, turn_of, two_members,
+    version_with_start,
+};
 use serde_json::Value;
 use std::alloc::Global;
 
-/// The event that a line spells, in a stream with starting pairs or in one without. Otherwise the line's first fault, or `Memory`:
-/// its length is tested first, then that it is JSON, then its shape, a replace in a stream without starting pairs among it, then its
-/// process number. A line without bytes is no JSON.
+/// The event that a line spells, in a stream of a version. Otherwise the line's first fault, or `Memory`: its length is tested
+/// first, then that it is JSON, then its shape, what may not stand in that version among it, then its process number. A line
+/// without bytes is no JSON.
 pub fn read_event_line(
     alloc: Global,
-    has_start: bool,
+    version: TextVersion,
     line: &[u8],
 ) -> Result<StreamEvent, LineFault>
-    ensures spelled { IfOk result (λ e. SpellsEvent has_start line.now (as_event e)) }
-    ensures refused { IfErr result (IsEventLineFault has_start line.now) }
-    ensures accepted { (e : Event) → SpellsEvent has_start line.now e → IfErr result (λ fault. fault ≡ faults.Memory) }
+    ensures spelled { IfOk result (λ e. SpellsEvent version line.now (as_event e)) }
+    ensures refused { IfErr result (IsEventLineFault version line.now) }
+    ensures accepted { (e : Event) → SpellsEvent version line.now e → IfErr result (λ fault. fault ≡ faults.Memory) }
 {
     let value = value_of(alloc, line)?;
-    event_of(alloc, has_start, &value)
+    event_of(alloc, version, &value)
 }
 
 /// What the first line of a stream spells: starting pairs where it has the members `start` and `version` alone, else an event of a
@@ -54,11 +57,10 @@ fn first_of(alloc: Global, value: &Value) -> Result<FirstLine, LineFault>
     ensures ok { IfOk result (IsFirstOf (view value.now)) }
     ensures refused { IfErr result (IsFirstFault (view value.now)) }
 {
-    if let Some((start, version)) = two_members(value, "start", "version") {
-        let pairs = start_of(alloc, start, version)?;
-        return Ok(FirstLine::Start(Pairs::new(pairs)));
+    if let Some((start, number)) = two_members(value, "start", "version") {
+        return start_of(alloc, start, number);
     }
-    Ok(FirstLine::Event(event_of(alloc, false, value)?))
+    Ok(FirstLine::Event(event_of(alloc, TextVersion::One, value)?))
 }
 
 /// The JSON value of a line that is not too long.
@@ -78,30 +80,34 @@ fn value_of(alloc: Global, line: &[u8]) -> Result<Value, LineFault>
 }
 
 /// The event that a value spells.
-fn event_of(alloc: Global, has_start: bool, value: &Value) -> Result<StreamEvent, LineFault>
-    ensures ok { IfOk result (λ e. view value.now ≡ event_data (as_event e)) }
-    ensures stands { IfOk result (λ e. MayStandIn has_start (as_event e)) }
-    ensures refused { IfErr result (IsEventFault has_start (view value.now)) }
+fn event_of(alloc: Global, version: TextVersion, value: &Value) -> Result<StreamEvent, LineFault>
+    ensures ok { IfOk result (λ e. IsEventData version (view value.now) (as_event e)) }
+    ensures stands { IfOk result (λ e. MayStandIn version (as_event e)) }
+    ensures refused { IfErr result (IsEventFault version (view value.now)) }
 {
-    if let Some((call, process)) = two_members(value, "invoke", "process") {
-        return invocation_of(has_start, call, process);
+    if let Some((call, process)) = turn_of(version, "invoke", value) {
+        return invocation_of(version, call, process);
     }
-    if let Some((reply, process)) = two_members(value, "answer", "process") {
-        return response_of(alloc, has_start, reply, process);
+    if let Some((reply, process)) = turn_of(version, "answer", value) {
+        return response_of(alloc, version, reply, process);
     }
     Err(LineFault::Shape)
 }
 
 /// The invocation that the values of its call and its process spell.
-fn invocation_of(has_start: bool, call: &Value, process: &Value) -> Result<StreamEvent, LineFault>
+fn invocation_of(
+    version: TextVersion,
+    call: &Value,
+    process: &Value,
+) -> Result<StreamEvent, LineFault>
     ensures ok { IfOk result (λ e. event_data (as_event e) ≡ invocation_data (view call.now) (view process.now)) }
-    ensures stands { IfOk result (λ e. MayStandIn has_start (as_event e)) }
-    ensures refused { IfErr result (IsEventFault has_start (invocation_data (view call.now) (view process.now))) }
+    ensures stands { IfOk result (λ e. MayStandIn version (as_event e)) }
+    ensures refused { IfErr result (IsEventFault version (invocation_data (view call.now) (view process.now))) }
 {
     let (Some(call), Some(process)) = (call_of(call), process.as_u64()) else {
         return Err(LineFault::Shape);
     };
-    if !may_stand(has_start, &call) {
+    if !version.may_have_call(&call) {
         return Err(LineFault::Shape);
     }
     let process = process_number(process)?;
@@ -111,17 +117,20 @@ fn invocation_of(has_start: bool, call: &Value, process: &Value) -> Result<Strea
 /// The response that the values of its reply and its process spell.
 fn response_of(
     alloc: Global,
-    has_start: bool,
+    version: TextVersion,
     reply: &Value,
     process: &Value,
 ) -> Result<StreamEvent, LineFault>
     ensures ok { IfOk result (λ e. event_data (as_event e) ≡ response_data (view reply.now) (view process.now)) }
-    ensures stands { IfOk result (λ e. MayStandIn has_start (as_event e)) }
-    ensures refused { IfErr result (IsEventFault has_start (response_data (view reply.now) (view process.now))) }
+    ensures stands { IfOk result (λ e. MayStandIn version (as_event e)) }
+    ensures refused { IfErr result (IsEventFault version (response_data (view reply.now) (view process.now))) }
 {
     let (Some(reply), Some(process)) = (reply_of(alloc, reply)?, process.as_u64()) else {
         return Err(LineFault::Shape);
     };
+    if !version.may_have_reply(&reply) {
+        return Err(LineFault::Shape);
+    }
     let process = process_number(process)?;
     Ok(StreamEvent::Answer { process, reply })
 }
@@ -134,19 +143,16 @@ fn process_number(number: u64) -> Result<u16, LineFault>
     u16::try_from(number).map_err(|_| LineFault::TooMany)
 }
 
-/// The starting pairs that the values of a first line spell.
-fn start_of(alloc: Global, start: &Value, version: &Value) -> Result<Vec<(u64, u64)>, LineFault>
-    ensures ok { IfOk result (λ pairs. start_object (view start.now) (view version.now) ≡ start_line_data pairs.items) }
-    ensures rising { IfOk result (λ pairs. KeysRise pairs.items) }
-    ensures refused { IfErr result (IsStartFault (view start.now) (view version.now)) }
+/// The starting pairs and the version that the values of a first line spell.
+fn start_of(alloc: Global, start: &Value, number: &Value) -> Result<FirstLine, LineFault>
+    ensures ok { IfOk result (IsFirstOf (start_object (view start.now) (view number.now))) }
+    ensures refused { IfErr result (IsStartFault (view start.now) (view number.now)) }
 {
-    let Some(items) = start.as_array() else {
+    let (Some(items), Some(version)) = (items_of(start), version_with_start(number)) else {
         return Err(LineFault::Version);
     };
-    if version.as_u64() != Some(2) {
-        return Err(LineFault::Version);
-    }
-    pairs_rising(alloc, items)
+    let pairs = Pairs::new(pairs_rising(alloc, items)?);
+    Ok(FirstLine::Start { version, pairs })
 }
 
 /// The pairs that values spell, by rising key; else the first place at which they do not.

@@ -1,10 +1,11 @@
 // From an event to its line.
-ghost use Rattle.std.specs.Prelude.{◌≡◌, ◌≤◌, Bool, IfOk, OnOk, codes, string_bytes, string_len};
+ghost use Rattle.std.specs.Prelude.{◌≡◌, ◌≤◌, IfOk, OnOk, codes, string_bytes, string_len};
 ghost use Rattle.serde_json.specs.Data.{object, no_members, put as with_member};
 ghost use Rattle.serde_json.specs.View.{view, members_view};
 ghost use Rattle.serde_json.specs.Written.{compact_text};
 ghost use Rattle.history_text.specs.Texts.{number_data, call_data, reply_data, event_data};
 ghost use Rattle.history_text.specs.ValueFaults.{invocation_data, response_data};
+ghost use Rattle.history_text.specs.declared.version.TextVersion.{TextVersion};
 ghost use Rattle.stream_text.specs.Cuts.{HasNoLineFeed};
 ghost use Rattle.stream_text.specs.LineLimits.{line_limit};
 ghost use Rattle.stream_text.specs.Lines.{as_event, MayStandIn, SpellsEvent};
@@ -19,8 +20,8 @@ use std::alloc::{AllocError, Global};
 /// the event may stand. A line of more than `MAX_LINE` bytes is written too, and the reader refuses it.
 pub fn event_line(alloc: Global, event: &StreamEvent) -> Result<String, Memory>
     ensures compact { IfOk result (λ line. string_bytes line ≡ compact_text (event_data (as_event event.now))) }
-    ensures again { IfOk result (λ line. string_len line ≤ line_limit → (has_start : Bool) → MayStandIn has_start (as_event event.now)
-        → SpellsEvent has_start (string_bytes line) (as_event event.now)) }
+    ensures again { IfOk result (λ line. string_len line ≤ line_limit → (version : TextVersion) → MayStandIn version (as_event event.now)
+        → SpellsEvent version (string_bytes line) (as_event event.now)) }
     ensures one_line { IfOk result (λ line. HasNoLineFeed (string_bytes line)) }
 {
     let value = event_value(alloc, event)?;

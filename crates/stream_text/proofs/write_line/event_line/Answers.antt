@@ -1,5 +1,5 @@
 -- The value has no float and nests three deep, so it has a text that reads as it.
-use Rattle.std.proofs.Common.{◌≡◌, ◌≤◌, Some, subst, sym, ap, ◌∙◌, arith}
+use Rattle.std.proofs.Common.{◌≡◌, ◌≤◌, Some, inl, subst, refl, sym, ap, ◌∙◌, arith}
 use Rattle.std.proofs.lemmas.Str.{IsUtf8-string_bytes}
 use Rattle.serde_json.specs.Data.{depth}
 use Rattle.serde_json.specs.View.{view}
@@ -26,10 +26,11 @@ returns-clause-compact c =
     c.in_ok-to_string.ensures.text (ap has_float is ∙ has_float-event (as_event c.args.event.now)) ∙ ap compact_text is
 
 pub returns-clause-again : goal.returns-clause-again
-returns-clause-again c = λ fits has_start stands.
+returns-clause-again c = λ fits version stands.
     let before = (goal.at.returns-clause-again c).After-to_string in
     record {
-      value = record {
+      value = event_data (as_event c.args.event.now);
+      is_line = record {
         short = omega (arith, c.in_ok-to_string.field-0.bytes.ok.0);
         json = record {
           fits = omega (arith, c.in_ok-to_string.field-0.bytes.ok.0);
@@ -37,6 +38,7 @@ returns-clause-again c = λ fits has_start stands.
           value = c.in_ok-to_string.ensures.reads_back (shallow before) ∙ ap Some (same before);
         };
       };
+      spelled = inl refl;
       stands = stands;
     }
 
