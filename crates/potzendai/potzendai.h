@@ -9,10 +9,10 @@
  *
  * A call reads the history text of docs/FORMATS.md, or potzendai_follow a stream of any length, in `text_length` bytes, which end as
  * they will, and searches at most `budget` configurations of each segment, or group. It writes what the program writes, a line with
- * its line feed, or the two of a refused text, into the room, and a zero byte behind it; where the room is too small, as much of it
- * as leaves place for the zero byte. `*length` is how many bytes it has without the zero byte, so that all of it is there where
- * `*length < room_length`, and else a call with room for `*length + 1` bytes gives all of it. The call answers the status. A follower
- * takes the lines of a stream as they come.
+ * its line feed, or the two that a terminal shows of a refused text, into the room, and a zero byte behind it; where the room is too
+ * small, as much of it as leaves place for the zero byte. `*length` is how many bytes it has without the zero byte, so that all of it
+ * is there where `*length < room_length`, and else a call with room for `*length + 1` bytes gives all of it. The call answers the
+ * status. A follower takes the lines of a stream as they come.
  *
  * No pointer may be null, also for no bytes, and the text, the room and `*length` lie apart. The room's bytes were set before,
  * by `= ""`, calloc or a call. A call keeps nothing but what a follower holds, starts no thread, takes no lock, and does not end the

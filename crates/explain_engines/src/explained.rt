@@ -31,29 +31,32 @@ use streams::{Sink, Source};
 
 /// Reads a history text to the end of the source, or until it is too long, and explains the verdict on it, which is found by one
 /// thread. Answers the exit status, that of the verdict.
-pub fn run_explain<S: Source, O: Sink, F: Sink>(
+pub fn run_explain<S: Source, O: Sink, F: Sink, H: Sink>(
     alloc: Global,
     source: &mut S,
     output: &mut O,
     faults: &mut F,
+    hints: &mut H,
     budget: u32,
 ) -> u8
     requires budget { (1 ≤ budget) × (budget ≤ budget_limit) }
     requires source { S.failures source.old < u64.MAX }
     requires output { O.failures output.old < u64.MAX }
     requires faults { F.failures faults.old < u64.MAX }
+    requires hints { H.failures hints.old < u64.MAX }
     ensures run { IsRun
         (IsExplainOutcome budget (change S.remaining S.failures source.old source.new))
         (change O.written O.failures output.old output.new)
-        (change F.written F.failures faults.old faults.new) result }
+        (change F.written F.failures faults.old faults.new)
+        (change H.written H.failures hints.old hints.new) result }
     ensures read { IsTextRead text_limit (change S.remaining S.failures source.old source.new) result }
 {
     match text_from(alloc, source, MAX_TEXT) {
         Ok(text) => {
             let outcome = explain_outcome(alloc, &text, budget);
-            write_outcome(output, faults, &outcome)
+            write_outcome(output, faults, hints, &outcome)
         }
-        Err(outcome) => write_outcome(output, faults, &outcome),
+        Err(outcome) => write_outcome(output, faults, hints, &outcome),
     }
 }
 

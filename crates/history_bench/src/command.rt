@@ -17,44 +17,47 @@ use streams::{Sink, Source};
 
 /// Does what the words of the command line ask of a history, the program's name first, and answers the exit status. Words that
 /// ask for anything else are told so. Nothing stops workers before a segment that they search.
-pub fn run<R: Threads + Sync, S: Source, O: Sink, F: Sink>(
+pub fn run<R: Threads + Sync, S: Source, O: Sink, F: Sink, H: Sink>(
     rt: &R,
     alloc: Global,
     source: &mut S,
     output: &mut O,
     faults: &mut F,
+    hints: &mut H,
     words: &[&str],
 ) -> u8
     requires source { S.failures source.old < u64.MAX }
     requires output { O.failures output.old < u64.MAX }
     requires faults { F.failures faults.old < u64.MAX }
+    requires hints { H.failures hints.old < u64.MAX }
 
     // What the words ask for comes out so, or the fault that they have, or that they ask for something else.
     ensures run { IsRun
         (IsHistoryWordsOutcome (texts words.entry.now) (change S.remaining S.failures source.old source.new))
         (change O.written O.failures output.old output.new)
-        (change F.written F.failures faults.old faults.new) result }
+        (change F.written F.failures faults.old faults.new)
+        (change H.written H.failures hints.old hints.new) result }
 
     // For words with a fault, and for those that ask for something else, nothing is read.
     ensures unread { result ≡ words_status → source.new ≡ source.old }
 {
     let line = match asked_line(alloc, words) {
         Ok(line) => line,
-        Err(outcome) => return write_outcome(output, faults, &outcome),
+        Err(outcome) => return write_outcome(output, faults, hints, &outcome),
     };
     match line {
-        Line::Check { order } => run_check(alloc, source, output, faults, &order),
+        Line::Check { order } => run_check(alloc, source, output, faults, hints, &order),
         Line::Judge { budget, workers } => {
             run_judge(
-                rt, alloc, source, output, faults, budget, workers, &OpenGate,
+                rt, alloc, source, output, faults, hints, budget, workers, &OpenGate,
             )
         }
         Line::Locate { budget, workers } => {
             run_locate(
-                rt, alloc, source, output, faults, budget, workers, &OpenGate,
+                rt, alloc, source, output, faults, hints, budget, workers, &OpenGate,
             )
         }
-        _ => write_outcome(output, faults, &elsewhere(alloc)),
+        _ => write_outcome(output, faults, hints, &elsewhere(alloc)),
     }
 }
 

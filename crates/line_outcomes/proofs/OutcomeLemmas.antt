@@ -10,13 +10,13 @@ use Rattle.outcomes.specs.Outcomes.{IsReadOutcome}
 use Rattle.line_outcomes.specs.Outcomes.{IsAskedOutcome, IsFaultOutcome, IsWordsOutcome}
 
 -- of a subcommand that reads a text
-pub read-words : (L : Line → Change → Outcome → Type 0) (A : List ℕ → Answer → List ℕ → Type 0) (R : List ℕ → List ℕ → Type 0)
+pub read-words : (L : Line → Change → Outcome → Type 0) (A : List ℕ → Answer → List ℕ → Type 0) (R : List ℕ → List ℕ → List ℕ → Type 0)
     (words : List Text) (source : Change) (outcome : Outcome)
     → (IsReadOutcome A R source outcome → IsAskedOutcome L words source outcome) → IsReadOutcome A R source outcome
     → IsWordsOutcome L words source outcome
 read-words L A R words source (Answered answer bytes) ask comes = ask comes
 read-words L A R words source (Noted answer bytes note) ask comes = ask comes
-read-words L A R words source (Refused bytes) ask comes = ask comes
+read-words L A R words source (Refused bytes hint) ask comes = ask comes
 read-words L A R words source Memory ask (inl unread) = unread
 read-words L A R words source Memory ask (inr read) = read.0
 read-words L A R words source (Words text) ask (inl unread) = absurd unread
@@ -28,7 +28,7 @@ pub fault-words : (L : Line → Change → Outcome → Type 0) (words : List Tex
     → IsFaultOutcome words outcome → IsSound source → IsWordsOutcome L words source outcome
 fault-words L words source (Answered answer bytes) fault sound = absurd fault
 fault-words L words source (Noted answer bytes note) fault sound = absurd fault
-fault-words L words source (Refused bytes) fault sound = absurd fault
+fault-words L words source (Refused bytes hint) fault sound = absurd fault
 fault-words L words source Memory fault sound = sound
 fault-words L words source (Words text) fault sound = (fault, sound)
 fault-words L words source Failed fault sound = absurd fault

@@ -1,7 +1,7 @@
 -- A room after a text was copied to its front and a zero byte was put behind it.
-use Rattle.std.proofs.Common.{◌≡◌, ◌≢◌, ℕ, suc, ◌-◌, ◌<◌, List, [], ◌∷◌, ◌++◌, length, take, drop, min, refl, ap, ◌∙◌, arith, slice_set}
-use Rattle.std.proofs.Math.Seq.{drop-cons}
-use Rattle.std.proofs.lemmas.List.{set-append_right, length-take}
+use Rattle.std.proofs.Common.{◌≡◌, ◌≢◌, ℕ, suc, ◌+◌, ◌-◌, ◌<◌, List, [], ◌∷◌, ◌++◌, length, take, drop, min, refl, sym, ap, ◌∙◌, append_assoc, arith, slice_set}
+use Rattle.std.proofs.Math.Seq.{drop-cons, drop-append_seam, take-append_seam, take-append-add, take-length}
+use Rattle.std.proofs.lemmas.List.{set-append_right, length-append, length-drop, length-take, drop-drop}
 use Rattle.potzendai.specs.Calls.{written}
 
 -- a zero byte is written at the first place behind a front
@@ -23,3 +23,27 @@ written-is text (byte ∷ rest) front n some at is =
     ap (λ (start : List ℕ). slice_set (start ++ drop n (byte ∷ rest)) n 0) is
     ∙ set_behind (take n text) (byte ∷ rest) n long within
     ∙ ap (λ (k : ℕ). take k text ++ 0 ∷ drop k rest) same
+
+-- behind a text that leaves place another one is written as if both were one
+pub written-more : (text more room first last : List ℕ) (n : ℕ) → n ≡ length text → n < length room → first ≡ written text room
+    → last ≡ written more (drop n first) → take n first ++ last ≡ written (text ++ more) room
+written-more text more [] first last n at within is rest = absurd (omega (arith, within))
+written-more text more (byte ∷ room) first last n at within is rest =
+    let k = length text in
+    let tail = drop k room in
+    let m = min (length more) (length tail) in
+    let whole : min k (length room) ≡ k = omega (arith, at, within) in
+    let front : first ≡ text ++ 0 ∷ tail =
+    is ∙ ap (λ (i : ℕ). take i text ++ 0 ∷ drop i room) whole ∙ ap (λ (t : List ℕ). t ++ 0 ∷ tail) (take-length text) in
+    let before : take n first ≡ text =
+    ap (λ (i : ℕ). take i first) at ∙ ap (λ (l : List ℕ). take k l) front ∙ take-append_seam text (0 ∷ tail) in
+    let behind : drop n first ≡ 0 ∷ tail =
+    ap (λ (i : ℕ). drop i first) at ∙ ap (λ (l : List ℕ). drop k l) front ∙ drop-append_seam text (0 ∷ tail) in
+    let size : min (length (text ++ more)) (length room) ≡ k + m =
+    omega (arith, at, within, length-append text more, length-drop k room) in
+    ap (λ (l : List ℕ). l ++ last) before
+    ∙ ap (λ (l : List ℕ). text ++ l) (rest ∙ ap (λ (l : List ℕ). written more l) behind)
+    ∙ sym (append_assoc text (take m more) (0 ∷ drop m tail))
+    ∙ ap (λ (l : List ℕ). (text ++ take m more) ++ 0 ∷ l) (drop-drop m k room)
+    ∙ ap (λ (l : List ℕ). l ++ 0 ∷ drop (k + m) room) (sym (take-append-add text more m))
+    ∙ sym (ap (λ (i : ℕ). take i (text ++ more) ++ 0 ∷ drop i room) size)

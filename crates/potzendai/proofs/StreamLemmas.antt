@@ -53,7 +53,7 @@ yes_has_order budget text (Noted Yes bytes note) comes is = record {
 }
 yes_has_order budget text (Noted No bytes note) comes is = cc
 yes_has_order budget text (Noted Undecided bytes note) comes is = cc
-yes_has_order budget text (Refused bytes) comes is = cc
+yes_has_order budget text (Refused bytes hint) comes is = cc
 yes_has_order budget text Memory comes is = cc
 yes_has_order budget text (Words bytes) comes is = cc
 yes_has_order budget text Failed comes is = cc
@@ -67,7 +67,7 @@ no_has_none budget text (Answered Undecided bytes) comes is = cc
 no_has_none budget text (Noted Yes bytes note) comes is = cc
 no_has_none budget text (Noted No bytes note) comes is = wrong_lines budget (lines_of text) comes.0 comes.1
 no_has_none budget text (Noted Undecided bytes note) comes is = cc
-no_has_none budget text (Refused bytes) comes is = cc
+no_has_none budget text (Refused bytes hint) comes is = cc
 no_has_none budget text Memory comes is = cc
 no_has_none budget text (Words bytes) comes is = cc
 no_has_none budget text Failed comes is = cc

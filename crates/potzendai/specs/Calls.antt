@@ -14,19 +14,28 @@ IsBudget budget = (1 ≤ budget) × (budget ≤ budget_limit)
 abbrev pub status_of : Outcome → ℕ
 status_of (Answered answer bytes) = answer_status answer
 status_of (Noted answer bytes note) = answer_status answer
-status_of (Refused bytes) = refused_status
+status_of (Refused bytes hint) = refused_status
 status_of Memory = memory_status
 status_of (Words bytes) = words_status
 status_of Failed = failed_status
 
--- the text of an outcome, as the program writes it, to whichever end; without a note on it
+-- the line of an outcome, as the program writes it, to whichever end
+abbrev pub line_of : Outcome → List ℕ
+line_of (Answered answer bytes) = string_bytes bytes
+line_of (Noted answer bytes note) = string_bytes bytes
+line_of (Refused bytes hint) = string_bytes bytes
+line_of Memory = memory_line
+line_of (Words bytes) = string_bytes bytes
+line_of Failed = io_line
+
+-- the hint on a refusal
+abbrev pub hint_of : Outcome → List ℕ
+hint_of (Refused bytes hint) = string_bytes hint
+hint_of outcome = []
+
+-- the text of an outcome: its line, and behind that of a refusal the hint; without a note
 abbrev pub text_of : Outcome → List ℕ
-text_of (Answered answer bytes) = string_bytes bytes
-text_of (Noted answer bytes note) = string_bytes bytes
-text_of (Refused bytes) = string_bytes bytes
-text_of Memory = memory_line
-text_of (Words bytes) = string_bytes bytes
-text_of Failed = io_line
+text_of outcome = line_of outcome ++ hint_of outcome
 
 -- the text for a budget that no search may have
 abbrev pub budget_line : List ℕ

@@ -1,7 +1,7 @@
 // What a call tells its caller.
-ghost use Rattle.std.specs.Prelude.{◌≡◌, ◌≤◌, ◌↔◌, IsTrue, length};
+ghost use Rattle.std.specs.Prelude.{◌≡◌, ◌≤◌, ◌↔◌, ◌++◌, IsTrue, length};
 ghost use Rattle.outcomes.specs.Statuses.{words_status};
-ghost use Rattle.potzendai.specs.Calls.{budget_line, IsBudget, status_of, text_of, written};
+ghost use Rattle.potzendai.specs.Calls.{budget_line, hint_of, line_of, IsBudget, status_of, text_of, written};
 ghost use Rattle.potzendai.specs.Follows.{IsToldClosed, standing};
 
 use judge::MAX_BUDGET;
@@ -21,9 +21,10 @@ pub(crate) fn tell(outcome: &Outcome, room: &mut [u8], size: &mut usize) -> u32
     ensures size { size.new ≡ length (text_of outcome.now) }
     ensures room { room.new ≡ written (text_of outcome.now) room.old }
 {
-    let text = text_of(outcome);
-    *size = text.len();
-    write(text, room);
+    let line = line_of(outcome);
+    let hint = hint_of(outcome);
+    *size = line.len() + hint.len();
+    write_both(line, hint, room);
     u32::from(status_of(outcome))
 }
 
@@ -59,16 +60,26 @@ pub(crate) fn standing(follower: &LineFollower) -> u32
     }
 }
 
-/// The text of an outcome.
-fn text_of(outcome: &Outcome) -> &[u8]
-    ensures { result.now ≡ text_of outcome.now }
+/// The line of an outcome.
+fn line_of(outcome: &Outcome) -> &[u8]
+    ensures { result.now ≡ line_of outcome.now }
 {
     match outcome {
         Outcome::Answered { line, .. } | Outcome::Noted { line, .. } => line.as_bytes(),
-        Outcome::Refused(line) => line.as_bytes(),
+        Outcome::Refused { line, .. } => line.as_bytes(),
         Outcome::Words(text) => text.as_bytes(),
         Outcome::Memory => b"memory\n",
         Outcome::Failed => b"io\n",
+    }
+}
+
+/// The hint on a refusal.
+fn hint_of(outcome: &Outcome) -> &[u8]
+    ensures { result.now ≡ hint_of outcome.now }
+{
+    match outcome {
+        Outcome::Refused { hint, .. } => hint.as_bytes(),
+        _ => b"",
     }
 }
 
@@ -78,10 +89,21 @@ fn status_of(outcome: &Outcome) -> u8
 {
     match outcome {
         Outcome::Answered { answer, .. } | Outcome::Noted { answer, .. } => answer.status(),
-        Outcome::Refused(_) => REFUSED,
+        Outcome::Refused { .. } => REFUSED,
         Outcome::Words(_) => WORDS,
         Outcome::Memory => MEMORY,
         Outcome::Failed => FAILED,
+    }
+}
+
+/// Writes two texts as one, one behind the other.
+fn write_both(text: &[u8], more: &[u8], room: &mut [u8])
+    ensures { room.new ≡ written (text.now ++ more.now) room.old }
+{
+    write(text, room);
+    let count = text.len();
+    if count < room.len() {
+        write(more, &mut room[count..]);
     }
 }
 
