@@ -82,6 +82,9 @@ fn is_same_reply(reply: &Reply, other: &Reply) -> bool
     match (reply, other) {
         (Reply::None, Reply::None) => true,
         (Reply::Refused, Reply::Refused) => true,
+        (Reply::Done, Reply::Done) => true,
+        (Reply::Found, Reply::Found) => true,
+        (Reply::Other, Reply::Other) => true,
         (Reply::Some(value), Reply::Some(other)) => *value == *other,
         (Reply::Pairs(pairs), Reply::Pairs(other)) => pairs.as_slice() == other.as_slice(),
         _ => false,
