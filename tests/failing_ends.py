@@ -5,8 +5,8 @@ threads that its words have it make.
     tests/failing_ends.py
 
 Where a read fails nothing is written but `io`, where a write to standard output fails a beginning of the answer; a write to standard
-error that fails leaves a beginning of the fault and changes no status. Pieces of seven bytes change no answer. The last line counts
-what passed and failed.
+error that fails leaves a beginning of the fault, or on a terminal of the hint behind it, and changes nothing else. Pieces of seven bytes
+change no answer. The last line counts what passed and failed.
 """
 
 import functools
@@ -16,7 +16,9 @@ import sys
 import tempfile
 
 sys.dont_write_bytecode = True
-from rows import INSERT_THEN_GET, NO_PLAN, OTHER_TOP_LEVEL, TOO_MANY_CALLS, TOP, answer, compare  # noqa: E402
+from rows import (  # noqa: E402
+    INSERT_THEN_GET, NO_PLAN, OTHER_TOP_LEVEL, TOO_MANY_CALLS, TOP, answer, compare, on_terminal, without_hints,
+)
 
 MISSED_INSERT = """{"events":[
     {"invoke":["insert",5,7],"process":0},{"answer":null,"process":0},
@@ -58,7 +60,7 @@ ANSWERED = [
     ("replay", REPLAY, 0, DONE),
 ]
 
-# Words, the status and the fault, on the text `{}`.
+# Words, the status and what a terminal shows, on the text `{}`.
 REFUSED = [
     ("check", 3, OTHER_TOP_LEVEL),
     ("judge", 3, OTHER_TOP_LEVEL),
@@ -100,18 +102,23 @@ THREADS = [
 ]
 
 
-def failing(library, end, number, words, text):
+# Words, a text, the status and the output, and the note that a terminal shows.
+NOTED = ("follow", '{"invoke":["insert",5,7],"process":0}\n{"answer":null,"process":0}\n{"invoke":["get",5],"process":0}\n', 0,
+         '{"calls":2,"overlap":0,"verdict":"yes"}\n', "note: no two calls overlap, and of such a history a yes says little\n")
+
+
+def failing(library, end, number, words, text, ask=answer):
     """The answer where the call of this number at an end fails, and whether there was one."""
     with tempfile.TemporaryDirectory() as folder:
         mark = os.path.join(folder, "failed")
         environment = {"LD_PRELOAD": library, "AT_ONCE": "1", end: str(number), "FAILED": mark}
-        return answer(words.split(), text, environment), os.path.exists(mark)
+        return ask(words.split(), text, environment), os.path.exists(mark)
 
 
-def failures(library, end, words, text, calls, wanted):
+def failures(library, end, words, text, calls, wanted, ask=answer):
     """What is wrong where each call at an end fails in turn: how many there have to be, and what is wanted of each, and behind the last."""
     for number in range(1, calls + 2):
-        got, failed = failing(library, end, number, words, text)
+        got, failed = failing(library, end, number, words, text, ask)
         if got != wanted(number) or failed != (number <= calls):
             return f"{end} {number} of {words}: {got}, failed: {failed}, and wanted is {wanted(number)}"
     return None
@@ -130,8 +137,15 @@ def writes_fail(library, words, text, status, output):
 
 
 def faults_fail(library, words, status, fault):
-    told = fault.encode()
+    told = without_hints(status, fault)
     return failures(library, "ERROR", words, "{}", len(told), lambda number: (status, b"", told[: number - 1]))
+
+
+def hints_fail(library, words, text, status, output, told):
+    """On a terminal: behind a line that breaks off the whole hint is told, and a hint that breaks off is the end."""
+    line, told = without_hints(status, told), told.encode()
+    shown = lambda number: line[: number - 1] + told[len(line) :] if number <= len(line) else told[: number - 1]
+    return failures(library, "ERROR", words, text, len(told), lambda number: (status, output.encode(), shown(number)), on_terminal)
 
 
 def is_unread(library):
@@ -139,13 +153,13 @@ def is_unread(library):
     words = "generate --seed 18446744073709551615 --processes 4294967295 --calls 4294967295 --get 4294967295 --insert 101 "
     words += "--remove 0 --scan 0 --lo 0 --hi 4294967295"
     got, failed = failing(library, "READ", 1, words, "{}")
-    wanted = (3, b"", b"plan: 1 BadMix\nwanted shares of gets, inserts, removes and scans that are 100 together\n")
+    wanted = (3, b"", b"plan: 1 BadMix\n")
     return None if got == wanted and not failed else f"{got}, read: {failed}"
 
 
 def by_sevens(library, words, text, status, output, fault):
     got = answer(words.split(), text, {"LD_PRELOAD": library, "AT_ONCE": "7"})
-    wanted = (status, output.encode(), fault.encode())
+    wanted = (status, output.encode(), without_hints(status, fault))
     return None if got == wanted else f"{words} by pieces of 7 bytes: {got}, and wanted is {wanted}"
 
 
@@ -168,6 +182,8 @@ def main():
         others = [functools.partial(reads_fail, library, *row) for row in ANSWERED]
         others += [functools.partial(writes_fail, library, *row) for row in [*ANSWERED, plan]]
         others += [functools.partial(faults_fail, library, *row) for row in REFUSED]
+        others += [functools.partial(hints_fail, library, words, "{}", status, "", told) for words, status, told in REFUSED]
+        others += [functools.partial(hints_fail, library, *NOTED)]
         others += [functools.partial(by_sevens, library, *row, "") for row in [*ANSWERED, plan]]
         others += [functools.partial(by_sevens, library, words, "{}", status, "", fault) for words, status, fault in REFUSED]
         others += [functools.partial(is_unread, library)]

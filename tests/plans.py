@@ -513,7 +513,7 @@ def long_plans():
 
 
 def rows():
-    """Words, a text, and the status, standard output and standard error that are wanted."""
+    """Words, a text, and the status, standard output and what a terminal shows that are wanted."""
     for numbers, scripts in DRAWN:
         yield drawing(42, numbers), "", 0, f'{{"scripts":{scripts},"version":1}}\n', ""
     for numbers, fault in UNDRAWN:

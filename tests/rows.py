@@ -2,6 +2,7 @@
 
 import concurrent.futures
 import os
+import pty
 import subprocess
 
 TOP = os.path.dirname(os.path.dirname(os.path.abspath(__file__)))
@@ -16,7 +17,7 @@ INSERT_THEN_GET = """{"events":[
     {"invoke":["insert",5,7],"process":0},{"answer":null,"process":0},
     {"invoke":["get",5],"process":0},{"answer":7,"process":0}],"version":1}"""
 
-# What is told of a fault, or its second line.
+# What a terminal shows of a fault, or its second line, a hint.
 JSON = "wanted JSON in UTF-8\n"
 LENGTH = "wanted at most 16777216 bytes\n"
 OTHER_TOP_LEVEL = 'history: 3 Version\nwanted {"version":1,"events":[..]} or {"version":2,"start":[..],"events":[..]}\n'
@@ -42,6 +43,39 @@ def answer(words, text=b"", environment=None):
     return ran.returncode, ran.stdout, ran.stderr
 
 
+def shown_on(terminal):
+    """All that a terminal shows of a program that has ended, where nobody else has the other end open."""
+    told = b""
+    try:
+        while more := os.read(terminal, 1 << 16):
+            told += more
+    except OSError:
+        # All was read.
+        pass
+    os.close(terminal)
+    return told.replace(b"\r\n", b"\n")
+
+
+def on_terminal(words, text=b"", environment=None):
+    """The same of a program whose standard error is a terminal, with all that this shows."""
+    terminal, error = pty.openpty()
+    try:
+        ran = subprocess.run(
+            [PROGRAM, *words], input=as_bytes(text), stdout=subprocess.PIPE, stderr=error, env=environment, timeout=300, check=False
+        )
+    finally:
+        os.close(error)
+    return ran.returncode, ran.stdout, shown_on(terminal)
+
+
+def without_hints(status, told):
+    """What stays of it where standard error is no terminal: of a refusal its first line, and beside an answer nothing."""
+    if status < 3:
+        return b""
+    lines = as_bytes(told).splitlines(keepends=True)
+    return b"".join(lines[:1] if status == 3 else lines)
+
+
 def piped(*lines):
     """The answer to the last of some lists of words, each of which reads what the one before it has written."""
     text = b""
@@ -52,9 +86,11 @@ def piped(*lines):
 
 
 def difference(row):
-    """How the answer to a row differs from the wanted one: words, a text, and a status, standard output and standard error."""
-    words, text, status, output, faults = row
-    got, wanted = answer(words, text), (status, as_bytes(output), as_bytes(faults))
+    """How the answer to a row differs from the wanted one: words, a text, and a status, standard output and what a terminal shows."""
+    words, text, status, output, told = row
+    got, wanted = answer(words, text), (status, as_bytes(output), without_hints(status, told))
+    if got == wanted and wanted[2] != as_bytes(told):
+        got, wanted = on_terminal(words, text), (status, as_bytes(output), as_bytes(told))
     if got == wanted:
         return None
     return f"{' '.join(words)[:200]} on {as_bytes(text)[:300]}:\n  {str(got)[:600]}\n  and wanted is {str(wanted)[:600]}"

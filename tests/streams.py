@@ -7,7 +7,7 @@ Histories are those of the examples that are not refused, and drawn ones, 5,000 
 call a map, each call has its effect at a moment while it is open, and some stay open; then answers of half of them are changed,
 or swapped with what stands beside them. Where `judge` says yes `follow` counts the calls and how much they overlap; where
 `locate` finds an event it is the one that `follow` stops at, and the small history that it writes has no order. Where one of
-them is undecided the others may say what fits. Standard error has the note on a yes of calls that do not overlap, and else nothing.
+them is undecided the others may say what fits. Standard error, which is no terminal, has nothing.
 
 Then streams are followed in which processes die: each stops inside an insert, a remove, a replace or a get and never answers, and the
 others call the map at its key thousands of times; into half of these streams wrong answers come late. What is expected of them a model
@@ -36,7 +36,6 @@ REFUSED = 3
 # Streams with processes that die, one for each 125 histories, and their calls.
 DEAD_SHARE = 125
 DEAD_CALLS = 3000
-NOTE = b"note: no two calls overlap, and of such a history a yes says little\n"
 
 
 def text_of(history):
@@ -276,8 +275,7 @@ def verdict(history):
         wrong = wrong_with_yes(history, text, lines)
     elif status == 1:
         wrong = wrong_with_no(text, report, small)
-    calls, overlap = overlap_of(history["events"])
-    if told != (NOTE if status == 0 and calls >= 2 and overlap == 0 else b""):
+    if told:
         wrong = wrong or f"{told} on standard error, with {lines}"
     return report["verdict"], wrong and f"follow says {wrong}: {text.decode()}"
 

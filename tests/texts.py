@@ -3,8 +3,8 @@
 
     tests/texts.py
 
-Each text has one first fault, which was worked out by hand, and so were the two lines that tell it. Every subcommand on histories tells
-the same. The last line counts what passed and failed.
+Each text has one first fault, which was worked out by hand, and so were the two lines that a terminal shows of it, of which standard error
+has the first alone where it is none. Every subcommand on histories tells the same. The last line counts what passed and failed.
 """
 
 import sys
@@ -315,7 +315,7 @@ def refused_streams():
 
 
 def rows():
-    """Words, a text, and the status, standard output and standard error that are wanted."""
+    """Words, a text, and the status, standard output and what a terminal shows that are wanted."""
     for text, told in refused_texts():
         for words in (["check", "0", "1"], ["judge"], ["locate"], ["explain"], ["draw"]):
             yield words, text, 3, "", told

@@ -670,7 +670,7 @@ def most_starting_pairs():
 
 
 def rows():
-    """Words, a text, and the status, standard output and standard error that are wanted."""
+    """Words, a text, and the status, standard output and what a terminal shows that are wanted."""
     for events, words, line in ORDERS:
         yield ["check", *words.split()], history(events), int(line != "ok"), line + "\n", ""
     for call, fitting, others in ANSWERS:

@@ -11,11 +11,13 @@ import os
 import pty
 import re
 import resource
-import select
 import subprocess
 import sys
 import tempfile
 import time
+
+sys.dont_write_bytecode = True
+from rows import shown_on  # noqa: E402
 
 TOP = os.path.dirname(os.path.dirname(os.path.abspath(__file__)))
 PROGRAM = os.path.join(TOP, "crates", "bench", "out", "bench")
@@ -24,6 +26,7 @@ ORDERED = os.path.join(EXAMPLES, "insert-then-get.json")
 CUT_SHORT = os.path.join(EXAMPLES, "cut-short.json")
 OVERLAPPING = os.path.join(EXAMPLES, "get-overlaps-insert-stream.json")
 MISSED = os.path.join(EXAMPLES, "get-misses-insert-stream.json")
+APART = os.path.join(EXAMPLES, "insert-then-get-stream.json")
 FULL = "/dev/full"
 MOST_CALLS = 4096
 LITTLE_STACK = 256 * 1024
@@ -101,6 +104,19 @@ FAULTS = [
 ]
 POINTER = "\n\nFor more information, try '--help'.\n"
 
+# Words, and the line and the hint that they are told of a text that is cut short.
+DRAWN = "generate --seed 42 --processes 1 --calls 2 --get 100 --insert 0 --remove 0 --scan {} --lo {} --hi 5"
+SHOWN = '{"events":[{"invoke":["insert",5,7],"process":0},{"answer":null,"process":0},{"i..'
+REFUSALS = [
+    *((words, "history: 2 NotJson", "wanted JSON in UTF-8") for words in ("check 0 1", "judge", "locate", "explain", "draw")),
+    ("follow", "stream: line 1: 2 NotJson", f"found {SHOWN}; wanted JSON in UTF-8"),
+    ("replay", "replay: 6 NotJson", "wanted JSON in UTF-8"),
+    ("drive", "plan: 6 NotJson", "wanted JSON in UTF-8"),
+    ("drive --tree locked", "plan: 6 NotJson", "wanted JSON in UTF-8"),
+    (DRAWN.format(1, 5), "plan: 1 BadMix", "wanted shares of gets, inserts, removes and scans that are 100 together"),
+    (DRAWN.format(0, 6), "plan: 2 BadRange", "wanted a least key that is not above the greatest"),
+]
+
 # What the user is shown who asks for help on `judge`.
 JUDGE_HELP = """Tells whether the history on standard input is linearizable
 
@@ -155,13 +171,7 @@ def on_terminal(words, lines, pause):
     ran.stdin.flush()
     time.sleep(pause)
     output = ran.communicate(lines[-1], timeout=60)[0]
-    try:
-        told = os.read(terminal, 1 << 16) if select.select([terminal], [], [], 0)[0] else b""
-    except OSError:
-        # The program has closed its end and has told nothing.
-        told = b""
-    os.close(terminal)
-    return ran.returncode, output, told.replace(b"\r\n", b"\n")
+    return ran.returncode, output, shown_on(terminal)
 
 
 def with_little_stack():
@@ -225,7 +235,23 @@ def runs(folder):
         missed = source.read()
     answer = rb'\{"call":2,"calls":\[2\],"event":4,[^\n]*\n[^\n]+\n'
     yield "a stream that goes wrong before it ends", before_the_end(["follow"], missed), (1, answer, NOTHING)
-    yield "a line that is none in a stream that goes on", before_the_end(["follow"], b"[]\n"), (3, NOTHING, rb"([^\n]+\n)+")
+    yield "a line that is none in a stream that goes on", before_the_end(["follow"], b"[]\n"), (3, NOTHING, rb"[^\n]+\n")
+
+    with open(CUT_SHORT, "rb") as source:
+        cut_short = source.readlines()
+    for words, fault, hint in REFUSALS:
+        line, more = (re.escape(told.encode()) + rb"\n" for told in (fault, hint))
+        with open(CUT_SHORT, "rb") as source:
+            yield f"one line of a fault: {words}", run(words.split(), source), (3, NOTHING, line)
+        yield f"a fault and its hint on a terminal: {words}", on_terminal(words.split(), cut_short, 0), (3, NOTHING, line + more)
+    with open(APART, "rb") as source:
+        apart = source.readlines()
+    yes = rb'\{"calls":2,"overlap":0,"verdict":"yes"\}\n'
+    with open(APART, "rb") as source:
+        yield "a yes that says little", run(["follow"], source), (0, yes, NOTHING)
+    yield "a note on a terminal", on_terminal(["follow"], apart, 0), (0, yes, rb"note: [^\n]+\n")
+    help_on_judge = re.escape(JUDGE_HELP.encode())
+    yield "help on a terminal", on_terminal(["judge", "--help"], [b""], 0), (5, NOTHING, help_on_judge)
 
     unreadable = os.open(EXAMPLES, os.O_RDONLY)
     yield "input that is a folder", run(["check"], unreadable), (6, NOTHING, rb"io\n")

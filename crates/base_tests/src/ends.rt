@@ -35,6 +35,20 @@ fn each_write_fails_in_turn(rt: HostRuntime) -> Result<(), Fail> {
     Ok(())
 }
 
+// What is written to no sink is dropped, and to one that is there it goes.
+#[test]
+fn a_sink_may_be_left_out(rt: HostRuntime) -> Result<(), Fail> {
+    let mut none: Option<MemorySink> = None;
+    assert!(rt; write_whole(&mut none, TEXT).is_ok() && none.is_none());
+    let mut some = Some(MemorySink::new(Vec::new(rt.alloc()), 5, Some(1)));
+    assert!(rt; write_whole(&mut some, TEXT).is_err());
+    match &some {
+        Some(sink) => assert!(rt; sink.bytes() == &TEXT[..5] && sink.failures() == 1),
+        None => assert!(rt; false),
+    }
+    Ok(())
+}
+
 // A stream that a signal interrupts, then works once, and then is broken.
 #[derive(Drop)]
 struct Flaky {

@@ -15,7 +15,7 @@ pub drawn-words : (seed : ℕ) (mix : Mix) (processes calls : ℕ) (words : List
     → IsGenerateOutcome seed mix processes calls outcome → IsWordsOutcome IsLineOutcome words source outcome
 drawn-words seed mix processes calls words source (Answered answer bytes) ask sound comes = ask comes
 drawn-words seed mix processes calls words source (Noted answer bytes note) ask sound comes = ask comes
-drawn-words seed mix processes calls words source (Refused bytes) ask sound comes = ask comes
+drawn-words seed mix processes calls words source (Refused bytes hint) ask sound comes = ask comes
 drawn-words seed mix processes calls words source Memory ask sound comes = sound
 drawn-words seed mix processes calls words source (Words text) ask sound comes = absurd comes
 drawn-words seed mix processes calls words source Failed ask sound comes = absurd comes
@@ -25,7 +25,7 @@ pub followed-words : (budget : ℕ) (words : List Text) (source : Change) (outco
     → IsWordsOutcome IsLineOutcome words source outcome
 followed-words budget words source (Answered answer bytes) ask comes = ask comes
 followed-words budget words source (Noted answer bytes note) ask comes = ask comes
-followed-words budget words source (Refused bytes) ask comes = ask comes
+followed-words budget words source (Refused bytes hint) ask comes = ask comes
 followed-words budget words source Memory ask (inl unread) = unread
 followed-words budget words source Memory ask (inr read) = read.0
 followed-words budget words source (Words text) ask (inl unread) = absurd unread

@@ -27,45 +27,48 @@ use workload::Mix;
 /// Does what the words of the command line ask for, the program's name first, and answers the exit status.
 /// Nothing stops workers before a segment that they search, or the processes of a drive before they begin; how far a stream was followed
 /// is shown.
-pub fn run<R: Threads + Wait + Sync, S: Source, O: Sink, F: Sink, P: Progress>(
+pub fn run<R: Threads + Wait + Sync, S: Source, O: Sink, F: Sink, H: Sink, P: Progress>(
     rt: &R,
     alloc: Global,
     source: &mut S,
     output: &mut O,
     faults: &mut F,
+    hints: &mut H,
     words: &[&str],
     progress: &mut P,
 ) -> u8
     requires source { S.failures source.old < u64.MAX }
     requires output { O.failures output.old < u64.MAX }
     requires faults { F.failures faults.old < u64.MAX }
+    requires hints { H.failures hints.old < u64.MAX }
 
     // What the words ask for comes out so, or the fault that they have.
     ensures run { IsRun
         (IsWordsOutcome IsLineOutcome (texts words.entry.now) (change S.remaining S.failures source.old source.new))
         (change O.written O.failures output.old output.new)
-        (change F.written F.failures faults.old faults.new) result }
+        (change F.written F.failures faults.old faults.new)
+        (change H.written H.failures hints.old hints.new) result }
 
     // For words with a fault nothing is read.
     ensures unread { result ≡ words_status → source.new ≡ source.old }
 {
     let line = match asked_line(alloc, words) {
         Ok(line) => line,
-        Err(outcome) => return write_outcome(output, faults, &outcome),
+        Err(outcome) => return write_outcome(output, faults, hints, &outcome),
     };
     match line {
-        Line::Check { order } => run_check(alloc, source, output, faults, &order),
+        Line::Check { order } => run_check(alloc, source, output, faults, hints, &order),
         Line::Judge { budget, workers } => {
             run_judge(
-                rt, alloc, source, output, faults, budget, workers, &OpenGate,
+                rt, alloc, source, output, faults, hints, budget, workers, &OpenGate,
             )
         }
         Line::Locate { budget, workers } => {
             run_locate(
-                rt, alloc, source, output, faults, budget, workers, &OpenGate,
+                rt, alloc, source, output, faults, hints, budget, workers, &OpenGate,
             )
         }
-        Line::Explain { budget } => run_explain(alloc, source, output, faults, budget),
+        Line::Explain { budget } => run_explain(alloc, source, output, faults, hints, budget),
         Line::Draw {
             budget,
             workers,
@@ -74,10 +77,12 @@ pub fn run<R: Threads + Wait + Sync, S: Source, O: Sink, F: Sink, P: Progress>(
         } => {
             let view = View { around, calls };
             run_draw(
-                rt, alloc, source, output, faults, budget, workers, view, &OpenGate,
+                rt, alloc, source, output, faults, hints, budget, workers, view, &OpenGate,
             )
         }
-        Line::Follow { budget } => run_follow(alloc, source, output, faults, budget, progress),
+        Line::Follow { budget } => run_follow(
+            alloc, source, output, faults, hints, budget, progress,
+        ),
         Line::Generate {
             seed,
             processes,
@@ -97,9 +102,9 @@ pub fn run<R: Threads + Wait + Sync, S: Source, O: Sink, F: Sink, P: Progress>(
                 lo,
                 hi,
             };
-            run_generate(alloc, output, faults, seed, &mix, processes, calls)
+            run_generate(alloc, output, faults, hints, seed, &mix, processes, calls)
         }
-        Line::Replay => run_replay(alloc, source, output, faults),
+        Line::Replay => run_replay(alloc, source, output, faults, hints),
         Line::Drive {
             tree,
             rows4,
@@ -110,7 +115,7 @@ pub fn run<R: Threads + Wait + Sync, S: Source, O: Sink, F: Sink, P: Progress>(
         } => {
             let Some(variant) = variant_of(tree) else {
                 let map = LockedMap::new(rt, alloc);
-                return run_drive(rt, alloc, source, output, faults, &map);
+                return run_drive(rt, alloc, source, output, faults, hints, &map);
             };
             let shape = Shape {
                 rows4,
@@ -119,7 +124,7 @@ pub fn run<R: Threads + Wait + Sync, S: Source, O: Sink, F: Sink, P: Progress>(
                 rows256,
             };
             run_tree_drive(
-                rt, alloc, source, output, faults, shape, variant, limit, &OpenGate,
+                rt, alloc, source, output, faults, hints, shape, variant, limit, &OpenGate,
             )
         }
     }

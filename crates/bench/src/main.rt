@@ -13,16 +13,20 @@ use line_outcomes::{texts_of, words_of};
 use outcomes::{Outcome, write_outcome};
 use progress::TerminalProgress;
 use std::process::ExitCode;
-use streams::{StandardError, StandardInput, StandardOutput};
+use streams::{StandardError, StandardInput, StandardOutput, terminal_of};
 
 fn main(rt: HostRuntime) -> ExitCode {
     let mut source = StandardInput::new(rt.stdin());
     let mut output = StandardOutput::new(rt.stdout());
     let mut faults = StandardError::new(rt.stderr());
+    let mut hints = terminal_of(rt.stderr());
     let mut progress = TerminalProgress::new(&rt, rt.stderr());
     let words = match words_of(&rt, rt.alloc()) {
         Ok(words) => words,
-        Err(outcome) => return ExitCode::from(write_outcome(&mut output, &mut faults, &outcome)),
+        Err(outcome) => {
+            let status = write_outcome(&mut output, &mut faults, &mut hints, &outcome);
+            return ExitCode::from(status);
+        }
     };
     let status = match texts_of(rt.alloc(), &words) {
         Ok(texts) => run(
@@ -31,10 +35,11 @@ fn main(rt: HostRuntime) -> ExitCode {
             &mut source,
             &mut output,
             &mut faults,
+            &mut hints,
             &texts,
             &mut progress,
         ),
-        Err(_) => write_outcome(&mut output, &mut faults, &Outcome::Memory),
+        Err(_) => write_outcome(&mut output, &mut faults, &mut hints, &Outcome::Memory),
     };
     ExitCode::from(status)
 }
