@@ -8,4 +8,5 @@ pub mod MergeLemmas
 pub mod PartLemmas
 pub mod PlaceLemmas
 pub mod SortLemmas
+pub mod SortedLemmas
 pub mod TimedLemmas

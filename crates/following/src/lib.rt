@@ -10,4 +10,4 @@ pub use laws::cuts::{
     done_loses_no_order, narrowing_reads_lose_orders, past_cuts, past_cuts_leave, reads_first,
     unchanged_here_loses_orders,
 };
-pub use laws::moments::{keys_stay_apart, operations_stand_apart};
+pub use laws::moments::{key_calls_rise, keys_stay_apart, operations_stand_apart};

@@ -2,6 +2,7 @@
 use Rattle.events.specs.declared.event.Reply.TheVariants as replies
 use Rattle.std.proofs.Common.{◌≡◌, ℕ, ◌≤◌, ◌==◌, ◌&&◌, nat_le, Bool, true, false, cond, Option, Some, None, is_some, inl, inr, refl, sym}
 use Rattle.std.proofs.Common.{ap, subst, ⊎_elim, arith}
+use Rattle.std.specs.Prelude.{⊤}
 use Rattle.std.proofs.lemmas.Bool.{eqb-true, eq-eqb, leb-true, le-leb, and_parts, and_from}
 use Rattle.std.proofs.lemmas.Option.{none-some, same_Some}
 use Rattle.events.specs.declared.event.Call.{Call}
@@ -11,6 +12,7 @@ use Rattle.events.specs.declared.operation.Operation.{Operation}
 use Rattle.events.specs.declared.operation.Response.{Response}
 use Rattle.map_object.specs.MapObject.{Contents, IsRising, within, IsLegalReply}
 use Rattle.orders.specs.Orders.{after_call, IsLegalCall}
+use Rattle.segments.specs.SegmentView.{NamesKeysWithin}
 use Rattle.segments.proofs.RangeLemmas.{IsInside}
 use Rattle.quiet_cuts.proofs.ValueLemmas.{within_rises, within_bounds}
 use Rattle.following.specs.moments.KeyCalls.{Kind, OfKey, Told, Silent, kind_of_scan, kind_of, spread_response, spread_call, get_at, part_of}
@@ -57,6 +59,29 @@ kind_is (Remove key) response = record { low_inside = omega arith; high_inside =
 kind_is (Scan low high) None = record { leaves = λ m. refl; legal = λ form m. tt }
 kind_is (Scan low high) (Some response) = scan_is low high response.res response.reply
 kind_is (Replace key expected value) response = record { low_inside = omega arith; high_inside = omega arith }
+
+-- a call of one key names no other
+abbrev NamesOne : Call → Kind → Type 0
+NamesOne call (OfKey key) = NamesKeysWithin key key call
+NamesOne call (Told low high pairs) = ⊤
+NamesOne call Silent = ⊤
+
+scan_names : (low high : ℕ) (reply : Reply) → NamesOne (Scan low high) (kind_of_scan low high reply)
+scan_names low high replies.None = tt
+scan_names low high (replies.Some value) = tt
+scan_names low high (replies.Pairs pairs) = tt
+scan_names low high replies.Refused = tt
+scan_names low high replies.Done = tt
+scan_names low high replies.Found = tt
+scan_names low high replies.Other = tt
+
+kind_names : (call : Call) (response : Option Response) → NamesOne call (kind_of call response)
+kind_names (Get key) response = record { low_within = omega arith; in_order = omega arith; high_within = omega arith }
+kind_names (Insert key value) response = record { low_within = omega arith; in_order = omega arith; high_within = omega arith }
+kind_names (Remove key) response = record { low_within = omega arith; in_order = omega arith; high_within = omega arith }
+kind_names (Scan low high) None = tt
+kind_names (Scan low high) (Some response) = scan_names low high response.reply
+kind_names (Replace key expected value) response = record { low_within = omega arith; in_order = omega arith; high_within = omega arith }
 
 -- a legal call has form
 scan_form : (m : Contents) (low high : ℕ) (reply : Reply) → IsRising m → IsLegalReply m (Scan low high) reply → IsScanReply low high reply
@@ -121,6 +146,16 @@ module _ (key : ℕ) (spread moment : ℕ → ℕ) (a x : Operation) where
   part_inside (Told low high pairs) is h =
       subst (λ (y : Operation). IsInside key key y.call) h.2 (record { low_inside = omega arith; high_inside = omega arith })
   part_inside Silent is h = absurd h
+
+pub part_names : (key : ℕ) (spread moment : ℕ → ℕ) (a x : Operation) (kind : Kind) → kind_of a.call a.response ≡ kind
+    → IsPart key spread moment a x kind → NamesKeysWithin key key x.call
+part_names key spread moment a x (OfKey own) is h =
+    subst (λ (y : Operation). NamesKeysWithin key key y.call) h.1
+    (subst (λ (n : ℕ). NamesKeysWithin n n a.call) h.0 (subst (NamesOne a.call) is (kind_names a.call a.response)))
+part_names key spread moment a x (Told low high pairs) is h =
+    subst (λ (y : Operation). NamesKeysWithin key key y.call) h.2
+    (record { low_within = omega arith; in_order = omega arith; high_within = omega arith })
+part_names key spread moment a x Silent is h = absurd h
 
 -- a call with its places spread is legal where it was, and does what it did
 pub legal_spread : (spread : ℕ → ℕ) (m : Contents) (call : Call) (response : Option Response) → IsLegalCall m call response

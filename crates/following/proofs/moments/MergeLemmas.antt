@@ -21,12 +21,12 @@ use Rattle.quiet_cuts.specs.TimeCuts.{InvocationsRise}
 use Rattle.quiet_cuts.proofs.SetLemmas.{IsOrderOfSet, Completed}
 use Rattle.following.specs.moments.KeyCalls.{Kind, OfKey, Told, Silent, kind_of, spread_response, spread_call, get_at, part_of, part_at, at_key}
 use Rattle.following.specs.moments.Timings.{IsToldScan, IsTiming, HasForm, HaveScansForm}
-use Rattle.following.proofs.moments.KindLemmas.{IsPart, part_is, is_part, response_spread, completed_spread}
+use Rattle.following.proofs.moments.KindLemmas.{IsPart, part_is, is_part, completed_spread}
 use Rattle.following.proofs.moments.KeyLegalLemmas.{legal_from_keys}
 use Rattle.following.proofs.moments.DistinctLemmas.{InvocationsDiffer, differ_from_rise, same_invocation, one_before, HasOrder}
 use Rattle.following.proofs.moments.GreatLemmas.{great, place, great_above, Rise, both_rise, great_before, great_upto}
 use Rattle.following.proofs.moments.SortLemmas.{same_list, IsUpto, by_rank}
-use Rattle.following.proofs.moments.PartLemmas.{waits_from, waits_to, parts_differ, at_key_differ}
+use Rattle.following.proofs.moments.PartLemmas.{waits_from, waits_to, spread_upto, part_ends, parts_differ, at_key_differ}
 use Rattle.following.proofs.moments.TimedLemmas.{row_before}
 
 module _ (start : Contents) (calls : List Operation) (rising : IsRising start) (none : NonePrecedesItself calls)
@@ -86,12 +86,6 @@ module _ (start : Contents) (calls : List Operation) (rising : IsRising start) (
   none_of : (a : Operation) → Contains calls a → (r : Response) → a.response ≡ Some r → a.inv ≤ r.res
   none_of a a_is r answered = waits_from a.response a.inv (All-contains (λ a. precedes a a ≡ false) calls a none a_is) r answered
 
-  spread_upto : (p q : ℕ) → p ≤ q → spread p ≤ spread q
-  spread_upto p q upto = ⊎_elim
-      (λ less. let rises = timing.rises p q less in omega arith)
-      (λ more. let same : p ≡ q = omega arith in let equal = ap spread same in omega arith)
-      (cases_lt p q)
-
   part_among : (key : ℕ) (a x : Operation) (kind : Kind) → kind_of a.call a.response ≡ kind → Contains calls a
       → IsPart key spread moment a x kind → Contains (at_key key spread moment calls) x
   part_among key a x kind e a_is part =
@@ -131,22 +125,6 @@ module _ (start : Contents) (calls : List Operation) (rising : IsRising start) (
   line_taken key a x (Told low high pairs) x_is part = refl
   line_taken key a x Silent x_is part = absurd part
 
-  -- a part ends at or behind its own invocation
-  part_ends : (key : ℕ) (a x : Operation) (kind : Kind) → Contains calls a → IsPart key spread moment a x kind → (r : Response)
-      → x.response ≡ Some r → x.inv ≤ r.res
-  part_ends key a x (OfKey own) a_is part r answered =
-      let (s, s_is, at) = response_spread spread a.response r (ap (λ (z : Operation). z.response) part.1 ∙ answered) in
-      let upto = spread_upto a.inv s.res (none_of a a_is s s_is) in
-      let begins : spread a.inv ≡ x.inv = ap (λ (z : Operation). z.inv) part.1 in
-      omega (arith, upto, at, begins)
-  part_ends key a x (Told low high pairs) a_is part r answered =
-      let told : Response = record { res = moment a.inv; reply = value_reply (value_at pairs key) } in
-      let same : told ≡ r = cc in
-      let at : moment a.inv ≡ r.res = ap (λ (s : Response). s.res) same in
-      let begins : moment a.inv ≡ x.inv = ap (λ (z : Operation). z.inv) part.2 in
-      omega (arith, at, begins)
-  part_ends key a x Silent a_is part r answered = absurd part
-
   -- the greatest invocation up to a part stands at or before its response
   line_upto : (key : ℕ) (x : Operation) → Contains (line key) x → (r : Response) → x.response ≡ Some r → great 0 (line key) x.inv ≤ r.res
   line_upto key x x_is =
@@ -155,7 +133,8 @@ module _ (start : Contents) (calls : List Operation) (rising : IsRising start) (
       (All-from_contains (λ y. (r : Response) → y.response ≡ Some r → y.inv ≤ r.res) (line key) (λ y y_is.
       let (a, a_is, at) = Contains-from_filter_map (part_at key spread moment) calls y (line_among key y y_is) in
       let kind = kind_of a.call a.response in
-      part_ends key a y kind a_is (part_is key spread moment a y kind at)))
+      part_ends calls spread moment timing key a y kind (All-contains (λ a. precedes a a ≡ false) calls a none a_is)
+      (part_is key spread moment a y kind at)))
       (AllPairs-weaker (λ y z. precedes z y ≡ false) (λ y z. (r : Response) → z.response ≡ Some r → y.inv ≤ r.res) (line key)
       (λ y z y_is z_is waits. waits_from z.response y.inv waits) (is_line key).precedence) x x_is
 
@@ -200,7 +179,7 @@ module _ (start : Contents) (calls : List Operation) (rising : IsRising start) (
       line_upto key x x_is (record { res = spread r.res; reply = r.reply }) (ap (spread_response spread) answered)
   ended_upto a (Told low high pairs) e a_is takes r answered =
       let less = timing.ended a r a_is (low, (high, (pairs, e))) answered in omega arith
-  ended_upto a Silent e a_is takes r answered = spread_upto a.inv r.res (none_of a a_is r answered)
+  ended_upto a Silent e a_is takes r answered = spread_upto calls spread moment timing a.inv r.res (none_of a a_is r answered)
 
   -- ---- the calls that are taken, by rank
 

@@ -1,12 +1,12 @@
 -- Where the parts of calls at a key are invoked and answered.
 use Rattle.std.proofs.Common.{◌≡◌, ℕ, ◌≤◌, false, List, Option, Some, None, inl, inr, refl, sym, ap, ◌∙◌, ⊎_elim, arith}
 use Rattle.std.specs.Prelude.{◌≢◌, ◌⊎◌, All, Contains}
-use Rattle.std.proofs.lemmas.Bool.{ltb-false, le-ltb, cases_order}
+use Rattle.std.proofs.lemmas.Bool.{ltb-false, le-ltb, cases_order, cases_lt}
 use Rattle.std.proofs.lemmas.Option.{same_Some}
 use Rattle.std.proofs.lemmas.List.Elements.{All-contains}
 use Rattle.events.specs.declared.operation.Operation.{Operation}
 use Rattle.events.specs.declared.operation.Response.{Response}
-use Rattle.events.specs.Precedence.{is_before}
+use Rattle.events.specs.Precedence.{is_before, precedes}
 use Rattle.list_laws.proofs.FilterLemmas.{AreRelatedAs, AllPairs-filter_map, AllPairs-weaker}
 use Rattle.map_object.specs.MapObject.{value_at, value_reply}
 use Rattle.following.specs.moments.KeyCalls.{Kind, OfKey, Told, Silent, kind_of, part_at, at_key}
@@ -50,6 +50,28 @@ module _ (calls : List Operation) (spread moment : ℕ → ℕ) (timing : IsTimi
   spread_differs p q other same = ⊎_elim (λ equal. other equal) (λ differ. ⊎_elim
       (λ less. let rises = timing.rises p q less in absurd (omega arith))
       (λ more. let rises = timing.rises q p more in absurd (omega arith)) differ) (cases_order p q)
+
+  pub spread_upto : (p q : ℕ) → p ≤ q → spread p ≤ spread q
+  spread_upto p q upto = ⊎_elim
+      (λ less. let rises = timing.rises p q less in omega arith)
+      (λ more. let same : p ≡ q = omega arith in let equal = ap spread same in omega arith)
+      (cases_lt p q)
+
+  -- a part ends at or behind its own invocation
+  pub part_ends : (key : ℕ) (a x : Operation) (kind : Kind) → precedes a a ≡ false → IsPart key spread moment a x kind → (r : Response)
+      → x.response ≡ Some r → x.inv ≤ r.res
+  part_ends key a x (OfKey own) alone part r answered =
+      let (s, s_is, at) = response_spread spread a.response r (ap (λ (z : Operation). z.response) part.1 ∙ answered) in
+      let upto = spread_upto a.inv s.res (waits_from a.response a.inv alone s s_is) in
+      let begins : spread a.inv ≡ x.inv = ap (λ (z : Operation). z.inv) part.1 in
+      omega (arith, upto, at, begins)
+  part_ends key a x (Told low high pairs) alone part r answered =
+      let told : Response = record { res = moment a.inv; reply = value_reply (value_at pairs key) } in
+      let same : told ≡ r = cc in
+      let at : moment a.inv ≡ r.res = ap (λ (s : Response). s.res) same in
+      let begins : moment a.inv ≡ x.inv = ap (λ (z : Operation). z.inv) part.2 in
+      omega (arith, at, begins)
+  part_ends key a x Silent alone part r answered = absurd part
 
   -- parts of calls that are invoked at different places are invoked at different places
   pub parts_differ : (key : ℕ) (a b x y : Operation) → Contains calls a → Contains calls b → a.inv ≢ b.inv

@@ -1,13 +1,16 @@
 -- Moments of scans, and answers that a scan may have at all.
 use Rattle.events.specs.declared.event.Reply.TheVariants as replies
-use Rattle.std.specs.Prelude.{◌≡◌, ◌≢◌, ℕ, ◌<◌, ◌≤◌, List, Option, Some, None, All, Contains, ⊤}
+use Rattle.std.specs.Prelude.{◌≡◌, ◌≢◌, ◌↔◌, ℕ, ◌<◌, ◌≤◌, List, Option, Some, None, All, Contains, ⊤}
 use Rattle.events.specs.declared.event.Call.{Call}
 use Rattle.events.specs.declared.event.Call.TheVariants.{Get, Insert, Remove, Scan, Replace}
 use Rattle.events.specs.declared.event.Reply.{Reply}
 use Rattle.events.specs.declared.operation.Operation.{Operation}
 use Rattle.events.specs.declared.operation.Response.{Response}
+use Rattle.events.specs.Precedence.{NonePrecedesItself}
 use Rattle.map_object.specs.MapObject.{Contents, IsRising}
 use Rattle.orders.specs.Orders.{IsLinearizable}
+use Rattle.segments.specs.SegmentView.{NamesKeysWithin}
+use Rattle.quiet_cuts.specs.TimeCuts.{InvocationsRise}
 use Rattle.following.specs.moments.KeyCalls.{kind_of, at_key, Told}
 
 -- a scan that was told pairs
@@ -66,3 +69,11 @@ pub record HaveMoments (start : Contents) (calls : List Operation) : Type 0 wher
 abbrev pub EventsStandApart : List Operation → Type 0
 EventsStandApart calls = (a b : Operation) (response : Response) → Contains calls a → Contains calls b → a.response ≡ Some response
     → response.res ≢ b.inv
+
+-- the calls of one key by rising invocation, in place of a list of the same calls in which they stand otherwise
+pub record AreByInvocation (key : ℕ) (calls sorted : List Operation) : Type 0 where
+  pub same : (a : Operation) → Contains sorted a ↔ Contains calls a
+  pub names : All (λ a. NamesKeysWithin key key a.call) sorted
+  pub rise : InvocationsRise sorted
+  pub none_precedes_itself : NonePrecedesItself sorted
+  pub orders : (start : Contents) → IsLinearizable start calls ↔ IsLinearizable start sorted
