@@ -1,1 +1,2 @@
 pub mod cuts
+pub mod moments

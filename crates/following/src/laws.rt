@@ -1,2 +1,3 @@
 // The laws, by part.
 pub mod cuts;
+pub mod moments;
