@@ -12,8 +12,10 @@ use Rattle.events.specs.declared.fault.HistoryFault.TheVariants as faults
 use Rattle.events.specs.Histories.{is_shaped, is_small, call_count}
 use Rattle.events.specs.HistoryFaults.{has_open_call, is_call_too_many, is_out_of_turn}
 use Rattle.events.specs.Events.{process_of}
-use Rattle.history_text.specs.Texts.{document, event_data, pair_data, start_data}
+use Rattle.history_text.specs.declared.version.TextVersion.{TextVersion}
+use Rattle.history_text.specs.Texts.{document, IsEventData, pair_data, start_data}
 use Rattle.history_text.specs.TextFaults.{IsTextFault, IsFaultAfter, IsPairFaultAfter, ShowsEventFault, ShowsPairFault}
+use Rattle.history_text.proofs.SplitLemmas.{same_length}
 use Rattle.history_engines.specs.Refusals.{item_of, item_in, found_in}
 use Rattle.history_engines.specs.RefusalLaws.{NamesPlace}
 use Rattle.history_engines.proofs.laws.faults_are_found.Goals as goal
@@ -24,14 +26,14 @@ item_there : (before rest : List Data) (next : Data) → get_item (length before
 item_there [] rest next = refl
 item_there (d ∷ before) rest next = item_there before rest next
 
-event_there : (start : Option (List Data)) (before rest : List Data) (next : Data)
-    → item_of (codes "events") (length before) (document start (before ++ next ∷ rest)) ≡ Some next
-event_there None before rest next = item_there before rest next
-event_there (Some start) before rest next = item_there before rest next
+event_there : (version : TextVersion) (start : Option (List Data)) (before rest : List Data) (next : Data)
+    → item_of (codes "events") (length before) (document version start (before ++ next ∷ rest)) ≡ Some next
+event_there version None before rest next = item_there before rest next
+event_there version (Some start) before rest next = item_there before rest next
 
-pair_there : (before rest events : List Data) (next : Data)
-    → item_of (codes "start") (length before) (document (Some (before ++ next ∷ rest)) events) ≡ Some next
-pair_there before rest events next = item_there before rest next
+pair_there : (version : TextVersion) (before rest events : List Data) (next : Data)
+    → item_of (codes "start") (length before) (document version (Some (before ++ next ∷ rest)) events) ≡ Some next
+pair_there version before rest events next = item_there before rest next
 
 there : (text name : List ℕ) (place n : ℕ) (d next : Data) → read text ≡ Some d → place ≡ n → item_of name n d ≡ Some next
     → item_in name place text ≡ Some next
@@ -65,10 +67,10 @@ shown_at n false true turned = tt
 shown_at n false false true = refl
 shown_at n false false false = tt
 
-event_at : (has_start : Bool) (before : List Event) (next : Data) (fault : HistoryFault) → IsFaultAfter has_start before next fault
+event_at : (version : TextVersion) (before : List Event) (next : Data) (fault : HistoryFault) → IsFaultAfter version before next fault
     → IsEventAt (length before) fault
-event_at has_start before next fault (inl h) = subst (IsEventAt (length before)) (sym h.0) refl
-event_at has_start before next fault (inr h) =
+event_at version before next fault (inl h) = subst (IsEventAt (length before)) (sym h.0) refl
+event_at version before next fault (inr h) =
     subst (IsShownAt (length before)) h.3
     (shown_at (length before) (not (is_shaped h.0)) (not (is_small h.0) || is_call_too_many (call_count before) h.0)
     (is_out_of_turn (has_open_call (process_of h.0) before) h.0))
@@ -84,17 +86,17 @@ event_found : (text : List ℕ) (place : ℕ) (fault : HistoryFault) (d : Data) 
     → place ≡ length h.before
     → item_in (codes "events") place text ≡ Some h.next
 event_found text place fault d h value at =
-    there text (codes "events") place (length (map event_data h.before)) d h.next value (at ∙ sym (length-map h.before event_data))
-    (ap (item_of (codes "events") (length (map event_data h.before))) h.parts
-    ∙ event_there (start_data h.start) (map event_data h.before) h.rest h.next)
+    there text (codes "events") place (length h.first) d h.next value
+    (at ∙ sym (same_length (IsEventData h.version) h.first h.before h.spelled))
+    (ap (item_of (codes "events") (length h.first)) h.parts.1 ∙ event_there h.version (start_data h.start) h.first h.rest h.next)
 
 pair_found : (text : List ℕ) (place : ℕ) (fault : HistoryFault) (d : Data) (h : ShowsPairFault d fault) → read text ≡ Some d
     → place ≡ length h.before
     → item_in (codes "start") place text ≡ Some h.next
 pair_found text place fault d h value at =
     there text (codes "start") place (length (map pair_data h.before)) d h.next value (at ∙ sym (length-map h.before pair_data))
-    (ap (item_of (codes "start") (length (map pair_data h.before))) h.parts
-    ∙ pair_there (map pair_data h.before) h.rest h.events h.next)
+    (ap (item_of (codes "start") (length (map pair_data h.before))) h.parts.1
+    ∙ pair_there h.version (map pair_data h.before) h.rest h.events h.next)
 
 found : (text : List ℕ) (fault : HistoryFault) → IsTextFault text fault → NamesPlace fault → (d : Data) × (found_in text fault ≡ Some d)
 found text (faults.Shape event) (d, json, inl h) names = absurd (pair_at h.before h.next (faults.Shape event) h.shows)
