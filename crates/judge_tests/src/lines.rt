@@ -1,6 +1,7 @@
-// Sources that are cut at their line feeds, wherever a read of them ends or fails, and lines that events are written as.
+// Sources that are cut at their line feeds, wherever a read of them ends or fails, lines that events are written as, and a history.
 ghost use Rattle.std.specs.Prelude.{◌≡◌, ◌<◌, IfOk};
 
+use history_text::{TextVersion, read_history, write_history};
 use std::alloc::{AllocError, Global};
 use std::test::Fail;
 use stream_text::{LineReader, NoLine, event_line, read_event_line};
@@ -95,7 +96,7 @@ fn lines_come_wherever_a_read_ends_or_fails(rt: HostRuntime) -> Result<(), Fail>
 }
 
 /// Lines of events in the compact form, of each call and each reply.
-static COMPACT: [&str; 9] = [
+static COMPACT: [&str; 12] = [
     r#"{"invoke":["get",5],"process":64}"#,
     r#"{"invoke":["insert",5,1],"process":0}"#,
     r#"{"invoke":["remove",0],"process":65535}"#,
@@ -105,13 +106,31 @@ static COMPACT: [&str; 9] = [
     r#"{"answer":18446744073709551615,"process":3}"#,
     r#"{"answer":[[3,4],[1,2]],"process":3}"#,
     r#"{"answer":"refused","process":3}"#,
+    r#"{"answer":"done","process":3}"#,
+    r#"{"answer":"found","process":3}"#,
+    r#"{"answer":"other","process":3}"#,
 ];
 
 #[test]
 fn events_are_written_as_lines(rt: HostRuntime) -> Result<(), Fail> {
     for line in &COMPACT {
-        let event = read_event_line(rt.alloc(), true, line.as_bytes())?;
+        let event = read_event_line(rt.alloc(), TextVersion::Three, line.as_bytes())?;
         assert!(rt; event_line(rt.alloc(), &event)?.as_str() == *line, "{line}");
     }
+    Ok(())
+}
+
+/// A text with notes, and what is written of its history.
+const NOTED: &str =
+    r#"{"version":3,"start":[],"events":[{"note":{"line":[7,null]},"process":0,"invoke":["insert",5,7]},
+    {"process":0,"answer":"done","note":"12:00"},{"process":0,"invoke":["get",5],"note":1.5}]}"#;
+
+const NOTHING_NOTED: &str =
+    r#"{"events":[{"invoke":["insert",5,7],"process":0},{"answer":"done","process":0},{"invoke":["get",5],"process":0}],"start":[],"version":3}"#;
+
+#[test]
+fn a_history_is_written_without_its_notes(rt: HostRuntime) -> Result<(), Fail> {
+    let history = read_history(rt.alloc(), NOTED.as_bytes())?;
+    assert!(rt; write_history(rt.alloc(), &history)?.as_str() == NOTHING_NOTED);
     Ok(())
 }

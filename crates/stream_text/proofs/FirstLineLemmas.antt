@@ -120,25 +120,25 @@ one_first line (first.Event e) (first.Event g) x y = ap first.Event
 
 -- no array of values, or not the number of a version with a start
 abbrev SpellsNoStart : Data → Data → Type 0
-SpellsNoStart start number = (items : List Data) (version : TextVersion) → start ≡ list_data items → NamesVersion number version → ⊥
+SpellsNoStart start named = (items : List Data) (version : TextVersion) → start ≡ list_data items → NamesVersion named version → ⊥
 
 -- an array of values, of which the one at this place is faulty
 abbrev HasFaultyPair : Data → Data → ℕ → Type 0
-HasFaultyPair start number place =
-    (items : List Data) × (version : TextVersion) × (start ≡ list_data items) × NamesVersion number version × ShowsPairFault items place
+HasFaultyPair start named place =
+    (items : List Data) × (version : TextVersion) × (start ≡ list_data items) × NamesVersion named version × ShowsPairFault items place
 
 abbrev StartKind : Data → Data → LineFault → Type 0
-StartKind start number f =
-    ((f ≡ faults.Version) × SpellsNoStart start number) ⊎ ((place : ℕ) × (f ≡ faults.Start place) × HasFaultyPair start number place)
+StartKind start named f =
+    ((f ≡ faults.Version) × SpellsNoStart start named) ⊎ ((place : ℕ) × (f ≡ faults.Start place) × HasFaultyPair start named place)
 
-StartKind-from_fault : (start number : Data) (f : LineFault) → IsStartFault start number f → f ≢ faults.Memory → StartKind start number f
-StartKind-from_fault start number faults.TooLong h other = absurd h
-StartKind-from_fault start number faults.NotJson h other = absurd h
-StartKind-from_fault start number faults.Version h other = inl (refl, h)
-StartKind-from_fault start number faults.Shape h other = absurd h
-StartKind-from_fault start number faults.TooMany h other = absurd h
-StartKind-from_fault start number faults.Memory h other = absurd (other refl)
-StartKind-from_fault start number (faults.Start at) h other = inr (at, refl, h)
+StartKind-from_fault : (start named : Data) (f : LineFault) → IsStartFault start named f → f ≢ faults.Memory → StartKind start named f
+StartKind-from_fault start named faults.TooLong h other = absurd h
+StartKind-from_fault start named faults.NotJson h other = absurd h
+StartKind-from_fault start named faults.Version h other = inl (refl, h)
+StartKind-from_fault start named faults.Shape h other = absurd h
+StartKind-from_fault start named faults.TooMany h other = absurd h
+StartKind-from_fault start named faults.Memory h other = absurd (other refl)
+StartKind-from_fault start named (faults.Start at) h other = inr (at, refl, h)
 
 -- values have one faulty pair at most
 one_place : (items : List Data) (p q : ℕ) → ShowsPairFault items p → ShowsPairFault items q → p ≡ q
@@ -151,11 +151,11 @@ one_place items p q a b = by_splits
     by_splits (inr (inl on)) = absurd (no_pair_fault a.before b.before b.next on a.rising b.shows)
     by_splits (inr (inr on)) = absurd (no_pair_fault b.before a.before a.next on b.rising a.shows)
 
-one_start_kind : (start number : Data) (f g : LineFault) → StartKind start number f → StartKind start number g → f ≡ g
-one_start_kind start number f g (inl a) (inl b) = a.0 ∙ sym b.0
-one_start_kind start number f g (inl a) (inr b) = let there = b.2 in absurd (a.1 there.0 there.1 there.2 there.3)
-one_start_kind start number f g (inr a) (inl b) = let there = a.2 in absurd (b.1 there.0 there.1 there.2 there.3)
-one_start_kind start number f g (inr a) (inr b) =
+one_start_kind : (start named : Data) (f g : LineFault) → StartKind start named f → StartKind start named g → f ≡ g
+one_start_kind start named f g (inl a) (inl b) = a.0 ∙ sym b.0
+one_start_kind start named f g (inl a) (inr b) = let there = b.2 in absurd (a.1 there.0 there.1 there.2 there.3)
+one_start_kind start named f g (inr a) (inl b) = let there = a.2 in absurd (b.1 there.0 there.1 there.2 there.3)
+one_start_kind start named f g (inr a) (inr b) =
     let one = a.2 in
     let other = b.2 in
     let items : other.0 ≡ one.0 = list_data_injective other.0 one.0 (sym other.2 ∙ one.2) in
@@ -198,9 +198,9 @@ one_first_fault = one_fault_of_lines IsFirstFault one_first_value
 pub no_first : FaultySpellsNoFirst
 no_first line f (first.Start version pairs) h other spelled =
     let start = list_data (map pair_data pairs) in
-    let number = number_data (version_number version) in
-    let shown = first_start start number f (value_fault IsFirstFault line (start_line_data version pairs) f h other spelled.value) in
-    no_start_kind version pairs f (StartKind-from_fault start number f shown other) spelled.starts spelled.rising
+    let named = number_data (version_number version) in
+    let shown = first_start start named f (value_fault IsFirstFault line (start_line_data version pairs) f h other spelled.value) in
+    no_start_kind version pairs f (StartKind-from_fault start named f shown other) spelled.starts spelled.rising
 no_first line f (first.Event e) h other spelled = by_value (value_fault IsFirstFault line spelled.value f h other spelled.is_line)
   where
     by_value : IsFirstFault spelled.value f → ⊥

@@ -56,19 +56,19 @@ IsPairFault items fault = ⊥
 
 -- the members are no array and the number of a version with a start, then the first faulty pair; or memory ran out
 abbrev pub IsStartFault : Data → Data → LineFault → Type 0
-IsStartFault start number faults.Version = (items : List Data) (version : TextVersion) → start ≡ list_data items
-    → NamesVersion number version → ⊥
-IsStartFault start number (faults.Start place) =
-    (items : List Data) × (version : TextVersion) × (start ≡ list_data items) × NamesVersion number version × ShowsPairFault items place
-IsStartFault start number faults.Memory = ⊤
-IsStartFault start number fault = ⊥
+IsStartFault start named faults.Version = (items : List Data) (version : TextVersion) → start ≡ list_data items
+    → NamesVersion named version → ⊥
+IsStartFault start named (faults.Start place) =
+    (items : List Data) × (version : TextVersion) × (start ≡ list_data items) × NamesVersion named version × ShowsPairFault items place
+IsStartFault start named faults.Memory = ⊤
+IsStartFault start named fault = ⊥
 
 -- ---- of a first value, which is that of starting pairs where its members say so
 
 abbrev pub IsFirstFault : Data → LineFault → Type 0
 IsFirstFault d fault =
-    ((start number : Data) × (d ≡ start_object start number) × IsStartFault start number fault)
-    ⊎ (((start number : Data) → d ≡ start_object start number → ⊥) × IsEventFault versions.One d fault)
+    ((start named : Data) × (d ≡ start_object start named) × IsStartFault start named fault)
+    ⊎ (((start named : Data) → d ≡ start_object start named → ⊥) × IsEventFault versions.One d fault)
 
 -- ---- of lines
 

@@ -43,11 +43,11 @@ pub record SpellsEvent (version : TextVersion) (line : List ℕ) (e : Event) : T
 
 -- an object with exactly the members `start` and `version`
 abbrev pub start_object : Data → Data → Data
-start_object start number = object_of_two (codes "start") start (codes "version") number
+start_object start named = object_of_two (codes "start") start (codes "version") named
 
 -- the value is the number of a version whose streams have a start
 abbrev pub NamesVersion : Data → TextVersion → Type 0
-NamesVersion number version = IsTrue (has_start version) × (number ≡ number_data (version_number version))
+NamesVersion named version = IsTrue (has_start version) × (named ≡ number_data (version_number version))
 
 -- the value of starting pairs, of a stream of a version
 abbrev pub start_line_data : TextVersion → List (ℕ × ℕ) → Data
