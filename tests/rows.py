@@ -20,7 +20,7 @@ INSERT_THEN_GET = """{"events":[
 # What a terminal shows of a fault, or its second line, a hint.
 JSON = "wanted JSON in UTF-8\n"
 LENGTH = "wanted at most 16777216 bytes\n"
-OTHER_TOP_LEVEL = 'history: 3 Version\nwanted {"version":1,"events":[..]} or {"version":2,"start":[..],"events":[..]}\n'
+OTHER_TOP_LEVEL = 'history: 3 Version\nwanted {"version":1,"events":[..]} or {"version":V,"start":[..],"events":[..]}; V is 2 or 3\n'
 NO_PLAN = (
     'plan: 7 Shape\nwanted {"version":1,"scripts":[[C,..],..]}; C is ["get",K], ["insert",K,V], ["remove",K], ["scan",LO,HI] '
     'with LO <= HI, or in version 2 ["replace",K,OLD,NEW]; keys are from 0 to 4294967295, values from 0 to 1073741823\n'

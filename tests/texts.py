@@ -16,9 +16,9 @@ from rows import (  # noqa: E402
 
 # What is said behind the line of a fault.
 EVENT = (
-    'wanted {"process":P,"invoke":C} or {"process":P,"answer":A}; C is ["get",K], ["insert",K,V], ["remove",K], ["scan",LO,HI] '
-    'with LO <= HI, or in version 2 ["replace",K,OLD,NEW]; A is null, V, [[K,V],..] or "refused"; '
-    "numbers are from 0 to 18446744073709551615\n"
+    'wanted {"process":P,"invoke":C} or {"process":P,"answer":A}, in version 3 also with a "note"; C is ["get",K], ["insert",K,V], '
+    '["remove",K], ["scan",LO,HI] with LO <= HI, or from version 2 on ["replace",K,OLD,NEW]; A is null, V, [[K,V],..], "refused", '
+    'or in version 3 "done", "found" or "other"; numbers are from 0 to 18446744073709551615\n'
 )
 LIMITS = "wanted at most 4096 starting pairs, processes from 0 to 63, at most 4096 calls, at most 4096 pairs in an answer\n"
 TURN = "wanted an invocation where the process has no open call, an answer where it has one\n"

@@ -18,8 +18,9 @@ json_wanted = codes "JSON in UTF-8"
 -- an event of a history text, or of a stream
 abbrev pub event_wanted : List ℕ
 event_wanted =
-    codes "{\"process\":P,\"invoke\":C} or {\"process\":P,\"answer\":A}; C is [\"get\",K], [\"insert\",K,V], [\"remove\",K], "
-    ++ codes "[\"scan\",LO,HI] with LO <= HI, or in version 2 [\"replace\",K,OLD,NEW]; A is null, V, [[K,V],..] or \"refused\"; "
+    codes "{\"process\":P,\"invoke\":C} or {\"process\":P,\"answer\":A}, in version 3 also with a \"note\"; C is [\"get\",K], "
+    ++ codes "[\"insert\",K,V], [\"remove\",K], [\"scan\",LO,HI] with LO <= HI, or from version 2 on [\"replace\",K,OLD,NEW]; "
+    ++ codes "A is null, V, [[K,V],..], \"refused\", or in version 3 \"done\", \"found\" or \"other\"; "
     ++ codes "numbers are from 0 to 18446744073709551615"
 
 -- an event in its turn
@@ -34,7 +35,7 @@ pair_wanted = codes "[K,V] with K above that of the pair before; numbers are fro
 abbrev pub history_wanted : HistoryFault → List ℕ
 history_wanted histories.TooLong = length_wanted
 history_wanted histories.NotJson = json_wanted
-history_wanted histories.Version = codes "{\"version\":1,\"events\":[..]} or {\"version\":2,\"start\":[..],\"events\":[..]}"
+history_wanted histories.Version = codes "{\"version\":1,\"events\":[..]} or {\"version\":V,\"start\":[..],\"events\":[..]}; V is 2 or 3"
 history_wanted (histories.Shape event) = event_wanted
 history_wanted histories.TooMany =
     codes "at most 4096 starting pairs, processes from 0 to 63, at most 4096 calls, at most 4096 pairs in an answer"

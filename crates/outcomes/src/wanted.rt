@@ -33,8 +33,9 @@ pub fn json_wanted() -> &'static str
 pub fn event_wanted() -> &'static str
     ensures { result.now ≡ event_wanted }
 {
-    "{\"process\":P,\"invoke\":C} or {\"process\":P,\"answer\":A}; C is [\"get\",K], [\"insert\",K,V], [\"remove\",K], \
-    [\"scan\",LO,HI] with LO <= HI, or in version 2 [\"replace\",K,OLD,NEW]; A is null, V, [[K,V],..] or \"refused\"; \
+    "{\"process\":P,\"invoke\":C} or {\"process\":P,\"answer\":A}, in version 3 also with a \"note\"; C is [\"get\",K], \
+    [\"insert\",K,V], [\"remove\",K], [\"scan\",LO,HI] with LO <= HI, or from version 2 on [\"replace\",K,OLD,NEW]; \
+    A is null, V, [[K,V],..], \"refused\", or in version 3 \"done\", \"found\" or \"other\"; \
     numbers are from 0 to 18446744073709551615"
 }
 
@@ -60,7 +61,7 @@ pub fn history_wanted(fault: &HistoryFault) -> &'static str
         HistoryFault::TooLong => length_wanted(),
         HistoryFault::NotJson => json_wanted(),
         HistoryFault::Version => {
-            "{\"version\":1,\"events\":[..]} or {\"version\":2,\"start\":[..],\"events\":[..]}"
+            "{\"version\":1,\"events\":[..]} or {\"version\":V,\"start\":[..],\"events\":[..]}; V is 2 or 3"
         }
         HistoryFault::Shape { .. } => event_wanted(),
         HistoryFault::TooMany => {
