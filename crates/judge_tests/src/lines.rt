@@ -1,6 +1,7 @@
 // Sources that are cut at their line feeds, wherever a read of them ends or fails, and lines that events are written as.
 ghost use Rattle.std.specs.Prelude.{◌≡◌, ◌<◌, IfOk};
 
+use history_text::TextVersion;
 use std::alloc::{AllocError, Global};
 use std::test::Fail;
 use stream_text::{LineReader, NoLine, event_line, read_event_line};
@@ -110,7 +111,7 @@ static COMPACT: [&str; 9] = [
 #[test]
 fn events_are_written_as_lines(rt: HostRuntime) -> Result<(), Fail> {
     for line in &COMPACT {
-        let event = read_event_line(rt.alloc(), true, line.as_bytes())?;
+        let event = read_event_line(rt.alloc(), TextVersion::Two, line.as_bytes())?;
         assert!(rt; event_line(rt.alloc(), &event)?.as_str() == *line, "{line}");
     }
     Ok(())
