@@ -41,7 +41,7 @@ REFUSED = {
     "replay": rb"replay: ([5-7] (TooLong|NotJson|Shape)|8 StartRefused)\n"
     rb"|schedule: item [0-9]+: (1 NoProcess|2 NothingToDo|3 TurnLimit)\n",
     "drive": rb"plan: (3 TooMany|5 TooLong|6 NotJson|7 Shape)\n",
-    "follow": rb"stream: line [0-9]+: (1 TooLong|2 NotJson|3 Version|4 Shape|5 TooMany|6 NotWellFormed|8 Start at pair [0-9]+)\n",
+    "follow": rb"stream: line [0-9]+: (1 TooLong|2 NotJson|3 Version|4 Shape|5 TooMany|6 NotWellFormed|8 Start at pair [0-9]+|9 NotFollowed)\n",
 }
 ANSWERED = {"judge": (0, 1, 2), "locate": (0, 1, 2), "draw": (0, 1, 2), "replay": (0,), "drive": (0,), "follow": (0, 1, 2)}
 ANSWERS = {"draw": PICTURE, "follow": LINE_OR_TWO}

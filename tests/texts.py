@@ -24,6 +24,10 @@ LIMITS = "wanted at most 4096 starting pairs, processes from 0 to 63, at most 40
 TURN = "wanted an invocation where the process has no open call, an answer where it has one\n"
 PAIR = "wanted [K,V] with K above that of the pair before; numbers are from 0 to 18446744073709551615\n"
 START = 'wanted {"version":2,"start":[[K,V],..]}\n'
+START_ALONE = (
+    'wanted {"version":2,"start":[[K,V],..]}, '
+    "for answers that tell less are judged in a history's text and not followed in a stream\n"
+)
 PROCESSES = "wanted processes from 0 to 65535, and fewer than 18446744073709551615 lines\n"
 LONGEST_LINE = 1_048_576
 LINE_LENGTH = "wanted at most 1048576 bytes\n"
@@ -265,6 +269,8 @@ FIRST_LINES = [
     ('{"start":[[7,1],[7,2]],"version":2}', "8 Start at pair 1", PAIR),
     ('{"start":[[3,2],[4,2],[1,2],7],"version":2}', "8 Start at pair 2", PAIR),
     ('{"start":[[5,7],[5,8]],"version":3}', "8 Start at pair 1", PAIR),
+    ('{"start":[],"version":3}', "9 NotFollowed", START_ALONE),
+    ('{ "version": 3, "start": [[1, 10], [5, 7]] }', "9 NotFollowed", START_ALONE),
     ('{"note":0,"start":[],"version":3}', "4 Shape", EVENT),
     ('{"start":[]}', "4 Shape", EVENT),
     ('{"version":2}', "4 Shape", EVENT),
@@ -274,7 +280,6 @@ FIRST_LINES = [
 # An event of a process that no other line names, and a line of starting pairs.
 ONE_EVENT = '{"invoke":["get",5],"process":9}'
 NO_PAIRS = '{"start":[],"version":2}'
-NO_PAIRS_3 = '{"start":[],"version":3}'
 
 
 def refused_streams():
@@ -290,10 +295,12 @@ def refused_streams():
             yield f"{front}\n{line}\n", f"stream: line 2: 4 Shape\nfound {line}; {EVENT}"
         yield f"{line}\n", f"stream: line 1: 4 Shape\nfound {line}; {EVENT}"
     for line in OTHER_NOTED_FORMS:
-        for front in (ONE_EVENT, NO_PAIRS, NO_PAIRS_3):
+        for front in (ONE_EVENT, NO_PAIRS):
             yield f"{front}\n{line}\n", f"stream: line 2: 4 Shape\nfound {line}; {EVENT}"
-    for line in ('{"answer":"done","process":65536}', '{"invoke":["get",5],"note":{},"process":65536}'):
-        yield f"{NO_PAIRS_3}\n{line}\n", f"stream: line 2: 5 TooMany\nfound {line}; {PROCESSES}"
+    # A stream of version 3 is not followed, whatever its other lines are.
+    first = '{"start":[[5,7]],"version":3}'
+    for line in (ONE_EVENT, *LATER_FORMS, *OTHER_NOTED_FORMS, "", '{"answer":"done","process":65536}'):
+        yield f"{first}\n{line}\n", f"stream: line 1: 9 NotFollowed\nfound {first}; {START_ALONE}"
     # Starting pairs stand in a first line alone, and behind them a replace is no fault of form.
     yield f"{ONE_EVENT}\n{NO_PAIRS}\n", f"stream: line 2: 4 Shape\nfound {NO_PAIRS}; {EVENT}"
     replace = '{"invoke":["replace",1,2,3],"process":65536}'
@@ -329,9 +336,6 @@ def rows():
     yield ["follow"], longest, 0, '{"calls":1,"overlap":0,"verdict":"yes"}\n', ""
     longest = spaced('{"start":[[5,7]],"version":2}', LONGEST_LINE) + f'\n{ONE_EVENT}\n{{"answer":7,"process":9}}\n'
     yield ["follow"], longest, 0, '{"calls":1,"overlap":0,"verdict":"yes"}\n', ""
-    noted = spaced('{"invoke":["insert",5,8],"note":{"line":[1.5,null]},"process":9}', LONGEST_LINE)
-    noted = f'{{"start":[[5,7]],"version":3}}\n{noted}\n{{"answer":"found","note":"12:00","process":9}}\n'
-    yield ["follow"], noted, 0, '{"calls":1,"overlap":0,"verdict":"yes"}\n', ""
 
 
 def main():

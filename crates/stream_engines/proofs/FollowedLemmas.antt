@@ -55,11 +55,11 @@ room events process call h =
 
 pub invoked : (read : List (List ℕ)) (line : List ℕ) (f : Followed) (g : Followers) (process : ℕ) (call : Call)
     (pending overlap limit : ℕ)
-    (followed : IsFollowed read f) → SpellsEvent f.has_start line (Invoke process call)
+    (followed : IsFollowed read f) → SpellsEvent f.version line (Invoke process call)
     → IsFollowedBy followed.stream.start (followed.stream.events ++ Invoke process call ∷ []) g
     → invocation_fault followed.stream.events process call ≡ None → pending ≡ min (f.pending + 1) (2 ^ 64 - 1)
     → overlap ≡ min (f.overlap + f.pending) (2 ^ 64 - 1)
-    → IsFollowed (read ++ line ∷ []) (record { followers = g; has_start = f.has_start; pending = pending; overlap = overlap; limit = limit })
+    → IsFollowed (read ++ line ∷ []) (record { followers = g; version = f.version; pending = pending; overlap = overlap; limit = limit })
 invoked read line f g process call pending overlap limit followed spelled follows accepted pending_is overlap_is =
     let events = followed.stream.events in
     let few : length events < 2 ^ 64 - 1 = room events process call accepted in
@@ -67,7 +67,7 @@ invoked read line f g process call pending overlap limit followed spelled follow
     let small : pending_after 0 events + 1 ≤ 2 ^ 64 - 1 = omega arith in
     record {
       stream = with_event followed.stream (Invoke process call);
-      spelled = SpellStream-push f.has_start read followed.stream line (Invoke process call) followed.spelled spelled;
+      spelled = SpellStream-push f.version read followed.stream line (Invoke process call) followed.spelled spelled;
       follows = follows;
       pending = pending_is ∙ (ap (λ (n : ℕ). min (n + 1) (2 ^ 64 - 1)) followed.pending ∙ (min-eq_left small ∙ sym
           (pending-invoke 0 events process call)));
@@ -78,14 +78,14 @@ invoked read line f g process call pending overlap limit followed spelled follow
     }
 
 pub answered : (read : List (List ℕ)) (line : List ℕ) (f : Followed) (g : Followers) (process : ℕ) (reply : Reply) (pending limit : ℕ)
-    (followed : IsFollowed read f) → SpellsEvent f.has_start line (Answer process reply)
+    (followed : IsFollowed read f) → SpellsEvent f.version line (Answer process reply)
     → IsFollowedBy followed.stream.start (followed.stream.events ++ Answer process reply ∷ []) g → pending ≡ f.pending - 1
-    → IsFollowed (read ++ line ∷ []) (record { followers = g; has_start = f.has_start; pending = pending; overlap = f.overlap; limit = limit })
+    → IsFollowed (read ++ line ∷ []) (record { followers = g; version = f.version; pending = pending; overlap = f.overlap; limit = limit })
 answered read line f g process reply pending limit followed spelled follows pending_is =
     let events = followed.stream.events in
     record {
       stream = with_event followed.stream (Answer process reply);
-      spelled = SpellStream-push f.has_start read followed.stream line (Answer process reply) followed.spelled spelled;
+      spelled = SpellStream-push f.version read followed.stream line (Answer process reply) followed.spelled spelled;
       follows = follows;
       pending = pending_is ∙ (ap (λ (n : ℕ). n - 1) followed.pending ∙ sym (pending-answer 0 events process reply));
       overlap = followed.overlap ∙ ap (λ (n : ℕ). min n (2 ^ 64 - 1)) (sym (overlap-answer 0 events process reply));

@@ -35,12 +35,12 @@ use Rattle.stream_engines.proofs.RefusalLemmas.{next_of}
 
 -- the answer of the next line, as it was judged
 judged_of : (budget : ℕ) (text : List ℕ) (read rest : List (List ℕ)) (next : List ℕ) (f : Followed) (process : ℕ) (reply : Reply)
-    (IsWhat : Judgement) (reason : Reason) (followed : IsFollowed read f) → SpellsEvent f.has_start next (Answer process reply)
+    (IsWhat : Judgement) (reason : Reason) (followed : IsFollowed read f) → SpellsEvent f.version next (Answer process reply)
     → lines_of text ≡ (read ++ next ∷ []) ++ rest → IsWhat followed.stream.start followed.stream.events process reply budget reason
     → IsJudgedAnswer budget (lines_of text) IsWhat reason
 judged_of budget text read rest next f process reply IsWhat reason followed spelled parts judged = record {
   stream = followed.stream;
-  has_start = f.has_start;
+  version = f.version;
   read = read;
   next = next;
   rest = rest;
@@ -65,7 +65,7 @@ parts_refuted start events process reply budget (Some part) is = is.taken.judged
 
 pub lost_at : (budget : ℕ) (told : Option (List ℕ)) (read : List (List ℕ)) (next : List ℕ) (f : Followed) (process : ℕ)
     (reply : Reply) (reason : Reason)
-    (outcome : Outcome) (followed : IsFollowed read f) → SpellsEvent f.has_start next (Answer process reply)
+    (outcome : Outcome) (followed : IsFollowed read f) → SpellsEvent f.version next (Answer process reply)
     → BeginsWith told (read ++ next ∷ [])
     → IsLost followed.stream.start followed.stream.events process reply budget reason
     → IsLostOutcome reason outcome → IsStreamOutcome budget told outcome
@@ -81,7 +81,7 @@ lost_at budget (Some text) read next f process reply reason (Answered answer byt
 
 pub spent_at : (budget : ℕ) (told : Option (List ℕ)) (read : List (List ℕ)) (next : List ℕ) (f : Followed) (process : ℕ)
     (reply : Reply) (reason : Reason)
-    (outcome : Outcome) (followed : IsFollowed read f) → SpellsEvent f.has_start next (Answer process reply)
+    (outcome : Outcome) (followed : IsFollowed read f) → SpellsEvent f.version next (Answer process reply)
     → BeginsWith told (read ++ next ∷ [])
     → IsSpent followed.stream.start followed.stream.events process reply budget reason
     → IsAnsweredBy Undecided (line (compact_text (reason_data reason (codes "undecided")))) outcome → IsStreamOutcome budget told outcome
@@ -105,8 +105,8 @@ whole_of : (text : List ℕ) (read : List (List ℕ)) (f : Followed) (bytes note
     → IsWholeAnswer (lines_of text) bytes note
 whole_of text read f bytes note followed lines is = record {
   stream = followed.stream;
-  has_start = f.has_start;
-  spelled = subst (λ (ls : List (List ℕ)). SpellStream f.has_start ls followed.stream) (sym lines) followed.spelled;
+  version = f.version;
+  spelled = subst (λ (ls : List (List ℕ)). SpellStream f.version ls followed.stream) (sym lines) followed.spelled;
   well_formed = followed.follows.well_formed;
   linearizable = followed.follows.linearizable;
   bytes_are = is.0;

@@ -4,6 +4,7 @@ use Rattle.std.proofs.Common.{Ok, Err, IfOk, IfErr, refl, sym, ap, ◌∙◌, su
 use Rattle.std.specs.Io.KnownBytes.{IsAtEnd, Consumes}
 use Rattle.std.proofs.lemmas.Bool.Decides.{nat_tests}
 use Rattle.std.proofs.lemmas.List.Elements.{All-head, All-tail}
+use Rattle.history_text.specs.declared.version.TextVersion.{TextVersion}
 use Rattle.stream_text.specs.declared.line_fault.LineFault.TheVariants as faults
 use Rattle.stream_text.specs.LineLaws.{TakesFirstLine}
 use Rattle.stream_text.specs.LineLimits.{line_limit}
@@ -123,10 +124,10 @@ too_long bytes h = by_rest h.rest h.first
         let some = h.long in
         record { next = long.next; rest = long.rest; parts = ap lines_of first ∙ long.parts; long = omega arith }
 
-is_too_long : (read : List (List ℕ)) (has_start : Bool) (next : List ℕ) → line_limit < length next
-    → IsLineFaultAfter read has_start next faults.TooLong
-is_too_long [] has_start next long = inl long
-is_too_long (line ∷ read) has_start next long = inl long
+is_too_long : (read : List (List ℕ)) (version : TextVersion) (next : List ℕ) → line_limit < length next
+    → IsLineFaultAfter read version next faults.TooLong
+is_too_long [] version next long = inl long
+is_too_long (line ∷ read) version next long = inl long
 
 pub long_at : (budget : ℕ) (told : Option (List ℕ)) (read : List (List ℕ)) (f : Followed) (number : ℕ) (old : Option (List ℕ))
     (outcome : Outcome) → IsFollowed read f
@@ -148,7 +149,7 @@ long_at budget (Some text) read f number old (Refused bytes hint) followed count
       rest = begins.rest;
       parts = refl;
       fault = faults.TooLong;
-      is_fault = is_too_long read f.has_start begins.next (omega arith);
+      is_fault = is_too_long read f.version begins.next (omega arith);
       not_memory = is.0;
       name_is = refl;
       hint_is = is.2;
@@ -168,7 +169,7 @@ many_at budget told read f number new Failed followed many count has is = absurd
 many_at budget None read f number new (Refused bytes hint) followed many count has is = tt
 many_at budget (Some text) read f number new (Refused bytes hint) followed many count has is =
     refusal_of text read (lines_of has.0) f too_many_name (string_bytes bytes) (string_bytes hint) followed has.2
-    (inr (inr (record { count = many; name_is = refl; hint_is = is.1 })))
+    (inr (inr (inl (record { count = many; name_is = refl; hint_is = is.1 }))))
     (is.0 ∙ ap (λ (n : ℕ). stream_fault_line n too_many_name) (sym count))
 
 -- ---- the next line was taken, or was not

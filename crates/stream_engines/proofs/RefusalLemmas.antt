@@ -1,11 +1,13 @@
 -- What a refused line comes to.
 use Rattle.follow.specs.declared.fault.FollowFault.TheVariants as turns
-use Rattle.std.proofs.Common.{◌≡◌, ◌≢◌, ℕ, ◌+◌, ◌<◌, Bool, List, [], ◌∷◌, ◌++◌, length, Option, Some, None, refl, sym, ap, ◌∙◌}
+use Rattle.history_text.specs.declared.version.TextVersion.TheVariants.{Three}
+use Rattle.std.proofs.Common.{◌≡◌, ◌≢◌, ℕ, ◌+◌, ◌<◌, List, [], ◌∷◌, ◌++◌, length, Option, Some, None, refl, sym, ap, ◌∙◌}
 use Rattle.std.proofs.Common.{inl, inr, append_assoc, arith, string_bytes}
 use Rattle.events.specs.declared.event.Event.{Event}
+use Rattle.history_text.specs.declared.version.TextVersion.{TextVersion}
 use Rattle.stream_text.specs.declared.line_fault.LineFault.{LineFault}
 use Rattle.stream_text.specs.Cuts.{lines_of}
-use Rattle.stream_text.specs.Lines.{SpellsEvent}
+use Rattle.stream_text.specs.Lines.{SpellsEvent, SpellsStart}
 use Rattle.stream_text.specs.LineFaults.{IsEventLineFault}
 use Rattle.follow.specs.declared.fault.FollowFault.{FollowFault}
 use Rattle.follow.specs.Faults.{shown}
@@ -14,20 +16,20 @@ use Rattle.outcomes.specs.declared.outcome.Outcome.TheVariants.{Answered, Noted,
 use Rattle.stream_engines.specs.declared.followed.Followed.{Followed}
 use Rattle.stream_engines.specs.Followed.{IsFollowed}
 use Rattle.stream_engines.specs.StreamTexts.{BeginsWith}
-use Rattle.stream_engines.specs.Refusals.{line_fault_name, turn_fault_name, line_fault_hint, turn_fault_hint}
-use Rattle.stream_engines.specs.Refusals.{turn_fault, stream_fault_line, IsLineFaultAfter, StopsFor}
+use Rattle.stream_engines.specs.Refusals.{line_fault_name, turn_fault_name}
+use Rattle.stream_engines.specs.Refusals.{not_followed_name, turn_fault, stream_fault_line, IsLineFaultAfter, StopsFor}
 use Rattle.stream_engines.specs.Answers.{IsStreamRefusal}
-use Rattle.stream_engines.specs.Leaves.{IsLineRefusal, IsTurnRefusal}
+use Rattle.stream_engines.specs.Leaves.{IsLineRefusal, IsTurnRefusal, IsStartRefusal}
 use Rattle.stream_engines.specs.Outcomes.{IsStreamOutcome}
 
 -- a text that begins with lines that are followed, and stops behind them
 pub refusal_of : (text : List ℕ) (read more : List (List ℕ)) (f : Followed) (name bytes hint : List ℕ) (followed : IsFollowed read f)
     → lines_of text ≡ read ++ more
-    → StopsFor read f.has_start followed.stream.events more name hint → bytes ≡ stream_fault_line (length read + 1) name
+    → StopsFor read f.version followed.stream.events more name hint → bytes ≡ stream_fault_line (length read + 1) name
     → IsStreamRefusal text bytes hint
 refusal_of text read more f name bytes hint followed parts stops is = record {
   stream = followed.stream;
-  has_start = f.has_start;
+  version = f.version;
   read = read;
   more = more;
   parts = parts;
@@ -51,7 +53,7 @@ numbered count number name bytes same is = is ∙ ap (λ (n : ℕ). stream_fault
 -- the next line has a fault
 pub refused_at : (budget : ℕ) (told : Option (List ℕ)) (read : List (List ℕ)) (line : List ℕ) (f : Followed) (number : ℕ)
     (fault : LineFault) (outcome : Outcome)
-    → IsFollowed read f → length read + 1 ≡ number → IsLineFaultAfter read f.has_start line fault → BeginsWith told (read ++ line ∷ [])
+    → IsFollowed read f → length read + 1 ≡ number → IsLineFaultAfter read f.version line fault → BeginsWith told (read ++ line ∷ [])
     → IsLineRefusal number line fault outcome → IsStreamOutcome budget told outcome
 refused_at budget told read line f number fault Memory followed count wrong begins is = tt
 refused_at budget told read line f number fault (Answered answer bytes) followed count wrong begins is = absurd is
@@ -76,7 +78,7 @@ refused_at budget (Some text) read line f number fault (Refused bytes hint) foll
 -- the event of the next line is out of its turn
 pub refused_turn : (budget : ℕ) (told : Option (List ℕ)) (read : List (List ℕ)) (line : List ℕ) (f : Followed) (number : ℕ) (e : Event)
     (fault : FollowFault)
-    (outcome : Outcome) (followed : IsFollowed read f) → length read + 1 ≡ number → SpellsEvent f.has_start line e
+    (outcome : Outcome) (followed : IsFollowed read f) → length read + 1 ≡ number → SpellsEvent f.version line e
     → (fault ≢ turns.Memory → turn_fault followed.stream.events e ≡ Some fault)
     → BeginsWith told (read ++ line ∷ []) → IsTurnRefusal number line fault outcome → IsStreamOutcome budget told outcome
 refused_turn budget told read line f number e fault Memory followed count spelled wrong begins is = tt
@@ -100,6 +102,29 @@ refused_turn budget (Some text) read line f number e fault (Refused bytes hint) 
       hint_is = is.2;
     }))) (numbered (length read + 1) number (turn_fault_name fault) (string_bytes bytes) count is.1)
 
+-- the first line is that of a stream which is not followed
+pub refused_first : (budget : ℕ) (told : Option (List ℕ)) (line : List ℕ) (pairs : List (ℕ × ℕ)) (f : Followed) (outcome : Outcome)
+    → IsFollowed [] f → SpellsStart Three line pairs → BeginsWith told (line ∷ []) → IsStartRefusal 1 line outcome
+    → IsStreamOutcome budget told outcome
+refused_first budget told line pairs f Memory followed spelled begins is = tt
+refused_first budget told line pairs f (Answered answer bytes) followed spelled begins is = absurd is
+refused_first budget told line pairs f (Noted answer bytes note) followed spelled begins is = absurd is
+refused_first budget told line pairs f (Words bytes) followed spelled begins is = absurd is
+refused_first budget told line pairs f Failed followed spelled begins is = absurd is
+refused_first budget None line pairs f (Refused bytes hint) followed spelled begins is = tt
+refused_first budget (Some text) line pairs f (Refused bytes hint) followed spelled begins is =
+    refusal_of text [] (line ∷ begins.0) f not_followed_name (string_bytes bytes) (string_bytes hint) followed begins.1
+    (inr (inr (inr (record {
+      first = refl;
+      next = line;
+      rest = begins.0;
+      parts = refl;
+      pairs = pairs;
+      spelled = spelled;
+      name_is = refl;
+      hint_is = is.1;
+    })))) is.0
+
 -- what an error shows of an event, unless memory was wanting
 pub shown_some : (fault : FollowFault) (seen : Option FollowFault) → seen ≡ shown fault → fault ≢ turns.Memory → seen ≡ Some fault
 shown_some turns.Shape seen is other = is
@@ -108,8 +133,8 @@ shown_some turns.TooMany seen is other = is
 shown_some turns.Memory seen is other = absurd (other refl)
 
 -- a line after others
-pub later_fault : (read : List (List ℕ)) (has_start : Bool) (line : List ℕ) (fault : LineFault) → 0 < length read
-    → IsEventLineFault has_start line fault
-    → IsLineFaultAfter read has_start line fault
-later_fault [] has_start line fault some wrong = absurd (omega arith)
-later_fault (first ∷ read) has_start line fault some wrong = wrong
+pub later_fault : (read : List (List ℕ)) (version : TextVersion) (line : List ℕ) (fault : LineFault) → 0 < length read
+    → IsEventLineFault version line fault
+    → IsLineFaultAfter read version line fault
+later_fault [] version line fault some wrong = absurd (omega arith)
+later_fault (first ∷ read) version line fault some wrong = wrong

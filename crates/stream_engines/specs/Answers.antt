@@ -1,5 +1,5 @@
 -- What the program answers to the lines of a stream.
-use Rattle.std.specs.Prelude.{◌≡◌, ◌⊎◌, ℕ, ◌+◌, Bool, List, [], ◌∷◌, ◌++◌, length, MatchOption, codes}
+use Rattle.std.specs.Prelude.{◌≡◌, ◌⊎◌, ℕ, ◌+◌, List, [], ◌∷◌, ◌++◌, length, MatchOption, codes}
 use Rattle.serde_json.specs.Written.{compact_text}
 use Rattle.events.specs.HistoryView.{HistoryView}
 use Rattle.events.specs.declared.event.Reply.{Reply}
@@ -11,6 +11,7 @@ use Rattle.events.specs.Operations.{operations}
 use Rattle.orders.specs.Orders.{IsLinearizable}
 use Rattle.map_object.specs.MapObject.{Contents}
 use Rattle.quiet_cuts.specs.Groups.{AreAlike}
+use Rattle.history_text.specs.declared.version.TextVersion.{TextVersion}
 use Rattle.history_text.specs.Texts.{Spells}
 use Rattle.stream_text.specs.Cuts.{lines_of}
 use Rattle.stream_text.specs.Lines.{SpellsEvent}
@@ -29,8 +30,8 @@ use Rattle.stream_engines.specs.Notes.{note_of}
 -- all lines spell a stream, whose events have an order; the note is that on its calls and how much they overlap
 pub record IsWholeAnswer (lines : List (List ℕ)) (bytes note : List ℕ) : Type 0 where
   pub stream : HistoryView
-  pub has_start : Bool
-  pub spelled : SpellStream has_start lines stream
+  pub version : TextVersion
+  pub spelled : SpellStream version lines stream
   pub well_formed : IsWellFormed stream.events
   pub linearizable : IsLinearizable stream.start (operations stream.events)
   pub bytes_are : bytes ≡ line (compact_text (yes_data (length (operations stream.events)) (overlap_of stream.events)))
@@ -43,17 +44,17 @@ Judgement = Contents → List Event → ℕ → Reply → ℕ → Reason → Typ
 -- the lines begin with those of a stream whose events have an order, and then comes an answer that was judged
 pub record IsJudgedAnswer (budget : ℕ) (lines : List (List ℕ)) (IsWhat : Judgement) (reason : Reason) : Type 0 where
   pub stream : HistoryView
-  pub has_start : Bool
+  pub version : TextVersion
   pub read : List (List ℕ)
   pub next : List ℕ
   pub rest : List (List ℕ)
   pub parts : lines ≡ read ++ next ∷ rest
-  pub spelled : SpellStream has_start read stream
+  pub spelled : SpellStream version read stream
   pub well_formed : IsWellFormed stream.events
   pub linearizable : IsLinearizable stream.start (operations stream.events)
   pub process : ℕ
   pub reply : Reply
-  pub answer : SpellsEvent has_start next (Answer process reply)
+  pub answer : SpellsEvent version next (Answer process reply)
   pub judged : IsWhat stream.start stream.events process reply budget reason
 
 -- with this answer, and whatever comes behind it, the events go wrong
@@ -90,15 +91,15 @@ IsLinesAnswer budget lines verdicts.Undecided bytes note =
 -- with this line and this hint `follow` refuses the lines: those before are followed, and there it stops
 pub record IsLinesRefusal (lines : List (List ℕ)) (bytes hint : List ℕ) : Type 0 where
   pub stream : HistoryView
-  pub has_start : Bool
+  pub version : TextVersion
   pub read : List (List ℕ)
   pub more : List (List ℕ)
   pub parts : lines ≡ read ++ more
-  pub spelled : SpellStream has_start read stream
+  pub spelled : SpellStream version read stream
   pub well_formed : IsWellFormed stream.events
   pub linearizable : IsLinearizable stream.start (operations stream.events)
   pub name : List ℕ
-  pub stops : StopsFor read has_start stream.events more name hint
+  pub stops : StopsFor read version stream.events more name hint
   pub bytes_are : bytes ≡ stream_fault_line (length read + 1) name
 
 -- the same of a text

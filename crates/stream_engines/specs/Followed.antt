@@ -9,7 +9,7 @@ use Rattle.stream_engines.specs.Overlaps.{pending_after, overlap_of}
 -- these lines were read and spell a stream, which is followed
 pub record IsFollowed (read : List (List ℕ)) (f : Followed) : Type 0 where
   pub stream : HistoryView
-  pub spelled : SpellStream f.has_start read stream
+  pub spelled : SpellStream f.version read stream
   pub follows : IsFollowedBy stream.start stream.events f.followers
   pub pending : f.pending ≡ pending_after 0 stream.events
   pub overlap : f.overlap ≡ overlap_of stream.events

@@ -11,8 +11,8 @@ use Rattle.outcomes.specs.declared.outcome.Answer.TheVariants.{Yes, No}
 use Rattle.outcomes.specs.declared.outcome.Outcome.{Outcome}
 use Rattle.outcomes.specs.declared.outcome.Outcome.TheVariants.{Answered, Noted, Refused, Memory}
 use Rattle.outcomes.specs.Lines.{line}
-use Rattle.stream_engines.specs.Refusals.{line_fault_name, turn_fault_name, too_many_name, stream_fault_line}
-use Rattle.stream_engines.specs.Refusals.{line_fault_hint, turn_fault_hint, too_many_hint}
+use Rattle.stream_engines.specs.Refusals.{line_fault_name, turn_fault_name, too_many_name, not_followed_name, stream_fault_line}
+use Rattle.stream_engines.specs.Refusals.{line_fault_hint, turn_fault_hint, too_many_hint, not_followed_hint}
 use Rattle.stream_engines.specs.Reports.{yes_data}
 use Rattle.stream_engines.specs.Notes.{note_of}
 use Rattle.stream_engines.specs.Answers.{IsLostText}
@@ -37,6 +37,13 @@ IsManyRefusal number (Refused bytes hint) = (string_bytes bytes ≡ stream_fault
     × (string_bytes hint ≡ too_many_hint)
 IsManyRefusal number Memory = ⊤
 IsManyRefusal number outcome = ⊥
+
+-- the outcome of the first line, of this number, of a stream whose answers may tell less than the map answers
+abbrev pub IsStartRefusal : ℕ → List ℕ → Outcome → Type 0
+IsStartRefusal number next (Refused bytes hint) = (string_bytes bytes ≡ stream_fault_line number not_followed_name)
+    × (string_bytes hint ≡ not_followed_hint next)
+IsStartRefusal number next Memory = ⊤
+IsStartRefusal number next outcome = ⊥
 
 -- an answer with these bytes, where memory suffices
 abbrev pub IsAnsweredBy : Answer → List ℕ → Outcome → Type 0

@@ -1,18 +1,20 @@
 -- Why a line of a stream is refused, as the program says it.
 use Rattle.stream_text.specs.declared.line_fault.LineFault.TheVariants as lines
 use Rattle.follow.specs.declared.fault.FollowFault.TheVariants as turns
-use Rattle.std.specs.Prelude.{◌≡◌, ◌≢◌, ◌⊎◌, ℕ, ◌-◌, ◌^◌, Bool, List, [], ◌∷◌, ◌++◌, length, Option, Some, codes, decimal}
+use Rattle.std.specs.Prelude.{◌≡◌, ◌≢◌, ◌⊎◌, ℕ, ◌-◌, ◌^◌, List, [], ◌∷◌, ◌++◌, length, Option, Some, codes, decimal}
 use Rattle.events.specs.declared.event.Event.{Event}
 use Rattle.events.specs.declared.event.Event.TheVariants.{Invoke, Answer}
+use Rattle.history_text.specs.declared.version.TextVersion.{TextVersion}
+use Rattle.history_text.specs.declared.version.TextVersion.TheVariants as versions
 use Rattle.stream_text.specs.declared.line_fault.LineFault.{LineFault}
-use Rattle.stream_text.specs.Lines.{SpellsEvent}
+use Rattle.stream_text.specs.Lines.{SpellsEvent, SpellsStart}
 use Rattle.stream_text.specs.LineFaults.{IsEventLineFault, IsFirstLineFault}
 use Rattle.follow.specs.declared.fault.FollowFault.{FollowFault}
 use Rattle.follow.specs.Faults.{invocation_fault, answer_fault}
 use Rattle.outcomes.specs.Lines.{line}
 use Rattle.outcomes.specs.Found.{found_hint}
 use Rattle.outcomes.specs.Wanted.{wanted_hint}
-use Rattle.stream_engines.specs.Wanted.{too_many_wanted, line_wanted, turn_wanted_for}
+use Rattle.stream_engines.specs.Wanted.{too_many_wanted, start_wanted, line_wanted, turn_wanted_for}
 
 -- how many lines are read at most
 abbrev pub most_lines : ℕ
@@ -20,6 +22,10 @@ most_lines = 2 ^ 64 - 2
 
 abbrev pub too_many_name : List ℕ
 too_many_name = codes "5 TooMany"
+
+-- a stream whose answers may tell less than the map answers
+abbrev pub not_followed_name : List ℕ
+not_followed_name = codes "9 NotFollowed"
 
 -- the fault of a line
 abbrev pub line_fault_name : LineFault → List ℕ
@@ -50,6 +56,10 @@ turn_fault_hint next fault = found_hint next (turn_wanted_for fault)
 abbrev pub too_many_hint : List ℕ
 too_many_hint = wanted_hint too_many_wanted
 
+-- the hint on a first line of such a stream
+abbrev pub not_followed_hint : List ℕ → List ℕ
+not_followed_hint next = found_hint next start_wanted
+
 -- the line of a fault; lines of a stream are numbered from 1
 abbrev pub stream_fault_line : ℕ → List ℕ → List ℕ
 stream_fault_line number name = line (codes "stream: line " ++ decimal number ++ codes ": " ++ name)
@@ -60,32 +70,43 @@ turn_fault events (Invoke process call) = invocation_fault events process call
 turn_fault events (Answer process reply) = answer_fault events process
 
 -- the fault of a line after these: a first one may spell starting pairs
-abbrev pub IsLineFaultAfter : List (List ℕ) → Bool → List ℕ → LineFault → Type 0
-IsLineFaultAfter [] has_start next fault = IsFirstLineFault next fault
-IsLineFaultAfter (line ∷ lines) has_start next fault = IsEventLineFault has_start next fault
+abbrev pub IsLineFaultAfter : List (List ℕ) → TextVersion → List ℕ → LineFault → Type 0
+IsLineFaultAfter [] version next fault = IsFirstLineFault next fault
+IsLineFaultAfter (line ∷ lines) version next fault = IsEventLineFault version next fault
 
 -- the next line spells nothing that may stand there
-pub record IsFaulty (read : List (List ℕ)) (has_start : Bool) (more : List (List ℕ)) (name hint : List ℕ) : Type 0 where
+pub record IsFaulty (read : List (List ℕ)) (version : TextVersion) (more : List (List ℕ)) (name hint : List ℕ) : Type 0 where
   pub next : List ℕ
   pub rest : List (List ℕ)
   pub parts : more ≡ next ∷ rest
   pub fault : LineFault
-  pub is_fault : IsLineFaultAfter read has_start next fault
+  pub is_fault : IsLineFaultAfter read version next fault
   pub not_memory : fault ≢ lines.Memory
   pub name_is : name ≡ line_fault_name fault
   pub hint_is : hint ≡ line_fault_hint next fault
 
 -- the next line spells an event that is not in its turn
-pub record IsOutOfTurn (has_start : Bool) (events : List Event) (more : List (List ℕ)) (name hint : List ℕ) : Type 0 where
+pub record IsOutOfTurn (version : TextVersion) (events : List Event) (more : List (List ℕ)) (name hint : List ℕ) : Type 0 where
   pub next : List ℕ
   pub rest : List (List ℕ)
   pub parts : more ≡ next ∷ rest
   pub event : Event
-  pub spelled : SpellsEvent has_start next event
+  pub spelled : SpellsEvent version next event
   pub fault : FollowFault
   pub is_fault : turn_fault events event ≡ Some fault
   pub name_is : name ≡ turn_fault_name fault
   pub hint_is : hint ≡ turn_fault_hint next fault
+
+-- the first line spells starting pairs, and version 3, in which answers may tell less than the map answers
+pub record IsNotFollowed (read more : List (List ℕ)) (name hint : List ℕ) : Type 0 where
+  pub first : read ≡ []
+  pub next : List ℕ
+  pub rest : List (List ℕ)
+  pub parts : more ≡ next ∷ rest
+  pub pairs : List (ℕ × ℕ)
+  pub spelled : SpellsStart versions.Three next pairs
+  pub name_is : name ≡ not_followed_name
+  pub hint_is : hint ≡ not_followed_hint next
 
 -- as many lines were read as may be
 pub record AreMany (read : List (List ℕ)) (name hint : List ℕ) : Type 0 where
@@ -94,6 +115,7 @@ pub record AreMany (read : List (List ℕ)) (name hint : List ℕ) : Type 0 wher
   pub hint_is : hint ≡ too_many_hint
 
 -- why reading stops behind these lines, which spell these events
-abbrev pub StopsFor : List (List ℕ) → Bool → List Event → List (List ℕ) → List ℕ → List ℕ → Type 0
-StopsFor read has_start events more name hint =
-    IsFaulty read has_start more name hint ⊎ IsOutOfTurn has_start events more name hint ⊎ AreMany read name hint
+abbrev pub StopsFor : List (List ℕ) → TextVersion → List Event → List (List ℕ) → List ℕ → List ℕ → Type 0
+StopsFor read version events more name hint =
+    IsFaulty read version more name hint ⊎ IsOutOfTurn version events more name hint ⊎ AreMany read name hint
+    ⊎ IsNotFollowed read more name hint

@@ -9,6 +9,10 @@ use Rattle.outcomes.specs.Wanted.{json_wanted, event_wanted, turn_wanted, pair_w
 abbrev pub too_many_wanted : List ℕ
 too_many_wanted = codes "processes from 0 to 65535, and fewer than 18446744073709551615 lines"
 
+-- for a stream whose answers may tell less than the map answers
+abbrev pub start_wanted : List ℕ
+start_wanted = codes "{\"version\":2,\"start\":[[K,V],..]}, for answers that tell less are judged in a history's text and not followed in a stream"
+
 -- for the fault of a line
 abbrev pub line_wanted : LineFault → List ℕ
 line_wanted lines.TooLong = codes "at most 1048576 bytes"

@@ -1,8 +1,8 @@
 // Why a line of a stream is refused, as an outcome.
 ghost use Rattle.std.specs.Prelude.{◌≡◌, IfOk, string_bytes};
-ghost use Rattle.stream_engines.specs.Leaves.{IsLineRefusal, IsTurnRefusal, IsManyRefusal};
+ghost use Rattle.stream_engines.specs.Leaves.{IsLineRefusal, IsTurnRefusal, IsManyRefusal, IsStartRefusal};
 ghost use Rattle.stream_engines.specs.Refusals.{line_fault_name, turn_fault_name, line_fault_hint, stream_fault_line};
-ghost use Rattle.stream_engines.specs.Wanted.{too_many_wanted, line_wanted, turn_wanted_for};
+ghost use Rattle.stream_engines.specs.Wanted.{too_many_wanted, start_wanted, line_wanted, turn_wanted_for};
 
 use follow::FollowFault;
 use outcomes::{
@@ -44,6 +44,16 @@ pub fn refused_many(alloc: Global, number: u64) -> Outcome
     Outcome::refused(
         fault_line(alloc, number, "5 TooMany"),
         wanted_hint(alloc, too_many_wanted()),
+    )
+}
+
+/// The refusal of a stream whose answers may tell less than the map answers, at the line of this number, or want of memory.
+pub fn refused_start(alloc: Global, number: u64, line: &[u8]) -> Outcome
+    ensures { IsStartRefusal number line.now result }
+{
+    Outcome::refused(
+        fault_line(alloc, number, "9 NotFollowed"),
+        found_hint(alloc, line, start_wanted()),
     )
 }
 
@@ -128,6 +138,13 @@ fn turn_wanted_for(fault: &FollowFault) -> &'static str
         FollowFault::TooMany => too_many_wanted(),
         FollowFault::Memory => "",
     }
+}
+
+/// What the first line of a stream may be whose answers tell all that the map answers.
+fn start_wanted() -> &'static str
+    ensures { result.now ≡ start_wanted }
+{
+    "{\"version\":2,\"start\":[[K,V],..]}, for answers that tell less are judged in a history's text and not followed in a stream"
 }
 
 /// Which processes there may be, and how many lines.

@@ -7,4 +7,4 @@ returns-in-Err-clause-stopped c = λ told read count followed begins.
     let some : 0 < length read = omega arith in
     refused_at c.args.budget told read c.args.line.now c.args.self (c.args.before + 1) c.in-Err.fault c.refused_line.result followed
     (ap (λ n. n + 1) count)
-    (later_fault read c.args.self.has_start c.args.line.now c.in-Err.fault some c.in-Err.ensures.refused) begins c.refused_line.ensures
+    (later_fault read c.args.self.version c.args.line.now c.in-Err.fault some c.in-Err.ensures.refused) begins c.refused_line.ensures
