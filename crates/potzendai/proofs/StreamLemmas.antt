@@ -22,11 +22,11 @@ wrong_lines budget lines reason at =
     let answer = events.Answer at.process at.reply in
     record {
       stream = with_event at.stream answer;
-      has_start = at.has_start;
+      version = at.version;
       first = at.read ++ at.next ∷ [];
       rest = at.rest;
       parts = at.parts ∙ sym (append_assoc at.read (at.next ∷ []) at.rest);
-      spelled = SpellStream-push at.has_start at.read at.stream at.next answer at.spelled at.answer;
+      spelled = SpellStream-push at.version at.read at.stream at.next answer at.spelled at.answer;
       refuted = λ more has_order. (at.judged.wrong more).0
           (subst (λ (all : List Event). IsLinearizable at.stream.start (operations all))
           (append_assoc at.stream.events (answer ∷ []) more) has_order);
@@ -37,7 +37,7 @@ pub yes_has_order : (budget : ℕ) (text : List ℕ) (outcome : Outcome) → IsS
     → status_of outcome ≡ 0 → SpellLinearizable (lines_of text)
 yes_has_order budget text (Answered Yes bytes) comes is = record {
   stream = comes.stream;
-  has_start = comes.has_start;
+  version = comes.version;
   spelled = comes.spelled;
   well_formed = comes.well_formed;
   linearizable = comes.linearizable;
@@ -46,7 +46,7 @@ yes_has_order budget text (Answered No bytes) comes is = cc
 yes_has_order budget text (Answered Undecided bytes) comes is = cc
 yes_has_order budget text (Noted Yes bytes note) comes is = record {
   stream = comes.stream;
-  has_start = comes.has_start;
+  version = comes.version;
   spelled = comes.spelled;
   well_formed = comes.well_formed;
   linearizable = comes.linearizable;
