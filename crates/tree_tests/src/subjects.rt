@@ -1,4 +1,5 @@
-// A plan that is driven at a subject, each script in a thread of its own: calls wait for each other there, and are answered wrongly.
+// A plan that is driven at a subject, each script in a thread of its own: calls wait for each other there, and are answered wrongly, or
+// are answered that they were done.
 ghost use Rattle.std.specs.Prelude.{◌≡◌, ℕ};
 ghost use Rattle.events.specs.declared.event.Reply.TheVariants as replies;
 
@@ -76,11 +77,11 @@ static LAST_TWO: &str =
     r#"{"scripts":[[],[],[],[],[],[],[],[],[],[],[],[],[],[],[],[],[],[],[],[],[],[],[],[],[],[],[],[],[],[],[],[],[],[],[],[],[],[],[],[],[],[],[],[],[],[],[],[],[],[],[],[],[],[],[],[],[],[],[],[],[],[],[["get",0],["get",2]],[["get",1]]],"version":1}"#;
 
 /// What is recorded when the plan that a text spells is driven at a subject.
-fn driven_at<R: Threads + Sync>(
+fn driven_at<R: Threads + Sync, S: Subject + Sync>(
     rt: &R,
     alloc: Global,
     text: &str,
-    subject: &Meeting,
+    subject: &S,
 ) -> Result<History, Fail> {
     let plan = read_plan(alloc, text.as_bytes())?;
     if !is_drivable(&plan) {
@@ -134,5 +135,40 @@ fn two_subject_calls(rt: HostRuntime) -> Result<(), Fail> {
         check_answers(&rt, &history, round);
         check_refuted(&rt, rt.alloc(), &history)?;
     }
+    Ok(())
+}
+
+/// Tells nothing of what it finds.
+#[derive(Drop)]
+struct Silent;
+
+impl Subject for Silent {
+    ghost may_answer = { λ _ _ reply. reply ≡ replies.Done };
+
+    fn call(&self, _call: &Call) -> Reply {
+        Reply::Done
+    }
+}
+
+/// Whether each call of a history is answered that it was done.
+fn are_done(history: &History) -> bool {
+    history.calls().iter().all(|operation| {
+        matches!(
+            &operation.response,
+            Some(Response {
+                reply: Reply::Done,
+                ..
+            })
+        )
+    })
+}
+
+#[test]
+fn answers_that_tell_less_are_recorded(rt: HostRuntime) -> Result<(), Fail> {
+    let history = driven_at(&rt, rt.alloc(), FIRST_TWO, &Silent)?;
+    assert!(rt; history.calls().len() == 3);
+    assert!(rt; are_done(&history));
+    let verdict = judge_alone(rt.alloc(), &history, MAX_BUDGET)?;
+    assert!(rt; matches!(verdict, Verdict::Yes(_)), "nothing is told");
     Ok(())
 }
