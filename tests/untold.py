@@ -96,7 +96,8 @@ def rows():
     for call, reply, found in LEAVES:
         for seen in ("7", "8", "9", "null"):
             text = told(in_turn([f"{call}:{reply}", f'["get",5]:{seen}']), "[5,7]")
-            report = '{"order":[0,1],"verdict":"yes"}' if seen == found else '{"calls":[0,1],"hi":5,"lo":5,"verdict":"no"}'
+            keys = '"hi":9,"lo":0' if "scan" in call else '"hi":5,"lo":5'
+            report = '{"order":[0,1],"verdict":"yes"}' if seen == found else f'{{"calls":[0,1],{keys},"verdict":"no"}}'
             yield ["judge"], text, int(seen != found), report + "\n", ""
             place = '{"verdict":"yes"}' if seen == found else '{"call":1,"event":3,"verdict":"no"}'
             yield ["locate"], text, int(seen != found), place + "\n", ""
