@@ -3,8 +3,8 @@
 
     tests/explanations.py [HISTORIES]
 
-Histories are those of the examples that are not refused, and drawn ones as in tests/streams.py, until so many of them have no
-order, 300 where no number is given. `explain` has to print the report of `judge` first; of a no then a line for each of few
+Histories are those of the examples that are not refused, and drawn ones as in tests/streams.py, half of them with answers that tell
+less, until so many of them have no order, 300 where no number is given. `explain` has to print the report of `judge` first; of a no then a line for each of few
 calls, each of them a call of the history with its answer, or without where it may tell what a call that is not named put; the
 history of these calls alone, of which `judge` says no; and how far an order of them gets. Without any one of them, and without the
 answers that tell what it put, `judge` says yes or undecided of the others, as the reason says. The front of the last line is a list of
@@ -26,6 +26,7 @@ import sys
 from streams import BUDGET, ORDERED, PROGRAM, SEED, TOP, answer_of, drawn_history, examples, said, text_of
 
 HISTORIES = 300
+UNTOLD = ("done", "found", "other")
 NO = 1
 LONG_CALLS = 4000
 FEW_CALLS = 20
@@ -53,11 +54,17 @@ def put_by(call):
     value = {"insert": values[:1], "remove": [None], "replace": values[1:]}[name][0]
     if "answer" in call:
         answer = call["answer"]
-        if answer == "refused" or answer == value and name != "replace":
+        if answer in ("refused", "other") or answer == value and name != "replace":
             return []
-        if name == "replace" and not isinstance(answer, list) and (answer != values[0] or values[0] == value):
+        told_other = answer not in UNTOLD and answer != values[0] if name == "replace" else False
+        if name == "replace" and not isinstance(answer, list) and (told_other or values[0] == value):
             return []
     return [value]
+
+
+def surely_puts(call):
+    """Whether a call's answer says that it put something at its key: that of a replace which is done, or found a value, does not."""
+    return "answer" in call and put_by(call) and not (call["call"][0] == "replace" and call["answer"] in UNTOLD)
 
 
 def tells(call, key, value):
@@ -70,6 +77,11 @@ def tells(call, key, value):
         return name == "replace" and others[0] == value
     if call["answer"] == "refused":
         return False
+    if call["answer"] == "other":
+        return name == "replace" and others[0] != value
+    if call["answer"] in UNTOLD:
+        # What a replace does next depends on what it finds.
+        return name == "replace" or call["answer"] == "found" and value is not None
     if isinstance(call["answer"], list):
         return next((found for at, found in call["answer"] if at == key), None) == value
     return call["answer"] == value
@@ -86,7 +98,7 @@ def rest_of(calls, kept):
     A call loses its answer where that tells what one that goes put, unless it precedes that one, or one that stays puts something
     between the two."""
     staying = [call for call in calls if call["event"] in kept]
-    puts = [call for call in staying if "answer" in call and put_by(call)]
+    puts = [call for call in staying if surely_puts(call)]
     gone = [(call, call["call"][1], value) for call in calls if call["event"] not in kept for value in put_by(call)]
 
     def overwritten(first, second):
@@ -118,7 +130,7 @@ def history_of(small, calls, left):
                 events.append(event)
         elif "answer" in left.get(opened[process], {}):
             events.append(event)
-    return {"events": events, "version": 2, "start": small.get("start", [])}
+    return {"events": events, "version": 3, "start": small.get("start", [])}
 
 
 def wrong_with_reason(whole, small, kept, row):
@@ -147,11 +159,21 @@ def next_of(calls, taken):
     return [number for number in left if calls[number]["event"] < first]
 
 
+def fits(call, would):
+    """Whether a call's answer, if it has one, may be given where the map would answer so."""
+    answer = call.get("answer", would)
+    if answer == "found":
+        return isinstance(would, int)
+    if answer == "other":
+        return call["call"][0] == "replace" and would != call["call"][2]
+    return answer in (would, "refused", "done")
+
+
 def moves(calls, taken, held):
     """The calls that a map with these pairs allows next, by number, and the pairs behind each."""
     for number in next_of(calls, taken):
         would, after = done(held, calls[number])
-        if calls[number].get("answer", would) in (would, "refused"):
+        if fits(calls[number], would):
             yield number, after
 
 
@@ -237,6 +259,20 @@ def parts_of(lines):
     return [line for line in lines if "reason" in line], *behind
 
 
+def less_told(seed):
+    """A drawn history in which some answers tell less: most of them what is so, and some not."""
+    chance, history = random.Random(seed), drawn_history(seed)
+    history.update({"version": 3, "start": history.get("start", [])})
+    for call in calls_of(history["events"]):
+        answer = call.get("answer", "refused")
+        if answer == "refused" or chance.randrange(3):
+            continue
+        true = ["done"] + ["found"] * isinstance(answer, int)
+        true += ["other"] * (call["call"][0] == "replace" and answer != call["call"][2])
+        history["events"][call["end"]]["answer"] = chance.choice(true if chance.randrange(8) else UNTOLD)
+    return history
+
+
 def long_history(chance, processes, values):
     """Calls of one key, each with its effect at a moment while it is open: gets, inserts and removes."""
     events, opened, answers, held, begun = [], {}, {}, {}, 0
@@ -316,7 +352,8 @@ def main():
                 failed += wrong is not None
                 if wrong is not None:
                     print(wrong)
-            histories = [drawn_history(SEED + number + more) for more in range(100)] if refuted < wanted else []
+            seeds = range(SEED + number, SEED + number + 100)
+            histories = [less_told(seed) if seed % 2 else drawn_history(seed) for seed in seeds] if refuted < wanted else []
             number += 100
     for wrong in map(long_explained, long_ones()):
         passed += wrong is None

@@ -44,7 +44,7 @@ def text_of(history):
 
 def lines_of(history):
     """The stream of a history: a first line where it has starting pairs, and a line for each event."""
-    first = [{"start": history["start"], "version": 2}] if "start" in history else []
+    first = [{"start": history["start"], "version": history["version"]}] if "start" in history else []
     return b"".join(text_of(line) + b"\n" for line in [*first, *history["events"]])
 
 
@@ -267,6 +267,9 @@ def verdict(history):
     """The verdict of `follow`, and what is wrong with it, or None."""
     text = text_of(history)
     status, lines, told = run("follow", lines_of(history))
+    if history["version"] == 3:
+        is_refused = status == REFUSED and told.startswith(b"stream: line 1: 9 NotFollowed")
+        return "refused", None if is_refused else f"{told} of a stream of version 3: {text.decode()}"
     if status > 2:
         return "refused", "refused"
     report, *small = lines
