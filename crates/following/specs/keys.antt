@@ -1,0 +1,6 @@
+-- What is kept of one key while events come.
+pub mod Answers
+pub mod Choices
+pub mod KeyStates
+pub mod Laws
+pub mod Settling

@@ -1,0 +1,61 @@
+-- Laws of what is kept of a key.
+use Rattle.std.specs.Prelude.{◌≡◌, ◌↔◌, ℕ, true, List, [], ◌∷◌, ◌++◌, All, Contains}
+use Rattle.events.specs.declared.event.Event.{Event}
+use Rattle.events.specs.declared.operation.Operation.{Operation}
+use Rattle.events.specs.Operations.{operations}
+use Rattle.events.specs.Precedence.{is_completed}
+use Rattle.map_object.specs.MapObject.{Contents, IsRising, value_at}
+use Rattle.orders.specs.Orders.{IsLinearizable}
+use Rattle.following.specs.moments.KeyCalls.{at_key}
+use Rattle.following.specs.moments.Timings.{IsTiming}
+use Rattle.following.specs.keys.Answers.{IsSilent, IsNarrowedBy}
+use Rattle.following.specs.keys.Choices.{HaveSameChoices}
+use Rattle.following.specs.keys.KeyStates.{KeyState, Timings, SomeHolds, KeyStandsFor}
+
+-- before any event a key has the value of the start
+abbrev pub KeysBegin : Type 0
+KeysBegin =
+    (start : Contents) (allows : Timings) (key : ℕ) → IsRising start → KeyStandsFor start [] allows key (record {
+      gone = [];
+      configurations = record { taken = []; values = value_at start key ∷ []; ahead = [] } ∷ [];
+    })
+
+-- each event goes on, and timings may be left out
+abbrev pub KeysGoOn : Type 0
+KeysGoOn =
+    (start : Contents) (events : List Event) (e : Event) (allows narrower : Timings) (key : ℕ) (k : KeyState)
+    → ((spread moment : ℕ → ℕ) → narrower spread moment ≡ true → allows spread moment ≡ true)
+    → KeyStandsFor start events allows key k → KeyStandsFor start (events ++ e ∷ []) narrower key k
+
+-- the calls of the key have an order now exactly where some configuration holds now
+abbrev pub KeysJudge : Type 0
+KeysJudge =
+    (start : Contents) (events : List Event) (allows : Timings) (key : ℕ) (k : KeyState) (spread moment : ℕ → ℕ)
+    → KeyStandsFor start events allows key k → IsTiming (operations events) spread moment → allows spread moment ≡ true
+    → IsLinearizable start (at_key key spread moment (operations events)) ↔ SomeHolds key spread moment (operations events) k
+
+-- where none holds now, none will with any further events
+abbrev pub KeysRefute : Type 0
+KeysRefute =
+    (start : Contents) (events more : List Event) (allows : Timings) (key : ℕ) (k : KeyState) (spread moment : ℕ → ℕ)
+    → KeyStandsFor start events allows key k → IsTiming (operations (events ++ more)) spread moment → allows spread moment ≡ true
+    → (SomeHolds key spread moment (operations events) k → ⊥) → SomeHolds key spread moment (operations (events ++ more)) k → ⊥
+
+-- it is the choices that matter, and not the configurations that have them
+abbrev pub SameChoicesStand : Type 0
+SameChoicesStand =
+    (start : Contents) (events : List Event) (allows : Timings) (key : ℕ) (k l : KeyState) → HaveSameChoices k l
+    → KeyStandsFor start events allows key k → KeyStandsFor start events allows key l
+
+-- a refused call, or a get that says nothing, goes
+abbrev pub SilentCallsGo : Type 0
+SilentCallsGo =
+    (start : Contents) (events : List Event) (allows : Timings) (key : ℕ) (k : KeyState) (a : Operation) → Contains (operations events) a
+    → IsSilent a.call a.response → KeyStandsFor start events allows key k
+    → KeyStandsFor start events allows key (record { gone = k.gone ++ a.inv ∷ []; configurations = k.configurations })
+
+-- where a call is answered, the configurations stay that agree with the answer, and note no longer what it found
+abbrev pub AnswersNarrow : Type 0
+AnswersNarrow =
+    (start : Contents) (events : List Event) (allows : Timings) (key : ℕ) (k l : KeyState) (a : Operation) → Contains (operations events) a
+    → is_completed a ≡ true → IsNarrowedBy a k l → KeyStandsFor start events allows key k → KeyStandsFor start events allows key l

@@ -1,0 +1,41 @@
+// Laws of what is kept of a key: each function only carries its clause.
+ghost use Rattle.following.specs.keys.Laws.{AnswersNarrow, KeysBegin, KeysGoOn, KeysJudge, KeysRefute};
+ghost use Rattle.following.specs.keys.Laws.{SameChoicesStand, SilentCallsGo};
+
+/// Before any event a key has the value of the start, with no call gone or taken.
+pub fn keys_begin()
+    ensures { KeysBegin }
+{}
+
+/// What is kept of a key stands for each event more, and for any timings among those of before.
+pub fn keys_go_on()
+    ensures { KeysGoOn }
+{}
+
+/// The calls of a key have an order, in a timing, exactly where some configuration holds: the answers of the calls that it has
+/// taken agree with what they may have found, and the calls left have an order from one of its values.
+pub fn keys_judge()
+    ensures { KeysJudge }
+{}
+
+/// Where no configuration holds, none does with any further events, in the same timing.
+pub fn keys_refute()
+    ensures { KeysRefute }
+{}
+
+/// Configurations may be put together or apart, repeated or ordered in any way, and calls that all have taken may be gone, as
+/// long as the choices stay the same: the calls gone or taken, one value, and one value found by each call that was open.
+pub fn same_choices_stand()
+    ensures { SameChoicesStand }
+{}
+
+/// A call that was refused, or a get that was answered `done`, is dropped.
+pub fn silent_calls_go()
+    ensures { SilentCallsGo }
+{}
+
+/// Where a call is answered, a configuration that notes what it may have found stays where some of that agrees with the answer, and
+/// notes it no longer.
+pub fn answers_narrow()
+    ensures { AnswersNarrow }
+{}
