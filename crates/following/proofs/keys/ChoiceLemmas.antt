@@ -31,7 +31,7 @@ same_test true t to from = sym (to refl)
 same_test false true to from = from refl
 same_test false false to from = refl
 
-same_filter : {X : Type 0} (p q : X → Bool) (xs : List X) → ((x : X) → p x ≡ q x) → filter p xs ≡ filter q xs
+pub same_filter : {X : Type 0} (p q : X → Bool) (xs : List X) → ((x : X) → p x ≡ q x) → filter p xs ≡ filter q xs
 same_filter p q [] same = refl
 same_filter p q (x ∷ xs) same = rw (same x, same_filter p q xs same) refl
 

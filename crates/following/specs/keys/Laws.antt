@@ -11,6 +11,7 @@ use Rattle.following.specs.moments.Timings.{IsTiming}
 use Rattle.following.specs.keys.Answers.{IsSilent, IsNarrowedBy}
 use Rattle.following.specs.keys.Choices.{HaveSameChoices}
 use Rattle.following.specs.keys.KeyStates.{KeyState, Timings, SomeHolds, KeyStandsFor}
+use Rattle.following.specs.keys.Settling.{IsKeyCut, SettlesTo, SettlesQuietly}
 
 -- before any event a key has the value of the start
 abbrev pub KeysBegin : Type 0
@@ -59,3 +60,17 @@ abbrev pub AnswersNarrow : Type 0
 AnswersNarrow =
     (start : Contents) (events : List Event) (allows : Timings) (key : ℕ) (k l : KeyState) (a : Operation) → Contains (operations events) a
     → is_completed a ≡ true → IsNarrowedBy a k l → KeyStandsFor start events allows key k → KeyStandsFor start events allows key l
+
+-- at any past moment of a key its choices may become those to which they go on, with calls open or not
+abbrev pub KeysSettle : Type 0
+KeysSettle =
+    (start : Contents) (events : List Event) (allows : Timings) (key : ℕ) (k l : KeyState) (place : ℕ) (ended begun : List ℕ)
+    → IsKeyCut events allows key k.gone place ended begun → SettlesTo events allows key ended begun k l
+    → KeyStandsFor start events allows key k → KeyStandsFor start events allows key l
+
+-- and where none was open, the values of each configuration become those that the calls leave
+abbrev pub QuietKeysSettle : Type 0
+QuietKeysSettle =
+    (start : Contents) (events : List Event) (allows : Timings) (key : ℕ) (k l : KeyState) (place : ℕ) (ended : List ℕ)
+    → IsKeyCut events allows key k.gone place ended [] → SettlesQuietly events allows key ended k l
+    → KeyStandsFor start events allows key k → KeyStandsFor start events allows key l

@@ -1,6 +1,6 @@
 // Laws of what is kept of a key: each function only carries its clause.
-ghost use Rattle.following.specs.keys.Laws.{AnswersNarrow, KeysBegin, KeysGoOn, KeysJudge, KeysRefute};
-ghost use Rattle.following.specs.keys.Laws.{SameChoicesStand, SilentCallsGo};
+ghost use Rattle.following.specs.keys.Laws.{AnswersNarrow, KeysBegin, KeysGoOn, KeysJudge, KeysRefute, KeysSettle};
+ghost use Rattle.following.specs.keys.Laws.{QuietKeysSettle, SameChoicesStand, SilentCallsGo};
 
 /// Before any event a key has the value of the start, with no call gone or taken.
 pub fn keys_begin()
@@ -38,4 +38,15 @@ pub fn silent_calls_go()
 /// notes it no longer.
 pub fn answers_narrow()
     ensures { AnswersNarrow }
+{}
+
+/// At any past moment the calls of a key that ended before it, and some of those that were open then, are done in turn, and what
+/// they leave and found takes their place: with any further events the calls have an order exactly where some of these choices holds.
+pub fn keys_settle()
+    ensures { KeysSettle }
+{}
+
+/// Where no call of the key was open at the moment, only the values change: to all that the calls leave from some value.
+pub fn quiet_keys_settle()
+    ensures { QuietKeysSettle }
 {}
