@@ -7,6 +7,7 @@ pub mod FoundLemmas
 pub mod GrownLemmas
 pub mod GrownPartLemmas
 pub mod InTurnLemmas
+pub mod JoinLemmas
 pub mod KeyCallLemmas
 pub mod QuietLemmas
 pub mod RefuteLemmas
@@ -14,3 +15,4 @@ pub mod SettleBackLemmas
 pub mod SettleLemmas
 pub mod SettleOnLemmas
 pub mod SilentLemmas
+pub mod WiderAnswerLemmas

@@ -4,3 +4,4 @@ pub mod Choices
 pub mod KeyStates
 pub mod Laws
 pub mod Settling
+pub mod WiderAnswers

@@ -9,9 +9,10 @@ use Rattle.orders.specs.Orders.{IsLinearizable}
 use Rattle.following.specs.moments.KeyCalls.{at_key}
 use Rattle.following.specs.moments.Timings.{IsTiming}
 use Rattle.following.specs.keys.Answers.{IsSilent, IsNarrowedBy}
-use Rattle.following.specs.keys.Choices.{HaveSameChoices}
+use Rattle.following.specs.keys.Choices.{HaveSameChoices, HaveSameValues, with_gone}
 use Rattle.following.specs.keys.KeyStates.{KeyState, Timings, SomeHolds, KeyStandsFor}
 use Rattle.following.specs.keys.Settling.{IsKeyCut, SettlesTo, SettlesQuietly}
+use Rattle.following.specs.keys.WiderAnswers.{OpenGetsGo}
 
 -- before any event a key has the value of the start
 abbrev pub KeysBegin : Type 0
@@ -48,12 +49,29 @@ SameChoicesStand =
     (start : Contents) (events : List Event) (allows : Timings) (key : ℕ) (k l : KeyState) → HaveSameChoices k l
     → KeyStandsFor start events allows key k → KeyStandsFor start events allows key l
 
+-- so configurations with the same calls taken, and the same noted for open ones, are one with the values of both, in whatever order they stand
+abbrev pub EqualConfigurationsJoin : Type 0
+EqualConfigurationsJoin =
+    (start : Contents) (events : List Event) (allows : Timings) (key : ℕ) (k l : KeyState) → l.gone ≡ k.gone → HaveSameValues k l
+    → KeyStandsFor start events allows key k → KeyStandsFor start events allows key l
+
+-- and a call that each configuration has taken is gone
+abbrev pub TakenCallsGo : Type 0
+TakenCallsGo =
+    (start : Contents) (events : List Event) (allows : Timings) (key : ℕ) (k : KeyState) (place : ℕ)
+    → All (λ c. Contains c.taken place) k.configurations → KeyStandsFor start events allows key k
+    → KeyStandsFor start events allows key (with_gone place k)
+
 -- a refused call, or a get that says nothing, goes
 abbrev pub SilentCallsGo : Type 0
 SilentCallsGo =
     (start : Contents) (events : List Event) (allows : Timings) (key : ℕ) (k : KeyState) (a : Operation) → Contains (operations events) a
     → IsSilent a.call a.response → KeyStandsFor start events allows key k
     → KeyStandsFor start events allows key (record { gone = k.gone ++ a.inv ∷ []; configurations = k.configurations })
+
+-- but not one that is open, for its answer may say something
+abbrev pub OpenGetsLoseAnswers : Type 0
+OpenGetsLoseAnswers = OpenGetsGo → ⊥
 
 -- where a call is answered, the configurations stay that agree with the answer, and note no longer what it found
 abbrev pub AnswersNarrow : Type 0

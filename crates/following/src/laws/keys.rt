@@ -1,6 +1,7 @@
 // Laws of what is kept of a key: each function only carries its clause.
-ghost use Rattle.following.specs.keys.Laws.{AnswersNarrow, KeysBegin, KeysGoOn, KeysJudge, KeysRefute, KeysSettle};
-ghost use Rattle.following.specs.keys.Laws.{QuietKeysSettle, SameChoicesStand, SilentCallsGo};
+ghost use Rattle.following.specs.keys.Laws.{AnswersNarrow, EqualConfigurationsJoin, KeysBegin, KeysGoOn, KeysJudge, KeysRefute};
+ghost use Rattle.following.specs.keys.Laws.{KeysSettle, OpenGetsLoseAnswers, QuietKeysSettle, SameChoicesStand, SilentCallsGo};
+ghost use Rattle.following.specs.keys.Laws.{TakenCallsGo};
 
 /// Before any event a key has the value of the start, with no call gone or taken.
 pub fn keys_begin()
@@ -29,9 +30,25 @@ pub fn same_choices_stand()
     ensures { SameChoicesStand }
 {}
 
+/// Configurations with the same calls taken, and the same noted for open ones, are one with the values of both; one without values
+/// goes.
+pub fn equal_configurations_join()
+    ensures { EqualConfigurationsJoin }
+{}
+
+/// A call that each configuration has taken is gone.
+pub fn taken_calls_go()
+    ensures { TakenCallsGo }
+{}
+
 /// A call that was refused, or a get that was answered `done`, is dropped.
 pub fn silent_calls_go()
     ensures { SilentCallsGo }
+{}
+
+/// A get that is open may not be dropped, with nothing noted of it: it may be told later what the key never had.
+pub fn open_gets_lose_answers()
+    ensures { OpenGetsLoseAnswers }
 {}
 
 /// Where a call is answered, a configuration that notes what it may have found stays where some of that agrees with the answer, and
