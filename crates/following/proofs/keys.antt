@@ -16,3 +16,4 @@ pub mod SettleLemmas
 pub mod SettleOnLemmas
 pub mod SilentLemmas
 pub mod WiderAnswerLemmas
+pub mod WiderChoiceLemmas

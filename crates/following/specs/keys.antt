@@ -5,3 +5,4 @@ pub mod KeyStates
 pub mod Laws
 pub mod Settling
 pub mod WiderAnswers
+pub mod WiderChoices

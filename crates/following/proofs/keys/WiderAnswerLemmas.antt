@@ -12,7 +12,7 @@ use Rattle.events.specs.Operations.{operations}
 use Rattle.list_laws.proofs.Lists.{Any-first, AllPairs-nil, Contains-first, Contains-nil, Contains-cases}
 use Rattle.map_object.specs.MapObject.{Contents}
 use Rattle.orders.specs.Orders.{IsLinearizable, IsOrder}
-use Rattle.following.specs.moments.KeyCalls.{Kind, OfKey, Told, kind_of}
+use Rattle.following.specs.moments.KeyCalls.{OfKey, Told}
 use Rattle.following.specs.moments.Timings.{IsToldScan, IsTiming}
 use Rattle.following.specs.keys.KeyStates.{one_key, Configuration, KeyState, Timings, MayHaveFound, Holds, SomeHolds, KeyStandsFor}
 use Rattle.following.specs.keys.Laws.{OpenGetsLoseAnswers}
@@ -28,21 +28,24 @@ not_ordered (zero ∷ order, is) = ⊎_elim (λ refused. cc) (λ tells. cc) is.l
 not_ordered (suc n ∷ order, is) =
     let within = All-head (λ n. n < 1) (suc n) order is.legal_order.known in absurd (omega (arith, within))
 
-no_scan : (a : Operation) → Contains (told ∷ []) a → IsToldScan a → ⊥
-no_scan a is (low, (high, (pairs, kind))) = ⊎_elim
-    (λ same.
-    let of_key : OfKey 0 ≡ Told low high pairs = subst (λ (c : Operation). kind_of c.call c.response ≡ Told low high pairs) (sym same) kind in cc)
-    (λ later. Contains-nil a later)
-    (Contains-cases told [] a is)
-
-timing : IsTiming (told ∷ []) (λ p. p) (λ p. p)
-timing = record {
+-- one call that is no scan has a plain timing
+pub one_timing : (a : Operation) → (IsToldScan a → ⊥) → IsTiming (a ∷ []) (λ p. p) (λ p. p)
+one_timing a no_scan = record {
   rises = λ p q less. less;
-  begun = λ a is scan. absurd (no_scan a is scan);
-  ended = λ a r is scan answered. absurd (no_scan a is scan);
-  between = λ a place is scan. absurd (no_scan a is scan);
-  apart = λ a b a_is b_is scan other differ. absurd (no_scan a a_is scan);
+  begun = λ b is scan. absurd (none b is scan);
+  ended = λ b r is scan answered. absurd (none b is scan);
+  between = λ b place is scan. absurd (none b is scan);
+  apart = λ b c b_is c_is scan other differ. absurd (none b b_is scan);
 }
+  where
+    none : (b : Operation) → Contains (a ∷ []) b → IsToldScan b → ⊥
+    none b is scan = ⊎_elim
+        (λ same. no_scan (subst IsToldScan (sym same) scan))
+        (λ later. Contains-nil b later)
+        (Contains-cases a [] b is)
+
+not_scan : IsToldScan told → ⊥
+not_scan (low, (high, (pairs, kind))) = let of_key : OfKey 0 ≡ Told low high pairs = kind in cc
 
 no_calls : IsLinearizable [] []
 no_calls = (
@@ -79,4 +82,4 @@ open_gets_lose go =
     let begun : KeyStandsFor [] [] all 0 k = begins [] all 0 (λ i j d before inside. absurd (omega arith)) in
     let stands : KeyStandsFor [] events all 0 k = λ more. begun (Invoke 0 (Get 0) ∷ more) in
     let dropped = go [] events all 0 k open_get (Contains-first open_get []) refl refl stands in
-    not_ordered ((dropped (Answer 0 (replies.Some 5) ∷ []) (λ p. p) (λ p. p) timing refl).1 dropped_holds)
+    not_ordered ((dropped (Answer 0 (replies.Some 5) ∷ []) (λ p. p) (λ p. p) (one_timing told not_scan) refl).1 dropped_holds)

@@ -13,6 +13,7 @@ use Rattle.following.specs.keys.Choices.{HaveSameChoices, HaveSameValues, with_g
 use Rattle.following.specs.keys.KeyStates.{KeyState, Timings, SomeHolds, KeyStandsFor}
 use Rattle.following.specs.keys.Settling.{IsKeyCut, SettlesTo, SettlesQuietly}
 use Rattle.following.specs.keys.WiderAnswers.{OpenGetsGo}
+use Rattle.following.specs.keys.WiderChoices.{UnitedValuesStand}
 
 -- before any event a key has the value of the start
 abbrev pub KeysBegin : Type 0
@@ -54,6 +55,10 @@ abbrev pub EqualConfigurationsJoin : Type 0
 EqualConfigurationsJoin =
     (start : Contents) (events : List Event) (allows : Timings) (key : ℕ) (k l : KeyState) → l.gone ≡ k.gone → HaveSameValues k l
     → KeyStandsFor start events allows key k → KeyStandsFor start events allows key l
+
+-- but not where they have other calls taken: the values of both would gain orders
+abbrev pub UnitedValuesGainOrders : Type 0
+UnitedValuesGainOrders = UnitedValuesStand → ⊥
 
 -- and a call that each configuration has taken is gone
 abbrev pub TakenCallsGo : Type 0

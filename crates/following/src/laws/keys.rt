@@ -1,7 +1,7 @@
 // Laws of what is kept of a key: each function only carries its clause.
 ghost use Rattle.following.specs.keys.Laws.{AnswersNarrow, EqualConfigurationsJoin, KeysBegin, KeysGoOn, KeysJudge, KeysRefute};
 ghost use Rattle.following.specs.keys.Laws.{KeysSettle, OpenGetsLoseAnswers, QuietKeysSettle, SameChoicesStand, SilentCallsGo};
-ghost use Rattle.following.specs.keys.Laws.{TakenCallsGo};
+ghost use Rattle.following.specs.keys.Laws.{TakenCallsGo, UnitedValuesGainOrders};
 
 /// Before any event a key has the value of the start, with no call gone or taken.
 pub fn keys_begin()
@@ -34,6 +34,12 @@ pub fn same_choices_stand()
 /// goes.
 pub fn equal_configurations_join()
     ensures { EqualConfigurationsJoin }
+{}
+
+/// Configurations with other calls taken may not be one. An insert is open: either it took effect and found nothing, or it did not and
+/// nothing is there. United, it could still come, and find the value that it puts itself.
+pub fn united_values_gain_orders()
+    ensures { UnitedValuesGainOrders }
 {}
 
 /// A call that each configuration has taken is gone.
