@@ -9,6 +9,7 @@ pub mod GrownPartLemmas
 pub mod InTurnLemmas
 pub mod JoinLemmas
 pub mod KeyCallLemmas
+pub mod PlaceCutLemmas
 pub mod QuietLemmas
 pub mod RefuteLemmas
 pub mod SettleBackLemmas

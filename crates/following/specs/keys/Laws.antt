@@ -11,6 +11,7 @@ use Rattle.following.specs.moments.Timings.{IsTiming}
 use Rattle.following.specs.keys.Answers.{IsSilent, IsNarrowedBy}
 use Rattle.following.specs.keys.Choices.{HaveSameChoices, HaveSameValues, with_gone}
 use Rattle.following.specs.keys.KeyStates.{KeyState, Timings, SomeHolds, KeyStandsFor}
+use Rattle.following.specs.keys.PlaceCuts.{IsPlaceCut}
 use Rattle.following.specs.keys.Settling.{IsKeyCut, SettlesTo, SettlesQuietly}
 use Rattle.following.specs.keys.WiderAnswers.{OpenGetsGo}
 use Rattle.following.specs.keys.WiderChoices.{UnitedValuesStand}
@@ -23,12 +24,12 @@ KeysBegin =
       configurations = record { taken = []; values = value_at start key ∷ []; ahead = [] } ∷ [];
     })
 
--- each event goes on, and timings may be left out
+-- it goes on with any events more, one or none, and timings may be left out
 abbrev pub KeysGoOn : Type 0
 KeysGoOn =
-    (start : Contents) (events : List Event) (e : Event) (allows narrower : Timings) (key : ℕ) (k : KeyState)
+    (start : Contents) (events more : List Event) (allows narrower : Timings) (key : ℕ) (k : KeyState)
     → ((spread moment : ℕ → ℕ) → narrower spread moment ≡ true → allows spread moment ≡ true)
-    → KeyStandsFor start events allows key k → KeyStandsFor start (events ++ e ∷ []) narrower key k
+    → KeyStandsFor start events allows key k → KeyStandsFor start (events ++ more) narrower key k
 
 -- the calls of the key have an order now exactly where some configuration holds now
 abbrev pub KeysJudge : Type 0
@@ -83,6 +84,13 @@ abbrev pub AnswersNarrow : Type 0
 AnswersNarrow =
     (start : Contents) (events : List Event) (allows : Timings) (key : ℕ) (k l : KeyState) (a : Operation) → Contains (operations events) a
     → is_completed a ≡ true → IsNarrowedBy a k l → KeyStandsFor start events allows key k → KeyStandsFor start events allows key l
+
+-- which calls ended before a place and which were open there is told by places alone, but for scans, of which each has its moment before it or
+-- behind it
+abbrev pub PlacesTellCuts : Type 0
+PlacesTellCuts =
+    (events : List Event) (allows : Timings) (key : ℕ) (gone : List ℕ) (place : ℕ) (ended begun : List ℕ)
+    → IsPlaceCut events allows key gone place ended begun → IsKeyCut events allows key gone place ended begun
 
 -- at any past moment of a key its choices may become those to which they go on, with calls open or not
 abbrev pub KeysSettle : Type 0

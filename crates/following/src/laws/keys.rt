@@ -1,14 +1,14 @@
 // Laws of what is kept of a key: each function only carries its clause.
 ghost use Rattle.following.specs.keys.Laws.{AnswersNarrow, EqualConfigurationsJoin, KeysBegin, KeysGoOn, KeysJudge, KeysRefute};
 ghost use Rattle.following.specs.keys.Laws.{KeysSettle, OpenGetsLoseAnswers, QuietKeysSettle, SameChoicesStand, SilentCallsGo};
-ghost use Rattle.following.specs.keys.Laws.{TakenCallsGo, UnitedValuesGainOrders};
+ghost use Rattle.following.specs.keys.Laws.{PlacesTellCuts, TakenCallsGo, UnitedValuesGainOrders};
 
 /// Before any event a key has the value of the start, with no call gone or taken.
 pub fn keys_begin()
     ensures { KeysBegin }
 {}
 
-/// What is kept of a key stands for each event more, and for any timings among those of before.
+/// What is kept of a key stands for any events more, and for any timings among those of before.
 pub fn keys_go_on()
     ensures { KeysGoOn }
 {}
@@ -61,6 +61,12 @@ pub fn open_gets_lose_answers()
 /// notes it no longer.
 pub fn answers_narrow()
     ensures { AnswersNarrow }
+{}
+
+/// Which calls of a key ended before a place, and which were open there, is told by places, whatever the timing; each told scan over the
+/// key has to have its moment before the place in each timing of the class, or behind it.
+pub fn places_tell_cuts()
+    ensures { PlacesTellCuts }
 {}
 
 /// At any past moment the calls of a key that ended before it, and some of those that were open then, are done in turn, and what
