@@ -1,8 +1,8 @@
 -- What open calls find where calls are done in turn, and what their later answers tell of it.
 use Rattle.events.specs.declared.event.Reply.TheVariants as replies
-use Rattle.std.proofs.Common.{◌≡◌, ℕ, ◌≤◌, ◌==◌, Bool, true, false, cond, not, nat_lt, List, [], ◌∷◌, Option, Some, None, filter_map, map, refl, sym, ap, ◌∙◌}
+use Rattle.std.proofs.Common.{◌≡◌, ℕ, ◌≤◌, ◌==◌, Bool, true, false, cond, not, nat_lt, List, [], ◌∷◌, Option, Some, None, map, refl, sym, ap, ◌∙◌}
 use Rattle.std.proofs.Common.{subst, ⊎_elim, inl, inr, arith}
-use Rattle.std.specs.Prelude.{◌≢◌, ◌⊎◌, All, Contains}
+use Rattle.std.specs.Prelude.{◌⊎◌, Contains}
 use Rattle.std.specs.List.{AllZip}
 use Rattle.std.proofs.lemmas.Bool.{both_ways, eqb-true, eq-eqb, ltb-false, le-ltb, and_from, not_from_false}
 use Rattle.std.proofs.lemmas.Option.{none-some, same_Some}
@@ -12,17 +12,17 @@ use Rattle.events.specs.declared.event.Reply.{Reply}
 use Rattle.events.specs.declared.operation.Operation.{Operation}
 use Rattle.events.specs.declared.operation.Response.{Response}
 use Rattle.list_laws.proofs.Lists.{Contains-first, Contains-later, Contains-nil, Contains-cases}
-use Rattle.map_object.specs.MapObject.{Contents, IsRising, value_at, within, value_reply, reply_to, after_reply, TellsOf, IsLegalReply}
+use Rattle.map_object.specs.MapObject.{Contents, value_at, within, value_reply, reply_to, TellsOf, IsLegalReply}
 use Rattle.map_object.proofs.TellLemmas.{tells_answers, after_reply-answer}
 use Rattle.orders.specs.Orders.{after_call, after_calls, IsLegalCall, IsLegal}
 use Rattle.segments.proofs.RangeLemmas.{IsInside, within-after_call}
 use Rattle.quiet_cuts.proofs.ValueLemmas.{rising_after}
-use Rattle.following.specs.moments.KeyCalls.{Kind, OfKey, Told, Silent, kind_of_scan, kind_of, part_at}
+use Rattle.following.specs.moments.KeyCalls.{Kind, OfKey, Told, Silent, kind_of, part_at}
 use Rattle.following.specs.keys.KeyStates.{one_key, Tells}
 use Rattle.following.specs.keys.Settling.{found_at, found_in}
 use Rattle.following.proofs.moments.KindLemmas.{IsPart, part_is}
 use Rattle.following.proofs.keys.BeginLemmas.{alone, one_rises, value_one}
-use Rattle.following.proofs.keys.GrownLemmas.{operation, IsGrownResponse, IsGrown}
+use Rattle.following.proofs.keys.GrownLemmas.{IsGrownResponse, IsGrown}
 use Rattle.following.proofs.keys.GrownPartLemmas.{scan_not_own}
 use Rattle.following.proofs.keys.InTurnLemmas.{is_refused, is_refused_from, cut_response, cut, cut_legal}
 

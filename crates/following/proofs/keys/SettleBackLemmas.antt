@@ -1,9 +1,9 @@
 -- Where a choice went on to one that holds behind a past moment, it holds: the calls that were taken, with their later answers, and the others.
-use Rattle.std.proofs.Common.{◌≡◌, ℕ, ◌<◌, ◌≤◌, Bool, true, false, List, [], ◌∷◌, ◌++◌, length, Option, Some, None, refl, sym, ap, ◌∙◌, subst}
-use Rattle.std.proofs.Common.{⊎_elim, inl, inr, arith, is_some}
-use Rattle.std.specs.Prelude.{◌≢◌, ◌⊎◌, All, AllPairs, Contains}
+use Rattle.std.proofs.Common.{◌≡◌, ℕ, ◌<◌, Bool, true, false, List, [], ◌∷◌, ◌++◌, length, Option, Some, None, refl, sym, ◌∙◌, subst}
+use Rattle.std.proofs.Common.{⊎_elim, inl, inr, arith}
+use Rattle.std.specs.Prelude.{◌≢◌, All, AllPairs, Contains}
 use Rattle.std.specs.List.{AllZip}
-use Rattle.std.proofs.lemmas.Bool.{both_ways, false_from_ne_true, ltb-true, le-ltb}
+use Rattle.std.proofs.lemmas.Bool.{both_ways, false_from_ne_true, le-ltb}
 use Rattle.std.proofs.lemmas.List.Elements.{All-contains, Contains-append_left, Contains-append_right, Contains-append_cases}
 use Rattle.std.proofs.lemmas.List.Kept.{AllPairs-cons}
 use Rattle.events.specs.declared.event.Event.{Event}
@@ -13,11 +13,11 @@ use Rattle.events.specs.Operations.{operations}
 use Rattle.events.specs.Precedence.{is_before, precedes}
 use Rattle.list_laws.specs.Lists.{has_number}
 use Rattle.list_laws.proofs.Lists.{AllPairs-nil, AllPairs-head, AllPairs-tail, All-from_contains, AllPairs-append, Contains-first, Contains-later}
-use Rattle.list_laws.proofs.Lists.{Contains-at, Contains-nil, place_of-Contains}
+use Rattle.list_laws.proofs.Lists.{Contains-at, place_of-Contains}
 use Rattle.list_laws.proofs.NumberLemmas.{has_number-Contains, has_number-from_Contains}
 use Rattle.list_laws.proofs.ZipLemmas.{zip_left, zip_right}
 use Rattle.map_object.specs.MapObject.{Contents}
-use Rattle.orders.specs.Orders.{after_calls, IsLegal, IsLinearizable}
+use Rattle.orders.specs.Orders.{IsLegal}
 use Rattle.orders.proofs.OrderLemmas.{IsLegal-append}
 use Rattle.quiet_cuts.specs.Cells.{calls_left}
 use Rattle.quiet_cuts.proofs.SetLemmas.{IsOrderOfSet, Completed}
@@ -25,7 +25,7 @@ use Rattle.following.specs.moments.KeyCalls.{part_at, at_key}
 use Rattle.following.specs.moments.Timings.{IsTiming}
 use Rattle.following.specs.keys.Choices.{Choice}
 use Rattle.following.specs.keys.KeyStates.{one_key, Timings, Tells}
-use Rattle.following.specs.keys.Settling.{IsKeyCut, calls_among, found_in, GoesOn}
+use Rattle.following.specs.keys.Settling.{IsKeyCut, found_in, GoesOn}
 use Rattle.following.proofs.cuts.PastLemmas.{ended_before}
 use Rattle.following.proofs.moments.DistinctLemmas.{order_from_linearizable, linearizable_from_order}
 use Rattle.following.proofs.keys.ChoiceLemmas.{HoldsChoice}

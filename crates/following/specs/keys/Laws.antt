@@ -1,5 +1,5 @@
 -- Laws of what is kept of a key.
-use Rattle.std.specs.Prelude.{◌≡◌, ◌↔◌, ℕ, true, List, [], ◌∷◌, ◌++◌, All, Contains}
+use Rattle.std.specs.Prelude.{◌≡◌, ◌↔◌, ◌⊎◌, ℕ, true, List, [], ◌∷◌, ◌++◌, All, Contains}
 use Rattle.events.specs.declared.event.Event.{Event}
 use Rattle.events.specs.declared.operation.Operation.{Operation}
 use Rattle.events.specs.Operations.{operations}
@@ -10,7 +10,7 @@ use Rattle.following.specs.moments.KeyCalls.{at_key}
 use Rattle.following.specs.moments.Timings.{IsTiming}
 use Rattle.following.specs.keys.Answers.{IsSilent, IsNarrowedBy}
 use Rattle.following.specs.keys.Choices.{HaveSameChoices, HaveSameValues, with_gone}
-use Rattle.following.specs.keys.KeyStates.{KeyState, Timings, SomeHolds, KeyStandsFor}
+use Rattle.following.specs.keys.KeyStates.{Configuration, KeyState, Timings, SomeHolds, IsRefuted, KeyStandsFor}
 use Rattle.following.specs.keys.PlaceCuts.{IsPlaceCut}
 use Rattle.following.specs.keys.Settling.{IsKeyCut, SettlesTo, SettlesQuietly}
 use Rattle.following.specs.keys.WiderAnswers.{OpenGetsGo}
@@ -38,12 +38,19 @@ KeysJudge =
     → KeyStandsFor start events allows key k → IsTiming (operations events) spread moment → allows spread moment ≡ true
     → IsLinearizable start (at_key key spread moment (operations events)) ↔ SomeHolds key spread moment (operations events) k
 
--- where none holds now, none will with any further events
+-- and what holds with further events holds now: where no configuration holds now, none will
 abbrev pub KeysRefute : Type 0
 KeysRefute =
-    (start : Contents) (events more : List Event) (allows : Timings) (key : ℕ) (k : KeyState) (spread moment : ℕ → ℕ)
-    → KeyStandsFor start events allows key k → IsTiming (operations (events ++ more)) spread moment → allows spread moment ≡ true
-    → (SomeHolds key spread moment (operations events) k → ⊥) → SomeHolds key spread moment (operations (events ++ more)) k → ⊥
+    (events more : List Event) (key : ℕ) (k : KeyState) (spread moment : ℕ → ℕ) → IsTiming (operations (events ++ more)) spread moment
+    → SomeHolds key spread moment (operations (events ++ more)) k → SomeHolds key spread moment (operations events) k
+
+-- so a configuration goes that holds now in no timing
+abbrev pub RefutedConfigurationsGo : Type 0
+RefutedConfigurationsGo =
+    (start : Contents) (events : List Event) (allows : Timings) (key : ℕ) (k l : KeyState) → l.gone ≡ k.gone
+    → ((c : Configuration) → Contains l.configurations c → Contains k.configurations c)
+    → ((c : Configuration) → Contains k.configurations c → Contains l.configurations c ⊎ IsRefuted events allows key k.gone c)
+    → KeyStandsFor start events allows key k → KeyStandsFor start events allows key l
 
 -- it is the choices that matter, and not the configurations that have them
 abbrev pub SameChoicesStand : Type 0

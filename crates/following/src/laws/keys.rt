@@ -1,7 +1,7 @@
 // Laws of what is kept of a key: each function only carries its clause.
 ghost use Rattle.following.specs.keys.Laws.{AnswersNarrow, EqualConfigurationsJoin, KeysBegin, KeysGoOn, KeysJudge, KeysRefute};
 ghost use Rattle.following.specs.keys.Laws.{KeysSettle, OpenGetsLoseAnswers, QuietKeysSettle, SameChoicesStand, SilentCallsGo};
-ghost use Rattle.following.specs.keys.Laws.{PlacesTellCuts, TakenCallsGo, UnitedValuesGainOrders};
+ghost use Rattle.following.specs.keys.Laws.{PlacesTellCuts, RefutedConfigurationsGo, TakenCallsGo, UnitedValuesGainOrders};
 
 /// Before any event a key has the value of the start, with no call gone or taken.
 pub fn keys_begin()
@@ -19,9 +19,15 @@ pub fn keys_judge()
     ensures { KeysJudge }
 {}
 
-/// Where no configuration holds, none does with any further events, in the same timing.
+/// Where some configuration holds with further events, some holds now, in the same timing: so where none does, the calls get no order
+/// by further events.
 pub fn keys_refute()
     ensures { KeysRefute }
+{}
+
+/// A configuration that holds in no timing of the class now goes: it never will.
+pub fn refuted_configurations_go()
+    ensures { RefutedConfigurationsGo }
 {}
 
 /// Configurations may be put together or apart, repeated or ordered in any way, and calls that all have taken may be gone, as
