@@ -16,5 +16,6 @@ pub mod SettleBackLemmas
 pub mod SettleLemmas
 pub mod SettleOnLemmas
 pub mod SilentLemmas
+pub mod TurnLemmas
 pub mod WiderAnswerLemmas
 pub mod WiderChoiceLemmas

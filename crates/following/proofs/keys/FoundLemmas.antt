@@ -65,21 +65,21 @@ tells_of m call key reply finds answered legal = ⊎_elim
 
 -- ---- what is found
 
-found_cases : (key place : ℕ) (response : Option Response) (value : Option ℕ) (rest : List (ℕ × Option ℕ)) (f : ℕ × Option ℕ)
-    → Contains (found_at key place response value rest) f → ((response ≡ None) × ((place, value) ≡ f)) ⊎ Contains rest f
-found_cases key place None value rest f is =
+found_cases : (place : ℕ) (response : Option Response) (value : Option ℕ) (rest : List (ℕ × Option ℕ)) (f : ℕ × Option ℕ)
+    → Contains (found_at place response value rest) f → ((response ≡ None) × ((place, value) ≡ f)) ⊎ Contains rest f
+found_cases place None value rest f is =
     ⊎_elim (λ first. inl (refl, first)) (λ later. inr later) (Contains-cases (place, value) rest f is)
-found_cases key place (Some r) value rest f is = inr is
+found_cases place (Some r) value rest f is = inr is
 
-found_first : (key place : ℕ) (response : Option Response) (value : Option ℕ) (rest : List (ℕ × Option ℕ)) → response ≡ None
-    → Contains (found_at key place response value rest) (place, value)
-found_first key place None value rest is = Contains-first (place, value) rest
-found_first key place (Some r) value rest is = absurd (none-some r (sym is))
+found_first : (place : ℕ) (response : Option Response) (value : Option ℕ) (rest : List (ℕ × Option ℕ)) → response ≡ None
+    → Contains (found_at place response value rest) (place, value)
+found_first place None value rest is = Contains-first (place, value) rest
+found_first place (Some r) value rest is = absurd (none-some r (sym is))
 
-found_rest : (key place : ℕ) (response : Option Response) (value : Option ℕ) (rest : List (ℕ × Option ℕ)) (f : ℕ × Option ℕ)
-    → Contains rest f → Contains (found_at key place response value rest) f
-found_rest key place None value rest f is = Contains-later (place, value) rest f is
-found_rest key place (Some r) value rest f is = is
+found_rest : (place : ℕ) (response : Option Response) (value : Option ℕ) (rest : List (ℕ × Option ℕ)) (f : ℕ × Option ℕ)
+    → Contains rest f → Contains (found_at place response value rest) f
+found_rest place None value rest f is = Contains-later (place, value) rest f is
+found_rest place (Some r) value rest f is = is
 
 -- it is found by open calls
 pub found_by : (key : ℕ) (m : Contents) (order : List Operation) (f : ℕ × Option ℕ) → Contains (found_in key m order) f
@@ -92,7 +92,7 @@ found_by key m (y ∷ order) f is =
     (y, Contains-first y order, here.0, ap (λ (f : ℕ × Option ℕ). f.0) here.1))
     (λ later.
     let (z, z_is, pending, same) = found_by key next order f later in (z, Contains-later y order z z_is, pending, same))
-    (found_cases key y.inv y.response (value_at m key) (found_in key next order) f is)
+    (found_cases y.inv y.response (value_at m key) (found_in key next order) f is)
 
 -- a refusal behind a place is one behind any earlier place
 late_refused : (early place : ℕ) (r : Response) → early ≤ place → nat_lt r.res place ≡ false → r.reply ≡ replies.Refused
@@ -138,7 +138,7 @@ found_tells place early key m (x ∷ order) upto answered finds legal f is =
     (λ y y_is. answered y (Contains-later x order y y_is)) (λ y y_is. finds y (Contains-later x order y y_is)) legal.1 f
     (subst (λ (n : Contents). Contains (found_in key n (map (cut place) order)) f) same later) in
     (z, Contains-later x order z z_is, at_place, tells))
-    (found_cases key x.inv (cut_response place x.response) (value_at m key) (found_in key next (map (cut place) order)) f is)
+    (found_cases x.inv (cut_response place x.response) (value_at m key) (found_in key next (map (cut place) order)) f is)
 
 -- ---- later answers that tell of what was found
 
@@ -167,13 +167,13 @@ grown_in_turn place key m (y ∷ order) (x ∷ grown_order) zip finds told legal
     let (first, same) = grown_legal place key m y.call y.response x.response zip.0.response
     (subst (FindsAt key) same_call (finds x here))
     (λ pending. subst (λ (call : Call). Tells call x.response (value_at m key)) same_call
-    (told (y.inv, value_at m key) (found_first key y.inv y.response (value_at m key) (found_in key next order) pending) x here same_inv))
+    (told (y.inv, value_at m key) (found_first y.inv y.response (value_at m key) (found_in key next order) pending) x here same_inv))
     legal.0 in
     let first_legal = subst (λ (call : Call). IsLegalCall m call x.response) (sym same_call) first in
     let after_same : after_call m x.call x.response ≡ next = ap (λ (call : Call). after_call m call x.response) same_call ∙ same in
     let (rest, left) = grown_in_turn place key next order grown_order zip.1
     (λ z z_is. finds z (Contains-later x grown_order z z_is))
-    (λ f f_is z z_is at_place. told f (found_rest key y.inv y.response (value_at m key) (found_in key next order) f f_is) z
+    (λ f f_is z z_is at_place. told f (found_rest y.inv y.response (value_at m key) (found_in key next order) f f_is) z
     (Contains-later x grown_order z z_is) at_place) legal.1 in (
       (first_legal, subst (λ (n : Contents). IsLegal n grown_order) (sym after_same) rest),
       subst (λ (n : Contents). after_calls n grown_order ≡ after_calls next order) (sym after_same) left,

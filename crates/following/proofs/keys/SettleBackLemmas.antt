@@ -86,9 +86,6 @@ module _ (events more : List Event) (key : ℕ) (spread moment : ℕ → ℕ) (t
   abbrev left_next : List Operation
   left_next = at_key key spread moment (calls_left next.taken (operations (events ++ more)))
 
-  abbrev places : List ℕ
-  places = ended ++ g.chosen
-
   abbrev D : Operation → Operation → Type 0
   D a b = a.inv ≢ b.inv
 

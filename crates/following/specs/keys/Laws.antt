@@ -5,14 +5,16 @@ use Rattle.events.specs.declared.operation.Operation.{Operation}
 use Rattle.events.specs.Operations.{operations}
 use Rattle.events.specs.Precedence.{is_completed}
 use Rattle.map_object.specs.MapObject.{Contents, IsRising, value_at}
-use Rattle.orders.specs.Orders.{IsLinearizable}
+use Rattle.orders.specs.Orders.{after_calls, IsLinearizable}
+use Rattle.quiet_cuts.specs.Leaves.{Leaves}
+use Rattle.quiet_cuts.specs.TimeCuts.{InvocationsRise}
 use Rattle.following.specs.moments.KeyCalls.{at_key}
 use Rattle.following.specs.moments.Timings.{IsTiming}
 use Rattle.following.specs.keys.Answers.{IsSilent, IsNarrowedBy}
-use Rattle.following.specs.keys.Choices.{HaveSameChoices, HaveSameValues, with_gone}
+use Rattle.following.specs.keys.Choices.{HaveSame, HaveSameChoices, HaveSameValues, with_gone}
 use Rattle.following.specs.keys.KeyStates.{Configuration, KeyState, Timings, SomeHolds, IsRefuted, KeyStandsFor}
 use Rattle.following.specs.keys.PlaceCuts.{IsPlaceCut}
-use Rattle.following.specs.keys.Settling.{IsKeyCut, SettlesTo, SettlesQuietly}
+use Rattle.following.specs.keys.Settling.{IsKeyCut, AreInTurn, SettlesTo, SettlesQuietly}
 use Rattle.following.specs.keys.WiderAnswers.{OpenGetsGo}
 use Rattle.following.specs.keys.WiderChoices.{UnitedValuesStand}
 
@@ -98,6 +100,12 @@ abbrev pub PlacesTellCuts : Type 0
 PlacesTellCuts =
     (events : List Event) (allows : Timings) (key : ℕ) (gone : List ℕ) (place : ℕ) (ended begun : List ℕ)
     → IsPlaceCut events allows key gone place ended begun → IsKeyCut events allows key gone place ended begun
+
+-- to be done in turn is to be left something: so what is known of the pairs that calls leave holds of settlements too
+abbrev pub TurnsLeave : Type 0
+TurnsLeave =
+    (m left : Contents) (calls sorted : List Operation) → HaveSame sorted calls → InvocationsRise sorted
+    → Leaves m sorted left ↔ ((order : List Operation) × AreInTurn m calls order × (left ≡ after_calls m order))
 
 -- at any past moment of a key its choices may become those to which they go on, with calls open or not
 abbrev pub KeysSettle : Type 0

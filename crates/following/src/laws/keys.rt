@@ -1,7 +1,8 @@
 // Laws of what is kept of a key: each function only carries its clause.
 ghost use Rattle.following.specs.keys.Laws.{AnswersNarrow, EqualConfigurationsJoin, KeysBegin, KeysGoOn, KeysJudge, KeysRefute};
 ghost use Rattle.following.specs.keys.Laws.{KeysSettle, OpenGetsLoseAnswers, QuietKeysSettle, SameChoicesStand, SilentCallsGo};
-ghost use Rattle.following.specs.keys.Laws.{PlacesTellCuts, RefutedConfigurationsGo, TakenCallsGo, UnitedValuesGainOrders};
+ghost use Rattle.following.specs.keys.Laws.{PlacesTellCuts, RefutedConfigurationsGo, TakenCallsGo, TurnsLeave};
+ghost use Rattle.following.specs.keys.Laws.{UnitedValuesGainOrders};
 
 /// Before any event a key has the value of the start, with no call gone or taken.
 pub fn keys_begin()
@@ -73,6 +74,11 @@ pub fn answers_narrow()
 /// key has to have its moment before the place in each timing of the class, or behind it.
 pub fn places_tell_cuts()
     ensures { PlacesTellCuts }
+{}
+
+/// Calls that are done in turn leave what an order of them leaves, by whatever list of the same calls.
+pub fn turns_leave()
+    ensures { TurnsLeave }
 {}
 
 /// At any past moment the calls of a key that ended before it, and some of those that were open then, are done in turn, and what
