@@ -65,15 +65,15 @@ module _ (events more : List Event) (key : ℕ) (spread moment : ℕ → ℕ) (t
   abbrev later : List Operation
   later = at_key key spread moment (calls_left taken (operations (events ++ more)))
 
-  later_differ : InvocationsDiffer later
+  pub later_differ : InvocationsDiffer later
   later_differ = left_differ events more key spread moment timing taken
 
-  now_differ : InvocationsDiffer now
+  pub now_differ : InvocationsDiffer now
   now_differ = picked_differ (operations events) (inv_rises events) (NonePrecedesItself-operations events) key spread moment
       (timing_now events more spread moment timing) (is_left taken)
 
   -- a call now is one later
-  grown_later : (y : Operation) → Contains now y → (x : Operation) × Contains later x × IsGrown limit y x
+  pub grown_later : (y : Operation) → Contains now y → (x : Operation) × Contains later x × IsGrown limit y x
   grown_later y y_is =
       let (a, a_is, is) = Contains-from_filter_map (part_at key spread moment) (calls_left taken (operations events)) y y_is in
       let (here, left) = from_left taken (operations events) a a_is in

@@ -38,7 +38,7 @@ use Rattle.following.proofs.keys.InTurnLemmas.{self_waits}
 
 -- ---- two lists, item by item
 
-zip_pairs : {A B : Type 0} (Z : A → B → Type 0) (R : A → A → Type 0) (S : B → B → Type 0)
+pub zip_pairs : {A B : Type 0} (Z : A → B → Type 0) (R : A → A → Type 0) (S : B → B → Type 0)
     → ((x z : A) (y u : B) → Z x y → Z z u → R x z → S y u) → (xs : List A) (ys : List B) → AllZip Z xs ys → AllPairs R xs → AllPairs S ys
 zip_pairs Z R S h [] [] zip pairs = AllPairs-nil S
 zip_pairs Z R S h [] (y ∷ ys) zip pairs = absurd zip
@@ -51,14 +51,14 @@ zip_pairs Z R S h (x ∷ xs) (y ∷ ys) zip pairs =
     h x z y u zip.0 z_u (All-contains (R x) xs z (AllPairs-head R x xs pairs) (Contains-at xs n z here))))
     (zip_pairs Z R S h xs ys zip.1 (AllPairs-tail R x xs pairs))
 
-zip_weaker : {A B : Type 0} (Z W : A → B → Type 0) → ((x : A) (y : B) → Z x y → W x y) → (xs : List A) (ys : List B) → AllZip Z xs ys
+pub zip_weaker : {A B : Type 0} (Z W : A → B → Type 0) → ((x : A) (y : B) → Z x y → W x y) → (xs : List A) (ys : List B) → AllZip Z xs ys
     → AllZip W xs ys
 zip_weaker Z W h [] [] zip = tt
 zip_weaker Z W h [] (y ∷ ys) zip = absurd zip
 zip_weaker Z W h (x ∷ xs) [] zip = absurd zip
 zip_weaker Z W h (x ∷ xs) (y ∷ ys) zip = (h x y zip.0, zip_weaker Z W h xs ys zip.1)
 
-zip_each : {A B : Type 0} (Z : A → B → Type 0) (xs : List A) → ((x : A) → Contains xs x → (y : B) × Z x y) → (ys : List B) × AllZip Z xs ys
+pub zip_each : {A B : Type 0} (Z : A → B → Type 0) (xs : List A) → ((x : A) → Contains xs x → (y : B) × Z x y) → (ys : List B) × AllZip Z xs ys
 zip_each Z [] each = ([], tt)
 zip_each Z (x ∷ xs) each =
     let (y, first) = each x (Contains-first x xs) in
@@ -66,7 +66,7 @@ zip_each Z (x ∷ xs) each =
     (y ∷ ys, (first, rest))
 
 -- a call that has grown waits for those that began before
-grown_waits : (place : ℕ) (now later : Option Response) (inv : ℕ) → IsGrownResponse place now later → inv < place
+pub grown_waits : (place : ℕ) (now later : Option Response) (inv : ℕ) → IsGrownResponse place now later → inv < place
     → is_before now inv ≡ false → is_before later inv ≡ false
 grown_waits place None None inv grown before waits = refl
 grown_waits place None (Some r) inv grown before waits = le-ltb r.res inv (omega (arith, grown, before))

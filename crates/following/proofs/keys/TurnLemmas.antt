@@ -1,5 +1,5 @@
 -- Calls done in turn, as lists of calls, and as orders by number.
-use Rattle.std.specs.Prelude.{◌↔◌, Contains}
+use Rattle.std.specs.Prelude.{Contains}
 use Rattle.std.proofs.lemmas.List.Elements.{All-contains}
 use Rattle.list_laws.proofs.Lists.{All-from_contains}
 use Rattle.quiet_cuts.proofs.SetLemmas.{set_from_leaves, leaves_from_set}

@@ -10,7 +10,7 @@ use Rattle.quiet_cuts.specs.Leaves.{Leaves}
 use Rattle.quiet_cuts.specs.TimeCuts.{InvocationsRise}
 use Rattle.following.specs.moments.KeyCalls.{at_key}
 use Rattle.following.specs.moments.Timings.{IsTiming}
-use Rattle.following.specs.keys.Answers.{IsSilent, IsNarrowedBy}
+use Rattle.following.specs.keys.Answers.{IsSilent, IsNarrowedBy, TellNothing}
 use Rattle.following.specs.keys.Choices.{HaveSame, HaveSameChoices, HaveSameValues, with_gone}
 use Rattle.following.specs.keys.KeyStates.{Configuration, KeyState, Timings, SomeHolds, IsRefuted, KeyStandsFor}
 use Rattle.following.specs.keys.PlaceCuts.{IsPlaceCut}
@@ -53,6 +53,13 @@ RefutedConfigurationsGo =
     → ((c : Configuration) → Contains l.configurations c → Contains k.configurations c)
     → ((c : Configuration) → Contains k.configurations c → Contains l.configurations c ⊎ IsRefuted events allows key k.gone c)
     → KeyStandsFor start events allows key k → KeyStandsFor start events allows key l
+
+-- and where further events tell nothing of the key, what holds now holds with them
+abbrev pub SilenceHolds : Type 0
+SilenceHolds =
+    (events more : List Event) (key : ℕ) (k : KeyState) (spread moment : ℕ → ℕ) → IsTiming (operations (events ++ more)) spread moment
+    → TellNothing events more key spread moment k
+    → SomeHolds key spread moment (operations events) k → SomeHolds key spread moment (operations (events ++ more)) k
 
 -- it is the choices that matter, and not the configurations that have them
 abbrev pub SameChoicesStand : Type 0

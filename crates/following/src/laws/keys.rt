@@ -2,7 +2,7 @@
 ghost use Rattle.following.specs.keys.Laws.{AnswersNarrow, EqualConfigurationsJoin, KeysBegin, KeysGoOn, KeysJudge, KeysRefute};
 ghost use Rattle.following.specs.keys.Laws.{KeysSettle, OpenGetsLoseAnswers, QuietKeysSettle, SameChoicesStand, SilentCallsGo};
 ghost use Rattle.following.specs.keys.Laws.{PlacesTellCuts, RefutedConfigurationsGo, TakenCallsGo, TurnsLeave};
-ghost use Rattle.following.specs.keys.Laws.{UnitedValuesGainOrders};
+ghost use Rattle.following.specs.keys.Laws.{SilenceHolds, UnitedValuesGainOrders};
 
 /// Before any event a key has the value of the start, with no call gone or taken.
 pub fn keys_begin()
@@ -24,6 +24,12 @@ pub fn keys_judge()
 /// by further events.
 pub fn keys_refute()
     ensures { KeysRefute }
+{}
+
+/// Where further events tell nothing of a key, what holds now holds with them: invocations, answers `done`, and answers of calls that are
+/// nothing at the key need no search.
+pub fn silence_holds()
+    ensures { SilenceHolds }
 {}
 
 /// A configuration that holds in no timing of the class now goes: it never will.
