@@ -1,2 +1,3 @@
 pub mod cuts
+pub mod keys
 pub mod moments

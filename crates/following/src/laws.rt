@@ -1,3 +1,4 @@
 // The laws, by part.
 pub mod cuts;
+pub mod keys;
 pub mod moments;

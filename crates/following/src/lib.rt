@@ -2,6 +2,7 @@
 //! - cuts: a past moment, before which some calls took effect and after which the others; answers that lose no order; reads that
 //!   may go first.
 //! - moments: scans take effect at moments, and each key is judged by itself.
+//! - keys: what is kept of a key while events come, and what it becomes at answers and at past moments, with calls open or not.
 #![tactic(auto)]
 
 mod laws;
@@ -9,5 +10,11 @@ mod laws;
 pub use laws::cuts::{
     done_loses_no_order, narrowing_reads_lose_orders, past_cuts, past_cuts_leave, reads_first,
     unchanged_here_loses_orders,
+};
+pub use laws::keys::{
+    answers_narrow, equal_configurations_join, keys_begin, keys_go_on, keys_judge, keys_refute,
+    keys_settle, open_gets_lose_answers, places_tell_cuts, quiet_keys_settle,
+    refuted_configurations_go, same_choices_stand, silence_holds, silent_calls_go, taken_calls_go,
+    turns_leave,
 };
 pub use laws::moments::{key_calls_rise, keys_stay_apart, operations_stand_apart};

@@ -27,7 +27,7 @@ use Rattle.following.specs.cuts.PastCuts.{IsPastCut}
 use Rattle.following.specs.cuts.Laws.{PastCutsPart, PastCutsLeave}
 
 -- a call that ended before the moment does not precede another: that one was invoked before the moment
-invoked_before : (moment : ℕ) (response : Option Response) (inv : ℕ) → is_before response moment ≡ true → is_before response inv ≡ false
+pub invoked_before : (moment : ℕ) (response : Option Response) (inv : ℕ) → is_before response moment ≡ true → is_before response inv ≡ false
     → inv < moment
 invoked_before moment None inv ended waits = cc
 invoked_before moment (Some response) inv ended waits =
@@ -36,7 +36,7 @@ invoked_before moment (Some response) inv ended waits =
     omega arith
 
 -- and one that precedes a call invoked before the moment ended before it
-ended_before : (moment : ℕ) (response : Option Response) (inv : ℕ) → is_before response inv ≡ true → inv < moment
+pub ended_before : (moment : ℕ) (response : Option Response) (inv : ℕ) → is_before response inv ≡ true → inv < moment
     → is_before response moment ≡ true
 ended_before moment None inv before begun = cc
 ended_before moment (Some response) inv before begun =
@@ -45,13 +45,13 @@ ended_before moment (Some response) inv before begun =
     lt-ltb response.res moment less
 
 -- the two parts of an order: behind the last call that ended before the moment
-record IsShortestFront (moment : ℕ) (order front back : List Operation) : Type 0 where
-  parts : order ≡ front ++ back
-  ended : All (λ a. is_before a.response moment ≡ false) back
-  last : (a : Operation) → Contains front a → (e : Operation) × Contains front e × (is_before e.response moment ≡ true)
+pub record IsShortestFront (moment : ℕ) (order front back : List Operation) : Type 0 where
+  pub parts : order ≡ front ++ back
+  pub ended : All (λ a. is_before a.response moment ≡ false) back
+  pub last : (a : Operation) → Contains front a → (e : Operation) × Contains front e × (is_before e.response moment ≡ true)
       × ((a ≡ e) ⊎ (precedes e a ≡ false))
 
-shortest : (moment : ℕ) (order : List Operation) → AllPairs (λ a b. precedes b a ≡ false) order
+pub shortest : (moment : ℕ) (order : List Operation) → AllPairs (λ a b. precedes b a ≡ false) order
     → (front : List Operation) × (back : List Operation) × IsShortestFront moment order front back
 shortest moment [] keeps = (
   [],
@@ -110,7 +110,7 @@ shortest moment (a ∷ order) keeps =
         )
 
 -- a call that ended before a moment is completed
-completed_before : (moment : ℕ) (response : Option Response) → is_before response moment ≡ true → is_some response ≡ true
+pub completed_before : (moment : ℕ) (response : Option Response) → is_before response moment ≡ true → is_some response ≡ true
 completed_before moment None ended = cc
 completed_before moment (Some response) ended = refl
 

@@ -48,7 +48,7 @@ get_leaves m pairs key = after_reply-answer m (Get key) (value_reply (value_at p
 -- ---- calls of one key
 
 -- they are legal from all pairs that are the same at the key
-alike : (key : ℕ) (calls : List Operation) (m n : Contents) → All (λ a. IsInside key key a.call) calls
+pub alike : (key : ℕ) (calls : List Operation) (m n : Contents) → All (λ a. IsInside key key a.call) calls
     → within key key m ≡ within key key n → IsLegal m calls → IsLegal n calls
 alike key [] m n inside same legal = tt
 alike key (a ∷ calls) m n inside same legal =
