@@ -3,6 +3,7 @@
 //!   may go first.
 //! - moments: scans take effect at moments, and each key is judged by itself.
 //! - keys: what is kept of a key while events come, and what it becomes at answers.
+//! - rows: what is kept of a stream, a row for each way in which its scans may have taken effect, and when rows go, part and join.
 #![tactic(auto)]
 
 mod laws;
@@ -16,3 +17,8 @@ pub use laws::keys::{
     silent_calls_go,
 };
 pub use laws::moments::{key_calls_rise, keys_stay_apart, operations_stand_apart};
+pub use laws::rows::{
+    alike_rows_join, alike_timings_cover, alike_timings_hold, comparisons_cover, equal_rows_join,
+    gone_scans_do_not_matter, lost_rows_go, rows_are_exact, rows_begin, rows_go_on, rows_judge,
+    rows_refute, rows_split, states_may_change, turns_cover,
+};

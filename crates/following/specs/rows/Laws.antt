@@ -1,0 +1,107 @@
+-- Laws of rows.
+use Rattle.std.specs.Prelude.{◌≡◌, ◌≢◌, ◌↔◌, ℕ, ◌&&◌, List, [], ◌∷◌, ◌++◌, map, All, Contains}
+use Rattle.events.specs.declared.event.Event.{Event}
+use Rattle.events.specs.declared.operation.Operation.{Operation}
+use Rattle.events.specs.Operations.{operations}
+use Rattle.map_object.specs.MapObject.{Contents, IsRising}
+use Rattle.orders.specs.Orders.{IsLinearizable}
+use Rattle.quiet_cuts.specs.Cells.{calls_left}
+use Rattle.following.specs.moments.Timings.{IsToldScan}
+use Rattle.following.specs.keys.KeyStates.{KeyState, Timings, SomeHolds, KeyStandsFor}
+use Rattle.following.specs.rows.Alike.{AreAlikeAt, HaveAlike, DifferInGone}
+use Rattle.following.specs.rows.Comparisons.{Comparison, Behind, Before, InTurn, class_of}
+use Rattle.following.specs.rows.Rows.{Row, RowHolds, SomeRowHolds, RowsStandFor, first_row, with_class, IsWithin, Cover}
+use Rattle.following.specs.rows.Steps.{with_states, HoldsWhere, Follows}
+
+-- of no event one row stands, with all timings and the values of the start
+abbrev pub RowsBegin : Type 0
+RowsBegin = (start : Contents) → IsRising start → RowsStandFor start [] (first_row start ∷ [])
+
+-- they stand for each event more
+abbrev pub RowsGoOn : Type 0
+RowsGoOn =
+    (start : Contents) (events : List Event) (e : Event) (rows : List Row) → RowsStandFor start events rows
+    → RowsStandFor start (events ++ e ∷ []) rows
+
+-- the events have an order exactly where some row holds now
+abbrev pub RowsJudge : Type 0
+RowsJudge =
+    (start : Contents) (events : List Event) (rows : List Row) → RowsStandFor start events rows
+    → IsLinearizable start (operations events) ↔ SomeRowHolds (operations events) rows
+
+-- where none does, none will, and no further events have an order
+abbrev pub RowsRefute : Type 0
+RowsRefute =
+    (start : Contents) (events more : List Event) (rows : List Row) → RowsStandFor start events rows
+    → (SomeRowHolds (operations events) rows → ⊥) → IsLinearizable start (operations (events ++ more)) → ⊥
+
+-- a row that does not hold now goes
+abbrev pub LostRowsGo : Type 0
+LostRowsGo =
+    (start : Contents) (events : List Event) (front back : List Row) (row : Row) → (RowHolds (operations events) row → ⊥)
+    → RowsStandFor start events (front ++ row ∷ back) → RowsStandFor start events (front ++ back)
+
+-- what a row keeps of keys may become what stands for the same events and timings
+abbrev pub StatesMayChange : Type 0
+StatesMayChange =
+    (start : Contents) (events : List Event) (front back : List Row) (row : Row) (states : ℕ → KeyState)
+    → ((key : ℕ) → KeyStandsFor start events row.allows key (states key)) → RowsStandFor start events (front ++ row ∷ back)
+    → RowsStandFor start events (front ++ with_states row states ∷ back)
+
+-- a row may become several, by narrower classes of timings that cover it
+abbrev pub RowsSplit : Type 0
+RowsSplit =
+    (start : Contents) (events : List Event) (front back : List Row) (row : Row) (classes : List Timings)
+    → All (IsWithin row.allows) classes → Cover events row classes → RowsStandFor start events (front ++ row ∷ back)
+    → RowsStandFor start events (front ++ (map (with_class row) classes ++ back))
+
+-- of two rows one may go that holds only where the other does
+abbrev pub EqualRowsJoin : Type 0
+EqualRowsJoin =
+    (start : Contents) (events : List Event) (front back : List Row) (row other : Row) → Contains (front ++ back) other
+    → HoldsWhere events row other → RowsStandFor start events (front ++ row ∷ back) → RowsStandFor start events (front ++ back)
+
+-- what is kept of a key holds in both or in none of two timings that are alike there for the calls that are not gone
+abbrev pub AlikeTimingsHold : Type 0
+AlikeTimingsHold =
+    (key : ℕ) (calls : List Operation) (spread moment other_spread other_moment : ℕ → ℕ) (k : KeyState)
+    → AreAlikeAt key (calls_left k.gone calls) spread moment other_spread other_moment
+    → SomeHolds key spread moment calls k ↔ SomeHolds key other_spread other_moment calls k
+
+-- classes cover a row where each of its timings is alike to one of theirs at each key
+abbrev pub AlikeTimingsCover : Type 0
+AlikeTimingsCover = (events : List Event) (row : Row) (classes : List Timings) → HaveAlike events row classes → Cover events row classes
+
+-- so a row holds only where another with the same states does, if each of its timings is alike to one of the other
+abbrev pub AlikeRowsJoin : Type 0
+AlikeRowsJoin =
+    (events : List Event) (row other : Row) → ((key : ℕ) → row.states key ≡ other.states key) → HaveAlike events row (other.allows ∷ [])
+    → HoldsWhere events row other
+
+-- and the moments of scans that are gone at each key of their ranges do not matter
+abbrev pub GoneScansDoNotMatter : Type 0
+GoneScansDoNotMatter =
+    (calls : List Operation) (states : ℕ → KeyState) (spread moment other : ℕ → ℕ) (key : ℕ) → DifferInGone calls states moment other
+    → AreAlikeAt key (calls_left (states key).gone calls) spread moment spread other
+
+-- a class with a comparison more
+abbrev pub also : Timings → List Comparison → Timings
+also allows comparisons = λ spread moment. allows spread moment && class_of comparisons spread moment
+
+-- a row may be split by any event: a scan that is answered took effect before it or behind it
+abbrev pub ComparisonsCover : Type 0
+ComparisonsCover =
+    (events : List Event) (row : Row) (a : Operation) (place : ℕ) → Contains (operations events) a → IsToldScan a
+    → Cover events row (also row.allows (Behind a.inv place ∷ []) ∷ also row.allows (Before a.inv place ∷ []) ∷ [])
+
+-- or by another such scan
+abbrev pub TurnsCover : Type 0
+TurnsCover =
+    (events : List Event) (row : Row) (a b : Operation) → Contains (operations events) a → Contains (operations events) b → IsToldScan a
+    → IsToldScan b → a.inv ≢ b.inv
+    → Cover events row (also row.allows (InTurn a.inv b.inv ∷ []) ∷ also row.allows (InTurn b.inv a.inv ∷ []) ∷ [])
+
+-- however rows came about by these steps, they stand for the events
+abbrev pub RowsAreExact : Type 0
+RowsAreExact = (start : Contents) (events : List Event) (rows : List Row) → IsRising start → Follows start events rows
+    → RowsStandFor start events rows

@@ -1,0 +1,89 @@
+// Laws of rows: each function only carries its clause, and calls what it rests on.
+ghost use Rattle.following.specs.rows.Laws.{AlikeRowsJoin, AlikeTimingsCover, AlikeTimingsHold, ComparisonsCover, EqualRowsJoin};
+ghost use Rattle.following.specs.rows.Laws.{GoneScansDoNotMatter, LostRowsGo, RowsAreExact, RowsBegin, RowsGoOn};
+ghost use Rattle.following.specs.rows.Laws.{RowsJudge, RowsRefute, RowsSplit, StatesMayChange, TurnsCover};
+
+use quiet_cuts::places_do_not_matter;
+
+/// Of no event one row stands: all timings, and the value of the start at each key.
+pub fn rows_begin()
+    ensures { RowsBegin }
+{}
+
+/// Rows stand for each event more.
+pub fn rows_go_on()
+    ensures { RowsGoOn }
+{}
+
+/// Events have an order exactly where the scans may be answered so by some map, and some row holds: in a timing of its class, some
+/// configuration of each key does.
+pub fn rows_judge()
+    ensures { RowsJudge }
+{}
+
+/// Where no row holds, no further events have an order.
+pub fn rows_refute()
+    ensures { RowsRefute }
+{}
+
+/// A row that does not hold goes.
+pub fn lost_rows_go()
+    ensures { LostRowsGo }
+{}
+
+/// In a row, what is kept of the keys may become anything that stands for the same events and timings.
+pub fn states_may_change()
+    ensures { StatesMayChange }
+{}
+
+/// A row may become several with the same states, by narrower classes of timings that cover it.
+pub fn rows_split()
+    ensures { RowsSplit }
+{}
+
+/// A row goes that holds, with any further events, only where another row does.
+pub fn equal_rows_join()
+    ensures { EqualRowsJoin }
+{}
+
+/// Of two timings in which the calls of a key that are not gone stand in the same precedence, what is kept of the key holds in both
+/// or in none.
+pub fn alike_timings_hold()
+    ensures { AlikeTimingsHold }
+{
+    places_do_not_matter();
+}
+
+/// So some classes cover a row, if for each timing of it, with any further events, one of them has one that is alike at each key.
+pub fn alike_timings_cover()
+    ensures { AlikeTimingsCover }
+{
+    places_do_not_matter();
+}
+
+/// And a row holds only where another with the same states does, if each of its timings is alike to one of the other.
+pub fn alike_rows_join()
+    ensures { AlikeRowsJoin }
+{
+    places_do_not_matter();
+}
+
+/// Timings are alike that differ only in the moments of scans that are gone at each key of their ranges.
+pub fn gone_scans_do_not_matter()
+    ensures { GoneScansDoNotMatter }
+{}
+
+/// A row may be split by an event: a scan that was told pairs took effect before it or behind it.
+pub fn comparisons_cover()
+    ensures { ComparisonsCover }
+{}
+
+/// A row may be split by two scans that were told pairs: either took effect before the other.
+pub fn turns_cover()
+    ensures { TurnsCover }
+{}
+
+/// However rows came about, by these steps, they stand for the events; so the events have an order exactly where a row holds.
+pub fn rows_are_exact()
+    ensures { RowsAreExact }
+{}
