@@ -1,5 +1,7 @@
 -- What is kept of a stream, in rows.
 pub mod AlikeLemmas
+pub mod BlockLemmas
 pub mod ComparisonLemmas
+pub mod MovedLemmas
 pub mod RowLemmas
 pub mod StepLemmas

@@ -1,5 +1,6 @@
 -- What is kept of a stream: rows, one for each way in which scans may have taken effect.
 pub mod Alike
+pub mod Blocks
 pub mod Comparisons
 pub mod Laws
 pub mod Rows

@@ -19,6 +19,6 @@ pub use laws::keys::{
 pub use laws::moments::{key_calls_rise, keys_stay_apart, operations_stand_apart};
 pub use laws::rows::{
     alike_rows_join, alike_timings_cover, alike_timings_hold, comparisons_cover, equal_rows_join,
-    gone_scans_do_not_matter, lost_rows_go, rows_are_exact, rows_begin, rows_go_on, rows_judge,
-    rows_refute, rows_split, states_may_change, turns_cover,
+    gone_scans_do_not_matter, lost_rows_go, moments_suffice, rows_are_exact, rows_begin,
+    rows_go_on, rows_judge, rows_refute, rows_split, states_may_change, turns_cover,
 };

@@ -33,7 +33,7 @@ scan_over key spread moment a x low high replies.Found h = absurd h
 scan_over key spread moment a x low high replies.Other h = absurd h
 
 -- it is no call of one key
-scan_not_own : (low high : ℕ) (reply : Reply) (own : ℕ) → kind_of_scan low high reply ≡ OfKey own → ⊥
+pub scan_not_own : (low high : ℕ) (reply : Reply) (own : ℕ) → kind_of_scan low high reply ≡ OfKey own → ⊥
 scan_not_own low high replies.None own h = cc
 scan_not_own low high (replies.Some value) own h = cc
 scan_not_own low high (replies.Pairs pairs) own h = cc

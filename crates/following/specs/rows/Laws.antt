@@ -1,5 +1,5 @@
 -- Laws of rows.
-use Rattle.std.specs.Prelude.{◌≡◌, ◌≢◌, ◌↔◌, ℕ, ◌&&◌, List, [], ◌∷◌, ◌++◌, map, All, Contains}
+use Rattle.std.specs.Prelude.{◌≡◌, ◌≢◌, ◌↔◌, ℕ, suc, ◌<◌, ◌≤◌, ◌&&◌, List, [], ◌∷◌, ◌++◌, length, map, All, Contains}
 use Rattle.events.specs.declared.event.Event.{Event}
 use Rattle.events.specs.declared.operation.Operation.{Operation}
 use Rattle.events.specs.Operations.{operations}
@@ -9,6 +9,7 @@ use Rattle.quiet_cuts.specs.Cells.{calls_left}
 use Rattle.following.specs.moments.Timings.{IsToldScan}
 use Rattle.following.specs.keys.KeyStates.{KeyState, Timings, SomeHolds, KeyStandsFor}
 use Rattle.following.specs.rows.Alike.{AreAlikeAt, HaveAlike, DifferInGone}
+use Rattle.following.specs.rows.Blocks.{IsBlock, Stays}
 use Rattle.following.specs.rows.Comparisons.{Comparison, Behind, Before, InTurn, class_of}
 use Rattle.following.specs.rows.Rows.{Row, RowHolds, SomeRowHolds, RowsStandFor, first_row, with_class, IsWithin, Cover}
 use Rattle.following.specs.rows.Steps.{with_states, HoldsWhere, Follows}
@@ -100,6 +101,15 @@ TurnsCover =
     (events : List Event) (row : Row) (a b : Operation) → Contains (operations events) a → Contains (operations events) b → IsToldScan a
     → IsToldScan b → a.inv ≢ b.inv
     → Cover events row (also row.allows (InTurn a.inv b.inv ∷ []) ∷ also row.allows (InTurn b.inv a.inv ∷ []) ∷ [])
+
+-- and of a block, in which no event counts for the scans that are tied to one, it is enough to try its first gap
+abbrev pub MomentsSuffice : Type 0
+MomentsSuffice =
+    (events : List Event) (states : ℕ → KeyState) (comparisons : List Comparison) (tied : List ℕ) (low high scan : ℕ) → low < high
+    → high ≤ length events → IsBlock (operations events) states tied low high → All (Stays tied low high) comparisons → Contains tied scan
+    → Contains comparisons (Before scan high)
+    → Cover events (record { allows = class_of comparisons; states = states })
+    (also (class_of comparisons) (Before scan (suc low) ∷ []) ∷ [])
 
 -- however rows came about by these steps, they stand for the events
 abbrev pub RowsAreExact : Type 0

@@ -1,6 +1,6 @@
 // Laws of rows: each function only carries its clause, and calls what it rests on.
 ghost use Rattle.following.specs.rows.Laws.{AlikeRowsJoin, AlikeTimingsCover, AlikeTimingsHold, ComparisonsCover, EqualRowsJoin};
-ghost use Rattle.following.specs.rows.Laws.{GoneScansDoNotMatter, LostRowsGo, RowsAreExact, RowsBegin, RowsGoOn};
+ghost use Rattle.following.specs.rows.Laws.{GoneScansDoNotMatter, LostRowsGo, MomentsSuffice, RowsAreExact, RowsBegin, RowsGoOn};
 ghost use Rattle.following.specs.rows.Laws.{RowsJudge, RowsRefute, RowsSplit, StatesMayChange, TurnsCover};
 
 use quiet_cuts::places_do_not_matter;
@@ -82,6 +82,14 @@ pub fn comparisons_cover()
 pub fn turns_cover()
     ensures { TurnsCover }
 {}
+
+/// Where no event counts between two others for the scans that are tied to one, it is enough to try one moment of it: behind the
+/// first of them, before any other event.
+pub fn moments_suffice()
+    ensures { MomentsSuffice }
+{
+    places_do_not_matter();
+}
 
 /// However rows came about, by these steps, they stand for the events; so the events have an order exactly where a row holds.
 pub fn rows_are_exact()
