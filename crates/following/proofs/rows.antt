@@ -2,6 +2,10 @@
 pub mod AlikeLemmas
 pub mod BlockLemmas
 pub mod ComparisonLemmas
+pub mod EndLemmas
+pub mod FixedLemmas
+pub mod ForgottenLemmas
+pub mod MixedLemmas
 pub mod MovedLemmas
 pub mod RowLemmas
 pub mod StepLemmas

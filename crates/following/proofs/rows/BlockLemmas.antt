@@ -134,7 +134,7 @@ all_stay spread moment other_spread other_moment tied low high each (c ∷ compa
     (each c (All-head (Stays tied low high) c comparisons stay) parts.0)
     (all_stay spread moment other_spread other_moment tied low high each comparisons (All-tail (Stays tied low high) c comparisons stay) parts.1)
 
-one_holds : (spread moment : ℕ → ℕ) (c : Comparison) (comparisons : List Comparison) → Contains comparisons c
+pub one_holds : (spread moment : ℕ → ℕ) (c : Comparison) (comparisons : List Comparison) → Contains comparisons c
     → all_hold spread moment comparisons ≡ true → holds_in spread moment c ≡ true
 one_holds spread moment c [] is h = absurd (Contains-nil c is)
 one_holds spread moment c (d ∷ comparisons) is h =

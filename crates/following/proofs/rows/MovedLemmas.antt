@@ -23,76 +23,7 @@ use Rattle.following.specs.rows.Blocks.{is_scan, IsOver, IsOutside, IsBlock, Sta
 use Rattle.following.specs.rows.Comparisons.{Comparison, Behind, Before, InTurn, holds_in}
 use Rattle.following.proofs.moments.KindLemmas.{IsPart, part_is}
 use Rattle.following.proofs.moments.PartLemmas.{spread_upto}
-use Rattle.following.proofs.keys.GrownPartLemmas.{scan_not_own}
-
--- ---- calls by their kinds
-
-told_scan : (own_low own_high low high : ℕ) (pairs : Contents) (reply : Reply) → kind_of_scan own_low own_high reply ≡ Told low high pairs
-    → Scan own_low own_high ≡ Scan low high
-told_scan own_low own_high low high pairs replies.None h = cc
-told_scan own_low own_high low high pairs (replies.Some value) h = cc
-told_scan own_low own_high low high pairs (replies.Pairs told) h = cc
-told_scan own_low own_high low high pairs replies.Refused h = cc
-told_scan own_low own_high low high pairs replies.Done h = cc
-told_scan own_low own_high low high pairs replies.Found h = cc
-told_scan own_low own_high low high pairs replies.Other h = cc
-
-told_call : (call : Call) (response : Option Response) (low high : ℕ) (pairs : Contents) → kind_of call response ≡ Told low high pairs
-    → call ≡ Scan low high
-told_call (Get key) response low high pairs h = cc
-told_call (Insert key value) response low high pairs h = cc
-told_call (Remove key) response low high pairs h = cc
-told_call (Scan own_low own_high) None low high pairs h = cc
-told_call (Scan own_low own_high) (Some r) low high pairs h = told_scan own_low own_high low high pairs r.reply h
-told_call (Replace key expected value) response low high pairs h = cc
-
-own_call : (call : Call) (response : Option Response) (own : ℕ) → kind_of call response ≡ OfKey own → (is_scan call ≡ false) × IsOver own call
-own_call (Get key) response own h = let same : key ≡ own = cc in (refl, (omega arith, omega arith))
-own_call (Insert key value) response own h = let same : key ≡ own = cc in (refl, (omega arith, omega arith))
-own_call (Remove key) response own h = let same : key ≡ own = cc in (refl, (omega arith, omega arith))
-own_call (Scan low high) None own h = cc
-own_call (Scan low high) (Some r) own h = absurd (scan_not_own low high r.reply own h)
-own_call (Replace key expected value) response own h = let same : key ≡ own = cc in (refl, (omega arith, omega arith))
-
--- ---- numbers and their images
-
-same_less : (u v x y : ℕ) → (u < v → x < y) → (x < y → u < v) → nat_lt u v ≡ nat_lt x y
-same_less u v x y to from = ⊎_elim
-    (λ less. lt-ltb u v less ∙ sym (lt-ltb x y (to less)))
-    (λ upto. le-ltb u v upto ∙ sym (⊎_elim
-    (λ less. let back = from less in absurd (omega arith)) (λ later. le-ltb x y later) (cases_lt x y)))
-    (cases_lt u v)
-
--- a relation of numbers with their images that keeps the order
-abbrev KeepsOrder : (ℕ → ℕ → Type 0) → Type 0
-KeepsOrder P = (u x v y : ℕ) → P u x → P v y → nat_lt u v ≡ nat_lt x y
-
-abbrev EndsAs : (ℕ → ℕ → Type 0) → Option Response → Option Response → Type 0
-EndsAs P None None = ⊤
-EndsAs P None (Some s) = ⊥
-EndsAs P (Some r) None = ⊥
-EndsAs P (Some r) (Some s) = P r.res s.res
-
--- the ends of a call and those of its image
-record Ends (P : ℕ → ℕ → Type 0) (x z : Operation) : Type 0 where
-  pub begin : P x.inv z.inv
-  pub end : EndsAs P x.response z.response
-
-before_same : (P : ℕ → ℕ → Type 0) → KeepsOrder P → (r s : Option Response) (m n : ℕ) → EndsAs P r s → P m n → is_before r m ≡ is_before s n
-before_same P keeps None None m n ends begin = refl
-before_same P keeps None (Some s) m n ends begin = absurd ends
-before_same P keeps (Some r) None m n ends begin = absurd ends
-before_same P keeps (Some r) (Some s) m n ends begin = keeps r.res s.res m n ends begin
-
-precedes_same : (P : ℕ → ℕ → Type 0) → KeepsOrder P → (x y z w : Operation) → Ends P x z → Ends P y w → precedes x y ≡ precedes z w
-precedes_same P keeps x y z w first second = before_same P keeps x.response z.response y.inv w.inv first.end second.begin
-
--- the ends of a call whose places are spread in two ways
-spread_ends : (P : ℕ → ℕ → Type 0) (spread other : ℕ → ℕ) (response : Option Response)
-    → ((r : Response) → response ≡ Some r → P (spread r.res) (other r.res))
-    → EndsAs P (spread_response spread response) (spread_response other response)
-spread_ends P spread other None each = tt
-spread_ends P spread other (Some r) each = each r refl
+use Rattle.following.proofs.rows.EndLemmas.{told_call, own_call, same_less, KeepsOrder, rising_keeps, Ends, precedes_same, ends_by_kind}
 
 module _ (calls : List Operation) (states : ℕ → KeyState) (tied : List ℕ) (low high : ℕ) (less : low < high)
     (block : IsBlock calls states tied low high) (spread moment : ℕ → ℕ) (timing : IsTiming calls spread moment) where
@@ -231,14 +162,7 @@ module _ (calls : List Operation) (states : ℕ → KeyState) (tied : List ℕ) 
   HasMoved v w = w ≡ shift v
 
   moved_keeps : KeepsOrder HasMoved
-  moved_keeps u x v y first second = same_less u v x y
-      (λ before. let h = shift_less u v before in omega arith)
-      (λ before. ⊎_elim (λ h. h) (λ behind. ⊎_elim
-      (λ later. let h = shift_less v u later in absurd (omega arith))
-      (λ same_is. let same = ap shift same_is in absurd (omega arith)) (split v u behind)) (cases_lt u v))
-    where
-      split : (m n : ℕ) → m ≤ n → (m < n) ⊎ (m ≡ n)
-      split m n h = ⊎_elim (λ before. inl before) (λ behind. inr (omega arith)) (cases_lt m n)
+  moved_keeps = rising_keeps shift shift_less
 
   -- a number stays before the end of the block, or moves behind it
   abbrev StaysOrMoves : ℕ → ℕ → Type 0
@@ -271,27 +195,12 @@ module _ (calls : List Operation) (states : ℕ → KeyState) (tied : List ℕ) 
     abbrev left : List Operation
     left = calls_left (states key).gone calls
 
-    ends_by_kind : (P : ℕ → ℕ → Type 0) (a x z : Operation) (kind : Kind) → IsPart key spread moment a x kind → IsPart key room moved a z kind
-        → ((own : ℕ) → kind ≡ OfKey own → own ≡ key
-        → P (spread a.inv) (room a.inv) × ((r : Response) → a.response ≡ Some r → P (spread r.res) (room r.res)))
-        → ((first last : ℕ) (pairs : Contents) → kind ≡ Told first last pairs → first ≤ key → key ≤ last → P (moment a.inv) (moved a.inv))
-        → Ends P x z
-    ends_by_kind P a x z (OfKey own) first second of_own of_scan =
-        let h = of_own own refl first.0 in
-        subst (λ (x : Operation). Ends P x z) first.1
-        (subst (Ends P (spread_call spread a)) second.1 (record { begin = h.0; end = spread_ends P spread room a.response h.1 }))
-    ends_by_kind P a x z (Told low_key high_key pairs) first second of_own of_scan =
-        let h = of_scan low_key high_key pairs refl first.0 first.1 in
-        subst (λ (x : Operation). Ends P x z) first.2
-        (subst (Ends P (get_at key (moment a.inv) pairs)) second.2 (record { begin = h; end = h }))
-    ends_by_kind P a x z Silent first second of_own of_scan = absurd first
-
     -- where a tied scan over the key has begun, all that is left there stays or moves
     stay_or_move : (t a x z : Operation) → IsTiedOver t → Contains left a → (kind : Kind) → kind_of a.call a.response ≡ kind
         → IsPart key spread moment a x kind → IsPart key room moved a z kind → Ends StaysOrMoves x z
     stay_or_move t a x z (t_is, t_tied, t_low, t_over) a_is kind is first second =
         let (in_calls, left_is) = Contains-from_filter (is_left (states key).gone) calls a a_is in
-        ends_by_kind StaysOrMoves a x z kind first second
+        ends_by_kind key spread moment room moved StaysOrMoves a x z kind first second
         (λ own own_is same.
         let (not_scan, over) = own_call a.call a.response own (is ∙ own_is) in
         let (begin, end) = block.events key t a t_is t_tied t_low t_over a_is not_scan (subst (λ (n : ℕ). IsOver n a.call) same over) in
@@ -317,7 +226,7 @@ module _ (calls : List Operation) (states : ℕ → KeyState) (tied : List ℕ) 
     -- a call is a tied scan whose moment stays, or moves
     tied_or_moves : (a x z : Operation) → Contains left a → (kind : Kind) → kind_of a.call a.response ≡ kind
         → IsPart key spread moment a x kind → IsPart key room moved a z kind → IsTiedOver a ⊎ Ends HasMoved x z
-    tied_or_moves a x z a_is (OfKey own) is first second = inr (ends_by_kind HasMoved a x z (OfKey own) first second
+    tied_or_moves a x z a_is (OfKey own) is first second = inr (ends_by_kind key spread moment room moved HasMoved a x z (OfKey own) first second
         (λ own own_is same. (refl, λ r answered. refl)) (λ low_key high_key pairs told_is from to. cc))
     tied_or_moves a x z a_is (Told low_key high_key pairs) is first second =
         let (in_calls, left_is) = Contains-from_filter (is_left (states key).gone) calls a a_is in
@@ -330,7 +239,7 @@ module _ (calls : List Operation) (states : ℕ → KeyState) (tied : List ℕ) 
           begun_by a in_calls told stays.0 stays.1,
           subst (λ (c : Call). IsOver key c) (sym call) (first.0, first.1),
         ))
-        (λ moves. inr (ends_by_kind HasMoved a x z (Told low_key high_key pairs) first second
+        (λ moves. inr (ends_by_kind key spread moment room moved HasMoved a x z (Told low_key high_key pairs) first second
         (λ own own_is same. cc) (λ low_key high_key pairs told_is from to. moves.1)))
         (moment_cases a.inv)
     tied_or_moves a x z a_is Silent is first second = absurd first

@@ -22,3 +22,9 @@ all_hold spread moment (c ∷ comparisons) = holds_in spread moment c && all_hol
 
 abbrev pub class_of : List Comparison → Timings
 class_of comparisons = λ spread moment. all_hold spread moment comparisons
+
+-- a comparison of such scans alone
+abbrev pub SpeaksOf : (ℕ → Type 0) → Comparison → Type 0
+SpeaksOf Is (Behind scan place) = Is scan
+SpeaksOf Is (Before scan place) = Is scan
+SpeaksOf Is (InTurn scan other) = Is scan × Is other

@@ -1,16 +1,18 @@
 -- Laws of rows.
-use Rattle.std.specs.Prelude.{◌≡◌, ◌≢◌, ◌↔◌, ℕ, suc, ◌<◌, ◌≤◌, ◌&&◌, List, [], ◌∷◌, ◌++◌, length, map, All, Contains}
+use Rattle.std.specs.Prelude.{◌≡◌, ◌≢◌, ◌↔◌, ℕ, suc, true, ◌<◌, ◌≤◌, ◌&&◌, List, [], ◌∷◌, ◌++◌, length, map, All, Contains}
 use Rattle.events.specs.declared.event.Event.{Event}
 use Rattle.events.specs.declared.operation.Operation.{Operation}
 use Rattle.events.specs.Operations.{operations}
+use Rattle.events.specs.Precedence.{is_completed}
 use Rattle.map_object.specs.MapObject.{Contents, IsRising}
 use Rattle.orders.specs.Orders.{IsLinearizable}
 use Rattle.quiet_cuts.specs.Cells.{calls_left}
-use Rattle.following.specs.moments.Timings.{IsToldScan}
+use Rattle.following.specs.moments.Timings.{IsToldScan, IsTiming}
 use Rattle.following.specs.keys.KeyStates.{KeyState, Timings, SomeHolds, KeyStandsFor}
-use Rattle.following.specs.rows.Alike.{AreAlikeAt, HaveAlike, DifferInGone}
+use Rattle.following.specs.rows.Alike.{AreAlikeAt, HaveAlike, IsGoneAtAll, DifferInGone}
 use Rattle.following.specs.rows.Blocks.{IsBlock, Stays}
-use Rattle.following.specs.rows.Comparisons.{Comparison, Behind, Before, InTurn, class_of}
+use Rattle.following.specs.rows.Comparisons.{Comparison, Behind, Before, InTurn, class_of, SpeaksOf}
+use Rattle.following.specs.rows.Fixed.{AreFixed}
 use Rattle.following.specs.rows.Rows.{Row, RowHolds, SomeRowHolds, RowsStandFor, first_row, with_class, IsWithin, Cover}
 use Rattle.following.specs.rows.Steps.{with_states, HoldsWhere, Follows}
 
@@ -85,6 +87,18 @@ GoneScansDoNotMatter =
     (calls : List Operation) (states : ℕ → KeyState) (spread moment other : ℕ → ℕ) (key : ℕ) → DifferInGone calls states moment other
     → AreAlikeAt key (calls_left (states key).gone calls) spread moment spread other
 
+-- so of two rows with the same states one may go, where their classes differ in comparisons of answered scans that are gone at each key of their
+-- ranges: those of the other are of such scans alone, and hold in some timing of the events so far
+abbrev pub ForgottenScansJoin : Type 0
+ForgottenScansJoin =
+    (events : List Event) (states : ℕ → KeyState) (kept one two : List Comparison) (forgotten : List ℕ) (spread moment : ℕ → ℕ)
+    → All (λ n. n < length events) forgotten
+    → ((a : Operation) → Contains (operations events) a → Contains forgotten a.inv → (is_completed a ≡ true) × IsGoneAtAll states a)
+    → All (SpeaksOf (λ n. Contains forgotten n → ⊥)) kept → All (SpeaksOf (Contains forgotten)) two
+    → IsTiming (operations events) spread moment → class_of two spread moment ≡ true
+    → HoldsWhere events (record { allows = class_of (kept ++ one); states = states })
+    (record { allows = class_of (kept ++ two); states = states })
+
 -- a class with a comparison more
 abbrev pub also : Timings → List Comparison → Timings
 also allows comparisons = λ spread moment. allows spread moment && class_of comparisons spread moment
@@ -110,6 +124,30 @@ MomentsSuffice =
     → Contains comparisons (Before scan high)
     → Cover events (record { allows = class_of comparisons; states = states })
     (also (class_of comparisons) (Before scan (suc low) ∷ []) ∷ [])
+
+-- where comparisons fix a key, all timings of their class are alike there for the calls that are not gone
+abbrev pub FixedTimingsAlike : Type 0
+FixedTimingsAlike =
+    (calls : List Operation) (comparisons : List Comparison) (key : ℕ) (gone : List ℕ) (spread moment other_spread other_moment : ℕ → ℕ)
+    → AreFixed comparisons key (calls_left gone calls) → IsTiming calls spread moment → class_of comparisons spread moment ≡ true
+    → IsTiming calls other_spread other_moment → class_of comparisons other_spread other_moment ≡ true
+    → AreAlikeAt key (calls_left gone calls) spread moment other_spread other_moment
+
+-- so one timing tells that a row does not hold, by a key that is fixed
+abbrev pub FixedKeysRefute : Type 0
+FixedKeysRefute =
+    (calls : List Operation) (comparisons : List Comparison) (states : ℕ → KeyState) (key : ℕ) (spread moment : ℕ → ℕ)
+    → AreFixed comparisons key (calls_left (states key).gone calls) → IsTiming calls spread moment
+    → class_of comparisons spread moment ≡ true → (SomeHolds key spread moment calls (states key) → ⊥)
+    → RowHolds calls (record { allows = class_of comparisons; states = states }) → ⊥
+
+-- and, where all are, whether it holds
+abbrev pub FixedRowsJudge : Type 0
+FixedRowsJudge =
+    (calls : List Operation) (comparisons : List Comparison) (states : ℕ → KeyState) (spread moment : ℕ → ℕ)
+    → ((key : ℕ) → AreFixed comparisons key (calls_left (states key).gone calls)) → IsTiming calls spread moment
+    → class_of comparisons spread moment ≡ true
+    → RowHolds calls (record { allows = class_of comparisons; states = states }) ↔ ((key : ℕ) → SomeHolds key spread moment calls (states key))
 
 -- however rows came about by these steps, they stand for the events
 abbrev pub RowsAreExact : Type 0

@@ -1,5 +1,6 @@
 // Laws of rows: each function only carries its clause, and calls what it rests on.
 ghost use Rattle.following.specs.rows.Laws.{AlikeRowsJoin, AlikeTimingsCover, AlikeTimingsHold, ComparisonsCover, EqualRowsJoin};
+ghost use Rattle.following.specs.rows.Laws.{FixedKeysRefute, FixedRowsJudge, FixedTimingsAlike, ForgottenScansJoin};
 ghost use Rattle.following.specs.rows.Laws.{GoneScansDoNotMatter, LostRowsGo, MomentsSuffice, RowsAreExact, RowsBegin, RowsGoOn};
 ghost use Rattle.following.specs.rows.Laws.{RowsJudge, RowsRefute, RowsSplit, StatesMayChange, TurnsCover};
 
@@ -73,6 +74,14 @@ pub fn gone_scans_do_not_matter()
     ensures { GoneScansDoNotMatter }
 {}
 
+/// So of two rows with the same states one may go, where their classes differ only in what they say of answered scans that are gone
+/// at each key of their ranges.
+pub fn forgotten_scans_join()
+    ensures { ForgottenScansJoin }
+{
+    places_do_not_matter();
+}
+
 /// A row may be split by an event: a scan that was told pairs took effect before it or behind it.
 pub fn comparisons_cover()
     ensures { ComparisonsCover }
@@ -87,6 +96,26 @@ pub fn turns_cover()
 /// first of them, before any other event.
 pub fn moments_suffice()
     ensures { MomentsSuffice }
+{
+    places_do_not_matter();
+}
+
+/// Where comparisons part each scan over a key from the events of its calls, and order the scans over it, all timings in which they
+/// hold are alike there.
+pub fn fixed_timings_are_alike()
+    ensures { FixedTimingsAlike }
+{}
+
+/// So a row does not hold where a key has no configuration that holds in one such timing.
+pub fn fixed_keys_refute()
+    ensures { FixedKeysRefute }
+{
+    places_do_not_matter();
+}
+
+/// And it holds exactly where each key has one, in any one such timing.
+pub fn fixed_rows_judge()
+    ensures { FixedRowsJudge }
 {
     places_do_not_matter();
 }
