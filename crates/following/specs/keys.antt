@@ -3,4 +3,7 @@ pub mod Answers
 pub mod Choices
 pub mod KeyStates
 pub mod Laws
+pub mod PlaceCuts
 pub mod Settling
+pub mod WiderAnswers
+pub mod WiderChoices

@@ -2,7 +2,7 @@
 //! - cuts: a past moment, before which some calls took effect and after which the others; answers that lose no order; reads that
 //!   may go first.
 //! - moments: scans take effect at moments, and each key is judged by itself.
-//! - keys: what is kept of a key while events come, and what it becomes at answers.
+//! - keys: what is kept of a key while events come, and what it becomes at answers and at past moments, with calls open or not.
 //! - rows: what is kept of a stream, a row for each way in which its scans may have taken effect, and when rows go, part and join.
 #![tactic(auto)]
 
@@ -13,8 +13,9 @@ pub use laws::cuts::{
     unchanged_here_loses_orders,
 };
 pub use laws::keys::{
-    answers_narrow, keys_begin, keys_go_on, keys_judge, keys_refute, same_choices_stand,
-    silent_calls_go,
+    answers_narrow, equal_configurations_join, keys_begin, keys_go_on, keys_judge, keys_refute,
+    keys_settle, open_gets_lose_answers, places_tell_cuts, quiet_keys_settle, same_choices_stand,
+    silent_calls_go, taken_calls_go,
 };
 pub use laws::moments::{key_calls_rise, keys_stay_apart, operations_stand_apart};
 pub use laws::rows::{

@@ -22,12 +22,12 @@ use Rattle.following.proofs.moments.KeyLegalLemmas.{alike, at_key_inside}
 use Rattle.following.proofs.keys.ChoiceLemmas.{any_from, any_to}
 
 -- the pairs of one key rise
-one_rises : (key : ℕ) (value : Option ℕ) → IsRising (one_key key value)
+pub one_rises : (key : ℕ) (value : Option ℕ) → IsRising (one_key key value)
 one_rises key None i j d before inside = absurd (omega arith)
 one_rises key (Some value) i j d before inside = absurd (omega arith)
 
 -- the value there, and none elsewhere
-value_one : (key : ℕ) (value : Option ℕ) → value_at (one_key key value) key ≡ value
+pub value_one : (key : ℕ) (value : Option ℕ) → value_at (one_key key value) key ≡ value
 value_one key None = refl
 value_one key (Some value) = rw (eq-eqb key key refl) refl
 

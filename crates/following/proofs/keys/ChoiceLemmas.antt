@@ -26,12 +26,12 @@ pub any_to : {X : Type 0} (P : X → Type 0) (xs : List X) → Any P xs → (x :
 any_to P xs h = (h.1, (h.0, h.2, h.3), h.4)
 
 -- tests that say yes together are the same
-same_test : (s t : Bool) → (s ≡ true → t ≡ true) → (t ≡ true → s ≡ true) → s ≡ t
+pub same_test : (s t : Bool) → (s ≡ true → t ≡ true) → (t ≡ true → s ≡ true) → s ≡ t
 same_test true t to from = sym (to refl)
 same_test false true to from = from refl
 same_test false false to from = refl
 
-same_filter : {X : Type 0} (p q : X → Bool) (xs : List X) → ((x : X) → p x ≡ q x) → filter p xs ≡ filter q xs
+pub same_filter : {X : Type 0} (p q : X → Bool) (xs : List X) → ((x : X) → p x ≡ q x) → filter p xs ≡ filter q xs
 same_filter p q [] same = refl
 same_filter p q (x ∷ xs) same = rw (same x, same_filter p q xs same) refl
 

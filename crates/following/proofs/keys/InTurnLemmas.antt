@@ -115,7 +115,7 @@ pub grown_cut : (place : ℕ) (y x : Operation) → IsGrown place y x → cut pl
 grown_cut place y x grown =
     ap (cut place) grown.same ∙ ap (operation y.call y.inv) (grown_cut_response place y.response x.response grown.response)
 
-cut_legal : (place early : ℕ) (call : Call) (response : Option Response) (m : Contents) → early ≤ place
+pub cut_legal : (place early : ℕ) (call : Call) (response : Option Response) (m : Contents) → early ≤ place
     → is_refused_from early response ≡ false → IsLegalCall m call response
     → IsLegalCall m call (cut_response place response) × (after_call m call (cut_response place response) ≡ after_call m call response)
 cut_legal place early call None m upto answered legal = (tt, refl)
@@ -158,7 +158,7 @@ cut_waits place (Some r) inv waits = by_test (nat_lt r.res place)
 -- ---- a call between others
 
 -- a call that precedes itself not ends where it begins or behind it
-self_waits : (response : Option Response) (inv other : ℕ) → is_before response inv ≡ false → is_before response other ≡ true → inv < other
+pub self_waits : (response : Option Response) (inv other : ℕ) → is_before response inv ≡ false → is_before response other ≡ true → inv < other
 self_waits None inv other alone before = cc
 self_waits (Some r) inv other alone before =
     let behind = ltb-false r.res inv alone in

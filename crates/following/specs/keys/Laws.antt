@@ -9,8 +9,12 @@ use Rattle.orders.specs.Orders.{IsLinearizable}
 use Rattle.following.specs.moments.KeyCalls.{at_key}
 use Rattle.following.specs.moments.Timings.{IsTiming}
 use Rattle.following.specs.keys.Answers.{IsSilent, IsNarrowedBy}
-use Rattle.following.specs.keys.Choices.{HaveSameChoices}
+use Rattle.following.specs.keys.Choices.{HaveSameChoices, HaveSameValues, with_gone}
 use Rattle.following.specs.keys.KeyStates.{KeyState, Timings, SomeHolds, KeyStandsFor}
+use Rattle.following.specs.keys.PlaceCuts.{IsPlaceCut}
+use Rattle.following.specs.keys.Settling.{IsKeyCut, SettlesTo, SettlesQuietly}
+use Rattle.following.specs.keys.WiderAnswers.{OpenGetsGo}
+use Rattle.following.specs.keys.WiderChoices.{UnitedValuesStand}
 
 -- before any event a key has the value of the start
 abbrev pub KeysBegin : Type 0
@@ -20,12 +24,12 @@ KeysBegin =
       configurations = record { taken = []; values = value_at start key ∷ []; ahead = [] } ∷ [];
     })
 
--- each event goes on, and timings may be left out
+-- it goes on with any events more, one or none, and timings may be left out
 abbrev pub KeysGoOn : Type 0
 KeysGoOn =
-    (start : Contents) (events : List Event) (e : Event) (allows narrower : Timings) (key : ℕ) (k : KeyState)
+    (start : Contents) (events more : List Event) (allows narrower : Timings) (key : ℕ) (k : KeyState)
     → ((spread moment : ℕ → ℕ) → narrower spread moment ≡ true → allows spread moment ≡ true)
-    → KeyStandsFor start events allows key k → KeyStandsFor start (events ++ e ∷ []) narrower key k
+    → KeyStandsFor start events allows key k → KeyStandsFor start (events ++ more) narrower key k
 
 -- the calls of the key have an order now exactly where some configuration holds now
 abbrev pub KeysJudge : Type 0
@@ -47,6 +51,23 @@ SameChoicesStand =
     (start : Contents) (events : List Event) (allows : Timings) (key : ℕ) (k l : KeyState) → HaveSameChoices k l
     → KeyStandsFor start events allows key k → KeyStandsFor start events allows key l
 
+-- so configurations with the same calls taken, and the same noted for open ones, are one with the values of both, in whatever order they stand
+abbrev pub EqualConfigurationsJoin : Type 0
+EqualConfigurationsJoin =
+    (start : Contents) (events : List Event) (allows : Timings) (key : ℕ) (k l : KeyState) → l.gone ≡ k.gone → HaveSameValues k l
+    → KeyStandsFor start events allows key k → KeyStandsFor start events allows key l
+
+-- but not where they have other calls taken: the values of both would gain orders
+abbrev pub UnitedValuesGainOrders : Type 0
+UnitedValuesGainOrders = UnitedValuesStand → ⊥
+
+-- and a call that each configuration has taken is gone
+abbrev pub TakenCallsGo : Type 0
+TakenCallsGo =
+    (start : Contents) (events : List Event) (allows : Timings) (key : ℕ) (k : KeyState) (place : ℕ)
+    → All (λ c. Contains c.taken place) k.configurations → KeyStandsFor start events allows key k
+    → KeyStandsFor start events allows key (with_gone place k)
+
 -- a refused call, or a get that says nothing, goes
 abbrev pub SilentCallsGo : Type 0
 SilentCallsGo =
@@ -54,8 +75,33 @@ SilentCallsGo =
     → IsSilent a.call a.response → KeyStandsFor start events allows key k
     → KeyStandsFor start events allows key (record { gone = k.gone ++ a.inv ∷ []; configurations = k.configurations })
 
+-- but not one that is open, for its answer may say something
+abbrev pub OpenGetsLoseAnswers : Type 0
+OpenGetsLoseAnswers = OpenGetsGo → ⊥
+
 -- where a call is answered, the configurations stay that agree with the answer, and note no longer what it found
 abbrev pub AnswersNarrow : Type 0
 AnswersNarrow =
     (start : Contents) (events : List Event) (allows : Timings) (key : ℕ) (k l : KeyState) (a : Operation) → Contains (operations events) a
     → is_completed a ≡ true → IsNarrowedBy a k l → KeyStandsFor start events allows key k → KeyStandsFor start events allows key l
+
+-- which calls ended before a place and which were open there is told by places alone, but for scans, of which each has its moment before it or
+-- behind it
+abbrev pub PlacesTellCuts : Type 0
+PlacesTellCuts =
+    (events : List Event) (allows : Timings) (key : ℕ) (gone : List ℕ) (place : ℕ) (ended begun : List ℕ)
+    → IsPlaceCut events allows key gone place ended begun → IsKeyCut events allows key gone place ended begun
+
+-- at any past moment of a key its choices may become those to which they go on, with calls open or not
+abbrev pub KeysSettle : Type 0
+KeysSettle =
+    (start : Contents) (events : List Event) (allows : Timings) (key : ℕ) (k l : KeyState) (place : ℕ) (ended begun : List ℕ)
+    → IsKeyCut events allows key k.gone place ended begun → SettlesTo events allows key ended begun k l
+    → KeyStandsFor start events allows key k → KeyStandsFor start events allows key l
+
+-- and where none was open, the values of each configuration become those that the calls leave
+abbrev pub QuietKeysSettle : Type 0
+QuietKeysSettle =
+    (start : Contents) (events : List Event) (allows : Timings) (key : ℕ) (k l : KeyState) (place : ℕ) (ended : List ℕ)
+    → IsKeyCut events allows key k.gone place ended [] → SettlesQuietly events allows key ended k l
+    → KeyStandsFor start events allows key k → KeyStandsFor start events allows key l

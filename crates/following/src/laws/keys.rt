@@ -1,13 +1,14 @@
 // Laws of what is kept of a key: each function only carries its clause.
-ghost use Rattle.following.specs.keys.Laws.{AnswersNarrow, KeysBegin, KeysGoOn, KeysJudge, KeysRefute};
-ghost use Rattle.following.specs.keys.Laws.{SameChoicesStand, SilentCallsGo};
+ghost use Rattle.following.specs.keys.Laws.{AnswersNarrow, EqualConfigurationsJoin, KeysBegin, KeysGoOn, KeysJudge, KeysRefute};
+ghost use Rattle.following.specs.keys.Laws.{KeysSettle, OpenGetsLoseAnswers, QuietKeysSettle, SameChoicesStand, SilentCallsGo};
+ghost use Rattle.following.specs.keys.Laws.{PlacesTellCuts, TakenCallsGo, UnitedValuesGainOrders};
 
 /// Before any event a key has the value of the start, with no call gone or taken.
 pub fn keys_begin()
     ensures { KeysBegin }
 {}
 
-/// What is kept of a key stands for each event more, and for any timings among those of before.
+/// What is kept of a key stands for any events more, and for any timings among those of before.
 pub fn keys_go_on()
     ensures { KeysGoOn }
 {}
@@ -29,13 +30,52 @@ pub fn same_choices_stand()
     ensures { SameChoicesStand }
 {}
 
+/// Configurations with the same calls taken, and the same noted for open ones, are one with the values of both; one without values
+/// goes.
+pub fn equal_configurations_join()
+    ensures { EqualConfigurationsJoin }
+{}
+
+/// Configurations with other calls taken may not be one. An insert is open: either it took effect and found nothing, or it did not and
+/// nothing is there. United, it could still come, and find the value that it puts itself.
+pub fn united_values_gain_orders()
+    ensures { UnitedValuesGainOrders }
+{}
+
+/// A call that each configuration has taken is gone.
+pub fn taken_calls_go()
+    ensures { TakenCallsGo }
+{}
+
 /// A call that was refused, or a get that was answered `done`, is dropped.
 pub fn silent_calls_go()
     ensures { SilentCallsGo }
+{}
+
+/// A get that is open may not be dropped, with nothing noted of it: it may be told later what the key never had.
+pub fn open_gets_lose_answers()
+    ensures { OpenGetsLoseAnswers }
 {}
 
 /// Where a call is answered, a configuration that notes what it may have found stays where some of that agrees with the answer, and
 /// notes it no longer.
 pub fn answers_narrow()
     ensures { AnswersNarrow }
+{}
+
+/// Which calls of a key ended before a place, and which were open there, is told by places, whatever the timing; each told scan over the
+/// key has to have its moment before the place in each timing of the class, or behind it.
+pub fn places_tell_cuts()
+    ensures { PlacesTellCuts }
+{}
+
+/// At any past moment the calls of a key that ended before it, and some of those that were open then, are done in turn, and what
+/// they leave and found takes their place: with any further events the calls have an order exactly where some of these choices holds.
+pub fn keys_settle()
+    ensures { KeysSettle }
+{}
+
+/// Where no call of the key was open at the moment, only the values change: to all that the calls leave from some value.
+pub fn quiet_keys_settle()
+    ensures { QuietKeysSettle }
 {}

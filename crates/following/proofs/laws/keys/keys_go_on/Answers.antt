@@ -1,4 +1,4 @@
-use Rattle.std.proofs.Common.{◌≡◌, ◌∷◌, [], append_assoc, sym, subst}
+use Rattle.std.proofs.Common.{◌≡◌, ◌++◌, append_assoc, sym, subst}
 use Rattle.std.specs.Prelude.{◌↔◌, true, List}
 use Rattle.events.specs.declared.event.Event.{Event}
 use Rattle.events.specs.Operations.{operations}
@@ -9,8 +9,8 @@ use Rattle.following.specs.keys.KeyStates.{SomeHolds}
 use Rattle.following.proofs.laws.keys.keys_go_on.Goals as goal
 
 pub returns : goal.returns
-returns c start events e allows narrower key k within stands more spread moment =
+returns c start events more allows narrower key k within stands further spread moment =
     subst (λ (l : List Event). IsTiming (operations l) spread moment → narrower spread moment ≡ true
     → IsLinearizable start (at_key key spread moment (operations l)) ↔ SomeHolds key spread moment (operations l) k)
-    (sym (append_assoc events (e ∷ []) more))
-    (λ timing allowed. stands (e ∷ more) spread moment timing (within spread moment allowed))
+    (sym (append_assoc events more further))
+    (λ timing allowed. stands (more ++ further) spread moment timing (within spread moment allowed))
