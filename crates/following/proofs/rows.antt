@@ -4,7 +4,9 @@ pub mod BlockLemmas
 pub mod ComparisonLemmas
 pub mod EndLemmas
 pub mod FixedLemmas
+pub mod FixedSettleLemmas
 pub mod ForgottenLemmas
+pub mod InTurnAlikeLemmas
 pub mod MixedLemmas
 pub mod MovedLemmas
 pub mod RowLemmas

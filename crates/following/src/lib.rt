@@ -19,8 +19,9 @@ pub use laws::keys::{
 };
 pub use laws::moments::{key_calls_rise, keys_stay_apart, operations_stand_apart};
 pub use laws::rows::{
-    alike_rows_join, alike_timings_cover, alike_timings_hold, comparisons_cover, equal_rows_join,
-    fixed_keys_refute, fixed_rows_judge, fixed_timings_are_alike, forgotten_scans_join,
+    alike_rows_join, alike_timings_cover, alike_timings_hold, comparisons_cover,
+    comparisons_tell_moments, equal_rows_join, fixed_keys_refute, fixed_keys_settle,
+    fixed_keys_settle_quietly, fixed_rows_judge, fixed_timings_are_alike, forgotten_scans_join,
     gone_scans_do_not_matter, lost_rows_go, moments_suffice, rows_are_exact, rows_begin,
     rows_go_on, rows_judge, rows_refute, rows_split, states_may_change, turns_cover,
 };

@@ -28,11 +28,11 @@ use Rattle.following.proofs.rows.RowLemmas.{only}
 -- ---- what calls are at a key in two timings
 
 -- the same call with the same reply
-abbrev IsSame : Operation → Operation → Type 0
+abbrev pub IsSame : Operation → Operation → Type 0
 IsSame x z = (x.call ≡ z.call) × (reply_in x.response ≡ reply_in z.response)
 
 -- two maps give nothing for a call, or the same call with the same reply
-abbrev BothOrNone : Option Operation → Option Operation → Type 0
+abbrev pub BothOrNone : Option Operation → Option Operation → Type 0
 BothOrNone p q = ((p ≡ None) × (q ≡ None)) ⊎ ((x : Operation) × ((z : Operation) × ((p ≡ Some x) × (q ≡ Some z) × IsSame x z)))
 
 both_by : (t : Bool) (x z : Operation) → IsSame x z → BothOrNone (cond t (Some x) None) (cond t (Some z) None)
@@ -43,7 +43,7 @@ spread_same : (spread other : ℕ → ℕ) (r : Option Response) → reply_in (s
 spread_same spread other None = refl
 spread_same spread other (Some r) = refl
 
-both_of : (key : ℕ) (spread moment other_spread other_moment : ℕ → ℕ) (a : Operation) (kind : Kind)
+pub both_of : (key : ℕ) (spread moment other_spread other_moment : ℕ → ℕ) (a : Operation) (kind : Kind)
     → BothOrNone (part_of key spread moment a kind) (part_of key other_spread other_moment a kind)
 both_of key spread moment other_spread other_moment a (OfKey own) =
     both_by (own == key) (spread_call spread a) (spread_call other_spread a) (refl, spread_same spread other_spread a.response)
@@ -53,7 +53,7 @@ both_of key spread moment other_spread other_moment a Silent = inl (refl, refl)
 
 module _ (f g : Operation → Option Operation) (all : List Operation) where
   -- calls that two maps give for one call of a list
-  abbrev AreOfOne : Operation → Operation → Type 0
+  abbrev pub AreOfOne : Operation → Operation → Type 0
   AreOfOne x z = (a : Operation) × Contains all a × (f a ≡ Some x) × (g a ≡ Some z) × IsSame x z
 
   zipped : (calls : List Operation) → ((a : Operation) → Contains calls a → Contains all a)

@@ -15,7 +15,6 @@ use Rattle.list_laws.specs.Lists.{has_number}
 use Rattle.list_laws.proofs.Lists.{Any-first, Contains-filter, Contains-from_filter, Contains-cases, Contains-nil}
 use Rattle.quiet_cuts.specs.Cells.{is_left, calls_left}
 use Rattle.quiet_cuts.specs.Groups.{PlacesDoNotMatter}
-use Rattle.following.specs.moments.Timings.{IsTiming}
 use Rattle.following.specs.keys.KeyStates.{KeyState}
 use Rattle.following.specs.rows.Alike.{HasAlike}
 use Rattle.following.specs.rows.Blocks.{is_scan, IsOver, IsOutside, IsBlock, Stays}

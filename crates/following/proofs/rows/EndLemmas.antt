@@ -1,8 +1,7 @@
 -- The ends of what a call is at a key, in two timings.
-use Rattle.std.proofs.Common.{◌≡◌, ℕ, suc, ◌+◌, ◌<◌, ◌≤◌, Bool, true, false, ◌&&◌, cond, List, Option, Some, None, refl, sym, ap, ◌∙◌, subst, ⊎_elim, arith}
-use Rattle.std.proofs.Common.{inl, inr}
-use Rattle.std.specs.Prelude.{◌≢◌, ◌⊎◌, nat_lt, ⊤, All, Contains}
-use Rattle.std.proofs.lemmas.Bool.{cases_lt, cases_order, and_from, and_parts, lt-ltb, le-ltb, ltb-true, ltb-false}
+use Rattle.std.proofs.Common.{◌≡◌, ℕ, ◌<◌, ◌≤◌, false, Option, Some, None, refl, sym, ap, ◌∙◌, subst, ⊎_elim, arith}
+use Rattle.std.specs.Prelude.{nat_lt, ⊤}
+use Rattle.std.proofs.lemmas.Bool.{cases_lt, cases_order, lt-ltb, le-ltb}
 use Rattle.events.specs.declared.event.Call.{Call}
 use Rattle.events.specs.declared.event.Call.TheVariants.{Get, Insert, Remove, Scan, Replace}
 use Rattle.events.specs.declared.event.Reply.TheVariants as replies
@@ -10,18 +9,10 @@ use Rattle.events.specs.declared.event.Reply.{Reply}
 use Rattle.events.specs.declared.operation.Operation.{Operation}
 use Rattle.events.specs.declared.operation.Response.{Response}
 use Rattle.events.specs.Precedence.{is_before, precedes}
-use Rattle.list_laws.specs.Lists.{has_number}
-use Rattle.list_laws.proofs.Lists.{Contains-from_filter}
-use Rattle.list_laws.proofs.NumberLemmas.{has_number-Contains, has_number-from_Contains}
 use Rattle.map_object.specs.MapObject.{Contents}
-use Rattle.quiet_cuts.specs.Cells.{is_left, calls_left}
-use Rattle.following.specs.moments.KeyCalls.{Kind, OfKey, Told, Silent, kind_of_scan, kind_of, spread_response, spread_call, get_at, part_at}
-use Rattle.following.specs.moments.Timings.{IsToldScan, IsTiming}
-use Rattle.following.specs.keys.KeyStates.{KeyState}
-use Rattle.following.specs.rows.Alike.{AreAlikeAt}
-use Rattle.following.specs.rows.Blocks.{is_scan, IsOver, IsOutside, IsBlock, Stays}
-use Rattle.following.specs.rows.Comparisons.{Comparison, Behind, Before, InTurn, holds_in}
-use Rattle.following.proofs.moments.KindLemmas.{IsPart, part_is}
+use Rattle.following.specs.moments.KeyCalls.{Kind, OfKey, Told, Silent, kind_of_scan, kind_of, spread_response, spread_call, get_at}
+use Rattle.following.specs.rows.Blocks.{is_scan, IsOver}
+use Rattle.following.proofs.moments.KindLemmas.{IsPart}
 use Rattle.following.proofs.keys.GrownPartLemmas.{scan_not_own}
 
 -- ---- calls by their kinds

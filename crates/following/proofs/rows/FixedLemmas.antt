@@ -1,6 +1,6 @@
 -- Where comparisons fix a key, all timings in which they hold are alike there.
 use Rattle.std.proofs.Common.{◌≡◌, ℕ, ◌<◌, ◌≤◌, true, List, Option, Some, None, refl, sym, ap, ◌∙◌, subst, ⊎_elim, arith}
-use Rattle.std.specs.Prelude.{◌≢◌, ◌⊎◌, nat_lt, Contains}
+use Rattle.std.specs.Prelude.{nat_lt, Contains}
 use Rattle.std.proofs.lemmas.Bool.{cases_lt, cases_order, lt-ltb, le-ltb, ltb-true}
 use Rattle.events.specs.declared.event.Call.{Call}
 use Rattle.events.specs.declared.operation.Operation.{Operation}
@@ -10,10 +10,8 @@ use Rattle.list_laws.proofs.Lists.{Contains-from_filter}
 use Rattle.map_object.specs.MapObject.{Contents}
 use Rattle.quiet_cuts.specs.Cells.{is_left, calls_left}
 use Rattle.quiet_cuts.specs.Groups.{PlacesDoNotMatter}
-use Rattle.following.specs.moments.KeyCalls.{Kind, OfKey, Told, Silent, kind_of, spread_response, spread_call, get_at, part_at}
+use Rattle.following.specs.moments.KeyCalls.{Kind, OfKey, Told, Silent, kind_of, spread_response, spread_call, get_at}
 use Rattle.following.specs.moments.Timings.{IsToldScan, IsTiming}
-use Rattle.following.specs.keys.KeyStates.{SomeHolds}
-use Rattle.following.specs.rows.Alike.{AreAlikeAt}
 use Rattle.following.specs.rows.Blocks.{IsOver}
 use Rattle.following.specs.rows.Comparisons.{Comparison, Behind, Before, InTurn, all_hold}
 use Rattle.following.specs.rows.Fixed.{IsBefore, IsBehind, IsParted, ComesFirst, AreFixed}
@@ -28,7 +26,7 @@ use Rattle.following.proofs.rows.EndLemmas.{told_call, own_call}
 
 module _ (calls : List Operation) (comparisons : List Comparison) (spread moment : ℕ → ℕ) (timing : IsTiming calls spread moment)
     (hold : all_hold spread moment comparisons ≡ true) where
-  moment_before : (a : Operation) (place : ℕ) → Contains calls a → IsToldScan a → IsBefore comparisons a place → moment a.inv < spread place
+  pub moment_before : (a : Operation) (place : ℕ) → Contains calls a → IsToldScan a → IsBefore comparisons a place → moment a.inv < spread place
   moment_before a place is told h = ⊎_elim
       (λ ended. let (r, answered, within) = ended in
       let before = timing.ended a r is told answered in
@@ -38,7 +36,7 @@ module _ (calls : List Operation) (comparisons : List Comparison) (spread moment
       let later = spread_upto calls spread moment timing p place within in omega arith)
       h
 
-  moment_behind : (a : Operation) (place : ℕ) → Contains calls a → IsToldScan a → IsBehind comparisons a place → spread place < moment a.inv
+  pub moment_behind : (a : Operation) (place : ℕ) → Contains calls a → IsToldScan a → IsBehind comparisons a place → spread place < moment a.inv
   moment_behind a place is told h = ⊎_elim
       (λ within.
       let begun = timing.begun a is told in

@@ -1,5 +1,5 @@
 -- The moments of answered scans that are gone at each key of their ranges may be those of another timing.
-use Rattle.std.proofs.Common.{◌≡◌, ℕ, ◌<◌, Bool, true, false, ◌&&◌, cond, List, [], ◌∷◌, ◌++◌, length, refl, sym, ap, ◌∙◌, subst, ⊎_elim, inl, inr, arith}
+use Rattle.std.proofs.Common.{◌≡◌, ℕ, ◌<◌, Bool, true, false, cond, List, [], ◌∷◌, ◌++◌, length, refl, sym, ap, ◌∙◌, subst, ⊎_elim, inl, inr, arith}
 use Rattle.std.specs.Prelude.{◌≢◌, ◌⊎◌, All, Contains}
 use Rattle.std.proofs.lemmas.Bool.{both_ways, cases_order, not-true, and_from, and_parts, lt-ltb, ltb-true}
 use Rattle.std.proofs.lemmas.List.Elements.{All-contains, All-head, All-tail}
@@ -10,11 +10,10 @@ use Rattle.events.specs.Precedence.{is_completed}
 use Rattle.list_laws.specs.Lists.{has_number}
 use Rattle.list_laws.proofs.Lists.{Any-first, Contains-from_filter}
 use Rattle.list_laws.proofs.NumberLemmas.{has_number-Contains, has_number-from_Contains}
-use Rattle.map_object.specs.MapObject.{Contents}
 use Rattle.quiet_cuts.specs.Cells.{is_left, calls_left}
 use Rattle.quiet_cuts.specs.Groups.{PlacesDoNotMatter}
-use Rattle.following.specs.moments.KeyCalls.{Kind, OfKey, Told, Silent, kind_of, part_at}
-use Rattle.following.specs.moments.Timings.{IsToldScan, IsTiming}
+use Rattle.following.specs.moments.KeyCalls.{Kind, kind_of}
+use Rattle.following.specs.moments.Timings.{IsTiming}
 use Rattle.following.specs.keys.KeyStates.{KeyState}
 use Rattle.following.specs.rows.Alike.{AreAlikeAt, HasAlike, IsGoneAtAll}
 use Rattle.following.specs.rows.Comparisons.{Comparison, Behind, Before, InTurn, holds_in, all_hold, class_of, SpeaksOf}

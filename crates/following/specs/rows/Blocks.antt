@@ -8,14 +8,12 @@
 -- of [1, 2] and C of [3, 3], a remove of 3, and an insert of 1; B is told {2: 2}, and C nothing; insert and remove are done, and A is told {1: 5, 2: 2,
 -- 3: 2}. At each key of B, and at each of C, one moment is as good as another: each may have its own behind the insert's beginning. But
 -- A is behind the insert and before the remove, so B is before A, and A before C: only the order of B before C has an order of the calls.
-use Rattle.std.specs.Prelude.{◌≡◌, ◌⊎◌, ℕ, ◌<◌, ◌≤◌, Bool, true, false, List, length, Some, Contains, ⊤}
+use Rattle.std.specs.Prelude.{◌≡◌, ◌⊎◌, ℕ, ◌≤◌, Bool, true, false, List, Some, Contains, ⊤}
 use Rattle.events.specs.declared.event.Call.{Call}
 use Rattle.events.specs.declared.event.Call.TheVariants.{Get, Insert, Remove, Scan, Replace}
-use Rattle.events.specs.declared.event.Event.{Event}
 use Rattle.events.specs.declared.operation.Operation.{Operation}
 use Rattle.events.specs.declared.operation.Response.{Response}
 use Rattle.events.specs.Keys.{low_key, high_key}
-use Rattle.events.specs.Operations.{operations}
 use Rattle.quiet_cuts.specs.Cells.{calls_left}
 use Rattle.following.specs.keys.KeyStates.{KeyState}
 use Rattle.following.specs.rows.Comparisons.{Comparison, Behind, Before, InTurn}

@@ -1,8 +1,14 @@
 -- Classes that fix what matters of a timing to a key: a row is judged there in any one timing of its class.
-use Rattle.std.specs.Prelude.{◌≡◌, ◌≢◌, ◌⊎◌, ℕ, ◌≤◌, false, List, Some, Contains}
+use Rattle.std.specs.Prelude.{◌≡◌, ◌≢◌, ◌↔◌, ◌⊎◌, ℕ, ◌≤◌, false, List, ◌++◌, Option, Some, Contains}
 use Rattle.events.specs.declared.operation.Operation.{Operation}
 use Rattle.events.specs.declared.operation.Response.{Response}
+use Rattle.orders.specs.Orders.{after_calls}
+use Rattle.quiet_cuts.specs.Cells.{calls_left}
+use Rattle.following.specs.moments.KeyCalls.{at_key}
 use Rattle.following.specs.moments.Timings.{IsToldScan}
+use Rattle.following.specs.keys.Choices.{Choice, HasChoice}
+use Rattle.following.specs.keys.KeyStates.{one_key, Configuration, KeyState}
+use Rattle.following.specs.keys.Settling.{calls_among, AreInTurn, GoesOn}
 use Rattle.following.specs.rows.Blocks.{is_scan, IsOver}
 use Rattle.following.specs.rows.Comparisons.{Comparison, Behind, Before, InTurn}
 
@@ -31,3 +37,16 @@ pub record AreFixed (comparisons : List Comparison) (key : ℕ) (calls : List Op
       → IsOver key b.call → IsParted comparisons a b.inv × ((r : Response) → b.response ≡ Some r → IsParted comparisons a r.res)
   pub scans : (a b : Operation) → Contains calls a → Contains calls b → IsToldScan a → IsToldScan b → IsOver key a.call → IsOver key b.call
       → a.inv ≢ b.inv → ComesFirst comparisons a b ⊎ ComesFirst comparisons b a
+
+-- in one timing, the choices of a state are exactly those to which another's go on
+abbrev pub SettlesIn : List Operation → ℕ → (ℕ → ℕ) → (ℕ → ℕ) → List ℕ → List ℕ → KeyState → KeyState → Type 0
+SettlesIn calls key spread moment ended begun k l =
+    (next : Choice) → HasChoice l next ↔ ((w : Choice) × HasChoice k w × GoesOn key spread moment calls ended begun w next)
+
+-- and the values of a configuration those that calls leave from some value of another
+pub record IsSettledIn (calls : List Operation) (key : ℕ) (spread moment : ℕ → ℕ) (gone ended : List ℕ) (c d : Configuration) : Type 0 where
+  pub taken : d.taken ≡ c.taken
+  pub ahead : d.ahead ≡ c.ahead
+  pub values : (left : Option ℕ) → Contains d.values left ↔ ((value : Option ℕ) × Contains c.values value × ((order : List Operation)
+      × AreInTurn (one_key key value) (at_key key spread moment (calls_left (gone ++ c.taken) (calls_among ended calls))) order
+      × (one_key key left ≡ after_calls (one_key key value) order)))

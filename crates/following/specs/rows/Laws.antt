@@ -1,5 +1,6 @@
 -- Laws of rows.
 use Rattle.std.specs.Prelude.{◌≡◌, ◌≢◌, ◌↔◌, ℕ, suc, true, ◌<◌, ◌≤◌, ◌&&◌, List, [], ◌∷◌, ◌++◌, length, map, All, Contains}
+use Rattle.std.specs.List.{AllZip}
 use Rattle.events.specs.declared.event.Event.{Event}
 use Rattle.events.specs.declared.operation.Operation.{Operation}
 use Rattle.events.specs.Operations.{operations}
@@ -8,11 +9,13 @@ use Rattle.map_object.specs.MapObject.{Contents, IsRising}
 use Rattle.orders.specs.Orders.{IsLinearizable}
 use Rattle.quiet_cuts.specs.Cells.{calls_left}
 use Rattle.following.specs.moments.Timings.{IsToldScan, IsTiming}
+use Rattle.following.specs.keys.PlaceCuts.{IsMomentBefore, IsMomentBehind}
+use Rattle.following.specs.keys.Settling.{SettlesTo, SettlesQuietly}
 use Rattle.following.specs.keys.KeyStates.{KeyState, Timings, SomeHolds, KeyStandsFor}
 use Rattle.following.specs.rows.Alike.{AreAlikeAt, HaveAlike, IsGoneAtAll, DifferInGone}
 use Rattle.following.specs.rows.Blocks.{IsBlock, Stays}
 use Rattle.following.specs.rows.Comparisons.{Comparison, Behind, Before, InTurn, class_of, SpeaksOf}
-use Rattle.following.specs.rows.Fixed.{AreFixed}
+use Rattle.following.specs.rows.Fixed.{IsBefore, IsBehind, AreFixed, SettlesIn, IsSettledIn}
 use Rattle.following.specs.rows.Rows.{Row, RowHolds, SomeRowHolds, RowsStandFor, first_row, with_class, IsWithin, Cover}
 use Rattle.following.specs.rows.Steps.{with_states, HoldsWhere, Follows}
 
@@ -148,6 +151,30 @@ FixedRowsJudge =
     → ((key : ℕ) → AreFixed comparisons key (calls_left (states key).gone calls)) → IsTiming calls spread moment
     → class_of comparisons spread moment ≡ true
     → RowHolds calls (record { allows = class_of comparisons; states = states }) ↔ ((key : ℕ) → SomeHolds key spread moment calls (states key))
+
+-- and they tell of the moments of scans in each timing of their class, so which calls of a key ended before a place
+abbrev pub ComparisonsTellMoments : Type 0
+ComparisonsTellMoments =
+    (events : List Event) (comparisons : List Comparison) (a : Operation) (place : ℕ) → Contains (operations events) a → IsToldScan a
+    → (IsBefore comparisons a place → IsMomentBefore events (class_of comparisons) place a.inv)
+    × (IsBehind comparisons a place → IsMomentBehind events (class_of comparisons) place a.inv)
+
+-- a key that is fixed settles, where it does in one timing
+abbrev pub FixedKeysSettle : Type 0
+FixedKeysSettle =
+    (events : List Event) (comparisons : List Comparison) (key : ℕ) (k l : KeyState) (ended begun : List ℕ) (spread moment : ℕ → ℕ)
+    → AreFixed comparisons key (calls_left k.gone (operations events)) → IsTiming (operations events) spread moment
+    → class_of comparisons spread moment ≡ true → SettlesIn (operations events) key spread moment ended begun k l
+    → SettlesTo events (class_of comparisons) key ended begun k l
+
+-- quietly too
+abbrev pub FixedKeysSettleQuietly : Type 0
+FixedKeysSettleQuietly =
+    (events : List Event) (comparisons : List Comparison) (key : ℕ) (k l : KeyState) (ended : List ℕ) (spread moment : ℕ → ℕ)
+    → AreFixed comparisons key (calls_left k.gone (operations events)) → IsTiming (operations events) spread moment
+    → class_of comparisons spread moment ≡ true → l.gone ≡ k.gone ++ ended
+    → AllZip (IsSettledIn (operations events) key spread moment k.gone ended) k.configurations l.configurations
+    → SettlesQuietly events (class_of comparisons) key ended k l
 
 -- however rows came about by these steps, they stand for the events
 abbrev pub RowsAreExact : Type 0

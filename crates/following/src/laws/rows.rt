@@ -1,5 +1,6 @@
 // Laws of rows: each function only carries its clause, and calls what it rests on.
 ghost use Rattle.following.specs.rows.Laws.{AlikeRowsJoin, AlikeTimingsCover, AlikeTimingsHold, ComparisonsCover, EqualRowsJoin};
+ghost use Rattle.following.specs.rows.Laws.{ComparisonsTellMoments, FixedKeysSettle, FixedKeysSettleQuietly};
 ghost use Rattle.following.specs.rows.Laws.{FixedKeysRefute, FixedRowsJudge, FixedTimingsAlike, ForgottenScansJoin};
 ghost use Rattle.following.specs.rows.Laws.{GoneScansDoNotMatter, LostRowsGo, MomentsSuffice, RowsAreExact, RowsBegin, RowsGoOn};
 ghost use Rattle.following.specs.rows.Laws.{RowsJudge, RowsRefute, RowsSplit, StatesMayChange, TurnsCover};
@@ -119,6 +120,21 @@ pub fn fixed_rows_judge()
 {
     places_do_not_matter();
 }
+
+/// Comparisons tell which scans took effect before a place, and which behind it, in each timing in which they hold.
+pub fn comparisons_tell_moments()
+    ensures { ComparisonsTellMoments }
+{}
+
+/// A key that is fixed settles at a past moment in each timing of the class as it does in one.
+pub fn fixed_keys_settle()
+    ensures { FixedKeysSettle }
+{}
+
+/// So it is where none of its calls was open.
+pub fn fixed_keys_settle_quietly()
+    ensures { FixedKeysSettleQuietly }
+{}
 
 /// However rows came about, by these steps, they stand for the events; so the events have an order exactly where a row holds.
 pub fn rows_are_exact()
