@@ -2,10 +2,12 @@
 pub mod AlikeLemmas
 pub mod BlockLemmas
 pub mod ComparisonLemmas
+pub mod CutLemmas
 pub mod EndLemmas
 pub mod FixedLemmas
 pub mod FixedSettleLemmas
 pub mod ForgottenLemmas
+pub mod ImpliedLemmas
 pub mod InTurnAlikeLemmas
 pub mod MixedLemmas
 pub mod MovedLemmas

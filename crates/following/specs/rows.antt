@@ -2,6 +2,7 @@
 pub mod Alike
 pub mod Blocks
 pub mod Comparisons
+pub mod Cuts
 pub mod Fixed
 pub mod Laws
 pub mod Rows

@@ -9,12 +9,13 @@ use Rattle.map_object.specs.MapObject.{Contents, IsRising}
 use Rattle.orders.specs.Orders.{IsLinearizable}
 use Rattle.quiet_cuts.specs.Cells.{calls_left}
 use Rattle.following.specs.moments.Timings.{IsToldScan, IsTiming}
-use Rattle.following.specs.keys.PlaceCuts.{IsMomentBefore, IsMomentBehind}
+use Rattle.following.specs.keys.PlaceCuts.{IsPlaceCut, IsMomentBefore, IsMomentBehind}
 use Rattle.following.specs.keys.Settling.{SettlesTo, SettlesQuietly}
 use Rattle.following.specs.keys.KeyStates.{KeyState, Timings, SomeHolds, KeyStandsFor}
 use Rattle.following.specs.rows.Alike.{AreAlikeAt, HaveAlike, IsGoneAtAll, DifferInGone}
 use Rattle.following.specs.rows.Blocks.{IsBlock, Stays}
-use Rattle.following.specs.rows.Comparisons.{Comparison, Behind, Before, InTurn, class_of, SpeaksOf}
+use Rattle.following.specs.rows.Comparisons.{Comparison, Behind, Before, InTurn, class_of, SpeaksOf, Implies, Gainsay}
+use Rattle.following.specs.rows.Cuts.{IsComparedCut}
 use Rattle.following.specs.rows.Fixed.{IsBefore, IsBehind, AreFixed, SettlesIn, IsSettledIn}
 use Rattle.following.specs.rows.Rows.{Row, RowHolds, SomeRowHolds, RowsStandFor, first_row, with_class, IsWithin, Cover}
 use Rattle.following.specs.rows.Steps.{with_states, HoldsWhere, Follows}
@@ -119,6 +120,18 @@ TurnsCover =
     → IsToldScan b → a.inv ≢ b.inv
     → Cover events row (also row.allows (InTurn a.inv b.inv ∷ []) ∷ also row.allows (InTurn b.inv a.inv ∷ []) ∷ [])
 
+-- what comparisons imply may be added to them
+abbrev pub ImpliedComparisonsHold : Type 0
+ImpliedComparisonsHold =
+    (events : List Event) (states : ℕ → KeyState) (comparisons : List Comparison) (c : Comparison) → Implies (operations events) comparisons c
+    → Cover events (record { allows = class_of comparisons; states = states }) (also (class_of comparisons) (c ∷ []) ∷ [])
+
+-- and a row whose comparisons gainsay themselves does not hold
+abbrev pub GainsaidRowsAreLost : Type 0
+GainsaidRowsAreLost =
+    (events : List Event) (states : ℕ → KeyState) (comparisons : List Comparison) → Gainsay (operations events) comparisons
+    → RowHolds (operations events) (record { allows = class_of comparisons; states = states }) → ⊥
+
 -- and of a block, in which no event counts for the scans that are tied to one, it is enough to try its first gap
 abbrev pub MomentsSuffice : Type 0
 MomentsSuffice =
@@ -158,6 +171,13 @@ ComparisonsTellMoments =
     (events : List Event) (comparisons : List Comparison) (a : Operation) (place : ℕ) → Contains (operations events) a → IsToldScan a
     → (IsBefore comparisons a place → IsMomentBefore events (class_of comparisons) place a.inv)
     × (IsBehind comparisons a place → IsMomentBehind events (class_of comparisons) place a.inv)
+
+-- where the comparisons of a class hold in some timing, such a moment is a cut of the key by places
+abbrev pub ComparedCuts : Type 0
+ComparedCuts =
+    (events : List Event) (comparisons : List Comparison) (key : ℕ) (gone : List ℕ) (place : ℕ) (ended begun : List ℕ) (spread moment : ℕ → ℕ)
+    → IsComparedCut events comparisons key gone place ended begun → IsTiming (operations events) spread moment
+    → class_of comparisons spread moment ≡ true → IsPlaceCut events (class_of comparisons) key gone place ended begun
 
 -- a key that is fixed settles, where it does in one timing
 abbrev pub FixedKeysSettle : Type 0

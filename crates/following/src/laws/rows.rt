@@ -1,5 +1,6 @@
 // Laws of rows: each function only carries its clause, and calls what it rests on.
 ghost use Rattle.following.specs.rows.Laws.{AlikeRowsJoin, AlikeTimingsCover, AlikeTimingsHold, ComparisonsCover, EqualRowsJoin};
+ghost use Rattle.following.specs.rows.Laws.{ComparedCuts, GainsaidRowsAreLost, ImpliedComparisonsHold};
 ghost use Rattle.following.specs.rows.Laws.{ComparisonsTellMoments, FixedKeysSettle, FixedKeysSettleQuietly};
 ghost use Rattle.following.specs.rows.Laws.{FixedKeysRefute, FixedRowsJudge, FixedTimingsAlike, ForgottenScansJoin};
 ghost use Rattle.following.specs.rows.Laws.{GoneScansDoNotMatter, LostRowsGo, MomentsSuffice, RowsAreExact, RowsBegin, RowsGoOn};
@@ -93,6 +94,16 @@ pub fn turns_cover()
     ensures { TurnsCover }
 {}
 
+/// What comparisons imply may be added to them: of earlier and later events, and of scans of which one takes effect first.
+pub fn implied_comparisons_hold()
+    ensures { ImpliedComparisonsHold }
+{}
+
+/// A row does not hold whose comparisons imply that a scan takes effect before itself.
+pub fn gainsaid_rows_are_lost()
+    ensures { GainsaidRowsAreLost }
+{}
+
 /// Where no event counts between two others for the scans that are tied to one, it is enough to try one moment of it: behind the
 /// first of them, before any other event.
 pub fn moments_suffice()
@@ -124,6 +135,11 @@ pub fn fixed_rows_judge()
 /// Comparisons tell which scans took effect before a place, and which behind it, in each timing in which they hold.
 pub fn comparisons_tell_moments()
     ensures { ComparisonsTellMoments }
+{}
+
+/// So at a past moment from which comparisons part the scans over a key, they tell which of its calls ended before it.
+pub fn compared_cuts()
+    ensures { ComparedCuts }
 {}
 
 /// A key that is fixed settles at a past moment in each timing of the class as it does in one.
