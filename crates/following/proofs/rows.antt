@@ -13,3 +13,4 @@ pub mod MixedLemmas
 pub mod MovedLemmas
 pub mod RowLemmas
 pub mod StepLemmas
+pub mod UntouchedLemmas

@@ -7,3 +7,4 @@ pub mod Fixed
 pub mod Laws
 pub mod Rows
 pub mod Steps
+pub mod Untouched

@@ -24,5 +24,5 @@ pub use laws::rows::{
     fixed_keys_settle_quietly, fixed_rows_judge, fixed_timings_are_alike, forgotten_scans_join,
     gainsaid_rows_are_lost, gone_scans_do_not_matter, implied_comparisons_hold, lost_rows_go,
     moments_suffice, rows_are_exact, rows_begin, rows_go_on, rows_judge, rows_refute, rows_split,
-    states_may_change, turns_cover,
+    states_may_change, turns_cover, untouched_keys_hold,
 };

@@ -18,6 +18,7 @@ use Rattle.following.specs.rows.Comparisons.{Comparison, Behind, Before, InTurn,
 use Rattle.following.specs.rows.Cuts.{IsComparedCut}
 use Rattle.following.specs.rows.Fixed.{IsBefore, IsBehind, AreFixed, SettlesIn, IsSettledIn}
 use Rattle.following.specs.rows.Rows.{Row, RowHolds, SomeRowHolds, RowsStandFor, first_row, with_class, IsWithin, Cover}
+use Rattle.following.specs.rows.Untouched.{IsUntouched}
 use Rattle.following.specs.rows.Steps.{with_states, HoldsWhere, Follows}
 
 -- of no event one row stands, with all timings and the values of the start
@@ -165,7 +166,15 @@ FixedRowsJudge =
     → class_of comparisons spread moment ≡ true
     → RowHolds calls (record { allows = class_of comparisons; states = states }) ↔ ((key : ℕ) → SomeHolds key spread moment calls (states key))
 
--- and they tell of the moments of scans in each timing of their class, so which calls of a key ended before a place
+-- what is kept of a key holds on where an event more answers no call over it
+abbrev pub UntouchedKeysHold : Type 0
+UntouchedKeysHold =
+    (start : Contents) (events : List Event) (e : Event) (allows : Timings) (key : ℕ) (k : KeyState) (spread moment : ℕ → ℕ)
+    → KeyStandsFor start events allows key k → IsUntouched events e key → IsTiming (operations (events ++ e ∷ [])) spread moment
+    → allows spread moment ≡ true → SomeHolds key spread moment (operations events) k
+    → SomeHolds key spread moment (operations (events ++ e ∷ [])) k
+
+-- comparisons tell of the moments of scans in each timing of their class, so which calls of a key ended before a place
 abbrev pub ComparisonsTellMoments : Type 0
 ComparisonsTellMoments =
     (events : List Event) (comparisons : List Comparison) (a : Operation) (place : ℕ) → Contains (operations events) a → IsToldScan a

@@ -4,7 +4,7 @@ ghost use Rattle.following.specs.rows.Laws.{ComparedCuts, GainsaidRowsAreLost, I
 ghost use Rattle.following.specs.rows.Laws.{ComparisonsTellMoments, FixedKeysSettle, FixedKeysSettleQuietly};
 ghost use Rattle.following.specs.rows.Laws.{FixedKeysRefute, FixedRowsJudge, FixedTimingsAlike, ForgottenScansJoin};
 ghost use Rattle.following.specs.rows.Laws.{GoneScansDoNotMatter, LostRowsGo, MomentsSuffice, RowsAreExact, RowsBegin, RowsGoOn};
-ghost use Rattle.following.specs.rows.Laws.{RowsJudge, RowsRefute, RowsSplit, StatesMayChange, TurnsCover};
+ghost use Rattle.following.specs.rows.Laws.{RowsJudge, RowsRefute, RowsSplit, StatesMayChange, TurnsCover, UntouchedKeysHold};
 
 use quiet_cuts::places_do_not_matter;
 
@@ -131,6 +131,12 @@ pub fn fixed_rows_judge()
 {
     places_do_not_matter();
 }
+
+/// What is kept of a key holds on with an event that answers no call of the key and no scan over it: only the other keys are judged
+/// again.
+pub fn untouched_keys_hold()
+    ensures { UntouchedKeysHold }
+{}
 
 /// Comparisons tell which scans took effect before a place, and which behind it, in each timing in which they hold.
 pub fn comparisons_tell_moments()
