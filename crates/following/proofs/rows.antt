@@ -14,3 +14,4 @@ pub mod MovedLemmas
 pub mod RowLemmas
 pub mod StepLemmas
 pub mod UntouchedLemmas
+pub mod WiderBlockLemmas

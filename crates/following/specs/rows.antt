@@ -8,3 +8,4 @@ pub mod Laws
 pub mod Rows
 pub mod Steps
 pub mod Untouched
+pub mod WiderBlocks

@@ -18,9 +18,9 @@ use Rattle.quiet_cuts.specs.Groups.{PlacesDoNotMatter}
 use Rattle.following.specs.keys.KeyStates.{KeyState}
 use Rattle.following.specs.rows.Alike.{HasAlike}
 use Rattle.following.specs.rows.Blocks.{is_scan, IsOver, IsOutside, IsBlock, Stays}
-use Rattle.following.specs.rows.Comparisons.{Comparison, Before, holds_in, all_hold, class_of}
+use Rattle.following.specs.rows.Comparisons.{also, Comparison, Before, holds_in, all_hold, class_of}
 use Rattle.following.specs.rows.Rows.{Row}
-use Rattle.following.specs.rows.Laws.{also, MomentsSuffice}
+use Rattle.following.specs.rows.Laws.{MomentsSuffice}
 use Rattle.following.proofs.moments.PartLemmas.{waits_from}
 use Rattle.following.proofs.keys.GrownLemmas.{IsGrownResponse, IsGrown, in_now, grown_inv, grown_call}
 use Rattle.following.proofs.rows.AlikeLemmas.{alike_cover}

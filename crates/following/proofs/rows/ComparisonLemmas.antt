@@ -9,9 +9,9 @@ use Rattle.list_laws.proofs.Lists.{Any-first, Any-later}
 use Rattle.quiet_cuts.proofs.ContinueLemmas.{completed_stays}
 use Rattle.following.specs.moments.Timings.{IsToldScan}
 use Rattle.following.specs.keys.KeyStates.{Timings}
-use Rattle.following.specs.rows.Comparisons.{Comparison, Behind, Before, InTurn, holds_in}
+use Rattle.following.specs.rows.Comparisons.{also, Comparison, Behind, Before, InTurn, holds_in}
 use Rattle.following.specs.rows.Rows.{Row, RowHolds, with_class}
-use Rattle.following.specs.rows.Laws.{also, ComparisonsCover, TurnsCover}
+use Rattle.following.specs.rows.Laws.{ComparisonsCover, TurnsCover}
 use Rattle.following.proofs.moments.TimedLemmas.{told_completed}
 
 -- a scan that is answered is there with further events

@@ -1,14 +1,13 @@
 -- A past moment from which comparisons part the scans over a key is a cut of the key by places.
-use Rattle.std.proofs.Common.{◌≡◌, ℕ, ◌<◌, ◌≤◌, true, List, refl, ⊎_elim, inl, inr, arith}
-use Rattle.std.specs.Prelude.{◌↔◌, ◌⊎◌, Any, Contains}
+use Rattle.std.proofs.Common.{◌≡◌, ℕ, true, List, refl, ⊎_elim, inl, inr, arith}
+use Rattle.std.specs.Prelude.{Contains}
 use Rattle.events.specs.declared.event.Event.{Event}
 use Rattle.events.specs.declared.operation.Operation.{Operation}
 use Rattle.events.specs.Operations.{operations}
-use Rattle.map_object.specs.MapObject.{Contents}
 use Rattle.quiet_cuts.specs.Cells.{calls_left}
 use Rattle.quiet_cuts.proofs.LeftLemmas.{from_left}
 use Rattle.following.specs.moments.KeyCalls.{Kind, OfKey, Told, Silent, kind_of}
-use Rattle.following.specs.moments.Timings.{IsToldScan, IsTiming}
+use Rattle.following.specs.moments.Timings.{IsTiming}
 use Rattle.following.specs.keys.PlaceCuts.{HasEnded}
 use Rattle.following.specs.rows.Comparisons.{Comparison, class_of}
 use Rattle.following.specs.rows.Cuts.{HasEndedBy, IsComparedCut}

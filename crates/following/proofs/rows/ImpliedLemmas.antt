@@ -1,18 +1,15 @@
 -- What comparisons imply holds in each timing in which they hold.
-use Rattle.std.proofs.Common.{◌≡◌, ℕ, ◌<◌, ◌≤◌, true, ◌&&◌, List, [], ◌∷◌, ◌++◌, Some, refl, arith}
-use Rattle.std.specs.Prelude.{nat_lt, Contains}
+use Rattle.std.proofs.Common.{◌≡◌, ℕ, ◌<◌, true, ◌&&◌, List, [], ◌∷◌, ◌++◌, refl, arith}
 use Rattle.std.proofs.lemmas.Bool.{and_from, lt-ltb, ltb-true}
-use Rattle.events.specs.declared.event.Event.{Event}
 use Rattle.events.specs.declared.operation.Operation.{Operation}
-use Rattle.events.specs.declared.operation.Response.{Response}
 use Rattle.events.specs.Operations.{operations}
 use Rattle.list_laws.proofs.Lists.{Any-first}
-use Rattle.following.specs.moments.Timings.{IsToldScan, IsTiming}
-use Rattle.following.specs.keys.KeyStates.{KeyState, Timings}
-use Rattle.following.specs.rows.Comparisons.{Comparison, Behind, Before, InTurn, holds_in, all_hold, class_of}
+use Rattle.following.specs.moments.Timings.{IsTiming}
+use Rattle.following.specs.keys.KeyStates.{Timings}
+use Rattle.following.specs.rows.Comparisons.{also, Comparison, Behind, Before, InTurn, holds_in, all_hold, class_of}
 use Rattle.following.specs.rows.Comparisons.{Implies, given, begun, ended, earlier, later, behind_first, before_second, around, through}
 use Rattle.following.specs.rows.Rows.{Row, RowHolds, with_class}
-use Rattle.following.specs.rows.Laws.{also, ImpliedComparisonsHold, GainsaidRowsAreLost}
+use Rattle.following.specs.rows.Laws.{ImpliedComparisonsHold, GainsaidRowsAreLost}
 use Rattle.following.proofs.moments.PartLemmas.{spread_upto}
 use Rattle.following.proofs.keys.GrownPartLemmas.{timing_now}
 use Rattle.following.proofs.rows.BlockLemmas.{one_holds}

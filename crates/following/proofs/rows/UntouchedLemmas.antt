@@ -1,9 +1,8 @@
 -- What is kept of a key holds on with an event that answers no call over it.
-use Rattle.std.proofs.Common.{◌≡◌, ℕ, ◌<◌, ◌≤◌, Bool, true, false, List, [], ◌∷◌, ◌++◌, length, Option, Some, None, is_some, refl, sym, ap, ◌∙◌, subst, ⊎_elim}
-use Rattle.std.proofs.Common.{append-nil, length-append, arith}
-use Rattle.std.specs.Prelude.{nat_lt, Contains}
+use Rattle.std.proofs.Common.{◌≡◌, ℕ, ◌<◌, ◌≤◌, true, false, List, [], ◌∷◌, ◌++◌, length, Option, Some, None, is_some, refl, sym, ap, ◌∙◌, subst, ⊎_elim}
+use Rattle.std.proofs.Common.{length-append, arith}
+use Rattle.std.specs.Prelude.{Contains}
 use Rattle.std.proofs.lemmas.Bool.{cases_lt, ltb-true}
-use Rattle.std.proofs.lemmas.Option.{none-some}
 use Rattle.std.proofs.lemmas.List.Elements.{All-contains, All-contains_itself}
 use Rattle.events.specs.declared.event.Call.{Call}
 use Rattle.events.specs.declared.event.Event.{Event}
@@ -33,7 +32,7 @@ use Rattle.following.proofs.keys.GrownPartLemmas.{timing_now}
 use Rattle.following.proofs.rows.EndLemmas.{told_call, own_call}
 
 -- a call that is something at a key is over it
-over_from_part : (key : ℕ) (spread moment : ℕ → ℕ) (a x : Operation) → part_at key spread moment a ≡ Some x → IsOver key a.call
+pub over_from_part : (key : ℕ) (spread moment : ℕ → ℕ) (a x : Operation) → part_at key spread moment a ≡ Some x → IsOver key a.call
 over_from_part key spread moment a x shows =
     by_kind (kind_of a.call a.response) refl (part_is key spread moment a x (kind_of a.call a.response) shows)
   where

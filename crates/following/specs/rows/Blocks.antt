@@ -8,6 +8,7 @@
 -- of [1, 2] and C of [3, 3], a remove of 3, and an insert of 1; B is told {2: 2}, and C nothing; insert and remove are done, and A is told {1: 5, 2: 2,
 -- 3: 2}. At each key of B, and at each of C, one moment is as good as another: each may have its own behind the insert's beginning. But
 -- A is behind the insert and before the remove, so B is before A, and A before C: only the order of B before C has an order of the calls.
+-- A smaller example is proved: `WiderBlocks`.
 use Rattle.std.specs.Prelude.{◌≡◌, ◌⊎◌, ℕ, ◌≤◌, Bool, true, false, List, Some, Contains, ⊤}
 use Rattle.events.specs.declared.event.Call.{Call}
 use Rattle.events.specs.declared.event.Call.TheVariants.{Get, Insert, Remove, Scan, Replace}

@@ -26,6 +26,10 @@ all_hold spread moment (c ∷ comparisons) = holds_in spread moment c && all_hol
 abbrev pub class_of : List Comparison → Timings
 class_of comparisons = λ spread moment. all_hold spread moment comparisons
 
+-- a class with a comparison more
+abbrev pub also : Timings → List Comparison → Timings
+also allows comparisons = λ spread moment. allows spread moment && class_of comparisons spread moment
+
 -- a comparison of such scans alone
 abbrev pub SpeaksOf : (ℕ → Type 0) → Comparison → Type 0
 SpeaksOf Is (Behind scan place) = Is scan

@@ -1,5 +1,5 @@
 -- Laws of rows.
-use Rattle.std.specs.Prelude.{◌≡◌, ◌≢◌, ◌↔◌, ℕ, suc, true, ◌<◌, ◌≤◌, ◌&&◌, List, [], ◌∷◌, ◌++◌, length, map, All, Contains}
+use Rattle.std.specs.Prelude.{◌≡◌, ◌≢◌, ◌↔◌, ℕ, suc, true, ◌<◌, ◌≤◌, List, [], ◌∷◌, ◌++◌, length, map, All, Contains}
 use Rattle.std.specs.List.{AllZip}
 use Rattle.events.specs.declared.event.Event.{Event}
 use Rattle.events.specs.declared.operation.Operation.{Operation}
@@ -14,11 +14,12 @@ use Rattle.following.specs.keys.Settling.{SettlesTo, SettlesQuietly}
 use Rattle.following.specs.keys.KeyStates.{KeyState, Timings, SomeHolds, KeyStandsFor}
 use Rattle.following.specs.rows.Alike.{AreAlikeAt, HaveAlike, IsGoneAtAll, DifferInGone}
 use Rattle.following.specs.rows.Blocks.{IsBlock, Stays}
-use Rattle.following.specs.rows.Comparisons.{Comparison, Behind, Before, InTurn, class_of, SpeaksOf, Implies, Gainsay}
+use Rattle.following.specs.rows.Comparisons.{Comparison, Behind, Before, InTurn, class_of, also, SpeaksOf, Implies, Gainsay}
 use Rattle.following.specs.rows.Cuts.{IsComparedCut}
 use Rattle.following.specs.rows.Fixed.{IsBefore, IsBehind, AreFixed, SettlesIn, IsSettledIn}
 use Rattle.following.specs.rows.Rows.{Row, RowHolds, SomeRowHolds, RowsStandFor, first_row, with_class, IsWithin, Cover}
 use Rattle.following.specs.rows.Untouched.{IsUntouched}
+use Rattle.following.specs.rows.WiderBlocks.{ToldMomentsSuffice}
 use Rattle.following.specs.rows.Steps.{with_states, HoldsWhere, Follows}
 
 -- of no event one row stands, with all timings and the values of the start
@@ -104,10 +105,6 @@ ForgottenScansJoin =
     → HoldsWhere events (record { allows = class_of (kept ++ one); states = states })
     (record { allows = class_of (kept ++ two); states = states })
 
--- a class with a comparison more
-abbrev pub also : Timings → List Comparison → Timings
-also allows comparisons = λ spread moment. allows spread moment && class_of comparisons spread moment
-
 -- a row may be split by any event: a scan that is answered took effect before it or behind it
 abbrev pub ComparisonsCover : Type 0
 ComparisonsCover =
@@ -141,6 +138,10 @@ MomentsSuffice =
     → Contains comparisons (Before scan high)
     → Cover events (record { allows = class_of comparisons; states = states })
     (also (class_of comparisons) (Before scan (suc low) ∷ []) ∷ [])
+
+-- but not where scans that are open are not counted: an open scan ties the moments of others to events at its other keys
+abbrev pub OpenScansTieMoments : Type 0
+OpenScansTieMoments = ToldMomentsSuffice → ⊥
 
 -- where comparisons fix a key, all timings of their class are alike there for the calls that are not gone
 abbrev pub FixedTimingsAlike : Type 0

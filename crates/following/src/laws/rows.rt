@@ -3,7 +3,7 @@ ghost use Rattle.following.specs.rows.Laws.{AlikeRowsJoin, AlikeTimingsCover, Al
 ghost use Rattle.following.specs.rows.Laws.{ComparedCuts, GainsaidRowsAreLost, ImpliedComparisonsHold};
 ghost use Rattle.following.specs.rows.Laws.{ComparisonsTellMoments, FixedKeysSettle, FixedKeysSettleQuietly};
 ghost use Rattle.following.specs.rows.Laws.{FixedKeysRefute, FixedRowsJudge, FixedTimingsAlike, ForgottenScansJoin};
-ghost use Rattle.following.specs.rows.Laws.{GoneScansDoNotMatter, LostRowsGo, MomentsSuffice, RowsAreExact, RowsBegin, RowsGoOn};
+ghost use Rattle.following.specs.rows.Laws.{GoneScansDoNotMatter, LostRowsGo, MomentsSuffice, OpenScansTieMoments, RowsAreExact, RowsBegin, RowsGoOn};
 ghost use Rattle.following.specs.rows.Laws.{RowsJudge, RowsRefute, RowsSplit, StatesMayChange, TurnsCover, UntouchedKeysHold};
 
 use quiet_cuts::places_do_not_matter;
@@ -111,6 +111,12 @@ pub fn moments_suffice()
 {
     places_do_not_matter();
 }
+
+/// But not where scans that are open are not counted: from no pairs, a scan A of [0, 1] begins, a scan C of [1, 1], an insert of
+/// 1 and one of 0; C is told the one, then A the other alone. C takes effect behind A, so behind the beginning of the second.
+pub fn open_scans_tie_moments()
+    ensures { OpenScansTieMoments }
+{}
 
 /// Where comparisons part each scan over a key from the events of its calls, and order the scans over it, all timings in which they
 /// hold are alike there.
