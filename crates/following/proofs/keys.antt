@@ -15,6 +15,8 @@ pub mod RefuteLemmas
 pub mod SettleBackLemmas
 pub mod SettleLemmas
 pub mod SettleOnLemmas
+pub mod SilenceLemmas
 pub mod SilentLemmas
+pub mod TurnLemmas
 pub mod WiderAnswerLemmas
 pub mod WiderChoiceLemmas

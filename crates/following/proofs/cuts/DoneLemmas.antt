@@ -99,7 +99,7 @@ pending_legal place m call None None is pending = tt
 pending_legal place m call None (Some response) is pending = rw is.1 (inr tt)
 pending_legal place m call (Some response) later is pending = absurd (pending refl)
 
-free_legal : (m : Contents) (calls : List Operation) → ((b : Operation) → Contains calls b → (m : Contents) → IsLegalCall m b.call b.response)
+pub free_legal : (m : Contents) (calls : List Operation) → ((b : Operation) → Contains calls b → (m : Contents) → IsLegalCall m b.call b.response)
     → IsLegal m calls
 free_legal m [] free = tt
 free_legal m (b ∷ calls) free =

@@ -1,18 +1,16 @@
 -- Where a call is answered, the configurations that agree with the answer stay.
-use Rattle.std.proofs.Common.{◌≡◌, ℕ, ◌==◌, Bool, true, false, not, List, [], ◌++◌, Option, filter, refl, sym, ap, ◌∙◌, subst}
-use Rattle.std.specs.Prelude.{◌↔◌, All, Any, Contains}
-use Rattle.std.proofs.lemmas.Bool.{eqb-true, eq-eqb, both_ways, not-true, not_from_false, false_from_ne_true}
+use Rattle.std.proofs.Common.{◌≡◌, ℕ, ◌==◌, Bool, true, false, not, List, ◌++◌, Option, filter, refl, sym, ◌∙◌, subst}
+use Rattle.std.specs.Prelude.{All, Any, Contains}
+use Rattle.std.proofs.lemmas.Bool.{eqb-true, not_from_false}
 use Rattle.std.proofs.lemmas.List.Elements.{All-contains}
-use Rattle.events.specs.declared.event.Event.{Event}
 use Rattle.events.specs.declared.operation.Operation.{Operation}
 use Rattle.events.specs.Operations.{operations}
 use Rattle.events.proofs.TimeLemmas.{inv_rises}
 use Rattle.list_laws.proofs.Lists.{All-from_contains, Contains-filter, Contains-from_filter}
-use Rattle.orders.specs.Orders.{IsLinearizable}
 use Rattle.quiet_cuts.proofs.ContinueLemmas.{completed_stays}
 use Rattle.quiet_cuts.proofs.SetLemmas.{same_call}
-use Rattle.following.specs.keys.KeyStates.{Configuration, KeyState, Tells, MayHaveFound, AreAhead, Holds, SomeHolds}
-use Rattle.following.specs.keys.Answers.{without_ahead, AgreesWith}
+use Rattle.following.specs.keys.KeyStates.{Tells, MayHaveFound, AreAhead, Holds}
+use Rattle.following.specs.keys.Answers.{without_ahead}
 use Rattle.following.specs.keys.Laws.{AnswersNarrow}
 use Rattle.following.proofs.keys.ChoiceLemmas.{any_from, any_to, stands_too}
 

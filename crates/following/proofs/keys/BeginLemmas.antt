@@ -1,7 +1,7 @@
 -- Before any event a key has the value of the start, and what stands for events judges them.
-use Rattle.std.proofs.Common.{◌≡◌, ℕ, ◌==◌, Bool, true, false, List, [], ◌∷◌, ◌++◌, Option, Some, None, refl, sym, ap, ◌∙◌, subst, ⊎_elim, arith}
+use Rattle.std.proofs.Common.{◌≡◌, ℕ, ◌==◌, Bool, true, false, List, [], ◌∷◌, Option, Some, None, refl, sym, ap, ◌∙◌, subst, ⊎_elim, arith}
 use Rattle.std.proofs.Common.{append-nil, inl, inr}
-use Rattle.std.specs.Prelude.{◌↔◌, ◌⊎◌, ◌<◌, slice_get, All, Any, Contains}
+use Rattle.std.specs.Prelude.{◌↔◌, ◌⊎◌, ◌<◌, slice_get, All, Any}
 use Rattle.std.proofs.lemmas.Bool.{eqb-true, eq-eqb, cases_order}
 use Rattle.std.proofs.lemmas.List.Elements.{All-nil, All-contains}
 use Rattle.events.specs.declared.event.Event.{Event}
@@ -16,10 +16,10 @@ use Rattle.quiet_cuts.specs.Cells.{is_left, calls_left}
 use Rattle.quiet_cuts.proofs.ValueLemmas.{IsOut, same_pairs, within_rises, value_alone, value_outside}
 use Rattle.following.specs.moments.KeyCalls.{at_key}
 use Rattle.following.specs.moments.Timings.{IsTiming}
-use Rattle.following.specs.keys.KeyStates.{one_key, Configuration, KeyState, MayHaveFound, Holds, SomeHolds}
+use Rattle.following.specs.keys.KeyStates.{one_key, Configuration, MayHaveFound, Holds, SomeHolds}
 use Rattle.following.specs.keys.Laws.{KeysBegin, KeysJudge}
 use Rattle.following.proofs.moments.KeyLegalLemmas.{alike, at_key_inside}
-use Rattle.following.proofs.keys.ChoiceLemmas.{any_from, any_to}
+use Rattle.following.proofs.keys.ChoiceLemmas.{any_to}
 
 -- the pairs of one key rise
 pub one_rises : (key : ℕ) (value : Option ℕ) → IsRising (one_key key value)

@@ -1,6 +1,6 @@
 -- Some configuration holds exactly where some choice does.
-use Rattle.std.proofs.Common.{◌≡◌, ℕ, Bool, true, false, not, List, [], ◌∷◌, ◌++◌, Option, filter, refl, sym, ap, ◌∙◌, subst, ⊎_elim}
-use Rattle.std.specs.Prelude.{◌↔◌, All, Any, Contains}
+use Rattle.std.proofs.Common.{◌≡◌, ℕ, Bool, true, false, not, List, [], ◌∷◌, ◌++◌, Option, filter, refl, sym, ap, subst, ⊎_elim}
+use Rattle.std.specs.Prelude.{◌↔◌, Any, Contains}
 use Rattle.std.specs.List.{AllZip}
 use Rattle.std.proofs.lemmas.List.Elements.{All-nil, All-cons, All-head, All-tail}
 use Rattle.events.specs.declared.event.Event.{Event}
@@ -14,7 +14,7 @@ use Rattle.orders.specs.Orders.{IsLinearizable}
 use Rattle.quiet_cuts.specs.Cells.{is_left, calls_left}
 use Rattle.following.specs.moments.KeyCalls.{at_key}
 use Rattle.following.specs.moments.Timings.{IsTiming}
-use Rattle.following.specs.keys.KeyStates.{one_key, Configuration, KeyState, MayHaveFound, AreAhead, Holds, SomeHolds, Timings, KeyStandsFor}
+use Rattle.following.specs.keys.KeyStates.{one_key, KeyState, MayHaveFound, AreAhead, Holds, SomeHolds, Timings, KeyStandsFor}
 use Rattle.following.specs.keys.Choices.{HaveSame, Choice, IsFoundOf, IsChoiceOf, HasChoice}
 use Rattle.following.specs.keys.Laws.{SameChoicesStand}
 

@@ -1,8 +1,8 @@
 -- What open calls find where calls are done in turn, and what their later answers tell of it.
 use Rattle.events.specs.declared.event.Reply.TheVariants as replies
-use Rattle.std.proofs.Common.{◌≡◌, ℕ, ◌≤◌, ◌==◌, Bool, true, false, cond, not, nat_lt, List, [], ◌∷◌, Option, Some, None, filter_map, map, refl, sym, ap, ◌∙◌}
+use Rattle.std.proofs.Common.{◌≡◌, ℕ, ◌≤◌, ◌==◌, Bool, true, false, cond, not, nat_lt, List, [], ◌∷◌, Option, Some, None, map, refl, sym, ap, ◌∙◌}
 use Rattle.std.proofs.Common.{subst, ⊎_elim, inl, inr, arith}
-use Rattle.std.specs.Prelude.{◌≢◌, ◌⊎◌, All, Contains}
+use Rattle.std.specs.Prelude.{◌⊎◌, Contains}
 use Rattle.std.specs.List.{AllZip}
 use Rattle.std.proofs.lemmas.Bool.{both_ways, eqb-true, eq-eqb, ltb-false, le-ltb, and_from, not_from_false}
 use Rattle.std.proofs.lemmas.Option.{none-some, same_Some}
@@ -12,17 +12,17 @@ use Rattle.events.specs.declared.event.Reply.{Reply}
 use Rattle.events.specs.declared.operation.Operation.{Operation}
 use Rattle.events.specs.declared.operation.Response.{Response}
 use Rattle.list_laws.proofs.Lists.{Contains-first, Contains-later, Contains-nil, Contains-cases}
-use Rattle.map_object.specs.MapObject.{Contents, IsRising, value_at, within, value_reply, reply_to, after_reply, TellsOf, IsLegalReply}
+use Rattle.map_object.specs.MapObject.{Contents, value_at, within, value_reply, reply_to, TellsOf, IsLegalReply}
 use Rattle.map_object.proofs.TellLemmas.{tells_answers, after_reply-answer}
 use Rattle.orders.specs.Orders.{after_call, after_calls, IsLegalCall, IsLegal}
 use Rattle.segments.proofs.RangeLemmas.{IsInside, within-after_call}
 use Rattle.quiet_cuts.proofs.ValueLemmas.{rising_after}
-use Rattle.following.specs.moments.KeyCalls.{Kind, OfKey, Told, Silent, kind_of_scan, kind_of, part_at}
+use Rattle.following.specs.moments.KeyCalls.{Kind, OfKey, Told, Silent, kind_of, part_at}
 use Rattle.following.specs.keys.KeyStates.{one_key, Tells}
 use Rattle.following.specs.keys.Settling.{found_at, found_in}
 use Rattle.following.proofs.moments.KindLemmas.{IsPart, part_is}
 use Rattle.following.proofs.keys.BeginLemmas.{alone, one_rises, value_one}
-use Rattle.following.proofs.keys.GrownLemmas.{operation, IsGrownResponse, IsGrown}
+use Rattle.following.proofs.keys.GrownLemmas.{IsGrownResponse, IsGrown}
 use Rattle.following.proofs.keys.GrownPartLemmas.{scan_not_own}
 use Rattle.following.proofs.keys.InTurnLemmas.{is_refused, is_refused_from, cut_response, cut, cut_legal}
 
@@ -65,21 +65,21 @@ tells_of m call key reply finds answered legal = ⊎_elim
 
 -- ---- what is found
 
-found_cases : (key place : ℕ) (response : Option Response) (value : Option ℕ) (rest : List (ℕ × Option ℕ)) (f : ℕ × Option ℕ)
-    → Contains (found_at key place response value rest) f → ((response ≡ None) × ((place, value) ≡ f)) ⊎ Contains rest f
-found_cases key place None value rest f is =
+found_cases : (place : ℕ) (response : Option Response) (value : Option ℕ) (rest : List (ℕ × Option ℕ)) (f : ℕ × Option ℕ)
+    → Contains (found_at place response value rest) f → ((response ≡ None) × ((place, value) ≡ f)) ⊎ Contains rest f
+found_cases place None value rest f is =
     ⊎_elim (λ first. inl (refl, first)) (λ later. inr later) (Contains-cases (place, value) rest f is)
-found_cases key place (Some r) value rest f is = inr is
+found_cases place (Some r) value rest f is = inr is
 
-found_first : (key place : ℕ) (response : Option Response) (value : Option ℕ) (rest : List (ℕ × Option ℕ)) → response ≡ None
-    → Contains (found_at key place response value rest) (place, value)
-found_first key place None value rest is = Contains-first (place, value) rest
-found_first key place (Some r) value rest is = absurd (none-some r (sym is))
+found_first : (place : ℕ) (response : Option Response) (value : Option ℕ) (rest : List (ℕ × Option ℕ)) → response ≡ None
+    → Contains (found_at place response value rest) (place, value)
+found_first place None value rest is = Contains-first (place, value) rest
+found_first place (Some r) value rest is = absurd (none-some r (sym is))
 
-found_rest : (key place : ℕ) (response : Option Response) (value : Option ℕ) (rest : List (ℕ × Option ℕ)) (f : ℕ × Option ℕ)
-    → Contains rest f → Contains (found_at key place response value rest) f
-found_rest key place None value rest f is = Contains-later (place, value) rest f is
-found_rest key place (Some r) value rest f is = is
+found_rest : (place : ℕ) (response : Option Response) (value : Option ℕ) (rest : List (ℕ × Option ℕ)) (f : ℕ × Option ℕ)
+    → Contains rest f → Contains (found_at place response value rest) f
+found_rest place None value rest f is = Contains-later (place, value) rest f is
+found_rest place (Some r) value rest f is = is
 
 -- it is found by open calls
 pub found_by : (key : ℕ) (m : Contents) (order : List Operation) (f : ℕ × Option ℕ) → Contains (found_in key m order) f
@@ -92,7 +92,7 @@ found_by key m (y ∷ order) f is =
     (y, Contains-first y order, here.0, ap (λ (f : ℕ × Option ℕ). f.0) here.1))
     (λ later.
     let (z, z_is, pending, same) = found_by key next order f later in (z, Contains-later y order z z_is, pending, same))
-    (found_cases key y.inv y.response (value_at m key) (found_in key next order) f is)
+    (found_cases y.inv y.response (value_at m key) (found_in key next order) f is)
 
 -- a refusal behind a place is one behind any earlier place
 late_refused : (early place : ℕ) (r : Response) → early ≤ place → nat_lt r.res place ≡ false → r.reply ≡ replies.Refused
@@ -138,7 +138,7 @@ found_tells place early key m (x ∷ order) upto answered finds legal f is =
     (λ y y_is. answered y (Contains-later x order y y_is)) (λ y y_is. finds y (Contains-later x order y y_is)) legal.1 f
     (subst (λ (n : Contents). Contains (found_in key n (map (cut place) order)) f) same later) in
     (z, Contains-later x order z z_is, at_place, tells))
-    (found_cases key x.inv (cut_response place x.response) (value_at m key) (found_in key next (map (cut place) order)) f is)
+    (found_cases x.inv (cut_response place x.response) (value_at m key) (found_in key next (map (cut place) order)) f is)
 
 -- ---- later answers that tell of what was found
 
@@ -167,13 +167,13 @@ grown_in_turn place key m (y ∷ order) (x ∷ grown_order) zip finds told legal
     let (first, same) = grown_legal place key m y.call y.response x.response zip.0.response
     (subst (FindsAt key) same_call (finds x here))
     (λ pending. subst (λ (call : Call). Tells call x.response (value_at m key)) same_call
-    (told (y.inv, value_at m key) (found_first key y.inv y.response (value_at m key) (found_in key next order) pending) x here same_inv))
+    (told (y.inv, value_at m key) (found_first y.inv y.response (value_at m key) (found_in key next order) pending) x here same_inv))
     legal.0 in
     let first_legal = subst (λ (call : Call). IsLegalCall m call x.response) (sym same_call) first in
     let after_same : after_call m x.call x.response ≡ next = ap (λ (call : Call). after_call m call x.response) same_call ∙ same in
     let (rest, left) = grown_in_turn place key next order grown_order zip.1
     (λ z z_is. finds z (Contains-later x grown_order z z_is))
-    (λ f f_is z z_is at_place. told f (found_rest key y.inv y.response (value_at m key) (found_in key next order) f f_is) z
+    (λ f f_is z z_is at_place. told f (found_rest y.inv y.response (value_at m key) (found_in key next order) f f_is) z
     (Contains-later x grown_order z z_is) at_place) legal.1 in (
       (first_legal, subst (λ (n : Contents). IsLegal n grown_order) (sym after_same) rest),
       subst (λ (n : Contents). after_calls n grown_order ≡ after_calls next order) (sym after_same) left,

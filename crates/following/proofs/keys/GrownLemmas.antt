@@ -97,9 +97,6 @@ in_now events more b is before =
 pub grown_inv : (place : ℕ) (a b : Operation) → IsGrown place a b → a.inv ≡ b.inv
 grown_inv place a b grown = sym (ap (λ (c : Operation). c.inv) grown.same)
 
-pub grown_call : (place : ℕ) (a b : Operation) → IsGrown place a b → a.call ≡ b.call
-grown_call place a b grown = sym (ap (λ (c : Operation). c.call) grown.same)
-
 -- a completed call stays as it is
 completed_response : (place : ℕ) (now later : Option Response) → is_some now ≡ true → IsGrownResponse place now later → later ≡ now
 completed_response place None later completed grown = cc

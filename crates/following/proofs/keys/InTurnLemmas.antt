@@ -1,8 +1,8 @@
 -- Calls done in turn: without those that change nothing, with later answers taken away, and with a call put between.
 use Rattle.events.specs.declared.event.Reply.TheVariants as replies
-use Rattle.std.proofs.Common.{◌≡◌, ℕ, ◌+◌, ◌<◌, ◌≤◌, Bool, true, false, not, cond, ◌&&◌, nat_lt, List, [], ◌∷◌, ◌++◌, Option, Some, None, filter, map}
-use Rattle.std.proofs.Common.{refl, sym, ap, ◌∙◌, subst, ⊎_elim, inl, inr, arith, is_some}
-use Rattle.std.specs.Prelude.{◌≢◌, ⊤, All, AllPairs, Contains}
+use Rattle.std.proofs.Common.{◌≡◌, ℕ, ◌<◌, ◌≤◌, Bool, true, false, not, cond, ◌&&◌, nat_lt, List, [], ◌∷◌, ◌++◌, Option, Some, None, filter, map}
+use Rattle.std.proofs.Common.{refl, sym, ap, ◌∙◌, subst, ⊎_elim, inl, arith}
+use Rattle.std.specs.Prelude.{◌≢◌, All, AllPairs, Contains}
 use Rattle.std.proofs.lemmas.Bool.{both_ways, not-true, not_from_false, false_from_ne_true, ltb-true, ltb-false, lt-ltb, le-ltb, and_from, and_parts}
 use Rattle.std.proofs.lemmas.List.Elements.{All-nil, All-cons, All-head, All-tail, All-contains}
 use Rattle.events.specs.declared.event.Call.{Call}
@@ -10,8 +10,8 @@ use Rattle.events.specs.declared.event.Reply.{Reply}
 use Rattle.events.specs.declared.operation.Operation.{Operation}
 use Rattle.events.specs.declared.operation.Response.{Response}
 use Rattle.events.specs.Precedence.{is_before, precedes}
-use Rattle.list_laws.proofs.Lists.{AllPairs-head, AllPairs-tail, All-from_contains, Contains-first, Contains-later, Contains-nil, Contains-cases}
-use Rattle.map_object.specs.MapObject.{Contents, after, after_reply}
+use Rattle.list_laws.proofs.Lists.{AllPairs-head, AllPairs-tail, All-from_contains, Contains-first, Contains-later, Contains-cases}
+use Rattle.map_object.specs.MapObject.{Contents, after_reply}
 use Rattle.map_object.proofs.TellLemmas.{after_reply-answer}
 use Rattle.orders.specs.Orders.{after_call, after_calls, IsLegalCall, IsLegal}
 use Rattle.following.proofs.keys.GrownLemmas.{operation, IsGrownResponse, IsGrown}

@@ -1,13 +1,12 @@
 -- Some of the calls of a key: they are invoked at different places, and none precedes itself.
-use Rattle.std.proofs.Common.{◌≡◌, ℕ, ◌<◌, Bool, true, false, not, List, Option, Some, filter, sym, ap, ◌∙◌, subst, ⊎_elim}
-use Rattle.std.specs.Prelude.{All, Contains}
+use Rattle.std.proofs.Common.{◌≡◌, ℕ, ◌<◌, Bool, true, false, List, Some, filter, sym, subst, ⊎_elim}
+use Rattle.std.specs.Prelude.{Contains}
 use Rattle.std.proofs.lemmas.List.Elements.{All-contains}
 use Rattle.std.proofs.lemmas.List.Kept.{AllPairs-filter}
 use Rattle.events.specs.declared.operation.Operation.{Operation}
-use Rattle.events.specs.declared.operation.Response.{Response}
-use Rattle.events.specs.Precedence.{is_before, precedes, NonePrecedesItself}
-use Rattle.list_laws.proofs.Lists.{All-from_contains, AllPairs-across, Contains-from_filter}
-use Rattle.list_laws.proofs.FilterLemmas.{Contains-filter_map, Contains-from_filter_map}
+use Rattle.events.specs.Precedence.{precedes, NonePrecedesItself}
+use Rattle.list_laws.proofs.Lists.{All-from_contains, Contains-from_filter}
+use Rattle.list_laws.proofs.FilterLemmas.{Contains-from_filter_map}
 use Rattle.quiet_cuts.specs.TimeCuts.{InvocationsRise}
 use Rattle.following.specs.moments.KeyCalls.{kind_of, part_at, at_key}
 use Rattle.following.specs.moments.Timings.{IsTiming}

@@ -1,7 +1,7 @@
 -- Where no call of a key was open at the moment, only the values of its configurations change.
-use Rattle.std.proofs.Common.{◌≡◌, ℕ, Bool, true, List, [], ◌∷◌, ◌++◌, Option, None, Some, filter, refl, sym, ap, ◌∙◌, subst, ⊎_elim, inl, inr}
+use Rattle.std.proofs.Common.{◌≡◌, ℕ, true, List, [], ◌∷◌, ◌++◌, Option, None, Some, refl, sym, ap, ◌∙◌, subst, ⊎_elim, inl}
 use Rattle.std.proofs.Common.{append-nil}
-use Rattle.std.specs.Prelude.{◌↔◌, ◌⊎◌, All, Any, Contains}
+use Rattle.std.specs.Prelude.{All, Contains}
 use Rattle.std.specs.List.{AllZip}
 use Rattle.std.proofs.lemmas.List.Elements.{All-nil, All-contains, Contains-append_left, Contains-append_right, Contains-append_cases}
 use Rattle.std.proofs.lemmas.Option.{same_Some}
@@ -17,13 +17,12 @@ use Rattle.list_laws.proofs.NumberLemmas.{has_number-Contains}
 use Rattle.list_laws.proofs.FilterLemmas.{Contains-from_filter_map}
 use Rattle.list_laws.proofs.ZipLemmas.{zip_left, zip_right}
 use Rattle.map_object.specs.MapObject.{Contents}
-use Rattle.orders.specs.Orders.{after_calls}
 use Rattle.quiet_cuts.specs.Cells.{calls_left}
 use Rattle.quiet_cuts.proofs.LeftLemmas.{from_left}
 use Rattle.quiet_cuts.proofs.SetLemmas.{same_call}
 use Rattle.following.specs.moments.KeyCalls.{part_at, at_key}
 use Rattle.following.specs.moments.Timings.{IsTiming}
-use Rattle.following.specs.keys.Choices.{HaveSame, Choice, IsFoundOf, IsChoiceOf, HasChoice}
+use Rattle.following.specs.keys.Choices.{Choice, IsFoundOf, IsChoiceOf}
 use Rattle.following.specs.keys.KeyStates.{one_key, Configuration, KeyState, Timings}
 use Rattle.following.specs.keys.Laws.{QuietKeysSettle}
 use Rattle.following.specs.keys.Settling.{IsKeyCut, calls_among, AreInTurn, found_in, GoesOn, SettlesTo, IsSettled, SettlesQuietly}

@@ -1,8 +1,8 @@
 -- What has an order at a key with further events has one now: the front of an order, up to the last call that has ended.
-use Rattle.std.proofs.Common.{◌≡◌, ℕ, ◌<◌, ◌≤◌, Bool, true, false, not, ◌&&◌, List, [], ◌∷◌, ◌++◌, length, Option, Some, None, filter, map, refl, sym, ap}
-use Rattle.std.proofs.Common.{◌∙◌, subst, ⊎_elim, inl, inr, arith, is_some}
-use Rattle.std.specs.Prelude.{◌≢◌, ◌⊎◌, All, AllPairs, Contains}
-use Rattle.std.proofs.lemmas.Bool.{both_ways, not-true, not_from_false, false_from_ne_true, lt-ltb, and_from, and_parts}
+use Rattle.std.proofs.Common.{◌≡◌, ℕ, ◌<◌, Bool, true, false, not, ◌&&◌, List, ◌++◌, length, Option, Some, None, filter, map, refl, sym, ap}
+use Rattle.std.proofs.Common.{◌∙◌, subst, ⊎_elim, arith, is_some}
+use Rattle.std.specs.Prelude.{◌≢◌, AllPairs, Any, Contains}
+use Rattle.std.proofs.lemmas.Bool.{both_ways, not-true, not_from_false, lt-ltb, and_from, and_parts}
 use Rattle.std.proofs.lemmas.List.Elements.{All-contains, Contains-append_left, Contains-append_cases}
 use Rattle.std.proofs.lemmas.List.Kept.{AllPairs-filter}
 use Rattle.events.specs.declared.event.Call.TheVariants.{Get}
@@ -10,31 +10,33 @@ use Rattle.events.specs.declared.event.Event.{Event}
 use Rattle.events.specs.declared.operation.Operation.{Operation}
 use Rattle.events.specs.declared.operation.Response.{Response}
 use Rattle.events.specs.Operations.{operations}
-use Rattle.events.specs.Precedence.{is_before, precedes, NonePrecedesItself}
+use Rattle.events.specs.Precedence.{is_before, precedes}
 use Rattle.events.proofs.TimeLemmas.{inv_rises, NonePrecedesItself-operations}
 use Rattle.list_laws.specs.Lists.{has_number}
-use Rattle.list_laws.proofs.Lists.{All-from_contains, AllPairs-front, Contains-filter, Contains-from_filter, filter_all}
+use Rattle.list_laws.proofs.Lists.{All-from_contains, AllPairs-front, Contains-filter, Contains-from_filter}
 use Rattle.list_laws.proofs.NumberLemmas.{has_number-Contains, has_number-from_Contains}
 use Rattle.list_laws.proofs.FilterLemmas.{AllPairs-map, AllPairs-weaker, Contains-filter_map, Contains-from_filter_map, Contains-map, Contains-from_map}
 use Rattle.map_object.specs.MapObject.{Contents, value_at, value_reply}
 use Rattle.map_object.proofs.TellLemmas.{value_answers, after_reply-answer}
-use Rattle.orders.specs.Orders.{after_call, IsLegal, IsLinearizable}
+use Rattle.orders.specs.Orders.{IsLegal, IsLinearizable}
 use Rattle.orders.proofs.OrderLemmas.{IsLegal-front}
-use Rattle.quiet_cuts.proofs.SetLemmas.{IsOrderOfSet, Completed}
+use Rattle.quiet_cuts.specs.Cells.{is_left, calls_left}
+use Rattle.quiet_cuts.proofs.LeftLemmas.{left_from, not_dropped, in_left, from_left}
+use Rattle.quiet_cuts.proofs.SetLemmas.{Completed}
 use Rattle.following.specs.moments.KeyCalls.{Kind, OfKey, Told, Silent, kind_of, part_at, at_key}
 use Rattle.following.specs.moments.Timings.{IsTiming}
-use Rattle.following.specs.keys.KeyStates.{SomeHolds}
-use Rattle.following.specs.keys.Laws.{KeysRefute}
-use Rattle.following.specs.keys.Settling.{IsOpenScanOver}
-use Rattle.following.proofs.cuts.PastLemmas.{IsShortestFront, shortest}
+use Rattle.following.specs.keys.KeyStates.{one_key, Configuration, Tells, MayHaveFound, Holds}
+use Rattle.following.specs.keys.Laws.{KeysRefute, RefutedConfigurationsGo}
+use Rattle.following.proofs.cuts.PastLemmas.{shortest}
 use Rattle.following.proofs.moments.DistinctLemmas.{InvocationsDiffer, same_invocation, order_from_linearizable, linearizable_from_order}
 use Rattle.following.proofs.moments.KindLemmas.{IsPart, part_is}
-use Rattle.following.proofs.keys.BeginLemmas.{judges}
-use Rattle.following.proofs.keys.GrownLemmas.{IsGrownResponse, IsGrown, grown_inv, grown_call, same_completed, grown_before}
+use Rattle.following.proofs.keys.ChoiceLemmas.{any_from, any_to, stands_too}
+use Rattle.following.proofs.keys.EarlyLemmas.{into_left, from_left_at, left_differ, left_alone}
+use Rattle.following.proofs.keys.GrownLemmas.{IsGrownResponse, IsGrown, in_later, grown_inv, same_completed}
 use Rattle.following.proofs.keys.GrownPartLemmas.{open_not_own, timing_now, below_spread, to_later, to_now}
 use Rattle.following.proofs.keys.InTurnLemmas.{ChangesNothing, legal_filter, is_refused_from, refused_changes_nothing, ended_not_refused, cut, grown_cut}
 use Rattle.following.proofs.keys.InTurnLemmas.{legal_cut, cut_waits}
-use Rattle.following.proofs.keys.KeyCallLemmas.{picked_from, picked_differ, picked_none, front_begun}
+use Rattle.following.proofs.keys.KeyCallLemmas.{picked_differ, front_begun}
 
 pub from_not : (t : Bool) → not t ≡ false → t ≡ true
 from_not true out = refl
@@ -52,40 +54,36 @@ pub grown_ended : (place : ℕ) (now later : Option Response) → IsGrownRespons
 grown_ended place None later grown completed = cc
 grown_ended place (Some r) later grown completed = lt-ltb r.res place grown.1
 
-module _ (events more : List Event) (key : ℕ) (spread moment : ℕ → ℕ) (timing : IsTiming (operations (events ++ more)) spread moment) where
+module _ (events more : List Event) (key : ℕ) (spread moment : ℕ → ℕ) (timing : IsTiming (operations (events ++ more)) spread moment)
+    (taken : List ℕ) where
   abbrev limit : ℕ
   limit = spread (length events)
 
   abbrev now : List Operation
-  now = at_key key spread moment (operations events)
+  now = at_key key spread moment (calls_left taken (operations events))
 
   abbrev later : List Operation
-  later = at_key key spread moment (operations (events ++ more))
+  later = at_key key spread moment (calls_left taken (operations (events ++ more)))
 
-  all_of : (calls : List Operation) → filter (λ a. true) calls ≡ calls
-  all_of calls = filter_all (λ a. true) calls (λ k d inside. refl)
+  pub later_differ : InvocationsDiffer later
+  later_differ = left_differ events more key spread moment timing taken
 
-  later_differ : InvocationsDiffer later
-  later_differ = subst (λ (l : List Operation). InvocationsDiffer (at_key key spread moment l)) (all_of (operations (events ++ more)))
-      (picked_differ (operations (events ++ more)) (inv_rises (events ++ more)) (NonePrecedesItself-operations (events ++ more)) key spread moment
-      timing (λ a. true))
-
-  later_none : NonePrecedesItself later
-  later_none = subst (λ (l : List Operation). NonePrecedesItself (at_key key spread moment l)) (all_of (operations (events ++ more)))
-      (picked_none (operations (events ++ more)) (inv_rises (events ++ more)) (NonePrecedesItself-operations (events ++ more)) key spread moment
-      timing (λ a. true))
-
-  now_differ : InvocationsDiffer now
-  now_differ = subst (λ (l : List Operation). InvocationsDiffer (at_key key spread moment l)) (all_of (operations events))
-      (picked_differ (operations events) (inv_rises events) (NonePrecedesItself-operations events) key spread moment
-      (timing_now events more spread moment timing) (λ a. true))
+  pub now_differ : InvocationsDiffer now
+  now_differ = picked_differ (operations events) (inv_rises events) (NonePrecedesItself-operations events) key spread moment
+      (timing_now events more spread moment timing) (is_left taken)
 
   -- a call now is one later
-  grown_later : (y : Operation) → Contains now y → (x : Operation) × Contains later x × IsGrown limit y x
+  pub grown_later : (y : Operation) → Contains now y → (x : Operation) × Contains later x × IsGrown limit y x
   grown_later y y_is =
-      let (a, a_is, is) = Contains-from_filter_map (part_at key spread moment) (operations events) y y_is in
-      let (b, x, b_is, x_at, x_grown, grown) = to_later events more spread moment timing key a y a_is is in
-      (x, Contains-filter_map (part_at key spread moment) (operations (events ++ more)) b x b_is x_at, x_grown)
+      let (a, a_is, is) = Contains-from_filter_map (part_at key spread moment) (calls_left taken (operations events)) y y_is in
+      let (here, left) = from_left taken (operations events) a a_is in
+      let (b, x, b_is, x_at, x_grown, grown) = to_later events more spread moment timing key a y here is in
+      let same = grown_inv (length events) a b grown in (
+        x,
+        into_left events more key spread moment timing taken b x b_is
+            (λ dropped. not_dropped taken a left (subst (Contains taken) (sym same) dropped)) x_at,
+        x_grown,
+      )
 
   -- whether a call is there now
   abbrev is_now : Operation → Bool
@@ -106,21 +104,24 @@ module _ (events more : List Event) (key : ℕ) (spread moment : ℕ → ℕ) (t
   -- one that is not there now, and begins before the end of the events so far, changes nothing
   not_now : (x : Operation) → Contains later x → x.inv < limit → is_now x ≡ false → ChangesNothing x
   not_now x x_is before h =
-      let (b, b_is, is) = Contains-from_filter_map (part_at key spread moment) (operations (events ++ more)) x x_is in
-      by_kind b b_is is (kind_of b.call b.response) refl (part_is key spread moment b x (kind_of b.call b.response) is)
+      let (b, b_is, out, is) = from_left_at events more key spread moment timing taken x x_is in
+      by_kind b b_is out is (kind_of b.call b.response) refl (part_is key spread moment b x (kind_of b.call b.response) is)
     where
-      by_kind : (b : Operation) → Contains (operations (events ++ more)) b → part_at key spread moment b ≡ Some x → (kind : Kind)
+      by_kind : (b : Operation) → Contains (operations (events ++ more)) b → (Contains taken b.inv → ⊥)
+          → part_at key spread moment b ≡ Some x → (kind : Kind)
           → kind_of b.call b.response ≡ kind → IsPart key spread moment b x kind → ChangesNothing x
-      by_kind b b_is is (OfKey own) kind part =
+      by_kind b b_is out is (OfKey own) kind part =
           let at : spread b.inv ≡ x.inv = ap (λ (z : Operation). z.inv) part.1 in
           let begun = below_spread events more spread moment timing b.inv (length events) (omega (arith, at, before)) in
           let (a, y, a_is, y_at, y_grown, grown) = to_now events more spread moment timing key b x b_is begun (λ a a_is grown over.
           open_not_own key a.call a.response b.response own
           (subst (λ (c : Operation). kind_of c.call c.response ≡ OfKey own) grown.same kind) over) is in
-          let y_is = Contains-filter_map (part_at key spread moment) (operations events) a y a_is y_at in
+          let same = grown_inv (length events) a b grown in
+          let left = in_left taken (operations events) a a_is (left_from taken a (λ dropped. out (subst (Contains taken) same dropped))) in
+          let y_is = Contains-filter_map (part_at key spread moment) (calls_left taken (operations events)) a y left y_at in
           absurd (both_ways _ h (now_into y y_is x (sym (grown_inv limit y x y_grown))))
-      by_kind b b_is is (Told low high pairs) kind part = told_changes_nothing key spread moment b x low high pairs part
-      by_kind b b_is is Silent kind part = absurd part
+      by_kind b b_is out is (Told low high pairs) kind part = told_changes_nothing key spread moment b x low high pairs part
+      by_kind b b_is out is Silent kind part = absurd part
 
   abbrev keep : Operation → Bool
   keep x = is_now x && not (is_refused_from limit x.response)
@@ -144,7 +145,8 @@ module _ (events more : List Event) (key : ℕ) (spread moment : ℕ → ℕ) (t
       let known : (x : Operation) → Contains front x → Contains later x =
       λ x x_is. All-contains (Contains later) order x is.known
       (subst (λ (l : List Operation). Contains l x) (sym short.parts) (Contains-append_left front back x x_is)) in
-      let begun = front_begun limit order front back short (λ x x_is. All-contains (λ a. precedes a a ≡ false) later x later_none (known x x_is)) in
+      let begun = front_begun limit order front back short (λ x x_is.
+      left_alone events more key spread moment timing taken x (known x x_is)) in
       let (kept_legal, kept_left) = legal_filter keep start front (λ x x_is out. silent x (known x x_is) (begun x x_is) out)
       (IsLegal-front start front back legal) in
       let (cut_legal, cut_left) = legal_cut limit limit start (filter keep front) (omega arith) (λ x x_is.
@@ -181,7 +183,58 @@ module _ (events more : List Event) (key : ℕ) (spread moment : ℕ → ℕ) (t
         },
       )
 
+-- what a call may have found later it may have found now
+found_now : (events more : List Event) (place : ℕ) (value : Option ℕ) → MayHaveFound (operations (events ++ more)) place value
+    → MayHaveFound (operations events) place value
+found_now events more place value may a a_is at_place =
+    let (b, b_is, grown) = in_later events more a a_is in
+    by_response a.response refl (same_completed (length events) a b grown)
+    (may b b_is (sym (grown_inv (length events) a b grown) ∙ at_place))
+  where
+    by_response : {b : Operation} → (o : Option Response) → a.response ≡ o → (is_some a.response ≡ true → b ≡ a)
+        → Tells b.call b.response value → Tells a.call a.response value
+    by_response None pending same tells = subst (λ (o : Option Response). Tells a.call o value) (sym pending) tt
+    by_response (Some r) answered same tells =
+        subst (λ (c : Operation). Tells c.call c.response value) (same (ap is_some answered)) tells
+
+-- a configuration that holds later holds now
+pub holds_now : (events more : List Event) (key : ℕ) (spread moment : ℕ → ℕ) → IsTiming (operations (events ++ more)) spread moment
+    → (gone : List ℕ) (c : Configuration) → Holds key spread moment (operations (events ++ more)) gone c
+    → Holds key spread moment (operations events) gone c
+holds_now events more key spread moment timing gone c holds =
+    let Later = λ (value : Option ℕ).
+    IsLinearizable (one_key key value) (at_key key spread moment (calls_left (gone ++ c.taken) (operations (events ++ more)))) in
+    let Now = λ (value : Option ℕ).
+    IsLinearizable (one_key key value) (at_key key spread moment (calls_left (gone ++ c.taken) (operations events))) in
+    let (value, value_is, ordered) = any_to Later c.values holds.1 in (
+      All-from_contains (λ entry. Any (MayHaveFound (operations events) entry.0) entry.1) c.ahead (λ entry entry_is.
+          let (found, found_is, may) = any_to (MayHaveFound (operations (events ++ more)) entry.0) entry.1
+          (All-contains (λ entry. Any (MayHaveFound (operations (events ++ more)) entry.0) entry.1) c.ahead entry holds.0 entry_is) in
+          any_from (MayHaveFound (operations events) entry.0) entry.1 found found_is (found_now events more entry.0 found may)),
+      any_from Now c.values value value_is
+          (order_now events more key spread moment timing (gone ++ c.taken) (one_key key value) ordered),
+    )
+
 pub refutes : KeysRefute
-refutes start events more allows key k spread moment stands timing allowed none some =
-    none ((judges start events allows key k spread moment stands (timing_now events more spread moment timing) allowed).0
-    (order_now events more key spread moment timing start ((stands more spread moment timing allowed).1 some)))
+refutes events more key k spread moment timing some =
+    let (c, c_is, holds) = any_to (Holds key spread moment (operations (events ++ more)) k.gone) k.configurations some in
+    any_from (Holds key spread moment (operations events) k.gone) k.configurations c c_is
+    (holds_now events more key spread moment timing k.gone c holds)
+
+pub refuted_go : RefutedConfigurationsGo
+refuted_go start events allows key k l gone within others stands =
+    stands_too start events allows key k l (λ more spread moment timing allowed.
+    let calls = operations (events ++ more) in (
+      λ some.
+          let (c, c_is, holds) = any_to (Holds key spread moment calls k.gone) k.configurations some in
+          ⊎_elim
+          (λ kept. any_from (Holds key spread moment calls l.gone) l.configurations c kept
+          (subst (λ (gone : List ℕ). Holds key spread moment calls gone c) (sym gone) holds))
+          (λ refuted. absurd (refuted spread moment (timing_now events more spread moment timing) allowed
+          (holds_now events more key spread moment timing k.gone c holds)))
+          (others c c_is),
+      λ some.
+          let (c, c_is, holds) = any_to (Holds key spread moment calls l.gone) l.configurations some in
+          any_from (Holds key spread moment calls k.gone) k.configurations c (within c c_is)
+          (subst (λ (gone : List ℕ). Holds key spread moment calls gone c) gone holds),
+    )) stands

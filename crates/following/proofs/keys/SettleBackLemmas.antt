@@ -1,9 +1,9 @@
 -- Where a choice went on to one that holds behind a past moment, it holds: the calls that were taken, with their later answers, and the others.
-use Rattle.std.proofs.Common.{◌≡◌, ℕ, ◌<◌, ◌≤◌, Bool, true, false, List, [], ◌∷◌, ◌++◌, length, Option, Some, None, refl, sym, ap, ◌∙◌, subst}
-use Rattle.std.proofs.Common.{⊎_elim, inl, inr, arith, is_some}
-use Rattle.std.specs.Prelude.{◌≢◌, ◌⊎◌, All, AllPairs, Contains}
+use Rattle.std.proofs.Common.{◌≡◌, ℕ, ◌<◌, Bool, true, false, List, [], ◌∷◌, ◌++◌, length, Option, Some, None, refl, sym, ◌∙◌, subst}
+use Rattle.std.proofs.Common.{⊎_elim, inl, inr, arith}
+use Rattle.std.specs.Prelude.{◌≢◌, All, AllPairs, Contains}
 use Rattle.std.specs.List.{AllZip}
-use Rattle.std.proofs.lemmas.Bool.{both_ways, false_from_ne_true, ltb-true, le-ltb}
+use Rattle.std.proofs.lemmas.Bool.{both_ways, false_from_ne_true, le-ltb}
 use Rattle.std.proofs.lemmas.List.Elements.{All-contains, Contains-append_left, Contains-append_right, Contains-append_cases}
 use Rattle.std.proofs.lemmas.List.Kept.{AllPairs-cons}
 use Rattle.events.specs.declared.event.Event.{Event}
@@ -13,11 +13,11 @@ use Rattle.events.specs.Operations.{operations}
 use Rattle.events.specs.Precedence.{is_before, precedes}
 use Rattle.list_laws.specs.Lists.{has_number}
 use Rattle.list_laws.proofs.Lists.{AllPairs-nil, AllPairs-head, AllPairs-tail, All-from_contains, AllPairs-append, Contains-first, Contains-later}
-use Rattle.list_laws.proofs.Lists.{Contains-at, Contains-nil, place_of-Contains}
+use Rattle.list_laws.proofs.Lists.{Contains-at, place_of-Contains}
 use Rattle.list_laws.proofs.NumberLemmas.{has_number-Contains, has_number-from_Contains}
 use Rattle.list_laws.proofs.ZipLemmas.{zip_left, zip_right}
 use Rattle.map_object.specs.MapObject.{Contents}
-use Rattle.orders.specs.Orders.{after_calls, IsLegal, IsLinearizable}
+use Rattle.orders.specs.Orders.{IsLegal}
 use Rattle.orders.proofs.OrderLemmas.{IsLegal-append}
 use Rattle.quiet_cuts.specs.Cells.{calls_left}
 use Rattle.quiet_cuts.proofs.SetLemmas.{IsOrderOfSet, Completed}
@@ -25,7 +25,7 @@ use Rattle.following.specs.moments.KeyCalls.{part_at, at_key}
 use Rattle.following.specs.moments.Timings.{IsTiming}
 use Rattle.following.specs.keys.Choices.{Choice}
 use Rattle.following.specs.keys.KeyStates.{one_key, Timings, Tells}
-use Rattle.following.specs.keys.Settling.{IsKeyCut, calls_among, found_in, GoesOn}
+use Rattle.following.specs.keys.Settling.{IsKeyCut, found_in, GoesOn}
 use Rattle.following.proofs.cuts.PastLemmas.{ended_before}
 use Rattle.following.proofs.moments.DistinctLemmas.{order_from_linearizable, linearizable_from_order}
 use Rattle.following.proofs.keys.ChoiceLemmas.{HoldsChoice}
@@ -38,7 +38,7 @@ use Rattle.following.proofs.keys.InTurnLemmas.{self_waits}
 
 -- ---- two lists, item by item
 
-zip_pairs : {A B : Type 0} (Z : A → B → Type 0) (R : A → A → Type 0) (S : B → B → Type 0)
+pub zip_pairs : {A B : Type 0} (Z : A → B → Type 0) (R : A → A → Type 0) (S : B → B → Type 0)
     → ((x z : A) (y u : B) → Z x y → Z z u → R x z → S y u) → (xs : List A) (ys : List B) → AllZip Z xs ys → AllPairs R xs → AllPairs S ys
 zip_pairs Z R S h [] [] zip pairs = AllPairs-nil S
 zip_pairs Z R S h [] (y ∷ ys) zip pairs = absurd zip
@@ -51,14 +51,14 @@ zip_pairs Z R S h (x ∷ xs) (y ∷ ys) zip pairs =
     h x z y u zip.0 z_u (All-contains (R x) xs z (AllPairs-head R x xs pairs) (Contains-at xs n z here))))
     (zip_pairs Z R S h xs ys zip.1 (AllPairs-tail R x xs pairs))
 
-zip_weaker : {A B : Type 0} (Z W : A → B → Type 0) → ((x : A) (y : B) → Z x y → W x y) → (xs : List A) (ys : List B) → AllZip Z xs ys
+pub zip_weaker : {A B : Type 0} (Z W : A → B → Type 0) → ((x : A) (y : B) → Z x y → W x y) → (xs : List A) (ys : List B) → AllZip Z xs ys
     → AllZip W xs ys
 zip_weaker Z W h [] [] zip = tt
 zip_weaker Z W h [] (y ∷ ys) zip = absurd zip
 zip_weaker Z W h (x ∷ xs) [] zip = absurd zip
 zip_weaker Z W h (x ∷ xs) (y ∷ ys) zip = (h x y zip.0, zip_weaker Z W h xs ys zip.1)
 
-zip_each : {A B : Type 0} (Z : A → B → Type 0) (xs : List A) → ((x : A) → Contains xs x → (y : B) × Z x y) → (ys : List B) × AllZip Z xs ys
+pub zip_each : {A B : Type 0} (Z : A → B → Type 0) (xs : List A) → ((x : A) → Contains xs x → (y : B) × Z x y) → (ys : List B) × AllZip Z xs ys
 zip_each Z [] each = ([], tt)
 zip_each Z (x ∷ xs) each =
     let (y, first) = each x (Contains-first x xs) in
@@ -66,7 +66,7 @@ zip_each Z (x ∷ xs) each =
     (y ∷ ys, (first, rest))
 
 -- a call that has grown waits for those that began before
-grown_waits : (place : ℕ) (now later : Option Response) (inv : ℕ) → IsGrownResponse place now later → inv < place
+pub grown_waits : (place : ℕ) (now later : Option Response) (inv : ℕ) → IsGrownResponse place now later → inv < place
     → is_before now inv ≡ false → is_before later inv ≡ false
 grown_waits place None None inv grown before waits = refl
 grown_waits place None (Some r) inv grown before waits = le-ltb r.res inv (omega (arith, grown, before))
@@ -85,9 +85,6 @@ module _ (events more : List Event) (key : ℕ) (spread moment : ℕ → ℕ) (t
 
   abbrev left_next : List Operation
   left_next = at_key key spread moment (calls_left next.taken (operations (events ++ more)))
-
-  abbrev places : List ℕ
-  places = ended ++ g.chosen
 
   abbrev D : Operation → Operation → Type 0
   D a b = a.inv ≢ b.inv

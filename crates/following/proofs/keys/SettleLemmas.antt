@@ -1,6 +1,6 @@
 -- A key settles at a past moment.
-use Rattle.std.proofs.Common.{◌≡◌, ℕ, true, List, ◌++◌}
-use Rattle.std.specs.Prelude.{◌↔◌, Contains}
+use Rattle.std.proofs.Common.{ℕ, ◌++◌}
+use Rattle.std.specs.Prelude.{Contains}
 use Rattle.std.proofs.lemmas.List.Elements.{Contains-append_left}
 use Rattle.events.specs.Operations.{operations}
 use Rattle.quiet_cuts.specs.Cells.{calls_left}

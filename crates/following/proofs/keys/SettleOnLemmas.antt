@@ -1,7 +1,7 @@
 -- A choice that holds goes on to one that holds behind a past moment: the front of an order, without what is refused later.
 use Rattle.std.proofs.Common.{◌≡◌, ℕ, ◌<◌, ◌≤◌, Bool, true, false, not, nat_lt, List, [], ◌∷◌, ◌++◌, length, Option, Some, None, filter, filter_map, map, refl}
-use Rattle.std.proofs.Common.{sym, ap, ◌∙◌, subst, ⊎_elim, inl, inr, arith, is_some}
-use Rattle.std.specs.Prelude.{◌≢◌, ◌↔◌, ◌⊎◌, All, AllPairs, Contains}
+use Rattle.std.proofs.Common.{sym, ap, ◌∙◌, subst, ⊎_elim, inl, inr, arith}
+use Rattle.std.specs.Prelude.{◌≢◌, ◌⊎◌, All, AllPairs, Contains}
 use Rattle.std.proofs.lemmas.Bool.{both_ways, not-true, not_from_false, ltb-true, lt-ltb}
 use Rattle.std.proofs.lemmas.Option.{none-some}
 use Rattle.std.proofs.lemmas.List.Elements.{All-contains, Contains-append_left, Contains-append_right, Contains-append_cases}
@@ -18,26 +18,26 @@ use Rattle.list_laws.proofs.Lists.{Contains-first, Contains-later}
 use Rattle.list_laws.proofs.NumberLemmas.{has_number-Contains, has_number-from_Contains}
 use Rattle.list_laws.proofs.FilterLemmas.{AllPairs-map, AllPairs-weaker, Contains-filter_map, Contains-from_filter_map, Contains-map, Contains-from_map}
 use Rattle.map_object.specs.MapObject.{Contents, value_at}
-use Rattle.orders.specs.Orders.{after_call, after_calls, IsLegal, IsLinearizable}
+use Rattle.orders.specs.Orders.{after_calls, IsLegal}
 use Rattle.orders.proofs.OrderLemmas.{IsLegal-append, IsLegal-front, IsLegal-back}
 use Rattle.segments.proofs.RangeLemmas.{IsInside}
 use Rattle.quiet_cuts.specs.Cells.{calls_left}
 use Rattle.quiet_cuts.proofs.SetLemmas.{IsOrderOfSet, Completed, same_call}
-use Rattle.following.specs.moments.KeyCalls.{kind_of, spread_call, part_at, at_key}
+use Rattle.following.specs.moments.KeyCalls.{part_at, at_key}
 use Rattle.following.specs.moments.Timings.{IsTiming}
 use Rattle.following.specs.keys.Choices.{Choice}
 use Rattle.following.specs.keys.KeyStates.{one_key, Timings, Tells, MayHaveFound}
-use Rattle.following.specs.keys.Settling.{IsKeyCut, calls_among, AreInTurn, found_in, GoesOn}
-use Rattle.following.proofs.cuts.PastLemmas.{IsShortestFront, shortest, completed_before}
-use Rattle.following.proofs.moments.DistinctLemmas.{order_from_linearizable, linearizable_from_order}
+use Rattle.following.specs.keys.Settling.{IsKeyCut, calls_among, found_in, GoesOn}
+use Rattle.following.proofs.cuts.PastLemmas.{IsShortestFront, completed_before}
+use Rattle.following.proofs.moments.DistinctLemmas.{linearizable_from_order}
 use Rattle.following.proofs.moments.KeyLegalLemmas.{at_key_inside}
 use Rattle.following.proofs.keys.ChoiceLemmas.{HoldsChoice}
 use Rattle.following.proofs.keys.EarlyLemmas.{into_left, from_left_at, left_differ, left_alone, same_part, into_now, from_now, same_spread, own_at, own_tells, one_origin, upto}
 use Rattle.following.proofs.keys.EarlyLemmas.{IsEarly, early_ended, early_begun, begun_own, early_from}
 use Rattle.following.proofs.keys.FoundLemmas.{part_finds, found_by, found_tells, unspread, unspread_is, unspread_has, leaves_one}
-use Rattle.following.proofs.keys.GrownLemmas.{IsGrown, grown_inv}
+use Rattle.following.proofs.keys.GrownLemmas.{grown_inv}
 use Rattle.following.proofs.keys.GrownPartLemmas.{to_later}
-use Rattle.following.proofs.keys.InTurnLemmas.{legal_filter, is_refused_from, refused_changes_nothing, refused_legal, refused_waits, ended_not_refused}
+use Rattle.following.proofs.keys.InTurnLemmas.{legal_filter, is_refused_from, refused_changes_nothing, refused_legal, ended_not_refused}
 use Rattle.following.proofs.keys.InTurnLemmas.{cut_response, cut, grown_cut, legal_cut, cut_waits}
 use Rattle.following.proofs.keys.KeyCallLemmas.{front_begun}
 use Rattle.following.proofs.keys.RefuteLemmas.{from_not}

@@ -2,13 +2,12 @@
 use Rattle.events.specs.declared.event.Reply.TheVariants as replies
 use Rattle.std.proofs.Common.{◌≡◌, ℕ, ◌==◌, Bool, true, false, not, List, [], ◌∷◌, ◌++◌, Option, Some, None, filter, map, refl, sym, ap, ◌∙◌, subst}
 use Rattle.std.proofs.Common.{⊎_elim, inl, inr, is_some}
-use Rattle.std.specs.Prelude.{◌≢◌, ◌↔◌, ◌⊎◌, All, AllPairs, Any, Contains}
+use Rattle.std.specs.Prelude.{◌≢◌, ◌↔◌, ◌⊎◌, All, AllPairs, Contains}
 use Rattle.std.proofs.lemmas.Bool.{both_ways, not-true, not_from_false, false_from_ne_true, eqb-true, eq-eqb}
-use Rattle.std.proofs.lemmas.List.Elements.{All-contains, All-contains_itself, Contains-append_left, Contains-append_right, Contains-append_cases}
+use Rattle.std.proofs.lemmas.List.Elements.{All-contains, Contains-append_left, Contains-append_right, Contains-append_cases}
 use Rattle.std.proofs.lemmas.List.Kept.{AllPairs-filter, AllPairs-cons}
 use Rattle.events.specs.declared.event.Call.{Call}
 use Rattle.events.specs.declared.event.Call.TheVariants.{Get, Insert, Remove, Scan, Replace}
-use Rattle.events.specs.declared.event.Event.{Event}
 use Rattle.events.specs.declared.event.Reply.{Reply}
 use Rattle.events.specs.declared.operation.Operation.{Operation}
 use Rattle.events.specs.declared.operation.Response.{Response}
@@ -28,17 +27,17 @@ use Rattle.quiet_cuts.specs.TimeCuts.{InvocationsRise}
 use Rattle.quiet_cuts.proofs.ContinueLemmas.{completed_stays}
 use Rattle.quiet_cuts.proofs.LeftLemmas.{left_from, not_dropped, in_left, from_left, left_rises}
 use Rattle.quiet_cuts.proofs.SetLemmas.{IsOrderOfSet, Completed, same_call}
-use Rattle.following.specs.moments.KeyCalls.{Kind, OfKey, Told, Silent, kind_of_scan, kind_of, spread_response, spread_call, part_at, at_key}
+use Rattle.following.specs.moments.KeyCalls.{Kind, OfKey, Told, Silent, kind_of_scan, kind_of, spread_response, part_at, at_key}
 use Rattle.following.specs.moments.Timings.{IsToldScan, IsTiming}
 use Rattle.following.specs.keys.Answers.{SaysNothing, IsSilent}
-use Rattle.following.specs.keys.KeyStates.{one_key, Configuration, KeyState, Holds, SomeHolds}
+use Rattle.following.specs.keys.KeyStates.{one_key, Holds}
 use Rattle.following.specs.keys.Laws.{SilentCallsGo}
 use Rattle.following.proofs.moments.DistinctLemmas.{InvocationsDiffer, differ_from_rise, same_invocation, HasOrder}
 use Rattle.following.proofs.moments.DistinctLemmas.{order_from_linearizable, linearizable_from_order}
 use Rattle.following.proofs.moments.KindLemmas.{IsPart, part_is}
 use Rattle.following.proofs.moments.PartLemmas.{waits_to, part_ends, part_inv, spread_differs, at_key_differ}
 use Rattle.following.proofs.keys.ChoiceLemmas.{any_from, any_to, stands_too}
-use Rattle.following.proofs.keys.InTurnLemmas.{ChangesNothing, legal_filter, HasPlace, place_for}
+use Rattle.following.proofs.keys.InTurnLemmas.{ChangesNothing, legal_filter, place_for}
 
 -- a call that may come anywhere and changes nothing
 abbrev pub MayComeAnywhere : Operation → Type 0

@@ -1,17 +1,14 @@
 -- An open get may not go: it is told later what the key never had.
 use Rattle.events.specs.declared.event.Reply.TheVariants as replies
-use Rattle.std.proofs.Common.{◌≡◌, ℕ, zero, suc, ◌<◌, Bool, true, List, [], ◌∷◌, ◌++◌, Option, Some, None, refl, sym, ap, ◌∙◌, subst, ⊎_elim, arith}
-use Rattle.std.specs.Prelude.{All, Any, Contains}
+use Rattle.std.proofs.Common.{◌≡◌, zero, suc, ◌<◌, true, List, [], ◌∷◌, Some, None, refl, sym, subst, ⊎_elim, arith}
+use Rattle.std.specs.Prelude.{Any, Contains}
 use Rattle.std.proofs.lemmas.List.Elements.{All-nil, All-head}
 use Rattle.events.specs.declared.event.Call.TheVariants.{Get}
 use Rattle.events.specs.declared.event.Event.{Event}
 use Rattle.events.specs.declared.event.Event.TheVariants.{Invoke, Answer}
 use Rattle.events.specs.declared.operation.Operation.{Operation}
-use Rattle.events.specs.declared.operation.Response.{Response}
-use Rattle.events.specs.Operations.{operations}
-use Rattle.list_laws.proofs.Lists.{Any-first, AllPairs-nil, Contains-first, Contains-nil, Contains-cases}
-use Rattle.map_object.specs.MapObject.{Contents}
-use Rattle.orders.specs.Orders.{IsLinearizable, IsOrder}
+use Rattle.list_laws.proofs.Lists.{Any-first, Contains-first, Contains-nil, Contains-cases}
+use Rattle.orders.specs.Orders.{IsLinearizable}
 use Rattle.following.specs.moments.KeyCalls.{OfKey, Told}
 use Rattle.following.specs.moments.Timings.{IsToldScan, IsTiming}
 use Rattle.following.specs.keys.KeyStates.{one_key, Configuration, KeyState, Timings, MayHaveFound, Holds, SomeHolds, KeyStandsFor}

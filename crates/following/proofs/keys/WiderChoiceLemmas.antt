@@ -1,18 +1,16 @@
 -- Values of configurations with other calls taken may not be united: an open insert would find what it puts itself.
 use Rattle.events.specs.declared.event.Reply.TheVariants as replies
-use Rattle.std.proofs.Common.{◌≡◌, ℕ, zero, suc, ◌<◌, ◌==◌, Bool, true, false, List, [], ◌∷◌, ◌++◌, Option, Some, None, filter, refl, sym, ap, ◌∙◌}
+use Rattle.std.proofs.Common.{◌≡◌, ℕ, zero, suc, ◌<◌, Bool, true, false, List, [], ◌∷◌, ◌++◌, Option, Some, None, refl, sym, ap, ◌∙◌}
 use Rattle.std.proofs.Common.{subst, ⊎_elim, inl, inr, arith}
-use Rattle.std.specs.Prelude.{◌≢◌, ◌↔◌, ◌⊎◌, IsSomeAnd, All, AllPairs, Any, Contains}
+use Rattle.std.specs.Prelude.{◌≢◌, ◌↔◌, ◌⊎◌, AllPairs, Any, Contains}
 use Rattle.std.specs.List.{AllZip}
 use Rattle.std.proofs.lemmas.Bool.{both_ways, cases_order}
-use Rattle.std.proofs.lemmas.List.Elements.{All-nil, All-cons, All-head, All-contains, Contains-append_left, Contains-append_right, Contains-append_cases}
-use Rattle.std.proofs.lemmas.Option.{none-some, same_Some}
+use Rattle.std.proofs.lemmas.List.Elements.{All-nil, All-cons, All-head, All-contains, Contains-append_right, Contains-append_cases}
+use Rattle.std.proofs.lemmas.Option.{same_Some}
 use Rattle.events.specs.declared.event.Call.TheVariants.{Insert}
 use Rattle.events.specs.declared.event.Event.{Event}
 use Rattle.events.specs.declared.event.Event.TheVariants.{Invoke, Answer}
 use Rattle.events.specs.declared.operation.Operation.{Operation}
-use Rattle.events.specs.declared.operation.Response.{Response}
-use Rattle.events.specs.Operations.{operations}
 use Rattle.events.specs.Precedence.{is_before, precedes}
 use Rattle.list_laws.specs.Lists.{has_number}
 use Rattle.list_laws.proofs.Lists.{Any-first, AllPairs-head, AllPairs-nil, Contains-first, Contains-later, Contains-nil, Contains-cases}
@@ -25,7 +23,7 @@ use Rattle.following.specs.moments.Timings.{IsToldScan, IsTiming}
 use Rattle.following.specs.keys.Choices.{HaveSame, Choice, IsFoundOf, IsChoiceOf, HasChoice}
 use Rattle.following.specs.keys.KeyStates.{one_key, Configuration, KeyState, Timings, MayHaveFound, Holds, SomeHolds, KeyStandsFor}
 use Rattle.following.specs.keys.Laws.{UnitedValuesGainOrders}
-use Rattle.following.specs.keys.Settling.{IsOpenScanOver, HasPart, IsKeyCut, calls_among, AreInTurn, found_in, GoesOn, SettlesTo}
+use Rattle.following.specs.keys.Settling.{IsOpenScanOver, IsKeyCut, calls_among, AreInTurn, found_in, GoesOn, SettlesTo}
 use Rattle.following.proofs.keys.BeginLemmas.{begins}
 use Rattle.following.proofs.keys.ChoiceLemmas.{any_from, any_to, same_test, same_filter, same_left}
 use Rattle.following.proofs.keys.EarlyLemmas.{part_into, part_from}

@@ -22,8 +22,9 @@ use Rattle.following.specs.rows.Comparisons.{also, Comparison, Before, holds_in,
 use Rattle.following.specs.rows.Rows.{Row}
 use Rattle.following.specs.rows.Laws.{MomentsSuffice}
 use Rattle.following.proofs.moments.PartLemmas.{waits_from}
-use Rattle.following.proofs.keys.GrownLemmas.{IsGrownResponse, IsGrown, in_now, grown_inv, grown_call}
+use Rattle.following.proofs.keys.GrownLemmas.{IsGrownResponse, IsGrown, in_now, grown_inv}
 use Rattle.following.proofs.rows.AlikeLemmas.{alike_cover}
+use Rattle.following.proofs.rows.EndLemmas.{grown_call}
 use Rattle.following.proofs.rows.MovedLemmas.{room, moved, moved_timing, moved_alike, stays, in_gap}
 
 -- ---- a block of the past stays one

@@ -13,9 +13,14 @@ use Rattle.map_object.specs.MapObject.{Contents}
 use Rattle.following.specs.moments.KeyCalls.{Kind, OfKey, Told, Silent, kind_of_scan, kind_of, spread_response, spread_call, get_at}
 use Rattle.following.specs.rows.Blocks.{is_scan, IsOver}
 use Rattle.following.proofs.moments.KindLemmas.{IsPart}
+use Rattle.following.proofs.keys.GrownLemmas.{IsGrown}
 use Rattle.following.proofs.keys.GrownPartLemmas.{scan_not_own}
 
 -- ---- calls by their kinds
+
+-- a call that has grown is the same call
+pub grown_call : (place : ℕ) (a b : Operation) → IsGrown place a b → a.call ≡ b.call
+grown_call place a b grown = sym (ap (λ (c : Operation). c.call) grown.same)
 
 told_scan : (own_low own_high low high : ℕ) (pairs : Contents) (reply : Reply) → kind_of_scan own_low own_high reply ≡ Told low high pairs
     → Scan own_low own_high ≡ Scan low high

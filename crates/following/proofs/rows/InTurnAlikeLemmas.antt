@@ -145,7 +145,7 @@ module _ (calls : List Operation) (rise : InvocationsRise calls) (key : ℕ) (sp
 
   found_either : (n : ℕ) (found : Option ℕ) (x z : Operation) (r s : Option Response) (value : Option ℕ) (rest others : List (ℕ × Option ℕ))
       → AreOne x z → x.response ≡ r → z.response ≡ s → Contains rest (spread n, found) ↔ Contains others (other_spread n, found)
-      → Contains (found_at key x.inv r value rest) (spread n, found) ↔ Contains (found_at key z.inv s value others) (other_spread n, found)
+      → Contains (found_at x.inv r value rest) (spread n, found) ↔ Contains (found_at z.inv s value others) (other_spread n, found)
   found_either n found x z None None value rest others (a, a_is, x_shows, z_shows, same) x_open z_open h =
       let x_at = open_part key spread moment a x x_shows x_open in
       let z_at = open_part key other_spread other_moment a z z_shows z_open in (

@@ -19,11 +19,11 @@ use Rattle.following.specs.rows.Laws.{RowsBegin, RowsGoOn, RowsJudge, RowsRefute
 use Rattle.following.proofs.moments.KeyLemmas.{keys_judge}
 use Rattle.following.proofs.moments.PlaceLemmas.{stand_apart}
 use Rattle.following.proofs.moments.TimedLemmas.{pending_form}
-use Rattle.following.proofs.keys.BeginLemmas.{begins, judges}
+use Rattle.following.proofs.keys.BeginLemmas.{begins}
 use Rattle.following.proofs.keys.ChoiceLemmas.{any_from, any_to}
 use Rattle.following.proofs.keys.GrownLemmas.{in_later, same_completed}
 use Rattle.following.proofs.keys.GrownPartLemmas.{timing_now}
-use Rattle.following.proofs.keys.RefuteLemmas.{order_now}
+use Rattle.following.proofs.keys.RefuteLemmas.{refutes}
 
 -- ---- lists with one part replaced
 
@@ -106,19 +106,14 @@ rows_judge start events rows stands =
     subst (λ (l : List Event). IsLinearizable start (operations l) ↔ SomeRowHolds (operations l) rows) (append-nil events) (stands.orders [])
 
 -- a row that holds with further events holds now
-holds_now : (start : Contents) (events more : List Event) (row : Row) → StatesStand start events row
-    → RowHolds (operations (events ++ more)) row → RowHolds (operations events) row
-holds_now start events more row stand h =
-    let timing = timing_now events more h.spread h.moment h.timing in record {
-      spread = h.spread;
-      moment = h.moment;
-      timing = timing;
-      allowed = h.allowed;
-      each_key = λ key.
-          (judges start events row.allows key (row.states key) h.spread h.moment (stand key) timing h.allowed).0
-          (order_now events more key h.spread h.moment h.timing start
-          ((stand key more h.spread h.moment h.timing h.allowed).1 (h.each_key key)));
-    }
+holds_now : (events more : List Event) (row : Row) → RowHolds (operations (events ++ more)) row → RowHolds (operations events) row
+holds_now events more row h = record {
+  spread = h.spread;
+  moment = h.moment;
+  timing = timing_now events more h.spread h.moment h.timing;
+  allowed = h.allowed;
+  each_key = λ key. refutes events more key (row.states key) h.spread h.moment h.timing (h.each_key key);
+}
 
 -- and scans that have form then have it now
 form_now : (events more : List Event) → HaveScansForm (operations (events ++ more)) → HaveScansForm (operations events)
@@ -139,7 +134,7 @@ rows_refute start events more rows stands none h =
     none (
       form_now events more form,
       any_from (RowHolds (operations events)) rows row is
-          (holds_now start events more row (stands.keys row is) holds),
+          (holds_now events more row holds),
     )
 
 -- ---- a row becomes others
@@ -187,7 +182,7 @@ pub lost_rows_go : LostRowsGo
 lost_rows_go start events front back row none stands =
     replaced start events front back [] row
     (λ part is. absurd (Contains-nil part is))
-    (λ more holds. absurd (none (holds_now start events more row (stands.keys row (in_rows front back row)) holds)))
+    (λ more holds. absurd (none (holds_now events more row holds)))
     (λ more part is. absurd (Contains-nil part is))
     stands
 

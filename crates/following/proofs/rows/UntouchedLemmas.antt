@@ -27,9 +27,9 @@ use Rattle.following.proofs.moments.KindLemmas.{IsPart, part_is}
 use Rattle.following.proofs.moments.PartLemmas.{waits_from, at_key_differ}
 use Rattle.following.proofs.moments.TimedLemmas.{part_completed}
 use Rattle.following.proofs.keys.BeginLemmas.{judges}
-use Rattle.following.proofs.keys.GrownLemmas.{IsGrownResponse, IsGrown, operation, in_later, in_now, grown_call, same_completed}
+use Rattle.following.proofs.keys.GrownLemmas.{IsGrownResponse, IsGrown, operation, in_later, in_now, same_completed}
 use Rattle.following.proofs.keys.GrownPartLemmas.{timing_now}
-use Rattle.following.proofs.rows.EndLemmas.{told_call, own_call}
+use Rattle.following.proofs.rows.EndLemmas.{grown_call, told_call, own_call}
 
 -- a call that is something at a key is over it
 pub over_from_part : (key : ℕ) (spread moment : ℕ → ℕ) (a x : Operation) → part_at key spread moment a ≡ Some x → IsOver key a.call

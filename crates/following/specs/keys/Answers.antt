@@ -1,11 +1,14 @@
 -- What answers do to what is kept of a key.
 use Rattle.events.specs.declared.event.Reply.TheVariants as replies
-use Rattle.std.specs.Prelude.{◌≡◌, ◌↔◌, ◌⊎◌, ℕ, ◌==◌, not, List, filter, Option, Some, None, All, Any, Contains}
+use Rattle.std.specs.Prelude.{◌≡◌, ◌≢◌, ◌↔◌, ◌⊎◌, ℕ, ◌≤◌, ◌==◌, not, List, ◌++◌, length, filter, Option, Some, None, All, Any, Contains}
 use Rattle.events.specs.declared.event.Call.{Call}
 use Rattle.events.specs.declared.event.Call.TheVariants.{Get, Insert, Remove, Scan, Replace}
+use Rattle.events.specs.declared.event.Event.{Event}
 use Rattle.events.specs.declared.event.Reply.{Reply}
 use Rattle.events.specs.declared.operation.Operation.{Operation}
 use Rattle.events.specs.declared.operation.Response.{Response}
+use Rattle.events.specs.Operations.{operations}
+use Rattle.following.specs.moments.KeyCalls.{part_at}
 use Rattle.following.specs.keys.KeyStates.{Configuration, KeyState, Tells}
 
 -- a reply with which a get says nothing
@@ -34,3 +37,13 @@ AgreesWith a c = All (λ entry. entry.0 ≡ a.inv → Any (Tells a.call a.respon
 abbrev pub IsNarrowedBy : Operation → KeyState → KeyState → Type 0
 IsNarrowedBy a k l = (l.gone ≡ k.gone) × ((d : Configuration) → Contains l.configurations d
     ↔ ((c : Configuration) × Contains k.configurations c × AgreesWith a c × (d ≡ without_ahead a.inv c)))
+
+-- no configuration notes anything for a call
+abbrev pub IsNotAhead : ℕ → KeyState → Type 0
+IsNotAhead place k = All (λ c. All (λ entry. entry.0 ≢ place) c.ahead) k.configurations
+
+-- further events tell nothing of a key: what they answer is answered `done`, or is nothing at the key and nowhere noted
+abbrev pub TellNothing : List Event → List Event → ℕ → (ℕ → ℕ) → (ℕ → ℕ) → KeyState → Type 0
+TellNothing events more key spread moment k =
+    (a : Operation) (r : Response) → Contains (operations (events ++ more)) a → a.response ≡ Some r → length events ≤ r.res
+    → (r.reply ≡ replies.Done) ⊎ ((part_at key spread moment a ≡ None) × IsNotAhead a.inv k)

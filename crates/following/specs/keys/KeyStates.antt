@@ -56,6 +56,12 @@ SomeHolds key spread moment calls k = Any (Holds key spread moment calls k.gone)
 abbrev pub Timings : Type 0
 Timings = (ℕ → ℕ) → (ℕ → ℕ) → Bool
 
+-- a configuration holds now in no timing of the class
+abbrev pub IsRefuted : List Event → Timings → ℕ → List ℕ → Configuration → Type 0
+IsRefuted events allows key gone c =
+    (spread moment : ℕ → ℕ) → IsTiming (operations events) spread moment → allows spread moment ≡ true
+    → Holds key spread moment (operations events) gone c → ⊥
+
 -- What is kept of a key stands for the events so far, for a class of timings: with any further events, in each such timing, the calls at the
 -- key have an order from the start exactly where some configuration holds.
 abbrev pub KeyStandsFor : Contents → List Event → Timings → ℕ → KeyState → Type 0

@@ -1,18 +1,20 @@
 -- Laws of what is kept of a key.
-use Rattle.std.specs.Prelude.{◌≡◌, ◌↔◌, ℕ, true, List, [], ◌∷◌, ◌++◌, All, Contains}
+use Rattle.std.specs.Prelude.{◌≡◌, ◌↔◌, ◌⊎◌, ℕ, true, List, [], ◌∷◌, ◌++◌, All, Contains}
 use Rattle.events.specs.declared.event.Event.{Event}
 use Rattle.events.specs.declared.operation.Operation.{Operation}
 use Rattle.events.specs.Operations.{operations}
 use Rattle.events.specs.Precedence.{is_completed}
 use Rattle.map_object.specs.MapObject.{Contents, IsRising, value_at}
-use Rattle.orders.specs.Orders.{IsLinearizable}
+use Rattle.orders.specs.Orders.{after_calls, IsLinearizable}
+use Rattle.quiet_cuts.specs.Leaves.{Leaves}
+use Rattle.quiet_cuts.specs.TimeCuts.{InvocationsRise}
 use Rattle.following.specs.moments.KeyCalls.{at_key}
 use Rattle.following.specs.moments.Timings.{IsTiming}
-use Rattle.following.specs.keys.Answers.{IsSilent, IsNarrowedBy}
-use Rattle.following.specs.keys.Choices.{HaveSameChoices, HaveSameValues, with_gone}
-use Rattle.following.specs.keys.KeyStates.{KeyState, Timings, SomeHolds, KeyStandsFor}
+use Rattle.following.specs.keys.Answers.{IsSilent, IsNarrowedBy, TellNothing}
+use Rattle.following.specs.keys.Choices.{HaveSame, HaveSameChoices, HaveSameValues, with_gone}
+use Rattle.following.specs.keys.KeyStates.{Configuration, KeyState, Timings, SomeHolds, IsRefuted, KeyStandsFor}
 use Rattle.following.specs.keys.PlaceCuts.{IsPlaceCut}
-use Rattle.following.specs.keys.Settling.{IsKeyCut, SettlesTo, SettlesQuietly}
+use Rattle.following.specs.keys.Settling.{IsKeyCut, AreInTurn, SettlesTo, SettlesQuietly}
 use Rattle.following.specs.keys.WiderAnswers.{OpenGetsGo}
 use Rattle.following.specs.keys.WiderChoices.{UnitedValuesStand}
 
@@ -38,12 +40,26 @@ KeysJudge =
     → KeyStandsFor start events allows key k → IsTiming (operations events) spread moment → allows spread moment ≡ true
     → IsLinearizable start (at_key key spread moment (operations events)) ↔ SomeHolds key spread moment (operations events) k
 
--- where none holds now, none will with any further events
+-- and what holds with further events holds now: where no configuration holds now, none will
 abbrev pub KeysRefute : Type 0
 KeysRefute =
-    (start : Contents) (events more : List Event) (allows : Timings) (key : ℕ) (k : KeyState) (spread moment : ℕ → ℕ)
-    → KeyStandsFor start events allows key k → IsTiming (operations (events ++ more)) spread moment → allows spread moment ≡ true
-    → (SomeHolds key spread moment (operations events) k → ⊥) → SomeHolds key spread moment (operations (events ++ more)) k → ⊥
+    (events more : List Event) (key : ℕ) (k : KeyState) (spread moment : ℕ → ℕ) → IsTiming (operations (events ++ more)) spread moment
+    → SomeHolds key spread moment (operations (events ++ more)) k → SomeHolds key spread moment (operations events) k
+
+-- so a configuration goes that holds now in no timing
+abbrev pub RefutedConfigurationsGo : Type 0
+RefutedConfigurationsGo =
+    (start : Contents) (events : List Event) (allows : Timings) (key : ℕ) (k l : KeyState) → l.gone ≡ k.gone
+    → ((c : Configuration) → Contains l.configurations c → Contains k.configurations c)
+    → ((c : Configuration) → Contains k.configurations c → Contains l.configurations c ⊎ IsRefuted events allows key k.gone c)
+    → KeyStandsFor start events allows key k → KeyStandsFor start events allows key l
+
+-- and where further events tell nothing of the key, what holds now holds with them
+abbrev pub SilenceHolds : Type 0
+SilenceHolds =
+    (events more : List Event) (key : ℕ) (k : KeyState) (spread moment : ℕ → ℕ) → IsTiming (operations (events ++ more)) spread moment
+    → TellNothing events more key spread moment k
+    → SomeHolds key spread moment (operations events) k → SomeHolds key spread moment (operations (events ++ more)) k
 
 -- it is the choices that matter, and not the configurations that have them
 abbrev pub SameChoicesStand : Type 0
@@ -91,6 +107,12 @@ abbrev pub PlacesTellCuts : Type 0
 PlacesTellCuts =
     (events : List Event) (allows : Timings) (key : ℕ) (gone : List ℕ) (place : ℕ) (ended begun : List ℕ)
     → IsPlaceCut events allows key gone place ended begun → IsKeyCut events allows key gone place ended begun
+
+-- to be done in turn is to be left something: so what is known of the pairs that calls leave holds of settlements too
+abbrev pub TurnsLeave : Type 0
+TurnsLeave =
+    (m left : Contents) (calls sorted : List Operation) → HaveSame sorted calls → InvocationsRise sorted
+    → Leaves m sorted left ↔ ((order : List Operation) × AreInTurn m calls order × (left ≡ after_calls m order))
 
 -- at any past moment of a key its choices may become those to which they go on, with calls open or not
 abbrev pub KeysSettle : Type 0

@@ -56,13 +56,13 @@ pub record AreInTurn (m : Contents) (calls order : List Operation) : Type 0 wher
   pub legal : IsLegal m order
 
 -- what open calls find at a key, where calls are done in turn: the places of their invocations, and the values
-abbrev pub found_at : ℕ → ℕ → Option Response → Option ℕ → List (ℕ × Option ℕ) → List (ℕ × Option ℕ)
-found_at key place None value rest = (place, value) ∷ rest
-found_at key place (Some response) value rest = rest
+abbrev pub found_at : ℕ → Option Response → Option ℕ → List (ℕ × Option ℕ) → List (ℕ × Option ℕ)
+found_at place None value rest = (place, value) ∷ rest
+found_at place (Some response) value rest = rest
 
 abbrev pub found_in : ℕ → Contents → List Operation → List (ℕ × Option ℕ)
 found_in key m [] = []
-found_in key m (a ∷ order) = found_at key a.inv a.response (value_at m key) (found_in key (after_call m a.call a.response) order)
+found_in key m (a ∷ order) = found_at a.inv a.response (value_at m key) (found_in key (after_call m a.call a.response) order)
 
 -- a choice goes on to one behind the moment: the calls that ended before it and some of those that were open then, but for those that it has
 -- taken already, are done in turn from its value, and leave the value of the other; what open ones found is noted

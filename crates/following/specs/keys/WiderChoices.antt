@@ -2,7 +2,7 @@
 use Rattle.std.specs.Prelude.{ℕ, List, [], ◌∷◌, ◌++◌}
 use Rattle.events.specs.declared.event.Event.{Event}
 use Rattle.map_object.specs.MapObject.{Contents}
-use Rattle.following.specs.keys.KeyStates.{Configuration, KeyState, Timings, KeyStandsFor}
+use Rattle.following.specs.keys.KeyStates.{Configuration, Timings, KeyStandsFor}
 
 -- that two configurations are one with the values of both, whatever calls the second has taken
 abbrev pub UnitedValuesStand : Type 0

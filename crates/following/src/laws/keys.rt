@@ -1,7 +1,8 @@
 // Laws of what is kept of a key: each function only carries its clause.
 ghost use Rattle.following.specs.keys.Laws.{AnswersNarrow, EqualConfigurationsJoin, KeysBegin, KeysGoOn, KeysJudge, KeysRefute};
 ghost use Rattle.following.specs.keys.Laws.{KeysSettle, OpenGetsLoseAnswers, QuietKeysSettle, SameChoicesStand, SilentCallsGo};
-ghost use Rattle.following.specs.keys.Laws.{PlacesTellCuts, TakenCallsGo, UnitedValuesGainOrders};
+ghost use Rattle.following.specs.keys.Laws.{PlacesTellCuts, RefutedConfigurationsGo, TakenCallsGo, TurnsLeave};
+ghost use Rattle.following.specs.keys.Laws.{SilenceHolds, UnitedValuesGainOrders};
 
 /// Before any event a key has the value of the start, with no call gone or taken.
 pub fn keys_begin()
@@ -19,9 +20,21 @@ pub fn keys_judge()
     ensures { KeysJudge }
 {}
 
-/// Where no configuration holds, none does with any further events, in the same timing.
+/// Where some configuration holds with further events, some holds now, in the same timing: so where none does, the calls get no order
+/// by further events.
 pub fn keys_refute()
     ensures { KeysRefute }
+{}
+
+/// Where further events tell nothing of a key, what holds now holds with them: invocations, answers `done`, and answers of calls that are
+/// nothing at the key need no search.
+pub fn silence_holds()
+    ensures { SilenceHolds }
+{}
+
+/// A configuration that holds in no timing of the class now goes: it never will.
+pub fn refuted_configurations_go()
+    ensures { RefutedConfigurationsGo }
 {}
 
 /// Configurations may be put together or apart, repeated or ordered in any way, and calls that all have taken may be gone, as
@@ -67,6 +80,11 @@ pub fn answers_narrow()
 /// key has to have its moment before the place in each timing of the class, or behind it.
 pub fn places_tell_cuts()
     ensures { PlacesTellCuts }
+{}
+
+/// Calls that are done in turn leave what an order of them leaves, by whatever list of the same calls.
+pub fn turns_leave()
+    ensures { TurnsLeave }
 {}
 
 /// At any past moment the calls of a key that ended before it, and some of those that were open then, are done in turn, and what
