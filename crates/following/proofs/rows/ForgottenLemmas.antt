@@ -22,17 +22,11 @@ use Rattle.following.specs.rows.Laws.{ForgottenScansJoin}
 use Rattle.following.proofs.moments.KindLemmas.{IsPart, part_is}
 use Rattle.following.proofs.keys.GrownLemmas.{in_now, same_completed, grown_inv}
 use Rattle.following.proofs.rows.AlikeLemmas.{alike_join}
+use Rattle.following.proofs.rows.ComparisonLemmas.{hold_both}
 use Rattle.following.proofs.rows.EndLemmas.{Ends, rising_keeps, precedes_same, ends_by_kind}
 use Rattle.following.proofs.rows.MixedLemmas.{here, there, mixed, here_rises, there_rises, there_before, there_behind, apart}
 
--- two lists of comparisons hold together exactly where both do
-hold_both : (spread moment : ℕ → ℕ) (cs ds : List Comparison) → all_hold spread moment cs ≡ true → all_hold spread moment ds ≡ true
-    → all_hold spread moment (cs ++ ds) ≡ true
-hold_both spread moment [] ds first second = second
-hold_both spread moment (c ∷ cs) ds first second =
-    let parts = and_parts (holds_in spread moment c) (all_hold spread moment cs) first in
-    and_from (holds_in spread moment c) (all_hold spread moment (cs ++ ds)) parts.0 (hold_both spread moment cs ds parts.1 second)
-
+-- the first of two lists of comparisons that hold together does
 hold_first : (spread moment : ℕ → ℕ) (cs ds : List Comparison) → all_hold spread moment (cs ++ ds) ≡ true → all_hold spread moment cs ≡ true
 hold_first spread moment [] ds h = refl
 hold_first spread moment (c ∷ cs) ds h =

@@ -1,7 +1,7 @@
 -- Classes of timings by comparisons: of the moment of a scan with the place of an event, or with the moment of another scan. A scan is named by the
 -- place of its invocation. So an interval of a moment is two comparisons, and an exact moment is one between two neighbouring events, with
 -- the order of those scans that have theirs there too.
-use Rattle.std.specs.Prelude.{◌≡◌, ℕ, ◌≤◌, Bool, true, nat_lt, ◌&&◌, List, [], ◌∷◌, Some, Contains}
+use Rattle.std.specs.Prelude.{◌≡◌, ℕ, ◌≤◌, Bool, true, nat_lt, ◌&&◌, List, [], ◌∷◌, ◌++◌, Some, Contains}
 use Rattle.events.specs.declared.operation.Operation.{Operation}
 use Rattle.events.specs.declared.operation.Response.{Response}
 use Rattle.following.specs.moments.Timings.{IsToldScan}
@@ -29,6 +29,16 @@ class_of comparisons = λ spread moment. all_hold spread moment comparisons
 -- a class with a comparison more
 abbrev pub also : Timings → List Comparison → Timings
 also allows comparisons = λ spread moment. allows spread moment && class_of comparisons spread moment
+
+-- the gaps of a scan between some events, by comparisons: before the first, from each to the next, and behind the last
+abbrev pub gaps_from : ℕ → List Comparison → List ℕ → List (List Comparison)
+gaps_from scan from [] = from ∷ []
+gaps_from scan from (place ∷ places) = (from ++ Before scan place ∷ []) ∷ gaps_from scan (Behind scan place ∷ []) places
+
+-- and its turns among some scans
+abbrev pub turns_from : ℕ → List Comparison → List ℕ → List (List Comparison)
+turns_from scan from [] = from ∷ []
+turns_from scan from (other ∷ others) = (from ++ InTurn scan other ∷ []) ∷ turns_from scan (InTurn other scan ∷ []) others
 
 -- a comparison of such scans alone
 abbrev pub SpeaksOf : (ℕ → Type 0) → Comparison → Type 0

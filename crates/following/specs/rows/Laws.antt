@@ -1,5 +1,5 @@
 -- Laws of rows.
-use Rattle.std.specs.Prelude.{◌≡◌, ◌≢◌, ◌↔◌, ℕ, suc, true, ◌<◌, ◌≤◌, List, [], ◌∷◌, ◌++◌, length, map, All, Contains}
+use Rattle.std.specs.Prelude.{◌≡◌, ◌≢◌, ◌↔◌, ℕ, suc, true, ◌<◌, ◌≤◌, List, [], ◌∷◌, ◌++◌, length, map, All, Any, Contains}
 use Rattle.std.specs.List.{AllZip}
 use Rattle.events.specs.declared.event.Event.{Event}
 use Rattle.events.specs.declared.operation.Operation.{Operation}
@@ -14,7 +14,7 @@ use Rattle.following.specs.keys.Settling.{SettlesTo, SettlesQuietly}
 use Rattle.following.specs.keys.KeyStates.{KeyState, Timings, SomeHolds, KeyStandsFor}
 use Rattle.following.specs.rows.Alike.{AreAlikeAt, HaveAlike, IsGoneAtAll, DifferInGone}
 use Rattle.following.specs.rows.Blocks.{IsBlock, Stays}
-use Rattle.following.specs.rows.Comparisons.{Comparison, Behind, Before, InTurn, class_of, also, SpeaksOf, Implies, Gainsay}
+use Rattle.following.specs.rows.Comparisons.{Comparison, Behind, Before, InTurn, class_of, also, gaps_from, turns_from, SpeaksOf, Implies, Gainsay}
 use Rattle.following.specs.rows.Cuts.{IsComparedCut}
 use Rattle.following.specs.rows.Fixed.{IsBefore, IsBehind, AreFixed, SettlesIn, IsSettledIn}
 use Rattle.following.specs.rows.Rows.{Row, RowHolds, SomeRowHolds, RowsStandFor, first_row, with_class, IsWithin, Cover}
@@ -117,6 +117,19 @@ TurnsCover =
     (events : List Event) (row : Row) (a b : Operation) → Contains (operations events) a → Contains (operations events) b → IsToldScan a
     → IsToldScan b → a.inv ≢ b.inv
     → Cover events row (also row.allows (InTurn a.inv b.inv ∷ []) ∷ also row.allows (InTurn b.inv a.inv ∷ []) ∷ [])
+
+-- so by all gaps between some events
+abbrev pub GapsCover : Type 0
+GapsCover =
+    (events : List Event) (row : Row) (a : Operation) (places : List ℕ) → Contains (operations events) a → IsToldScan a
+    → Cover events row (map (also row.allows) (gaps_from a.inv [] places))
+
+-- and by its turns among some scans
+abbrev pub TurnsAmongCover : Type 0
+TurnsAmongCover =
+    (events : List Event) (row : Row) (a : Operation) (others : List ℕ) → Contains (operations events) a → IsToldScan a
+    → All (λ n. Any (λ b. IsToldScan b × (b.inv ≡ n) × (a.inv ≢ n)) (operations events)) others
+    → Cover events row (map (also row.allows) (turns_from a.inv [] others))
 
 -- what comparisons imply may be added to them
 abbrev pub ImpliedComparisonsHold : Type 0

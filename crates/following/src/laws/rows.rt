@@ -1,6 +1,6 @@
 // Laws of rows: each function only carries its clause, and calls what it rests on.
 ghost use Rattle.following.specs.rows.Laws.{AlikeRowsJoin, AlikeTimingsCover, AlikeTimingsHold, ComparisonsCover, EqualRowsJoin};
-ghost use Rattle.following.specs.rows.Laws.{ComparedCuts, GainsaidRowsAreLost, ImpliedComparisonsHold};
+ghost use Rattle.following.specs.rows.Laws.{ComparedCuts, GainsaidRowsAreLost, GapsCover, TurnsAmongCover, ImpliedComparisonsHold};
 ghost use Rattle.following.specs.rows.Laws.{ComparisonsTellMoments, FixedKeysSettle, FixedKeysSettleQuietly};
 ghost use Rattle.following.specs.rows.Laws.{FixedKeysRefute, FixedRowsJudge, FixedTimingsAlike, ForgottenScansJoin};
 ghost use Rattle.following.specs.rows.Laws.{GoneScansDoNotMatter, LostRowsGo, MomentsSuffice, OpenScansTieMoments, RowsAreExact, RowsBegin, RowsGoOn};
@@ -92,6 +92,16 @@ pub fn comparisons_cover()
 /// A row may be split by two scans that were told pairs: either took effect before the other.
 pub fn turns_cover()
     ensures { TurnsCover }
+{}
+
+/// A row may be split by all gaps of a scan between some events.
+pub fn gaps_cover()
+    ensures { GapsCover }
+{}
+
+/// Or by all its turns among some scans.
+pub fn turns_among_cover()
+    ensures { TurnsAmongCover }
 {}
 
 /// What comparisons imply may be added to them: of earlier and later events, and of scans of which one takes effect first.
