@@ -4,8 +4,8 @@ use Rattle.events.specs.declared.event.Event.{Event}
 use Rattle.map_object.specs.MapObject.{Contents, IsRising}
 use Rattle.following.specs.rows.Rows.{Row, RowsStandFor}
 use Rattle.following.specs.rows.Steps.{Follows}
-use Rattle.following.specs.rows.Laws.{RowsAreExact}
-use Rattle.following.proofs.rows.RowLemmas.{rows_begin, rows_go_on, lost_rows_go, states_may_change, rows_split, equal_rows_join}
+use Rattle.following.specs.rows.Laws.{RowsAreExact, FollowedRowsJudge}
+use Rattle.following.proofs.rows.RowLemmas.{rows_begin, rows_go_on, rows_judge, lost_rows_go, states_may_change, rows_split, equal_rows_join}
 
 module _ (start : Contents) (rising : IsRising start) where
   stand : {events : List Event} {rows : List Row} → Follows start events rows → RowsStandFor start events rows
@@ -21,3 +21,6 @@ module _ (start : Contents) (rising : IsRising start) where
 
 pub rows_are_exact : RowsAreExact
 rows_are_exact start events rows rising followed = stand start rising followed
+
+pub followed_judge : FollowedRowsJudge
+followed_judge start events rows rising followed = rows_judge start events rows (rows_are_exact start events rows rising followed)

@@ -80,9 +80,6 @@ states = (first_row []).states
 
 -- ---- the block
 
-now_is : operations events ≡ open_scan ∷ others
-now_is = refl
-
 block : IsBlockOfTold (open_scan ∷ others) states (1 ∷ []) 2 4
 block = record {
   begun = λ a is tied. let one : 1 ≡ a.inv = only 1 a.inv tied in inl (omega arith);

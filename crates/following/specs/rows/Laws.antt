@@ -223,3 +223,8 @@ FixedKeysSettleQuietly =
 abbrev pub RowsAreExact : Type 0
 RowsAreExact = (start : Contents) (events : List Event) (rows : List Row) → IsRising start → Follows start events rows
     → RowsStandFor start events rows
+
+-- so the verdict is exact
+abbrev pub FollowedRowsJudge : Type 0
+FollowedRowsJudge = (start : Contents) (events : List Event) (rows : List Row) → IsRising start → Follows start events rows
+    → IsLinearizable start (operations events) ↔ SomeRowHolds (operations events) rows

@@ -2,7 +2,7 @@
 ghost use Rattle.following.specs.rows.Laws.{AlikeRowsJoin, AlikeTimingsCover, AlikeTimingsHold, ComparisonsCover, EqualRowsJoin};
 ghost use Rattle.following.specs.rows.Laws.{ComparedCuts, GainsaidRowsAreLost, GapsCover, TurnsAmongCover, ImpliedComparisonsHold};
 ghost use Rattle.following.specs.rows.Laws.{ComparisonsTellMoments, FixedKeysSettle, FixedKeysSettleQuietly};
-ghost use Rattle.following.specs.rows.Laws.{FixedKeysRefute, FixedRowsJudge, FixedTimingsAlike, ForgottenScansJoin};
+ghost use Rattle.following.specs.rows.Laws.{FollowedRowsJudge, FixedKeysRefute, FixedRowsJudge, FixedTimingsAlike, ForgottenScansJoin};
 ghost use Rattle.following.specs.rows.Laws.{GoneScansDoNotMatter, LostRowsGo, MomentsSuffice, OpenScansTieMoments, RowsAreExact, RowsBegin, RowsGoOn};
 ghost use Rattle.following.specs.rows.Laws.{RowsJudge, RowsRefute, RowsSplit, StatesMayChange, TurnsCover, UntouchedKeysHold};
 
@@ -174,7 +174,12 @@ pub fn fixed_keys_settle_quietly()
     ensures { FixedKeysSettleQuietly }
 {}
 
-/// However rows came about, by these steps, they stand for the events; so the events have an order exactly where a row holds.
+/// However rows came about, by these steps, they stand for the events.
 pub fn rows_are_exact()
     ensures { RowsAreExact }
+{}
+
+/// So the events have an order exactly where the scans may be answered so by some map, and some row holds.
+pub fn followed_rows_judge()
+    ensures { FollowedRowsJudge }
 {}
