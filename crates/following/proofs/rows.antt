@@ -4,6 +4,7 @@ pub mod BlockLemmas
 pub mod ComparisonLemmas
 pub mod CutLemmas
 pub mod EndLemmas
+pub mod ExactLemmas
 pub mod FixedLemmas
 pub mod FixedSettleLemmas
 pub mod ForgottenLemmas

@@ -9,3 +9,4 @@ pub mod Rows
 pub mod Steps
 pub mod Untouched
 pub mod WiderBlocks
+pub mod ExactMoments

@@ -21,10 +21,10 @@ pub use laws::keys::{
 pub use laws::moments::{key_calls_rise, keys_stay_apart, operations_stand_apart};
 pub use laws::rows::{
     alike_rows_join, alike_timings_cover, alike_timings_hold, compared_cuts, comparisons_cover,
-    comparisons_tell_moments, equal_rows_join, fixed_keys_refute, fixed_keys_settle,
-    fixed_keys_settle_quietly, fixed_rows_judge, fixed_timings_are_alike, followed_rows_judge,
-    forgotten_scans_join, gainsaid_rows_are_lost, gaps_cover, gone_scans_do_not_matter,
-    implied_comparisons_hold, lost_rows_go, moments_suffice, open_scans_tie_moments,
-    rows_are_exact, rows_begin, rows_go_on, rows_judge, rows_refute, rows_split, states_may_change,
-    turns_among_cover, turns_cover, untouched_keys_hold,
+    comparisons_tell_moments, equal_rows_join, exact_moments_say, exact_moments_time,
+    fixed_keys_refute, fixed_keys_settle, fixed_keys_settle_quietly, fixed_rows_judge,
+    fixed_timings_are_alike, followed_rows_judge, forgotten_scans_join, gainsaid_rows_are_lost,
+    gaps_cover, gone_scans_do_not_matter, implied_comparisons_hold, lost_rows_go, moments_suffice,
+    open_scans_tie_moments, rows_are_exact, rows_begin, rows_go_on, rows_judge, rows_refute,
+    rows_split, states_may_change, turns_among_cover, turns_cover, untouched_keys_hold,
 };

@@ -13,7 +13,6 @@ use Rattle.events.specs.declared.event.Event.TheVariants.{Invoke, Answer}
 use Rattle.events.specs.declared.event.Reply.{Reply}
 use Rattle.events.specs.declared.operation.Operation.{Operation}
 use Rattle.events.specs.declared.operation.Response.{Response}
-use Rattle.events.specs.Operations.{operations}
 use Rattle.events.specs.Precedence.{precedes}
 use Rattle.events.proofs.TimeLemmas.{inv_rises}
 use Rattle.list_laws.proofs.Lists.{AllPairs-nil, AllPairs-head, Any-first, Contains-nil, Contains-first, Contains-later, Contains-cases}

@@ -16,6 +16,7 @@ use Rattle.following.specs.rows.Alike.{AreAlikeAt, HaveAlike, IsGoneAtAll, Diffe
 use Rattle.following.specs.rows.Blocks.{IsBlock, Stays}
 use Rattle.following.specs.rows.Comparisons.{Comparison, Behind, Before, InTurn, class_of, also, gaps_from, turns_from, SpeaksOf, Implies, Gainsay}
 use Rattle.following.specs.rows.Cuts.{IsComparedCut}
+use Rattle.following.specs.rows.ExactMoments.{AreExact, places_by, moments_by, SayExactly, HasRank}
 use Rattle.following.specs.rows.Fixed.{IsBefore, IsBehind, AreFixed, SettlesIn, IsSettledIn}
 use Rattle.following.specs.rows.Rows.{Row, RowHolds, SomeRowHolds, RowsStandFor, first_row, with_class, IsWithin, Cover}
 use Rattle.following.specs.rows.Untouched.{IsUntouched}
@@ -218,6 +219,17 @@ FixedKeysSettleQuietly =
     → class_of comparisons spread moment ≡ true → l.gone ≡ k.gone ++ ended
     → AllZip (IsSettledIn (operations events) key spread moment k.gone ended) k.configurations l.configurations
     → SettlesQuietly events (class_of comparisons) key ended k l
+
+-- exact moments are a timing, in which comparisons hold that say so
+abbrev pub ExactMomentsTime : Type 0
+ExactMomentsTime =
+    (calls : List Operation) (width : ℕ) (gap rank : ℕ → ℕ) → AreExact calls width gap rank
+    → IsTiming calls (places_by width) (moments_by width gap rank)
+
+abbrev pub ExactMomentsSay : Type 0
+ExactMomentsSay =
+    (width : ℕ) (gap rank : ℕ → ℕ) (comparisons : List Comparison) → All (SpeaksOf (HasRank width rank)) comparisons
+    → All (SayExactly gap rank) comparisons → class_of comparisons (places_by width) (moments_by width gap rank) ≡ true
 
 -- however rows came about by these steps, they stand for the events
 abbrev pub RowsAreExact : Type 0

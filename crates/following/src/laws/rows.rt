@@ -2,7 +2,7 @@
 ghost use Rattle.following.specs.rows.Laws.{AlikeRowsJoin, AlikeTimingsCover, AlikeTimingsHold, ComparisonsCover, EqualRowsJoin};
 ghost use Rattle.following.specs.rows.Laws.{ComparedCuts, GainsaidRowsAreLost, GapsCover, TurnsAmongCover, ImpliedComparisonsHold};
 ghost use Rattle.following.specs.rows.Laws.{ComparisonsTellMoments, FixedKeysSettle, FixedKeysSettleQuietly};
-ghost use Rattle.following.specs.rows.Laws.{FollowedRowsJudge, FixedKeysRefute, FixedRowsJudge, FixedTimingsAlike, ForgottenScansJoin};
+ghost use Rattle.following.specs.rows.Laws.{ExactMomentsSay, ExactMomentsTime, FollowedRowsJudge, FixedKeysRefute, FixedRowsJudge, FixedTimingsAlike, ForgottenScansJoin};
 ghost use Rattle.following.specs.rows.Laws.{GoneScansDoNotMatter, LostRowsGo, MomentsSuffice, OpenScansTieMoments, RowsAreExact, RowsBegin, RowsGoOn};
 ghost use Rattle.following.specs.rows.Laws.{RowsJudge, RowsRefute, RowsSplit, StatesMayChange, TurnsCover, UntouchedKeysHold};
 
@@ -172,6 +172,16 @@ pub fn fixed_keys_settle()
 /// So it is where none of its calls was open.
 pub fn fixed_keys_settle_quietly()
     ensures { FixedKeysSettleQuietly }
+{}
+
+/// A gap for each scan, and ranks in each gap, are a timing by numbers.
+pub fn exact_moments_time()
+    ensures { ExactMomentsTime }
+{}
+
+/// In it comparisons hold that say what gaps and ranks do.
+pub fn exact_moments_say()
+    ensures { ExactMomentsSay }
 {}
 
 /// However rows came about, by these steps, they stand for the events.
