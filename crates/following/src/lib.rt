@@ -16,7 +16,7 @@ pub use laws::keys::{
     answers_narrow, equal_configurations_join, keys_begin, keys_go_on, keys_judge, keys_refute,
     keys_settle, open_gets_lose_answers, places_tell_cuts, quiet_keys_settle,
     refuted_configurations_go, same_choices_stand, silence_holds, silent_calls_go, taken_calls_go,
-    turns_leave,
+    turns_leave, united_values_gain_orders,
 };
 pub use laws::moments::{key_calls_rise, keys_stay_apart, operations_stand_apart};
 pub use laws::rows::{
