@@ -1,3 +1,4 @@
 pub mod cuts
 pub mod keys
 pub mod moments
+pub mod rows

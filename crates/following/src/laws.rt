@@ -2,3 +2,4 @@
 pub mod cuts;
 pub mod keys;
 pub mod moments;
+pub mod rows;

@@ -3,6 +3,7 @@
 //!   may go first.
 //! - moments: scans take effect at moments, and each key is judged by itself.
 //! - keys: what is kept of a key while events come, and what it becomes at answers and at past moments, with calls open or not.
+//! - rows: what is kept of a stream, a row for each way in which its scans may have taken effect, and when rows go, part and join.
 #![tactic(auto)]
 
 mod laws;
@@ -15,6 +16,15 @@ pub use laws::keys::{
     answers_narrow, equal_configurations_join, keys_begin, keys_go_on, keys_judge, keys_refute,
     keys_settle, open_gets_lose_answers, places_tell_cuts, quiet_keys_settle,
     refuted_configurations_go, same_choices_stand, silence_holds, silent_calls_go, taken_calls_go,
-    turns_leave,
+    turns_leave, united_values_gain_orders,
 };
 pub use laws::moments::{key_calls_rise, keys_stay_apart, operations_stand_apart};
+pub use laws::rows::{
+    alike_rows_join, alike_timings_cover, alike_timings_hold, compared_cuts, comparisons_cover,
+    comparisons_tell_moments, equal_rows_join, exact_moments_say, exact_moments_time,
+    fixed_keys_refute, fixed_keys_settle, fixed_keys_settle_quietly, fixed_rows_judge,
+    fixed_timings_are_alike, followed_rows_judge, forgotten_scans_join, gainsaid_rows_are_lost,
+    gaps_cover, gone_scans_do_not_matter, implied_comparisons_hold, lost_rows_go, moments_suffice,
+    open_scans_tie_moments, rows_are_exact, rows_begin, rows_go_on, rows_judge, rows_refute,
+    rows_split, states_may_change, turns_among_cover, turns_cover, untouched_keys_hold,
+};

@@ -60,7 +60,7 @@ legal_forms m (b ∷ order) rising legal a a_is = ⊎_elim
     (Contains-cases b order a a_is)
 
 -- and so are pending ones
-pending_form : (call : Call) (response : Option Response) → is_some response ≡ false → HasForm call response
+pub pending_form : (call : Call) (response : Option Response) → is_some response ≡ false → HasForm call response
 pending_form (Get key) response pending = tt
 pending_form (Insert key value) response pending = tt
 pending_form (Remove key) response pending = tt

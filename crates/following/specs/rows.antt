@@ -1,0 +1,12 @@
+-- What is kept of a stream: rows, one for each way in which scans may have taken effect.
+pub mod Alike
+pub mod Blocks
+pub mod Comparisons
+pub mod Cuts
+pub mod Fixed
+pub mod Laws
+pub mod Rows
+pub mod Steps
+pub mod Untouched
+pub mod WiderBlocks
+pub mod ExactMoments
