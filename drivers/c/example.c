@@ -16,8 +16,12 @@ static enum map_said change(uint64_t key, bool is_put, const uint64_t *old, uint
 }
 
 static enum map_said get(void *map, uint64_t key, uint64_t *found) { return (void)map, change(key, false, NULL, 0, found); }
-static enum map_said put(void *map, uint64_t key, uint64_t value, uint64_t *found) { return (void)map, change(key, true, NULL, value, found); }
 static enum map_said del(void *map, uint64_t key, uint64_t *found) { return (void)map, change(key, true, NULL, 0, found); }
+
+static enum map_said put(void *map, uint64_t key, uint64_t value, uint64_t *found)
+{
+    return (void)map, change(key, true, NULL, value, found);
+}
 
 static enum map_said replace(void *map, uint64_t key, uint64_t old, uint64_t value, uint64_t *found)
 {
