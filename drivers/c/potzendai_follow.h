@@ -24,9 +24,11 @@ struct potzendai_following {
 /* The calls that the threads have made so far. */
 static inline void potzendai_count_calls(struct potzendai_following *f)
 {
-    f->tester->calls = 0;
-    for (uint64_t i = 0; i < f->tester->run->threads; i++)
+    f->tester->calls = f->tester->refused = 0;
+    for (uint64_t i = 0; i < f->tester->run->threads; i++) {
         f->tester->calls += atomic_load_explicit(&f->threads[i].calls, POTZENDAI_RELAXED);
+        f->tester->refused += atomic_load_explicit(&f->threads[i].refused, POTZENDAI_RELAXED);
+    }
 }
 
 #ifndef POTZENDAI_NO_LIBRARY

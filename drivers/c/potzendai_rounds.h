@@ -19,7 +19,7 @@ struct potzendai_tester {
     void *session;
     struct recording_pair *start, *next_start;
     size_t pairs_at_start, pairs_next;
-    uint64_t rounds, calls, undecided, overlap;
+    uint64_t rounds, calls, refused, undecided, overlap;
     double began, told;
     bool has_terminal;
 };
@@ -79,6 +79,43 @@ static inline int potzendai_get_all(struct potzendai_tester *tester, unsigned p)
             tester->next_start[tester->pairs_next++] = answer.pair;
     }
     return 0;
+}
+
+/* Calls of rounds before, of which nobody knows whether they were done, are open from the beginning: each may yet come about. */
+static inline int potzendai_carry_on(struct potzendai_run *run)
+{
+    uint64_t count = atomic_load(&run->open_count);
+    for (uint64_t i = 0; i < count; i++) {
+        uint64_t p = atomic_fetch_add(&run->next_process, (uint64_t)1);
+        if (p >= atomic_load(&run->processes))
+            return potzendai_fail(run, POTZENDAI_IS_UNDECIDED, "%" PRIu64 " calls are without an answer, which leaves no room for others",
+                                  count);
+        if (recording_add(run->recording, (unsigned)p, run->open_calls[i].call, run->open_calls[i].words[0], run->open_calls[i].words[1],
+                          run->open_calls[i].words[2]))
+            return potzendai_fail(run, POTZENDAI_NO_MEMORY, "memory: a round has no room");
+    }
+    return 0;
+}
+
+/* Whether the last gets have found what this call puts: then it was done. */
+static inline bool potzendai_is_seen(const struct potzendai_tester *tester, const struct potzendai_open *open)
+{
+    uint64_t value = open->call == RECORDING_REPLACE ? open->words[2] : open->words[1];
+    for (size_t i = 0; i < tester->pairs_next; i++)
+        if (tester->next_start[i].key == open->words[0])
+            return open->call != RECORDING_REMOVE && tester->next_start[i].value == value;
+    return false;
+}
+
+/* Lets go of the calls without an answer that were done, by the end of a round. */
+static inline void potzendai_settle(struct potzendai_tester *tester)
+{
+    struct potzendai_run *run = tester->run;
+    uint64_t kept = 0, count = atomic_load(&run->open_count);
+    for (uint64_t i = 0; i < count && i < RECORDING_PROCESSES; i++)
+        if (!potzendai_is_seen(tester, &run->open_calls[i]))
+            run->open_calls[kept++] = run->open_calls[i];
+    atomic_store(&run->open_count, kept);
 }
 
 /* Sets what the writers remember to what a round starts from. */
@@ -162,9 +199,13 @@ static inline int potzendai_make_round(struct potzendai_tester *tester)
     if (!threads)
         return potzendai_fail(run, POTZENDAI_NO_MEMORY, "memory: threads have no room");
     potzendai_remember_start(tester);
-    potzendai_join_threads(run, threads, potzendai_start_threads(run, threads));
+    if (potzendai_carry_on(run) == 0)
+        potzendai_join_threads(run, threads, potzendai_start_threads(run, threads));
     potzendai_free_threads(threads, run->threads);
-    return atomic_load(&run->fault) ? -1 : potzendai_get_all(tester, (unsigned)atomic_load(&run->processes));
+    if (atomic_load(&run->fault) || potzendai_get_all(tester, (unsigned)atomic_load(&run->processes)))
+        return -1;
+    potzendai_settle(tester);
+    return 0;
 }
 
 /* Records one round, which the pairs that were read start, as a text. */
@@ -206,16 +247,14 @@ static inline int potzendai_keep(const struct potzendai_tester *tester, const ch
 static inline void potzendai_progress(struct potzendai_tester *tester)
 {
     double now = potzendai_now(), seconds = now - tester->began;
-    uint64_t met = 0, all = 0;
+    uint64_t met = 0;
     if (!tester->has_terminal || now - tester->told < 1 || tester->calls == 0)
         return;
     for (uint64_t key = 0; key < tester->options->keys; key++)
         met += atomic_load_explicit(&tester->run->keys[key].is_met, POTZENDAI_RELAXED);
-    for (int said = 0; said < POTZENDAI_SAYINGS; said++)
-        all += tester->run->sayings[said];
     fprintf(stderr, "%" PRIu64 " calls, %.0f a second, overlap %.1f a call, %.1f%% refused, ", tester->calls,
             (double)tester->calls / seconds, (double)tester->overlap / (double)tester->calls,
-            all ? 100.0 * (double)tester->run->sayings[MAP_REFUSED] / (double)all : 0.0);
+            100.0 * (double)tester->refused / (double)tester->calls);
     fprintf(stderr, "two writers met on %" PRIu64 " of %" PRIu64 " keys\n", met, tester->options->keys);
     tester->told = now;
 }
@@ -408,6 +447,7 @@ static inline int potzendai_rounds(struct potzendai_tester *tester)
         status = status ? status : potzendai_take_round(tester, &told);
         potzendai_forget(&told);
         potzendai_go_on(tester);
+        tester->refused = tester->run->sayings[MAP_REFUSED];
         potzendai_progress(tester);
     }
     return status == 0 && tester->undecided > 0 ? POTZENDAI_IS_UNDECIDED : status;

@@ -23,6 +23,9 @@ struct potzendai_key {
     uint64_t value;
 };
 
+/* A call of which nobody knows whether it was done, as it is recorded. */
+struct potzendai_open { enum recording_kind call; uint64_t words[3]; };
+
 /* What the threads share. `truly` is the map that was given, `map` the one that is called, which may be made wrong. */
 struct potzendai_run {
     const struct potzendai_options *options;
@@ -33,6 +36,8 @@ struct potzendai_run {
     uint64_t threads, keys_drawn, calls, round;
     uint64_t puts[1024], seed_of_values;
     uint64_t sayings[POTZENDAI_SAYINGS];
+    struct potzendai_open open_calls[RECORDING_PROCESSES];
+    recording_word open_count;
     recording_word next_process, processes, arrived, has_begun, is_over, fault;
     char complaint[200];
 };
@@ -46,7 +51,7 @@ struct potzendai_thread {
     struct recording_pair *pairs;
     void *session;
     pthread_t id;
-    recording_word calls;
+    recording_word calls, refused;
     char apart[128];
 };
 
@@ -125,6 +130,16 @@ static inline const struct potzendai_row *potzendai_row_of(struct potzendai_run 
     return NULL;
 }
 
+/* Keeps a call that may come about at any time: the rounds behind this one have it too. */
+static inline void potzendai_keep_open(struct potzendai_run *run, enum recording_kind call, const uint64_t words[3])
+{
+    uint64_t place = atomic_fetch_add(&run->open_count, (uint64_t)1);
+    if (place >= RECORDING_PROCESSES)
+        return;
+    run->open_calls[place].call = call;
+    memcpy(run->open_calls[place].words, words, sizeof run->open_calls[place].words);
+}
+
 /* Records the call and what was said to it, once it is over. In a stream a call that is known before is there already. */
 static inline int potzendai_note(struct potzendai_thread *t, const struct potzendai_request *request,
                                  const struct potzendai_answer *answer, bool is_held)
@@ -144,6 +159,7 @@ static inline int potzendai_note(struct potzendai_thread *t, const struct potzen
         return -1;
     if (row->fate == POTZENDAI_ANSWERED)
         return potzendai_note_answer(run, t->process, row->answer, request, answer);
+    potzendai_keep_open(run, row->call, words);
     t->process = (unsigned)atomic_fetch_add(&run->next_process, (uint64_t)1);
     return t->process < atomic_load(&run->processes) ? 0 : -1;
 }
@@ -233,6 +249,8 @@ static inline int potzendai_make(struct potzendai_thread *t, const struct potzen
         potzendai_remember(&run->keys[request->key], request, answer);
     potzendai_see(t, request, answer);
     atomic_store_explicit(&t->calls, ++t->made, POTZENDAI_RELAXED);
+    if (answer->said == MAP_REFUSED)
+        atomic_store_explicit(&t->refused, t->sayings[MAP_REFUSED], POTZENDAI_RELAXED);
     return potzendai_note(t, request, answer, is_held);
 }
 
@@ -373,6 +391,7 @@ static inline struct potzendai_thread *potzendai_new_threads(struct potzendai_ru
         t->seen = (uint64_t *)calloc((size_t)run->options->keys, sizeof *t->seen);
         t->pairs = (struct recording_pair *)calloc(POTZENDAI_SPAN + 1, sizeof *t->pairs);
         atomic_store(&t->calls, (uint64_t)0);
+        atomic_store(&t->refused, (uint64_t)0);
         if (!t->seen || !t->pairs) {
             potzendai_free_threads(threads, run->threads);
             return NULL;
