@@ -181,12 +181,12 @@ static inline int potzendai_add_overlap(struct potzendai_tester *tester)
     return 0;
 }
 
-/* Writes the recording into memory. */
+/* Writes the recording into memory, of which there may be none left at the end though the stream closes well. */
 static inline int potzendai_text_of(struct potzendai_tester *tester, struct potzendai_told *told)
 {
     FILE *out = open_memstream(&told->text, &told->length);
     int status = out ? recording_write(tester->run->recording, out) : -1;
-    if (!out || fclose(out) || status)
+    if (!out || fclose(out) || status || !told->text)
         return potzendai_fail(tester->run, POTZENDAI_NO_MEMORY, "memory: a round was not written");
     return 0;
 }
