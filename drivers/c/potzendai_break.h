@@ -7,7 +7,14 @@
 /* One call in so many goes wrong. */
 enum { POTZENDAI_SELDOM = 20 };
 
-struct potzendai_broken { struct potzendai_map map; const struct potzendai_map *truly; enum potzendai_break how; uint64_t keys; };
+/* What is broken, and how. `round` is that of the run: a thread's wrong calls are others in each. */
+struct potzendai_broken {
+    struct potzendai_map map;
+    const struct potzendai_map *truly;
+    enum potzendai_break how;
+    uint64_t keys, seed;
+    const uint64_t *round;
+};
 
 /* What was once got at a key. */
 struct potzendai_once { bool is_there; enum map_said said; uint64_t found; };
@@ -51,7 +58,8 @@ static inline void *potzendai_wrong_open(void *map, unsigned thread)
     }
     w->broken = broken;
     w->session = session;
-    w->state = thread;
+    uint64_t seed = broken->seed, round = *broken->round;
+    w->state = thread ^ potzendai_mix(&seed) ^ potzendai_mix(&round);
     w->once = once;
     return w;
 }
@@ -205,13 +213,15 @@ static inline enum map_said potzendai_wrong_pop_first(void *session, struct reco
 
 /* The map to call: the broken one has the functions that the true one has. */
 static inline const struct potzendai_map *potzendai_break_map(struct potzendai_broken *broken, const struct potzendai_map *truly,
-                                                              const struct potzendai_options *options)
+                                                              const struct potzendai_options *options, const uint64_t *round)
 {
     if (options->broken == POTZENDAI_UNBROKEN)
         return truly;
     broken->truly = truly;
     broken->how = options->broken;
     broken->keys = options->keys;
+    broken->seed = options->seed;
+    broken->round = round;
     broken->map = *truly;
     broken->map.map = broken;
     broken->map.open = potzendai_wrong_open;

@@ -14,6 +14,7 @@ struct potzendai_following {
     struct streaming stream;
     recording_word is_done;
     int written;
+    FILE *file;
 #ifndef POTZENDAI_NO_LIBRARY
     struct potzendai_follower follower;
     char report[POTZENDAI_REPORT];
@@ -137,7 +138,7 @@ static inline void *potzendai_write_stream(void *own)
 #endif
     f->written = streaming_write(&f->stream);
     if (f->written)
-        status = potzendai_fail(f->tester->run, POTZENDAI_BAD_FILE, "standard output: the stream was cut off");
+        status = potzendai_fail(f->tester->run, POTZENDAI_BAD_FILE, "the stream was cut off, as a write failed");
     atomic_store(&f->is_done, (uint64_t)1);
     return (void *)(intptr_t)status;
 }
@@ -150,6 +151,34 @@ static inline void potzendai_wait(struct potzendai_following *f)
     struct timespec some_time = {0, 10000000};
     while (potzendai_now() < until && !atomic_load(&run->fault) && !atomic_load(&f->is_done) && atomic_load(&run->arrived))
         nanosleep(&some_time, NULL);
+}
+
+/* Where nobody follows, the stream goes to standard output or to a file, and may tell less than the value where that is asked for. */
+static inline int potzendai_open_unjudged(struct potzendai_following *f)
+{
+    const struct potzendai_options *o = f->tester->options;
+    char path[POTZENDAI_PATH];
+    if (o->has_void && o->void_puts == POTZENDAI_VOID_DONE)
+        streaming_tell_less(&f->stream);
+    if (strcmp(o->out, "-") == 0)
+        return 0;
+    f->file = potzendai_path(f->tester, path, ".jsonl") ? NULL : fopen(path, "w");
+    if (!f->file)
+        return potzendai_fail(f->tester->run, POTZENDAI_BAD_FILE, "no file for the stream in %.100s", o->out);
+    f->stream.descriptor = fileno(f->file);
+    fprintf(stderr, "  file: %s\n", path);
+    return 0;
+}
+
+/* Whether histories or the stream are written for others to judge. A reader that has gone is then told by a write that fails. */
+static inline bool potzendai_is_unjudged(const struct potzendai_options *o)
+{
+#ifdef POTZENDAI_NO_LIBRARY
+    (void)o;
+    return true;
+#else
+    return strcmp(o->out, "-") == 0;
+#endif
 }
 
 static inline int potzendai_open_stream(struct potzendai_following *f)
@@ -166,14 +195,8 @@ static inline int potzendai_open_stream(struct potzendai_following *f)
     if (streaming_open(&f->stream, (unsigned)processes, POTZENDAI_SLOTS, pairs, 1)
         || streaming_start(&f->stream, f->tester->start, f->tester->pairs_at_start))
         return potzendai_fail(run, POTZENDAI_NO_MEMORY, "memory: a stream has no room");
-#ifdef POTZENDAI_NO_LIBRARY
-    streaming_tell_less(&f->stream);
-#else
-    if (strcmp(run->options->out, "-") == 0)
-        streaming_tell_less(&f->stream);
-#endif
     run->stream = &f->stream;
-    return 0;
+    return potzendai_is_unjudged(run->options) ? potzendai_open_unjudged(f) : 0;
 }
 
 /* Lets the threads run and waits for all of them. */
@@ -208,6 +231,8 @@ static inline int potzendai_stream(struct potzendai_tester *tester)
     int status = potzendai_open_stream(f);
     status = status ? status : potzendai_run_stream(f);
     streaming_close(&f->stream);
+    if (f->file && fclose(f->file) && status == 0)
+        status = potzendai_fail(tester->run, POTZENDAI_BAD_FILE, "the stream was not written");
     free(f);
     return status;
 }

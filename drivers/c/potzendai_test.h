@@ -22,6 +22,7 @@
 #define _POSIX_C_SOURCE 200809L
 #endif
 #include "potzendai_follow.h"
+#include <signal.h>
 
 static const char *const potzendai_verdicts[] = {"yes", "no", "undecided"};
 
@@ -45,17 +46,6 @@ static inline void potzendai_tell_all(FILE *out, const struct potzendai_tester *
     fputc('\n', out);
 }
 
-/* Where histories or the stream are written to standard output, or to files, nobody has judged them. */
-static inline bool potzendai_is_judged(const struct potzendai_options *o)
-{
-#ifdef POTZENDAI_NO_LIBRARY
-    (void)o;
-    return false;
-#else
-    return strcmp(o->out, "-") != 0;
-#endif
-}
-
 /* Says how it went, and answers the status of the program. */
 static inline int potzendai_finish(const struct potzendai_tester *tester, int status)
 {
@@ -65,7 +55,7 @@ static inline int potzendai_finish(const struct potzendai_tester *tester, int st
         fprintf(stderr, "%s: %s\n", run->truly->name, run->complaint);
         return status;
     }
-    if (!potzendai_is_judged(tester->options)) {
+    if (potzendai_is_unjudged(tester->options)) {
         potzendai_tell_all(stderr, tester, "not judged");
         return status;
     }
@@ -137,12 +127,14 @@ static inline int potzendai_test_main(int argc, char **argv, const struct potzen
         fputs("memory: a run has no room\n", stderr);
         return POTZENDAI_NO_MEMORY;
     }
+    if (potzendai_is_unjudged(&options))
+        signal(SIGPIPE, SIG_IGN);
     tester.program = argv[0];
     tester.has_terminal = isatty(2);
     tester.began = tester.told = potzendai_now();
     tester.run->options = &options;
     tester.run->truly = map;
-    tester.run->map = potzendai_break_map(&broken, map, &options);
+    tester.run->map = potzendai_break_map(&broken, map, &options, &tester.run->round);
     tester.run->threads = options.threads;
     tester.run->keys_drawn = options.keys;
     tester.run->calls = options.calls;

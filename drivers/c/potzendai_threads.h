@@ -121,7 +121,7 @@ static inline const struct potzendai_row *potzendai_row_of(struct potzendai_run 
     else if (request->function == POTZENDAI_SCAN && answer->said == MAP_TOLD && answer->count > answer->room)
         potzendai_fail(run, POTZENDAI_BAD_WORDS, "scan said %zu pairs, and there was room for %zu", answer->count, answer->room);
     else if (tells_less && run->stream && run->stream->version < 3)
-        potzendai_fail(run, POTZENDAI_BAD_WORDS, "%s said %s, and a stream is not followed as yet where answers tell less than the value",
+        potzendai_fail(run, POTZENDAI_BAD_WORDS, "%s said %s, and a stream whose answers tell less than the value is not followed as yet",
                        name, said);
     else if (tells_less && is_write && run->options->void_puts == POTZENDAI_VOID_TOLD)
         potzendai_fail(run, POTZENDAI_BAD_WORDS, "%s said %s, and --void told wants the value before", name, said);

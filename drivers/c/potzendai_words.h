@@ -29,7 +29,7 @@ struct potzendai_options {
     uint64_t shares[POTZENDAI_FUNCTIONS];
     enum potzendai_void void_puts;
     enum potzendai_break broken;
-    bool is_steps, is_stream, has_mix;
+    bool is_steps, is_stream, has_mix, has_void;
     const char *out;
 };
 
@@ -51,7 +51,8 @@ static const char potzendai_usage[] =
     "  --yield N         of a thousand points between and in calls, so many give way to other threads (0)\n"
     "  --break HOW       makes the map wrong now and then: drop, race, replay, stale, zombie, torn or cas\n"
     "  --stream          one stream that is followed, in the place of rounds\n"
-    "  --out FOLDER      where files are put (.), or - for standard output: all histories or the stream, which nobody judges then\n";
+    "  --out FOLDER      where files are put (.), or - for standard output: all histories or the stream, which nobody judges then;\n"
+    "                    a stream with answers that tell less than the value is written where --void done asks for it\n";
 
 static inline int potzendai_complain(const char *word, const char *what)
 {
@@ -133,6 +134,7 @@ static inline int potzendai_read_named(struct potzendai_options *o, const char *
             int place = text ? potzendai_place(all[i].names, text, strlen(text)) : -1;
             if (place < 0)
                 return potzendai_complain(word, "none of its names; --help has them");
+            o->has_void = o->has_void || i == 0;
             if (i == 0)
                 o->void_puts = (enum potzendai_void)place;
             else if (i == 1)

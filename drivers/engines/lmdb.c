@@ -121,12 +121,14 @@ int main(int argc, char **argv)
 {
     struct potzendai_map map = {.name = "lmdb", .get = get, .put = put, .del = del, .scan = scan, .replace = replace,
                                 .put_if_absent = put_if_absent, .ceiling = ceiling_of};
-    char folder[] = "/tmp/potzendai-lmdb-XXXXXX", file[64];
+    char folder[] = "/tmp/potzendai-lmdb-XXXXXX", file[64], again[] = "lmdb plain";
     is_plain = argc > 1 && strcmp(argv[1], "plain") == 0;
     if (!mkdtemp(folder) || open_map(folder)) {
         fputs("lmdb: does not open\n", stderr);
         return 6;
     }
+    if (is_plain)
+        argv[1] = again;
     int status = potzendai_test_main(argc - is_plain, argv + is_plain, &map);
     mdb_env_close(env);
     for (int i = 0; i < 2; i++)

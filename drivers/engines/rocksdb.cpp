@@ -85,7 +85,7 @@ struct Rocks {
 
 int main(int argc, char **argv)
 {
-    char folder[] = "/tmp/potzendai-rocksdb-XXXXXX";
+    char folder[] = "/tmp/potzendai-rocksdb-XXXXXX", again[] = "rocksdb plain";
     Options options;
     options.create_if_missing = true;
     if (!mkdtemp(folder) || !TransactionDB::Open(options, TransactionDBOptions(), folder, &base).ok()) {
@@ -94,6 +94,8 @@ int main(int argc, char **argv)
     }
     Rocks map;
     is_plain = argc > 1 && strcmp(argv[1], "plain") == 0;
+    if (is_plain)
+        argv[1] = again;
     int status = potzendai::test_main(argc - is_plain, argv + is_plain, map, "rocksdb");
     delete base;
     DestroyDB(folder, options);

@@ -141,6 +141,7 @@ int main(int argc, char **argv)
     struct potzendai_map map = {.name = "sqlite", .value_bits = 63, .open = open_session, .close = close_session, .get = get, .put = put,
                                 .del = del, .scan = scan, .replace = replace, .put_if_absent = put_if_absent, .floor = floor_of,
                                 .ceiling = ceiling_of, .pop_first = pop_first};
+    char again[] = "sqlite plain";
     int made = mkstemp(file);
     is_plain = argc > 1 && strcmp(argv[1], "plain") == 0;
     if (made < 0) {
@@ -148,6 +149,8 @@ int main(int argc, char **argv)
         return 6;
     }
     close(made);
+    if (is_plain)
+        argv[1] = again;
     int status = potzendai_test_main(argc - is_plain, argv + is_plain, &map);
     unlink(file);
     return status;
