@@ -5,7 +5,7 @@
 #include "potzendai_rounds.h"
 
 /* Slots of the stream, and processes for threads that go on as others. */
-enum { POTZENDAI_SLOTS = 65536, POTZENDAI_OTHERS = 4096 };
+enum { POTZENDAI_SLOTS = 8192, POTZENDAI_OTHERS = 4096 };
 
 /* A stream, who takes its lines, and how far it is. */
 struct potzendai_following {

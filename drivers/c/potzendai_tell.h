@@ -84,6 +84,16 @@ static inline void potzendai_tell_call(FILE *out, const char *at)
         fprintf(out, "%s %s", name, numbers[0]);
 }
 
+/* Whether a value is in a pair that the history starts from. */
+static inline bool potzendai_is_at_start(const char *text, const char *value, size_t digits)
+{
+    const char *start = strstr(text, "\"start\":[");
+    for (const char *at = start ? strchr(start, ',') : NULL; at; at = strchr(at + 1, ','))
+        if (strncmp(at + 1, value, digits) == 0 && at[digits + 1] == ']')
+            return true;
+    return false;
+}
+
 /* Writes who put a value, where one event of the history says that: `text` is the whole history. */
 static inline void potzendai_tell_writer(FILE *out, const char *text, const char *value)
 {
@@ -103,7 +113,8 @@ static inline void potzendai_tell_writer(FILE *out, const char *text, const char
         }
     }
     if (digits > 0)
-        fprintf(out, "; who put %.*s is not in the history", (int)digits, value);
+        fprintf(out, "; %.*s %s", (int)digits, value,
+                potzendai_is_at_start(text, value, digits) ? "was there at the start" : "is what nobody put");
 }
 
 /* How far an order of the few calls gets, and what the map would answer to each call that could come next. */
@@ -147,6 +158,7 @@ static inline const char *potzendai_tell(FILE *out, const char *text, const char
             potzendai_tell_call(out, call);
             fputs(", answered ", out);
             potzendai_tell_answer(out, answer);
+            potzendai_tell_writer(out, text, answer);
             fputs("\n", out);
         }
     }

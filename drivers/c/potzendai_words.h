@@ -33,14 +33,15 @@ struct potzendai_options {
     const char *out;
 };
 
-/* Of a range of a scan, the most keys; and the calls of a thread in a round, where no number is given. */
-enum { POTZENDAI_SPAN = 16, POTZENDAI_CALLS = 200 };
+/* Of a range of a scan, the most keys. Where no number is given: the calls of a thread in a round, and the keys. Of a stream they are
+ * more, since its follower keeps a call until all have ended that overlap it on its keys, directly or through others. */
+enum { POTZENDAI_SPAN = 16, POTZENDAI_CALLS = 200, POTZENDAI_KEYS = 16, POTZENDAI_STREAM_KEYS = 1000 };
 
 static const char potzendai_usage[] =
     "  --seconds N       how long (10, or as long as --rounds take)\n"
     "  --rounds N        at most so many rounds\n"
     "  --threads N       threads that call the map (4)\n"
-    "  --keys N          keys, from 0 (16)\n"
+    "  --keys N          keys, from 0 (16; of a stream 1000)\n"
     "  --hot N           so many of the keys are those of nine calls in ten\n"
     "  --calls N         calls of a thread in a round, or in a stream (200; no end)\n"
     "  --seed N          what the calls are drawn from (of the clock)\n"
@@ -244,7 +245,6 @@ static inline int potzendai_read_words(struct potzendai_options *o, int argc, ch
     memset(o, 0, sizeof *o);
     clock_gettime(CLOCK_REALTIME, &now);
     o->threads = 4;
-    o->keys = 16;
     o->seed = ((uint64_t)now.tv_sec * 1000003u + (uint64_t)now.tv_nsec) % 1000000007u;
     o->broken = POTZENDAI_UNBROKEN;
     o->out = ".";
@@ -257,6 +257,8 @@ static inline int potzendai_read_words(struct potzendai_options *o, int argc, ch
         if (status)
             return status;
     }
+    if (o->keys == 0)
+        o->keys = o->is_stream ? POTZENDAI_STREAM_KEYS : POTZENDAI_KEYS;
     if (o->seconds == 0)
         o->seconds = o->rounds > 0 ? 1000000000 : 10;
     if (!map->get || !map->put)
