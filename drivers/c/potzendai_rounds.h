@@ -9,7 +9,7 @@
 #include "potzendai.h"
 #endif
 
-enum { POTZENDAI_TRIES = 8, POTZENDAI_TRIES_SECONDS = 5, POTZENDAI_GETS = 1000, POTZENDAI_SPARE = 12, POTZENDAI_PATH = 4096 };
+enum { POTZENDAI_TRIES = 8, POTZENDAI_TRIES_SECONDS = 5, POTZENDAI_GETS = 1000, POTZENDAI_PATH = 4096, POTZENDAI_BITS = 40 };
 
 /* A run with what comes of it. `session` is of the thread that runs all of it. */
 struct potzendai_tester {
@@ -58,8 +58,11 @@ static inline int potzendai_read_start(struct potzendai_tester *tester)
         memset(&answer, 0, sizeof answer);
         if (potzendai_get_at_rest(tester, key, &answer))
             return -1;
-        if (answer.said == MAP_TOLD)
-            tester->start[tester->pairs_at_start++] = answer.pair;
+        if (answer.said != MAP_TOLD)
+            continue;
+        tester->start[tester->pairs_at_start++] = answer.pair;
+        if (tester->rounds == 0 && answer.pair.value > tester->run->values_from)
+            tester->run->values_from = answer.pair.value;
     }
     return 0;
 }
@@ -97,23 +100,37 @@ static inline int potzendai_carry_on(struct potzendai_run *run)
     return 0;
 }
 
-/* Whether the last gets have found what this call puts: then it was done. */
-static inline bool potzendai_is_seen(const struct potzendai_tester *tester, const struct potzendai_open *open)
+/* Whether an answer tells a value. */
+static inline bool potzendai_tells_value(const struct recording_log *log, const struct recording_event *event, uint64_t value)
+{
+    if (event->kind == RECORDING_VALUE)
+        return event->words[0] == value;
+    for (uint64_t i = 0; event->kind == RECORDING_LIST && i < event->words[1]; i++)
+        if (log->pairs[event->words[0] + i].value == value)
+            return true;
+    return false;
+}
+
+/* Whether an answer of the round tells what this call puts: then it was done. No other call puts this value where there are enough. */
+static inline bool potzendai_is_seen(const struct potzendai_run *run, const struct potzendai_open *open)
 {
     uint64_t value = open->call == RECORDING_REPLACE ? open->words[2] : open->words[1];
-    for (size_t i = 0; i < tester->pairs_next; i++)
-        if (tester->next_start[i].key == open->words[0])
-            return open->call != RECORDING_REMOVE && tester->next_start[i].value == value;
+    unsigned bits = run->truly->value_bits;
+    if (open->call == RECORDING_REMOVE || (bits > 0 && bits < POTZENDAI_BITS))
+        return false;
+    for (unsigned p = 0; p < run->recording->processes; p++)
+        for (size_t i = 0; i < run->recording->logs[p].length; i++)
+            if (potzendai_tells_value(&run->recording->logs[p], &run->recording->logs[p].events[i], value))
+                return true;
     return false;
 }
 
 /* Lets go of the calls without an answer that were done, by the end of a round. */
-static inline void potzendai_settle(struct potzendai_tester *tester)
+static inline void potzendai_settle(struct potzendai_run *run)
 {
-    struct potzendai_run *run = tester->run;
     uint64_t kept = 0, count = atomic_load(&run->open_count);
     for (uint64_t i = 0; i < count && i < RECORDING_PROCESSES; i++)
-        if (!potzendai_is_seen(tester, &run->open_calls[i]))
+        if (!potzendai_is_seen(run, &run->open_calls[i]))
             run->open_calls[kept++] = run->open_calls[i];
     atomic_store(&run->open_count, kept);
 }
@@ -141,8 +158,6 @@ static inline int potzendai_open_recording(struct potzendai_tester *tester)
 {
     struct potzendai_run *run = tester->run;
     uint64_t each = potzendai_calls_each(tester->options), processes = RECORDING_CALLS / each;
-    if (processes > run->threads + 1 + POTZENDAI_SPARE)
-        processes = run->threads + 1 + POTZENDAI_SPARE;
     if (processes > RECORDING_PROCESSES)
         processes = RECORDING_PROCESSES;
     size_t pairs_each = (size_t)each * potzendai_pairs_of_a_call(tester->options);
@@ -204,7 +219,7 @@ static inline int potzendai_make_round(struct potzendai_tester *tester)
     potzendai_free_threads(threads, run->threads);
     if (atomic_load(&run->fault) || potzendai_get_all(tester, (unsigned)atomic_load(&run->processes)))
         return -1;
-    potzendai_settle(tester);
+    potzendai_settle(run);
     return 0;
 }
 

@@ -53,6 +53,8 @@ static inline int potzendai_finish(const struct potzendai_tester *tester, int st
     if (status < 0) {
         status = (int)atomic_load(&run->fault);
         fprintf(stderr, "%s: %s\n", run->truly->name, run->complaint);
+        if (status == POTZENDAI_IS_UNDECIDED)
+            potzendai_tell_all(stdout, tester, potzendai_verdicts[status]);
         return status;
     }
     if (potzendai_is_unjudged(tester->options)) {

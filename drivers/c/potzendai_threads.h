@@ -34,7 +34,7 @@ struct potzendai_run {
     struct recording *recording;
     struct streaming *stream;
     uint64_t threads, keys_drawn, calls, round;
-    uint64_t puts[1024], seed_of_values;
+    uint64_t puts[1024], values_from;
     uint64_t sayings[POTZENDAI_SAYINGS];
     struct potzendai_open open_calls[RECORDING_PROCESSES];
     recording_word open_count;
@@ -190,6 +190,15 @@ static inline void potzendai_remember(struct potzendai_key *key, const struct po
     answer->pair.value = value_before;
 }
 
+/* Calls a function, and counts what it said. */
+static inline void potzendai_ask_and_count(struct potzendai_thread *t, const struct potzendai_request *request,
+                                           struct potzendai_answer *answer)
+{
+    potzendai_ask(t->run->map, t->session, request, answer);
+    if ((unsigned)answer->said < POTZENDAI_SAYINGS)
+        t->sayings[answer->said]++;
+}
+
 /* Asks for the value, and then writes, under a lock of the key's own: what the get found is what the write found. */
 static inline void potzendai_ask_locked(struct potzendai_thread *t, const struct potzendai_request *request,
                                         struct potzendai_answer *answer)
@@ -197,7 +206,7 @@ static inline void potzendai_ask_locked(struct potzendai_thread *t, const struct
     struct potzendai_request get = {POTZENDAI_GET, request->key, 0, 0};
     struct potzendai_answer got = *answer;
     potzendai_ask(t->run->map, t->session, &get, &got);
-    potzendai_ask(t->run->map, t->session, request, answer);
+    potzendai_ask_and_count(t, request, answer);
     bool is_known = got.said == MAP_TOLD || got.said == MAP_NONE;
     if (answer->said == MAP_DONE && is_known && !t->run->keys[request->key].is_loose) {
         answer->said = got.said;
@@ -240,9 +249,7 @@ static inline int potzendai_make(struct potzendai_thread *t, const struct potzen
     if (is_locked)
         potzendai_ask_locked(t, request, answer);
     else
-        potzendai_ask(run->map, t->session, request, answer);
-    if ((unsigned)answer->said < POTZENDAI_SAYINGS)
-        t->sayings[answer->said]++;
+        potzendai_ask_and_count(t, request, answer);
     if (answer->said == MAP_UNKNOWN && potzendai_has_key_of_its_own(run, request->function))
         run->keys[request->key].is_loose = true;
     if (run->options->void_puts == POTZENDAI_VOID_OWN && potzendai_writes(request->function))
@@ -292,12 +299,12 @@ static inline int potzendai_make_steps(struct potzendai_thread *t, uint64_t low,
     return status;
 }
 
-/* Each put has a value of its own, as far as there are enough of them. */
+/* Each put has a value of its own, which was not in the map before, as far as there are enough of them. */
 static inline uint64_t potzendai_next_value(struct potzendai_thread *t)
 {
     unsigned bits = t->run->truly->value_bits;
     uint64_t most = bits == 0 || bits >= 64 ? UINT64_MAX : ((uint64_t)1 << bits) - 1;
-    return 1 + (t->run->puts[t->number]++ * t->run->options->threads + t->number) % most;
+    return 1 + (t->run->values_from + t->run->puts[t->number]++ * t->run->options->threads + t->number) % most;
 }
 
 static inline uint64_t potzendai_draw_key(struct potzendai_thread *t, enum potzendai_function function)
