@@ -34,6 +34,15 @@ static inline void potzendai_count_calls(struct potzendai_following *f)
 
 #ifndef POTZENDAI_NO_LIBRARY
 
+/* Whether the library follows streams whose answers tell less than the value: it refuses their first line where it does not. */
+static inline bool potzendai_follows_less(void)
+{
+    static const char line[] = "{\"start\":[],\"version\":3}\n";
+    char report[256] = "";
+    size_t length;
+    return potzendai_follow(line, sizeof line - 1, POTZENDAI_BUDGET, report, sizeof report, &length) == POTZENDAI_YES;
+}
+
 /* What the follower says so far has the overlap of all calls that it has. */
 static inline void potzendai_follow_progress(struct potzendai_following *f)
 {
@@ -196,7 +205,13 @@ static inline int potzendai_open_stream(struct potzendai_following *f)
         || streaming_start(&f->stream, f->tester->start, f->tester->pairs_at_start))
         return potzendai_fail(run, POTZENDAI_NO_MEMORY, "memory: a stream has no room");
     run->stream = &f->stream;
-    return potzendai_is_unjudged(run->options) ? potzendai_open_unjudged(f) : 0;
+    if (potzendai_is_unjudged(run->options))
+        return potzendai_open_unjudged(f);
+#ifndef POTZENDAI_NO_LIBRARY
+    if (potzendai_follows_less())
+        streaming_tell_less(&f->stream);
+#endif
+    return 0;
 }
 
 /* Lets the threads run and waits for all of them. */
