@@ -370,7 +370,7 @@ static inline bool potzendai_fails_with_less(struct potzendai_tester *tester, in
  * interleave as they will, so it may not fail again though it could. */
 static inline void potzendai_smaller(struct potzendai_tester *tester, struct potzendai_told *told)
 {
-    double until = potzendai_now() + POTZENDAI_TRIES_SECONDS;
+    double until = potzendai_now() + (double)POTZENDAI_TRIES_SECONDS;
     bool is_less = true;
     while (is_less) {
         is_less = false;
