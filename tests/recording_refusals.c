@@ -1,5 +1,5 @@
 /* What recording.h refuses, and the text that it then writes: run by tests/recordings. */
-#include "../examples/recording/recording.h"
+#include "../drivers/c/recording.h"
 #include <assert.h>
 
 static struct recording r;

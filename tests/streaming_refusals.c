@@ -42,7 +42,7 @@ static void counted_free(void *block)
 #define malloc counted_malloc
 #define calloc counted_calloc
 #define free counted_free
-#include "../examples/recording/streaming.h"
+#include "../drivers/c/streaming.h"
 #include <pthread.h>
 #include <signal.h>
 

@@ -6,7 +6,7 @@
  *     ./own_map
  */
 #define _POSIX_C_SOURCE 200809L
-#include "../recording/recording.h"
+#include "../../drivers/c/recording.h"
 #include "potzendai.h"
 #include <assert.h>
 #include <pthread.h>

@@ -6,7 +6,7 @@
  *     ./own_stream
  */
 #define _POSIX_C_SOURCE 200809L
-#include "../recording/streaming.h"
+#include "../../drivers/c/streaming.h"
 #include "potzendai.h"
 #include <assert.h>
 #include <pthread.h>

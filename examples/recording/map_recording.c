@@ -9,7 +9,7 @@
  * nothing there, which no order explains: the verdict is no at each run.
  */
 #define _POSIX_C_SOURCE 200809L
-#include "recording.h"
+#include "../../drivers/c/recording.h"
 #include <pthread.h>
 
 enum { THREADS = 4, CALLS = 1000, KEYS = 16 };

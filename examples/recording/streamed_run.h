@@ -2,7 +2,7 @@
 #ifndef STREAMED_RUN_H
 #define STREAMED_RUN_H
 
-#include "streaming.h"
+#include "../../drivers/c/streaming.h"
 #include <csignal>
 #include <cstdio>
 #include <thread>

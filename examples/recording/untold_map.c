@@ -11,7 +11,7 @@
  * So the verdict is no at each run, though neither put tells anything.
  */
 #define _POSIX_C_SOURCE 200809L
-#include "recording.h"
+#include "../../drivers/c/recording.h"
 #include <pthread.h>
 
 enum { THREADS = 4, CALLS = 500, KEYS = 16 };

@@ -77,6 +77,8 @@ struct streaming {
     struct streaming_process *processes;
     char *text;
     int descriptor;
+    int (*hand)(void *to, const char *text, size_t length);
+    void *to;
 };
 
 /* Gives all memory back. */
@@ -109,6 +111,8 @@ static inline int streaming_open(struct streaming *s, unsigned processes, size_t
     s->start = NULL;
     s->version = 2;
     s->descriptor = descriptor;
+    s->hand = NULL;
+    s->to = NULL;
     s->slots = (struct streaming_slot *)calloc(slots, sizeof *s->slots);
     s->processes = (struct streaming_process *)calloc(processes, sizeof *s->processes);
     s->text = (char *)malloc(STREAMING_BATCH + STREAMING_LINE + 1);
@@ -149,6 +153,14 @@ static inline int streaming_start(struct streaming *s, const struct recording_pa
 static inline void streaming_tell_less(struct streaming *s)
 {
     s->version = 3;
+}
+
+/* Hands the lines to a function in the place of the descriptor: some at a time, each with its line feed. Where it answers other
+ * than 0, that is as a write that fails. To be called before streaming_write. */
+static inline void streaming_hand(struct streaming *s, int (*hand)(void *to, const char *text, size_t length), void *to)
+{
+    s->hand = hand;
+    s->to = to;
 }
 
 /* Lets other threads go on: most times at once, sometimes for a millisecond. */
@@ -315,7 +327,9 @@ static inline void streaming_end(struct streaming *s)
 /* Writes out the lines that wait. */
 static inline int streaming_flush(struct streaming *s)
 {
-    for (size_t at = 0; at < s->length;) {
+    if (s->hand && s->length > 0 && s->hand(s->to, s->text, s->length))
+        return -1;
+    for (size_t at = s->hand ? s->length : 0; at < s->length;) {
         ssize_t written = write(s->descriptor, s->text + at, s->length - at);
         if (written < 0 && errno != EINTR)
             return -1;

@@ -1,0 +1,241 @@
+/* A map that is wrong now and then, around one that may be right: a test of the test. Included by potzendai_test.h. */
+#ifndef POTZENDAI_BREAK_H
+#define POTZENDAI_BREAK_H
+
+#include "potzendai_words.h"
+
+/* One call in so many goes wrong. */
+enum { POTZENDAI_SELDOM = 20 };
+
+/* What is broken, and how. `round` is that of the run: a thread's wrong calls are others in each. */
+struct potzendai_broken {
+    struct potzendai_map map;
+    const struct potzendai_map *truly;
+    enum potzendai_break how;
+    uint64_t keys, seed;
+    const uint64_t *round;
+};
+
+/* What was once got at a key. */
+struct potzendai_once { bool is_there; enum map_said said; uint64_t found; };
+
+/* A session of the broken map: that of the true one, a put that still comes, and what the puts of the true map say. */
+struct potzendai_wrong {
+    struct potzendai_broken *broken;
+    void *session;
+    uint64_t state, late_key, late_value;
+    bool is_late, is_known;
+    enum map_said style;
+    struct potzendai_once *once;
+};
+
+static inline bool potzendai_goes_wrong(struct potzendai_wrong *w, enum potzendai_break how)
+{
+    return w->broken->how == how && potzendai_draw_below(&w->state, POTZENDAI_SELDOM) == 0;
+}
+
+static inline void potzendai_wrong_close(void *session)
+{
+    struct potzendai_wrong *w = (struct potzendai_wrong *)session;
+    if (w->broken->truly->close)
+        w->broken->truly->close(w->session);
+    free(w->once);
+    free(w);
+}
+
+static inline void *potzendai_wrong_open(void *map, unsigned thread)
+{
+    struct potzendai_broken *broken = (struct potzendai_broken *)map;
+    struct potzendai_wrong *w = (struct potzendai_wrong *)calloc(1, sizeof *w);
+    struct potzendai_once *once = (struct potzendai_once *)calloc((size_t)broken->keys, sizeof *once);
+    void *session = broken->truly->open ? broken->truly->open(broken->truly->map, thread) : broken->truly->map;
+    if (!w || !once || (broken->truly->open && !session)) {
+        if (session && broken->truly->close)
+            broken->truly->close(session);
+        free(w);
+        free(once);
+        return NULL;
+    }
+    w->broken = broken;
+    w->session = session;
+    uint64_t seed = broken->seed, round = *broken->round;
+    w->state = thread ^ potzendai_mix(&seed) ^ potzendai_mix(&round);
+    w->once = once;
+    return w;
+}
+
+static inline enum map_said potzendai_true_put(struct potzendai_wrong *w, uint64_t key, uint64_t value, uint64_t *found)
+{
+    enum map_said said = w->broken->truly->put(w->session, key, value, found);
+    if (said == MAP_TOLD || said == MAP_DONE || said == MAP_FOUND) {
+        w->style = said;
+        w->is_known = true;
+    }
+    return said;
+}
+
+/* Does the put that still comes, soon. */
+static inline struct potzendai_wrong *potzendai_catch_up(void *session)
+{
+    struct potzendai_wrong *w = (struct potzendai_wrong *)session;
+    uint64_t found;
+    if (w->is_late && potzendai_draw_below(&w->state, 2)) {
+        w->is_late = false;
+        w->broken->truly->put(w->session, w->late_key, w->late_value, &found);
+    }
+    return w;
+}
+
+static inline void potzendai_be_late(struct potzendai_wrong *w, uint64_t key, uint64_t value)
+{
+    w->is_late = true;
+    w->late_key = key;
+    w->late_value = value;
+}
+
+static inline enum map_said potzendai_wrong_get(void *session, uint64_t key, uint64_t *found)
+{
+    struct potzendai_wrong *w = potzendai_catch_up(session);
+    struct potzendai_once *once = &w->once[key];
+    if (once->is_there && potzendai_goes_wrong(w, POTZENDAI_STALE)) {
+        *found = once->found;
+        return once->said;
+    }
+    enum map_said said = w->broken->truly->get(w->session, key, found);
+    if (!once->is_there || potzendai_draw_below(&w->state, 4) == 0) {
+        once->is_there = said == MAP_TOLD || said == MAP_NONE;
+        once->said = said;
+        once->found = *found;
+    }
+    return said;
+}
+
+/* What the put of the map would say where a get says this. */
+static inline enum map_said potzendai_in_style(const struct potzendai_wrong *w, enum map_said got)
+{
+    return w->style == MAP_DONE ? MAP_DONE : got == MAP_TOLD ? w->style : got;
+}
+
+/* A put after a get, as if they were one: of the key itself where the put tells what it found, else of the key beside it, which is put
+ * back as it was got. */
+static inline enum map_said potzendai_race(struct potzendai_wrong *w, uint64_t key, uint64_t value, uint64_t *found)
+{
+    const struct potzendai_map *truly = w->broken->truly;
+    uint64_t beside = w->style == MAP_TOLD || (key ^ 1) >= w->broken->keys ? key : key ^ 1, got, unused;
+    enum map_said said = truly->get(w->session, beside, &got);
+    potzendai_pause();
+    if (beside != key && said == MAP_TOLD)
+        truly->put(w->session, beside, got, &unused);
+    enum map_said put = truly->put(w->session, key, value, found);
+    if (beside != key || w->style == MAP_DONE || (said != MAP_TOLD && said != MAP_NONE))
+        return put;
+    *found = got;
+    return potzendai_in_style(w, said);
+}
+
+static inline enum map_said potzendai_wrong_put(void *session, uint64_t key, uint64_t value, uint64_t *found)
+{
+    struct potzendai_wrong *w = potzendai_catch_up(session);
+    if (w->is_known && potzendai_goes_wrong(w, POTZENDAI_RACE))
+        return potzendai_race(w, key, value, found);
+    if (w->is_known && potzendai_goes_wrong(w, POTZENDAI_DROP)) {
+        enum map_said got = w->broken->truly->get(w->session, key, found);
+        if (got == MAP_TOLD || got == MAP_NONE)
+            return potzendai_in_style(w, got);
+    }
+    if (potzendai_goes_wrong(w, POTZENDAI_REPLAY))
+        potzendai_be_late(w, key, value);
+    return potzendai_true_put(w, key, value, found);
+}
+
+static inline enum map_said potzendai_wrong_del(void *session, uint64_t key, uint64_t *found)
+{
+    struct potzendai_wrong *w = potzendai_catch_up(session);
+    const struct potzendai_map *truly = w->broken->truly;
+    uint64_t value;
+    if (potzendai_goes_wrong(w, POTZENDAI_ZOMBIE) && truly->get(w->session, key, &value) == MAP_TOLD)
+        potzendai_be_late(w, key, value);
+    return truly->del(w->session, key, found);
+}
+
+static inline enum map_said potzendai_wrong_scan(void *session, uint64_t low, uint64_t high, struct recording_pair *pairs, size_t room,
+                                                 size_t *count)
+{
+    struct potzendai_wrong *w = potzendai_catch_up(session);
+    const struct potzendai_map *truly = w->broken->truly;
+    uint64_t middle = low + (high - low) / 2;
+    size_t first = 0, second = 0;
+    if (low == high || !potzendai_goes_wrong(w, POTZENDAI_TORN))
+        return truly->scan(w->session, low, high, pairs, room, count);
+    enum map_said said = truly->scan(w->session, low, middle, pairs, room, &first);
+    if ((said != MAP_TOLD && said != MAP_NONE) || first > room)
+        return truly->scan(w->session, low, high, pairs, room, count);
+    potzendai_pause();
+    said = truly->scan(w->session, middle + 1, high, pairs + first, room - first, &second);
+    *count = first + second;
+    return said == MAP_NONE && first > 0 ? MAP_TOLD : said;
+}
+
+static inline enum map_said potzendai_wrong_replace(void *session, uint64_t key, uint64_t old, uint64_t value, uint64_t *found)
+{
+    struct potzendai_wrong *w = potzendai_catch_up(session);
+    const struct potzendai_map *truly = w->broken->truly;
+    if (potzendai_goes_wrong(w, POTZENDAI_CAS)) {
+        enum map_said said = truly->put(w->session, key, value, found);
+        return said == MAP_REFUSED || said == MAP_UNKNOWN ? said : MAP_DONE;
+    }
+    return truly->replace(w->session, key, old, value, found);
+}
+
+static inline enum map_said potzendai_wrong_put_if_absent(void *session, uint64_t key, uint64_t value, uint64_t *found)
+{
+    struct potzendai_wrong *w = potzendai_catch_up(session);
+    return w->broken->truly->put_if_absent(w->session, key, value, found);
+}
+
+static inline enum map_said potzendai_wrong_floor(void *session, uint64_t key, struct recording_pair *pair)
+{
+    struct potzendai_wrong *w = potzendai_catch_up(session);
+    return w->broken->truly->floor(w->session, key, pair);
+}
+
+static inline enum map_said potzendai_wrong_ceiling(void *session, uint64_t key, struct recording_pair *pair)
+{
+    struct potzendai_wrong *w = potzendai_catch_up(session);
+    return w->broken->truly->ceiling(w->session, key, pair);
+}
+
+static inline enum map_said potzendai_wrong_pop_first(void *session, struct recording_pair *pair)
+{
+    struct potzendai_wrong *w = potzendai_catch_up(session);
+    return w->broken->truly->pop_first(w->session, pair);
+}
+
+/* The map to call: the broken one has the functions that the true one has. */
+static inline const struct potzendai_map *potzendai_break_map(struct potzendai_broken *broken, const struct potzendai_map *truly,
+                                                              const struct potzendai_options *options, const uint64_t *round)
+{
+    if (options->broken == POTZENDAI_UNBROKEN)
+        return truly;
+    broken->truly = truly;
+    broken->how = options->broken;
+    broken->keys = options->keys;
+    broken->seed = options->seed;
+    broken->round = round;
+    broken->map = *truly;
+    broken->map.map = broken;
+    broken->map.open = potzendai_wrong_open;
+    broken->map.close = potzendai_wrong_close;
+    broken->map.get = potzendai_wrong_get;
+    broken->map.put = potzendai_wrong_put;
+    broken->map.del = truly->del ? potzendai_wrong_del : NULL;
+    broken->map.scan = truly->scan ? potzendai_wrong_scan : NULL;
+    broken->map.replace = truly->replace ? potzendai_wrong_replace : NULL;
+    broken->map.put_if_absent = truly->put_if_absent ? potzendai_wrong_put_if_absent : NULL;
+    broken->map.floor = truly->floor ? potzendai_wrong_floor : NULL;
+    broken->map.ceiling = truly->ceiling ? potzendai_wrong_ceiling : NULL;
+    broken->map.pop_first = truly->pop_first ? potzendai_wrong_pop_first : NULL;
+    return &broken->map;
+}
+
+#endif

@@ -1,0 +1,255 @@
+/* One stream, which is followed while the threads run. Included by potzendai_test.h. */
+#ifndef POTZENDAI_FOLLOW_H
+#define POTZENDAI_FOLLOW_H
+
+#include "potzendai_rounds.h"
+
+/* Slots of the stream, and processes for threads that go on as others. */
+enum { POTZENDAI_SLOTS = 8192, POTZENDAI_OTHERS = 4096 };
+
+/* A stream, who takes its lines, and how far it is. */
+struct potzendai_following {
+    struct potzendai_tester *tester;
+    struct potzendai_thread *threads;
+    struct streaming stream;
+    recording_word is_done;
+    int written;
+    FILE *file;
+#ifndef POTZENDAI_NO_LIBRARY
+    struct potzendai_follower follower;
+    char report[POTZENDAI_REPORT];
+    struct potzendai_told told;
+#endif
+};
+
+/* The calls that the threads have made so far. */
+static inline void potzendai_count_calls(struct potzendai_following *f)
+{
+    f->tester->calls = f->tester->refused = 0;
+    for (uint64_t i = 0; i < f->tester->run->threads; i++) {
+        f->tester->calls += atomic_load_explicit(&f->threads[i].calls, POTZENDAI_RELAXED);
+        f->tester->refused += atomic_load_explicit(&f->threads[i].refused, POTZENDAI_RELAXED);
+    }
+}
+
+#ifndef POTZENDAI_NO_LIBRARY
+
+/* Whether the library follows streams whose answers tell less than the value: it refuses their first line where it does not. */
+static inline bool potzendai_follows_less(void)
+{
+    static const char line[] = "{\"start\":[],\"version\":3}\n";
+    char report[256] = "";
+    size_t length;
+    return potzendai_follow(line, sizeof line - 1, POTZENDAI_BUDGET, report, sizeof report, &length) == POTZENDAI_YES;
+}
+
+/* What the follower says so far has the overlap of all calls that it has. */
+static inline void potzendai_follow_progress(struct potzendai_following *f)
+{
+    size_t length;
+    if (!f->tester->has_terminal || potzendai_now() - f->tester->told < 1)
+        return;
+    potzendai_follow_verdict(&f->follower, f->report, sizeof f->report, &length);
+    potzendai_count_calls(f);
+    f->tester->overlap = potzendai_number(f->report, "\"overlap\":");
+    potzendai_progress(f->tester);
+}
+
+/* Takes lines: other than 0 where the stream is no yes any more. */
+static inline int potzendai_take_lines(void *to, const char *text, size_t length)
+{
+    struct potzendai_following *f = (struct potzendai_following *)to;
+    uint32_t status = potzendai_follow_event(&f->follower, text, length);
+    potzendai_follow_progress(f);
+    return status == POTZENDAI_YES ? 0 : -1;
+}
+
+/* The verdict with all that is shown of it. */
+static inline enum potzendai_status potzendai_stream_verdict(struct potzendai_following *f)
+{
+    size_t length = 0;
+    enum potzendai_status status = POTZENDAI_NO_MEMORY;
+    for (size_t wanted = POTZENDAI_REPORT; wanted > f->told.room; wanted = length + 1) {
+        free(f->told.report);
+        f->told.report = (char *)calloc(1, wanted);
+        f->told.room = f->told.report ? wanted : 0;
+        if (!f->told.report)
+            return POTZENDAI_NO_MEMORY;
+        status = (enum potzendai_status)potzendai_follow_verdict(&f->follower, f->told.report, f->told.room, &length);
+    }
+    return status;
+}
+
+/* A stream without order: its group is a history, if it fits one, which is explained. */
+static inline void potzendai_tell_stream(struct potzendai_following *f)
+{
+    const char *few = potzendai_next_line(f->told.report);
+    struct potzendai_told group;
+    memset(&group, 0, sizeof group);
+    fprintf(stderr, "%.*s\n", (int)strcspn(f->told.report, "\n"), f->told.report);
+    if (few) {
+        group.length = strlen(few);
+        group.text = (char *)calloc(1, group.length + 1);
+        if (group.text)
+            memcpy(group.text, few, group.length);
+        if (group.text && potzendai_explained(&group) == POTZENDAI_IS_NO)
+            potzendai_tell_no(f->tester, &group);
+        potzendai_forget(&group);
+    }
+    fputs("  again: ", stderr);
+    potzendai_write_words(stderr, f->tester->options, f->tester->program, 0);
+}
+
+/* What the follower says at the end. A stream that was cut off has no yes. */
+static inline int potzendai_end_stream(struct potzendai_following *f)
+{
+    struct potzendai_run *run = f->tester->run;
+    enum potzendai_status status = potzendai_stream_verdict(f);
+    f->tester->overlap = potzendai_number(f->told.report ? f->told.report : "", "\"overlap\":");
+    if (atomic_load(&run->fault))
+        return -1;
+    if (status == POTZENDAI_IS_YES && f->written)
+        return potzendai_fail(run, POTZENDAI_BAD_FILE, "the stream was cut off");
+    if (status == POTZENDAI_NO_MEMORY)
+        return potzendai_fail(run, POTZENDAI_NO_MEMORY, "memory: the stream was not followed to its end");
+    if (status > POTZENDAI_NO_MEMORY || status == POTZENDAI_IS_REFUSED)
+        return potzendai_fail(run, status, "%.150s", f->told.report);
+    if (status == POTZENDAI_IS_NO)
+        potzendai_tell_stream(f);
+    f->tester->undecided += status == POTZENDAI_IS_UNDECIDED;
+    return status;
+}
+
+static inline void potzendai_close_follower(struct potzendai_following *f)
+{
+    potzendai_follow_close(&f->follower);
+    potzendai_forget(&f->told);
+}
+
+#endif
+
+/* The thread that writes: to the follower, which opens and stays here, or to standard output. */
+static inline void *potzendai_write_stream(void *own)
+{
+    struct potzendai_following *f = (struct potzendai_following *)own;
+    int status = 0;
+#ifndef POTZENDAI_NO_LIBRARY
+    if (strcmp(f->tester->options->out, "-") != 0) {
+        streaming_hand(&f->stream, potzendai_take_lines, f);
+        if (potzendai_follow_open(&f->follower, POTZENDAI_BUDGET))
+            potzendai_fail(f->tester->run, POTZENDAI_NO_MEMORY, "memory: no follower");
+        f->written = streaming_write(&f->stream);
+        status = potzendai_end_stream(f);
+        potzendai_close_follower(f);
+        atomic_store(&f->is_done, (uint64_t)1);
+        return (void *)(intptr_t)status;
+    }
+#endif
+    f->written = streaming_write(&f->stream);
+    if (f->written)
+        status = potzendai_fail(f->tester->run, POTZENDAI_BAD_FILE, "the stream was cut off, as a write failed");
+    atomic_store(&f->is_done, (uint64_t)1);
+    return (void *)(intptr_t)status;
+}
+
+/* Waits until the time is over, all threads have made their calls, or the stream has ended. */
+static inline void potzendai_wait(struct potzendai_following *f)
+{
+    struct potzendai_run *run = f->tester->run;
+    double until = f->tester->began + (double)f->tester->options->seconds;
+    struct timespec some_time = {0, 10000000};
+    while (potzendai_now() < until && !atomic_load(&run->fault) && !atomic_load(&f->is_done) && atomic_load(&run->arrived))
+        nanosleep(&some_time, NULL);
+}
+
+/* Where nobody follows, the stream goes to standard output or to a file, and may tell less than the value where that is asked for. */
+static inline int potzendai_open_unjudged(struct potzendai_following *f)
+{
+    const struct potzendai_options *o = f->tester->options;
+    char path[POTZENDAI_PATH];
+    if (o->has_void && o->void_puts == POTZENDAI_VOID_DONE)
+        streaming_tell_less(&f->stream);
+    if (strcmp(o->out, "-") == 0)
+        return 0;
+    f->file = potzendai_path(f->tester, path, ".jsonl") ? NULL : fopen(path, "w");
+    if (!f->file)
+        return potzendai_fail(f->tester->run, POTZENDAI_BAD_FILE, "no file for the stream in %.100s", o->out);
+    f->stream.descriptor = fileno(f->file);
+    fprintf(stderr, "  file: %s\n", path);
+    return 0;
+}
+
+/* Whether histories or the stream are written for others to judge. A reader that has gone is then told by a write that fails. */
+static inline bool potzendai_is_unjudged(const struct potzendai_options *o)
+{
+#ifdef POTZENDAI_NO_LIBRARY
+    (void)o;
+    return true;
+#else
+    return strcmp(o->out, "-") == 0;
+#endif
+}
+
+static inline int potzendai_open_stream(struct potzendai_following *f)
+{
+    struct potzendai_run *run = f->tester->run;
+    uint64_t processes = run->threads + POTZENDAI_OTHERS;
+    size_t pairs = potzendai_pairs_of_a_call(run->options);
+    atomic_store(&run->next_process, run->threads);
+    atomic_store(&run->processes, processes);
+    atomic_store(&f->is_done, (uint64_t)0);
+    if (potzendai_read_start(f->tester))
+        return -1;
+    potzendai_remember_start(f->tester);
+    if (streaming_open(&f->stream, (unsigned)processes, POTZENDAI_SLOTS, pairs, 1)
+        || streaming_start(&f->stream, f->tester->start, f->tester->pairs_at_start))
+        return potzendai_fail(run, POTZENDAI_NO_MEMORY, "memory: a stream has no room");
+    run->stream = &f->stream;
+    if (potzendai_is_unjudged(run->options))
+        return potzendai_open_unjudged(f);
+#ifndef POTZENDAI_NO_LIBRARY
+    if (potzendai_follows_less())
+        streaming_tell_less(&f->stream);
+#endif
+    return 0;
+}
+
+/* Lets the threads run and waits for all of them. */
+static inline int potzendai_run_stream(struct potzendai_following *f)
+{
+    struct potzendai_run *run = f->tester->run;
+    pthread_t writer;
+    void *status = NULL;
+    f->threads = potzendai_new_threads(run);
+    if (!f->threads || pthread_create(&writer, NULL, potzendai_write_stream, f)) {
+        potzendai_free_threads(f->threads, run->threads);
+        return potzendai_fail(run, POTZENDAI_NO_MEMORY, "memory: threads have no room");
+    }
+    uint64_t started = potzendai_start_threads(run, f->threads);
+    potzendai_wait(f);
+    atomic_store(&run->is_over, (uint64_t)1);
+    potzendai_join_threads(run, f->threads, started);
+    streaming_end(&f->stream);
+    pthread_join(writer, &status);
+    potzendai_count_calls(f);
+    potzendai_free_threads(f->threads, run->threads);
+    return (int)(intptr_t)status;
+}
+
+/* One stream: the status of its verdict, or -1 where the run fails. */
+static inline int potzendai_stream(struct potzendai_tester *tester)
+{
+    struct potzendai_following *f = (struct potzendai_following *)calloc(1, sizeof *f);
+    if (!f)
+        return potzendai_fail(tester->run, POTZENDAI_NO_MEMORY, "memory: a stream has no room");
+    f->tester = tester;
+    int status = potzendai_open_stream(f);
+    status = status ? status : potzendai_run_stream(f);
+    streaming_close(&f->stream);
+    if (f->file && fclose(f->file) && status == 0)
+        status = potzendai_fail(tester->run, POTZENDAI_BAD_FILE, "the stream was not written");
+    free(f);
+    return status;
+}
+
+#endif

@@ -1,0 +1,239 @@
+/* A map that is tested: its functions, what they may say, and which events of a history that makes. Included by potzendai_test.h. */
+#ifndef POTZENDAI_MAP_H
+#define POTZENDAI_MAP_H
+
+#include "streaming.h"
+#include <inttypes.h>
+#include <time.h>
+
+/* What a function of the map says. */
+enum map_said {
+    MAP_TOLD,    /* there was a value, which is told: of a put, del or replace the one before; of a floor, ceiling or pop_first a pair */
+    MAP_NONE,    /* there was none */
+    MAP_DONE,    /* it was done, and nothing is told; of a replace: the old value was there, and is replaced */
+    MAP_FOUND,   /* there was a value, which is not told; of a floor, ceiling or pop_first its key is */
+    MAP_OTHER,   /* of a replace: the old value was not there, and nothing has changed */
+    MAP_REFUSED, /* nothing has changed, as of a transaction that was rolled back */
+    MAP_UNKNOWN  /* nobody knows whether it was done, as of a request that timed out */
+};
+
+enum { POTZENDAI_SAYINGS = 7 };
+
+/* Any function but `get` and `put` may be NULL: it is not called then. Keys are from 0 up; the map holds no others. */
+struct potzendai_map {
+    const char *name;
+    void *map;
+    unsigned value_bits; /* how many bits a value may have, or 0 for 64: values from 1 up are put */
+    void *(*open)(void *map, unsigned thread); /* in the thread itself, a session of its own; NULL where it fails. The run has one too,
+                                                  for gets at rest, behind the last thread's number. Or no function: it is the map */
+    void (*close)(void *session);
+    enum map_said (*get)(void *session, uint64_t key, uint64_t *found);
+    enum map_said (*put)(void *session, uint64_t key, uint64_t value, uint64_t *found);
+    enum map_said (*del)(void *session, uint64_t key, uint64_t *found);
+    enum map_said (*scan)(void *session, uint64_t low, uint64_t high, struct recording_pair *pairs, size_t room, size_t *count);
+    enum map_said (*replace)(void *session, uint64_t key, uint64_t old, uint64_t value, uint64_t *found);
+    enum map_said (*put_if_absent)(void *session, uint64_t key, uint64_t value, uint64_t *found);
+    enum map_said (*floor)(void *session, uint64_t key, struct recording_pair *pair);
+    enum map_said (*ceiling)(void *session, uint64_t key, struct recording_pair *pair);
+    enum map_said (*pop_first)(void *session, struct recording_pair *pair);
+};
+
+enum potzendai_function {
+    POTZENDAI_GET, POTZENDAI_PUT, POTZENDAI_DEL, POTZENDAI_SCAN, POTZENDAI_REPLACE, POTZENDAI_PUT_IF_ABSENT, POTZENDAI_FLOOR,
+    POTZENDAI_CEILING, POTZENDAI_POP_FIRST, POTZENDAI_FUNCTIONS
+};
+
+static const char *const potzendai_functions[] = {
+    "get", "put", "del", "scan", "replace", "put_if_absent", "floor", "ceiling", "pop_first"
+};
+
+static const char *const potzendai_sayings[] = {"told", "none", "done", "found", "other", "refused", "unknown"};
+
+/* A call: `other` is the old value of a replace, and the high key of a scan. */
+struct potzendai_request { enum potzendai_function function; uint64_t key, value, other; };
+
+/* What the map said to it: the value or the pair that was told; `pairs`, with room for so many, are those of a scan. */
+struct potzendai_answer {
+    enum map_said said;
+    struct recording_pair pair;
+    struct recording_pair *pairs;
+    size_t room, count;
+};
+
+static inline bool potzendai_has(const struct potzendai_map *map, enum potzendai_function function)
+{
+    switch (function) {
+    case POTZENDAI_GET: return map->get != NULL;
+    case POTZENDAI_PUT: return map->put != NULL;
+    case POTZENDAI_DEL: return map->del != NULL;
+    case POTZENDAI_SCAN: return map->scan != NULL;
+    case POTZENDAI_REPLACE: return map->replace != NULL;
+    case POTZENDAI_PUT_IF_ABSENT: return map->put_if_absent != NULL;
+    case POTZENDAI_FLOOR: return map->floor != NULL;
+    case POTZENDAI_CEILING: return map->ceiling != NULL;
+    case POTZENDAI_POP_FIRST: return map->pop_first != NULL;
+    default: return false;
+    }
+}
+
+/* Whether it may change the map. */
+static inline bool potzendai_writes(enum potzendai_function function)
+{
+    return function == POTZENDAI_PUT || function == POTZENDAI_DEL || function == POTZENDAI_REPLACE || function == POTZENDAI_PUT_IF_ABSENT
+        || function == POTZENDAI_POP_FIRST;
+}
+
+/* Calls a function of the map. */
+static inline void potzendai_ask(const struct potzendai_map *map, void *session, const struct potzendai_request *request,
+                                 struct potzendai_answer *answer)
+{
+    uint64_t key = request->key, *found = &answer->pair.value;
+    answer->pair.key = key;
+    answer->pair.value = 0;
+    answer->count = 0;
+    switch (request->function) {
+    case POTZENDAI_GET: answer->said = map->get(session, key, found); break;
+    case POTZENDAI_PUT: answer->said = map->put(session, key, request->value, found); break;
+    case POTZENDAI_DEL: answer->said = map->del(session, key, found); break;
+    case POTZENDAI_SCAN: answer->said = map->scan(session, key, request->other, answer->pairs, answer->room, &answer->count); break;
+    case POTZENDAI_REPLACE: answer->said = map->replace(session, key, request->other, request->value, found); break;
+    case POTZENDAI_PUT_IF_ABSENT: answer->said = map->put_if_absent(session, key, request->value, found); break;
+    case POTZENDAI_FLOOR: answer->said = map->floor(session, key, &answer->pair); break;
+    case POTZENDAI_CEILING: answer->said = map->ceiling(session, key, &answer->pair); break;
+    default: answer->said = map->pop_first(session, &answer->pair);
+    }
+}
+
+/* What becomes of a call: it does not fit what was said, is left out since it tells nothing, stays without an answer, or is a call
+ * and an answer of a history. */
+enum potzendai_fate { POTZENDAI_UNFIT, POTZENDAI_LEFT_OUT, POTZENDAI_STAYS_OPEN, POTZENDAI_ANSWERED };
+
+struct potzendai_row { enum potzendai_fate fate; enum recording_kind call, answer; };
+
+#define POTZENDAI_ROW(call, answer) {POTZENDAI_ANSWERED, RECORDING_##call, RECORDING_##answer}
+#define POTZENDAI_NO_ROW {POTZENDAI_UNFIT, RECORDING_GET, RECORDING_NONE}
+#define POTZENDAI_OUT {POTZENDAI_LEFT_OUT, RECORDING_GET, RECORDING_REFUSED}
+#define POTZENDAI_OPEN(call) {POTZENDAI_STAYS_OPEN, RECORDING_##call, RECORDING_NONE}
+
+/* By function and by what it said, in the order of the two enumerations. */
+static const struct potzendai_row potzendai_rows[POTZENDAI_FUNCTIONS][POTZENDAI_SAYINGS] = {
+    {POTZENDAI_ROW(GET, VALUE), POTZENDAI_ROW(GET, NONE), POTZENDAI_OUT, POTZENDAI_ROW(GET, FOUND), POTZENDAI_NO_ROW, POTZENDAI_OUT,
+     POTZENDAI_OUT},
+    {POTZENDAI_ROW(INSERT, VALUE), POTZENDAI_ROW(INSERT, NONE), POTZENDAI_ROW(INSERT, DONE), POTZENDAI_ROW(INSERT, FOUND),
+     POTZENDAI_NO_ROW, POTZENDAI_ROW(INSERT, REFUSED), POTZENDAI_OPEN(INSERT)},
+    {POTZENDAI_ROW(REMOVE, VALUE), POTZENDAI_ROW(REMOVE, NONE), POTZENDAI_ROW(REMOVE, DONE), POTZENDAI_ROW(REMOVE, FOUND),
+     POTZENDAI_NO_ROW, POTZENDAI_ROW(REMOVE, REFUSED), POTZENDAI_OPEN(REMOVE)},
+    {POTZENDAI_ROW(SCAN, LIST), POTZENDAI_ROW(SCAN, LIST), POTZENDAI_OUT, POTZENDAI_NO_ROW, POTZENDAI_NO_ROW, POTZENDAI_OUT,
+     POTZENDAI_OUT},
+    {POTZENDAI_ROW(REPLACE, VALUE), POTZENDAI_ROW(REPLACE, NONE), POTZENDAI_ROW(REPLACE, VALUE), POTZENDAI_ROW(REPLACE, FOUND),
+     POTZENDAI_ROW(REPLACE, OTHER), POTZENDAI_ROW(REPLACE, REFUSED), POTZENDAI_OPEN(REPLACE)},
+    {POTZENDAI_ROW(GET, VALUE), POTZENDAI_ROW(INSERT, NONE), POTZENDAI_NO_ROW, POTZENDAI_ROW(GET, FOUND), POTZENDAI_NO_ROW,
+     POTZENDAI_OUT, POTZENDAI_OPEN(INSERT)},
+    {POTZENDAI_ROW(SCAN, LIST), POTZENDAI_ROW(SCAN, LIST), POTZENDAI_OUT, POTZENDAI_ROW(GET, FOUND), POTZENDAI_NO_ROW, POTZENDAI_OUT,
+     POTZENDAI_OUT},
+    {POTZENDAI_ROW(SCAN, LIST), POTZENDAI_ROW(SCAN, LIST), POTZENDAI_OUT, POTZENDAI_ROW(GET, FOUND), POTZENDAI_NO_ROW, POTZENDAI_OUT,
+     POTZENDAI_OUT},
+    {POTZENDAI_ROW(REMOVE, VALUE), POTZENDAI_ROW(SCAN, LIST), POTZENDAI_NO_ROW, POTZENDAI_ROW(REMOVE, FOUND), POTZENDAI_NO_ROW,
+     POTZENDAI_OUT, POTZENDAI_NO_ROW}
+};
+
+/* Whether a call of the history is known only by the answer. */
+static inline bool potzendai_is_held(enum potzendai_function function)
+{
+    return function >= POTZENDAI_PUT_IF_ABSENT;
+}
+
+/* Where the scan ends that a ceiling or a floor is: at the pair that it told, if that lies where it may. */
+static inline uint64_t potzendai_high(const struct potzendai_request *request, const struct potzendai_answer *answer)
+{
+    bool is_told = answer->said == MAP_TOLD;
+    switch (request->function) {
+    case POTZENDAI_SCAN: return request->other;
+    case POTZENDAI_FLOOR: return request->key;
+    case POTZENDAI_CEILING: return is_told && answer->pair.key >= request->key ? answer->pair.key : UINT64_MAX;
+    default: return UINT64_MAX;
+    }
+}
+
+static inline uint64_t potzendai_low(const struct potzendai_request *request, const struct potzendai_answer *answer)
+{
+    if (request->function == POTZENDAI_FLOOR)
+        return answer->said == MAP_TOLD && answer->pair.key <= request->key ? answer->pair.key : 0;
+    return request->function == POTZENDAI_POP_FIRST ? 0 : request->key;
+}
+
+/* The words of the event of a call. */
+static inline void potzendai_words(const struct potzendai_request *request, const struct potzendai_answer *answer,
+                                   enum recording_kind call, uint64_t words[3])
+{
+    words[0] = request->function >= POTZENDAI_FLOOR ? answer->pair.key : request->key;
+    words[1] = request->value;
+    words[2] = 0;
+    if (call == RECORDING_SCAN) {
+        words[0] = potzendai_low(request, answer);
+        words[1] = potzendai_high(request, answer);
+    } else if (call == RECORDING_REPLACE) {
+        words[1] = request->other;
+        words[2] = request->value;
+    }
+}
+
+/* A generator of numbers: Steele, Lea and Flood's SplitMix. Its states may be any. */
+static inline uint64_t potzendai_mix(uint64_t *state)
+{
+    uint64_t z = *state += 0x9e3779b97f4a7c15u;
+    z = (z ^ z >> 30) * 0xbf58476d1ce4e5b9u;
+    z = (z ^ z >> 27) * 0x94d049bb133111ebu;
+    return z ^ z >> 31;
+}
+
+/* A number below a limit. */
+static inline uint64_t potzendai_draw_below(uint64_t *state, uint64_t limit)
+{
+    return potzendai_mix(state) % limit;
+}
+
+static inline double potzendai_now(void)
+{
+    struct timespec now;
+    clock_gettime(CLOCK_MONOTONIC, &now);
+    return (double)now.tv_sec + (double)now.tv_nsec / 1e9;
+}
+
+#ifdef __cplusplus
+#define POTZENDAI_OF_THREAD static thread_local
+#else
+#define POTZENDAI_OF_THREAD static _Thread_local
+#endif
+
+/* Of a thread that calls the map: of a thousand points, how many give way to other threads; and what draws them. */
+POTZENDAI_OF_THREAD unsigned potzendai_yields;
+POTZENDAI_OF_THREAD uint64_t potzendai_yield_state;
+
+static inline void potzendai_pause(void)
+{
+    struct timespec some_time = {0, (long)(1000 + potzendai_draw_below(&potzendai_yield_state, 50000))};
+    if (potzendai_draw_below(&potzendai_yield_state, 4))
+        sched_yield();
+    else
+        nanosleep(&some_time, NULL);
+}
+
+#ifdef __cplusplus
+extern "C" {
+#endif
+
+/* A map's functions may call this where another thread should get in between: under `--yield` it sometimes does. Sources of their own
+ * declare it: void potzendai_point(void); */
+__attribute__((weak)) void potzendai_point(void);
+__attribute__((weak)) void potzendai_point(void)
+{
+    if (potzendai_yields > 0 && potzendai_draw_below(&potzendai_yield_state, 1000) < potzendai_yields)
+        potzendai_pause();
+}
+
+#ifdef __cplusplus
+}
+#endif
+
+#endif

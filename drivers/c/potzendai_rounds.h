@@ -1,0 +1,471 @@
+/* Rounds: each is recorded, and judged once its threads rest. Included by potzendai_test.h. */
+#ifndef POTZENDAI_ROUNDS_H
+#define POTZENDAI_ROUNDS_H
+
+#include "potzendai_break.h"
+#include "potzendai_tell.h"
+#include "potzendai_threads.h"
+#ifndef POTZENDAI_NO_LIBRARY
+#include "potzendai.h"
+#endif
+
+enum { POTZENDAI_TRIES = 8, POTZENDAI_TRIES_SECONDS = 5, POTZENDAI_GETS = 1000, POTZENDAI_PATH = 4096, POTZENDAI_BITS = 40 };
+
+/* A run with what comes of it. `session` is of the thread that runs all of it. */
+struct potzendai_tester {
+    struct potzendai_run *run;
+    const struct potzendai_options *options;
+    const char *program;
+    void *session;
+    struct recording_pair *start, *next_start;
+    size_t pairs_at_start, pairs_next;
+    uint64_t rounds, calls, refused, undecided, overlap;
+    double began, told;
+    bool has_terminal;
+};
+
+/* A recording as a text, and what the library says of it. */
+struct potzendai_told { char *text, *report; size_t length, room; };
+
+static inline void potzendai_forget(struct potzendai_told *told)
+{
+    free(told->text);
+    free(told->report);
+    memset(told, 0, sizeof *told);
+}
+
+/* Gets a key at rest, from the map that is not made wrong: again where it is refused. */
+static inline int potzendai_get_at_rest(struct potzendai_tester *tester, uint64_t key, struct potzendai_answer *answer)
+{
+    struct potzendai_request get = {POTZENDAI_GET, key, 0, 0};
+    for (int i = 0; i < POTZENDAI_GETS; i++) {
+        potzendai_ask(tester->run->truly, tester->session, &get, answer);
+        if (answer->said == MAP_TOLD || answer->said == MAP_NONE)
+            return 0;
+        if (answer->said != MAP_REFUSED && answer->said != MAP_UNKNOWN)
+            break;
+    }
+    return potzendai_fail(tester->run, POTZENDAI_BAD_WORDS, "get of %" PRIu64 " said %s at rest, where it has to tell", key,
+                          (unsigned)answer->said < POTZENDAI_SAYINGS ? potzendai_sayings[answer->said] : "no answer");
+}
+
+/* Reads all keys at rest, for what a recording starts from. */
+static inline int potzendai_read_start(struct potzendai_tester *tester)
+{
+    struct potzendai_answer answer;
+    tester->pairs_at_start = 0;
+    for (uint64_t key = 0; key < tester->options->keys; key++) {
+        memset(&answer, 0, sizeof answer);
+        if (potzendai_get_at_rest(tester, key, &answer))
+            return -1;
+        if (answer.said != MAP_TOLD)
+            continue;
+        tester->start[tester->pairs_at_start++] = answer.pair;
+        if (tester->rounds == 0 && answer.pair.value > tester->run->values_from)
+            tester->run->values_from = answer.pair.value;
+    }
+    return 0;
+}
+
+/* The last calls of a round: one process gets all keys. What it finds is what the next round starts from. */
+static inline int potzendai_get_all(struct potzendai_tester *tester, unsigned p)
+{
+    struct potzendai_answer answer;
+    struct recording *recording = tester->run->recording;
+    tester->pairs_next = 0;
+    for (uint64_t key = 0; key < tester->options->keys; key++) {
+        memset(&answer, 0, sizeof answer);
+        if (recording_invoke_get(recording, p, key) || potzendai_get_at_rest(tester, key, &answer)
+            || recording_answer(recording, p, answer.said == MAP_TOLD, answer.pair.value))
+            return -1;
+        if (answer.said == MAP_TOLD)
+            tester->next_start[tester->pairs_next++] = answer.pair;
+    }
+    return 0;
+}
+
+/* Calls of rounds before, of which nobody knows whether they were done, are open from the beginning: each may yet come about. */
+static inline int potzendai_carry_on(struct potzendai_run *run)
+{
+    uint64_t count = atomic_load(&run->open_count);
+    for (uint64_t i = 0; i < count; i++) {
+        uint64_t p = atomic_fetch_add(&run->next_process, (uint64_t)1);
+        if (p >= atomic_load(&run->processes))
+            return potzendai_fail(run, POTZENDAI_IS_UNDECIDED, "%" PRIu64 " calls are without an answer, which leaves no room for others",
+                                  count);
+        if (recording_add(run->recording, (unsigned)p, run->open_calls[i].call, run->open_calls[i].words[0], run->open_calls[i].words[1],
+                          run->open_calls[i].words[2]))
+            return potzendai_fail(run, POTZENDAI_NO_MEMORY, "memory: a round has no room");
+    }
+    return 0;
+}
+
+/* Whether an answer tells a value. */
+static inline bool potzendai_tells_value(const struct recording_log *log, const struct recording_event *event, uint64_t value)
+{
+    if (event->kind == RECORDING_VALUE)
+        return event->words[0] == value;
+    for (uint64_t i = 0; event->kind == RECORDING_LIST && i < event->words[1]; i++)
+        if (log->pairs[event->words[0] + i].value == value)
+            return true;
+    return false;
+}
+
+/* Whether an answer of the round tells what this call puts: then it was done. No other call puts this value where there are enough. */
+static inline bool potzendai_is_seen(const struct potzendai_run *run, const struct potzendai_open *open)
+{
+    uint64_t value = open->call == RECORDING_REPLACE ? open->words[2] : open->words[1];
+    unsigned bits = run->truly->value_bits;
+    if (open->call == RECORDING_REMOVE || (bits > 0 && bits < POTZENDAI_BITS))
+        return false;
+    for (unsigned p = 0; p < run->recording->processes; p++)
+        for (size_t i = 0; i < run->recording->logs[p].length; i++)
+            if (potzendai_tells_value(&run->recording->logs[p], &run->recording->logs[p].events[i], value))
+                return true;
+    return false;
+}
+
+/* Lets go of the calls without an answer that were done, by the end of a round. */
+static inline void potzendai_settle(struct potzendai_run *run)
+{
+    uint64_t kept = 0, count = atomic_load(&run->open_count);
+    for (uint64_t i = 0; i < count && i < RECORDING_PROCESSES; i++)
+        if (!potzendai_is_seen(run, &run->open_calls[i]))
+            run->open_calls[kept++] = run->open_calls[i];
+    atomic_store(&run->open_count, kept);
+}
+
+/* Sets what the writers remember to what a round starts from. */
+static inline void potzendai_remember_start(struct potzendai_tester *tester)
+{
+    struct potzendai_key *keys = tester->run->keys;
+    for (uint64_t key = 0; key < tester->options->keys; key++)
+        keys[key].memory = POTZENDAI_ABSENT;
+    for (size_t i = 0; i < tester->pairs_at_start; i++) {
+        keys[tester->start[i].key].memory = POTZENDAI_PRESENT;
+        keys[tester->start[i].key].value = tester->start[i].value;
+    }
+}
+
+/* The most pairs that a call may be answered by. */
+static inline size_t potzendai_pairs_of_a_call(const struct potzendai_options *o)
+{
+    return o->shares[POTZENDAI_SCAN] > 0 ? (size_t)POTZENDAI_SPAN + 1 : (size_t)1;
+}
+
+/* Opens a recording with room for the threads, for those that go on as others, and for the last gets. */
+static inline int potzendai_open_recording(struct potzendai_tester *tester)
+{
+    struct potzendai_run *run = tester->run;
+    uint64_t each = potzendai_calls_each(tester->options), processes = RECORDING_CALLS / each;
+    if (processes > RECORDING_PROCESSES)
+        processes = RECORDING_PROCESSES;
+    size_t pairs_each = (size_t)each * potzendai_pairs_of_a_call(tester->options);
+    atomic_store(&run->next_process, run->threads);
+    atomic_store(&run->processes, processes - 1);
+    if (recording_open(run->recording, (unsigned)processes, (unsigned)each, pairs_each)
+        || recording_start(run->recording, tester->start, tester->pairs_at_start))
+        return potzendai_fail(run, POTZENDAI_NO_MEMORY, "memory: a round has no room");
+    return 0;
+}
+
+/* How many other calls were open at the invocations of a recording, all added up; `kinds` has a byte for each stamp. */
+static inline uint64_t potzendai_count_overlap(const struct recording *r, char *kinds, size_t stamps)
+{
+    uint64_t overlap = 0, open = 0;
+    for (unsigned p = 0; p < r->processes; p++)
+        for (size_t i = 0; i < r->logs[p].length; i++)
+            kinds[r->logs[p].events[i].stamp] = r->logs[p].events[i].kind < RECORDING_NONE ? 1 : 2;
+    for (size_t i = 0; i < stamps; i++) {
+        overlap += kinds[i] == 1 ? open : 0;
+        open = kinds[i] == 1 ? open + 1 : kinds[i] == 2 ? open - 1 : open;
+    }
+    return overlap;
+}
+
+static inline int potzendai_add_overlap(struct potzendai_tester *tester)
+{
+    size_t stamps = (size_t)atomic_load(&tester->run->recording->stamps);
+    char *kinds = (char *)calloc(stamps + 1, 1);
+    if (!kinds)
+        return potzendai_fail(tester->run, POTZENDAI_NO_MEMORY, "memory: a round has no room");
+    tester->overlap += potzendai_count_overlap(tester->run->recording, kinds, stamps);
+    for (unsigned p = 0; p < tester->run->recording->processes; p++)
+        tester->calls += (tester->run->recording->logs[p].length + 1) / 2;
+    free(kinds);
+    return 0;
+}
+
+/* Writes the recording into memory, of which there may be none left at the end though the stream closes well. */
+static inline int potzendai_text_of(struct potzendai_tester *tester, struct potzendai_told *told)
+{
+    FILE *out = open_memstream(&told->text, &told->length);
+    int status = out ? recording_write(tester->run->recording, out) : -1;
+    if (!out || fclose(out) || status || !told->text)
+        return potzendai_fail(tester->run, POTZENDAI_NO_MEMORY, "memory: a round was not written");
+    return 0;
+}
+
+/* Has the threads make the calls of a round, and all keys be got behind it. -1 where the run fails. */
+static inline int potzendai_make_round(struct potzendai_tester *tester)
+{
+    struct potzendai_run *run = tester->run;
+    struct potzendai_thread *threads = potzendai_new_threads(run);
+    if (!threads)
+        return potzendai_fail(run, POTZENDAI_NO_MEMORY, "memory: threads have no room");
+    potzendai_remember_start(tester);
+    if (potzendai_carry_on(run) == 0)
+        potzendai_join_threads(run, threads, potzendai_start_threads(run, threads));
+    potzendai_free_threads(threads, run->threads);
+    if (atomic_load(&run->fault) || potzendai_get_all(tester, (unsigned)atomic_load(&run->processes)))
+        return -1;
+    potzendai_settle(run);
+    return 0;
+}
+
+/* Records one round, which the pairs that were read start, as a text. */
+static inline int potzendai_record(struct potzendai_tester *tester, struct potzendai_told *told)
+{
+    if (potzendai_open_recording(tester))
+        return -1;
+    int status = potzendai_make_round(tester);
+    status = status ? status : potzendai_add_overlap(tester);
+    status = status ? status : potzendai_text_of(tester, told);
+    recording_close(tester->run->recording);
+    return status;
+}
+
+/* The path of a file of this run: 0, or -1 where it is too long. */
+static inline int potzendai_path(const struct potzendai_tester *tester, char path[POTZENDAI_PATH], const char *ending)
+{
+    int length = snprintf(path, POTZENDAI_PATH, "%s/%s-%" PRIu64 "-%" PRIu64 "%s", tester->options->out, tester->run->truly->name,
+                          tester->options->seed, tester->run->round, ending);
+    return length > 0 && length < POTZENDAI_PATH ? 0 : -1;
+}
+
+/* Writes a text to a file of this run. Where that fails it is told. */
+static inline int potzendai_keep(const struct potzendai_tester *tester, const char *ending, const char *text, size_t length)
+{
+    char path[POTZENDAI_PATH];
+    FILE *out = potzendai_path(tester, path, ending) ? NULL : fopen(path, "w");
+    bool is_kept = out && fwrite(text, 1, length, out) == length;
+    if (out && fclose(out))
+        is_kept = false;
+    if (is_kept)
+        fprintf(stderr, "  file: %s\n", path);
+    else
+        fprintf(stderr, "file: not written: %s\n", path);
+    return is_kept ? 0 : -1;
+}
+
+/* Says each second how far this is, where somebody looks. */
+static inline void potzendai_progress(struct potzendai_tester *tester)
+{
+    double now = potzendai_now(), seconds = now - tester->began;
+    uint64_t met = 0;
+    if (!tester->has_terminal || now - tester->told < 1 || tester->calls == 0)
+        return;
+    for (uint64_t key = 0; key < tester->options->keys; key++)
+        met += atomic_load_explicit(&tester->run->keys[key].is_met, POTZENDAI_RELAXED);
+    fprintf(stderr, "%" PRIu64 " calls, %.0f a second, overlap %.1f a call, %.1f%% refused, ", tester->calls,
+            (double)tester->calls / seconds, (double)tester->overlap / (double)tester->calls,
+            100.0 * (double)tester->refused / (double)tester->calls);
+    fprintf(stderr, "two writers met on %" PRIu64 " of %" PRIu64 " keys\n", met, tester->options->keys);
+    tester->told = now;
+}
+
+#ifdef POTZENDAI_NO_LIBRARY
+
+/* Nobody judges: histories are written. */
+static inline int potzendai_take_round(struct potzendai_tester *tester, struct potzendai_told *told)
+{
+    bool is_out = strcmp(tester->options->out, "-") == 0;
+    if (is_out ? fwrite(told->text, 1, told->length, stdout) == told->length && fflush(stdout) == 0
+               : potzendai_keep(tester, ".json", told->text, told->length) == 0)
+        return POTZENDAI_IS_YES;
+    return potzendai_fail(tester->run, POTZENDAI_BAD_FILE, "a history was not written");
+}
+
+#else
+
+typedef uint32_t potzendai_question(const char *, size_t, uint32_t, char *, size_t, size_t *);
+
+/* Asks the library, in a room that grows as the answer needs. The status, and NO_MEMORY where the room cannot grow. */
+static inline enum potzendai_status potzendai_ask_library(potzendai_question *question, const char *text, size_t length, uint32_t budget,
+                                                          char **report, size_t *room)
+{
+    size_t written = 0;
+    for (size_t wanted = POTZENDAI_REPORT;; wanted = written + 1) {
+        if (wanted > *room) {
+            free(*report);
+            *report = (char *)calloc(1, wanted);
+            *room = *report ? wanted : 0;
+        }
+        if (!*report)
+            return POTZENDAI_NO_MEMORY;
+        uint32_t status = question(text, length, budget, *report, *room, &written);
+        if (written < *room)
+            return (enum potzendai_status)status;
+    }
+}
+
+/* The verdict on a recording: once more at ten times the budget where it is undecided. */
+static inline enum potzendai_status potzendai_explained(struct potzendai_told *told)
+{
+    enum potzendai_status status = POTZENDAI_IS_UNDECIDED;
+    for (uint32_t budget = POTZENDAI_BUDGET; status == POTZENDAI_IS_UNDECIDED && budget <= 10 * POTZENDAI_BUDGET; budget *= 10)
+        status = potzendai_ask_library(potzendai_explain, told->text, told->length, budget, &told->report, &told->room);
+    return status;
+}
+
+/* Records the round once more, as large as the run now says, and answers whether it has no order. What it says is in `told`. */
+static inline bool potzendai_fails_again(struct potzendai_tester *tester, struct potzendai_told *told)
+{
+    struct potzendai_tester before = *tester;
+    memset(told, 0, sizeof *told);
+    bool fails = potzendai_read_start(tester) == 0 && potzendai_record(tester, told) == 0
+        && potzendai_explained(told) == POTZENDAI_IS_NO;
+    tester->calls = before.calls;
+    tester->overlap = before.overlap;
+    if (!fails)
+        potzendai_forget(told);
+    return fails;
+}
+
+/* Halves the calls or the keys, or takes a thread away: 0 where that can be done. */
+static inline int potzendai_lessen(struct potzendai_run *run, int how)
+{
+    uint64_t least_keys = run->options->void_puts == POTZENDAI_VOID_OWN ? run->threads : 1;
+    uint64_t *what = how == 0 ? &run->calls : how == 1 ? &run->keys_drawn : &run->threads;
+    uint64_t less = how == 2 ? *what - 1 : *what / 2;
+    if (less < (how == 1 ? least_keys : 1))
+        return -1;
+    *what = less;
+    return 0;
+}
+
+/* Whether the round fails once more where it has less of one of these, in some tries; else it is as large as it was. */
+static inline bool potzendai_fails_with_less(struct potzendai_tester *tester, int how, struct potzendai_told *told, double until)
+{
+    struct potzendai_run *run = tester->run;
+    uint64_t calls = run->calls, keys = run->keys_drawn, threads = run->threads;
+    struct potzendai_told smaller;
+    bool fails = false;
+    if (potzendai_lessen(run, how))
+        return false;
+    for (int i = 0; i < POTZENDAI_TRIES && !fails && potzendai_now() < until; i++)
+        fails = potzendai_fails_again(tester, &smaller);
+    if (fails) {
+        potzendai_forget(told);
+        *told = smaller;
+    } else {
+        run->calls = calls;
+        run->keys_drawn = keys;
+        run->threads = threads;
+    }
+    return fails;
+}
+
+/* Runs a round that fails again, with fewer calls, keys and threads as long as it fails, and keeps the smallest recording. Threads
+ * interleave as they will, so it may not fail again though it could. */
+static inline void potzendai_smaller(struct potzendai_tester *tester, struct potzendai_told *told)
+{
+    double until = potzendai_now() + (double)POTZENDAI_TRIES_SECONDS;
+    bool is_less = true;
+    while (is_less) {
+        is_less = false;
+        for (int how = 0; how < 3; how++)
+            is_less = potzendai_fails_with_less(tester, how, told, until) || is_less;
+    }
+}
+
+/* Draws a history, and keeps the picture. */
+static inline void potzendai_keep_picture(struct potzendai_tester *tester, const char *text, size_t length)
+{
+    char *picture = NULL;
+    size_t room = 0;
+    if (potzendai_ask_library(potzendai_draw, text, length, POTZENDAI_BUDGET, &picture, &room) > POTZENDAI_IS_UNDECIDED)
+        fputs("picture: not drawn\n", stderr);
+    else
+        potzendai_keep(tester, ".svg", picture, strlen(picture));
+    free(picture);
+}
+
+/* Tells a no: in words, and by files. */
+static inline void potzendai_tell_no(struct potzendai_tester *tester, const struct potzendai_told *told)
+{
+    const char *few = potzendai_tell(stderr, told->text, told->report);
+    size_t length = few ? strcspn(few, "\n") : 0;
+    potzendai_keep(tester, ".json", told->text, told->length);
+    if (few)
+        potzendai_keep(tester, "-few.json", few, length);
+    potzendai_keep_picture(tester, few ? few : told->text, few ? length : told->length);
+}
+
+/* A round that has no order: shows it, and how to repeat it. */
+static inline int potzendai_refuted(struct potzendai_tester *tester, struct potzendai_told *told)
+{
+    struct potzendai_run *run = tester->run;
+    uint64_t sayings[POTZENDAI_SAYINGS];
+    memcpy(sayings, run->sayings, sizeof sayings);
+    fprintf(stderr, "round %" PRIu64 " has no order\n", run->round);
+    potzendai_smaller(tester, told);
+    fprintf(stderr, "the smallest of some tries that failed: threads %" PRIu64 ", keys %" PRIu64 ", calls %" PRIu64 "\n",
+            run->threads, run->keys_drawn, run->calls);
+    potzendai_tell_no(tester, told);
+    memcpy(run->sayings, sayings, sizeof sayings);
+    fputs("  again: ", stderr);
+    potzendai_write_words(stderr, tester->options, tester->program, run->round + 1);
+    return POTZENDAI_IS_NO;
+}
+
+/* The verdict on a round, and what follows of it. */
+static inline int potzendai_take_round(struct potzendai_tester *tester, struct potzendai_told *told)
+{
+    if (strcmp(tester->options->out, "-") == 0)
+        return fwrite(told->text, 1, told->length, stdout) == told->length && fflush(stdout) == 0
+                   ? 0 : potzendai_fail(tester->run, POTZENDAI_BAD_FILE, "standard output: a history was not written");
+    switch (potzendai_explained(told)) {
+    case POTZENDAI_IS_YES: return POTZENDAI_IS_YES;
+    case POTZENDAI_IS_NO: return potzendai_refuted(tester, told);
+    case POTZENDAI_IS_UNDECIDED: tester->undecided++; return POTZENDAI_IS_YES;
+    case POTZENDAI_NO_MEMORY: return potzendai_fail(tester->run, POTZENDAI_NO_MEMORY, "memory: a round was not judged");
+    default:
+        potzendai_keep(tester, ".json", told->text, told->length);
+        return potzendai_fail(tester->run, POTZENDAI_IS_REFUSED, "%.150s", told->report);
+    }
+}
+
+#endif
+
+/* What the next round starts from is what this one has found last. */
+static inline void potzendai_go_on(struct potzendai_tester *tester)
+{
+    struct recording_pair *start = tester->start;
+    tester->start = tester->next_start;
+    tester->pairs_at_start = tester->pairs_next;
+    tester->next_start = start;
+    tester->rounds++;
+}
+
+/* Round after round, until one has no order, the time is over, or the run fails, which answers -1. */
+static inline int potzendai_rounds(struct potzendai_tester *tester)
+{
+    const struct potzendai_options *o = tester->options;
+    double until = tester->began + (double)o->seconds;
+    int status = potzendai_read_start(tester);
+    while (status == 0 && (o->rounds == 0 || tester->rounds < o->rounds) && (tester->rounds == 0 || potzendai_now() < until)) {
+        struct potzendai_told told;
+        memset(&told, 0, sizeof told);
+        tester->run->round = tester->rounds;
+        status = potzendai_record(tester, &told);
+        status = status ? status : potzendai_take_round(tester, &told);
+        potzendai_forget(&told);
+        potzendai_go_on(tester);
+        tester->refused = tester->run->sayings[MAP_REFUSED];
+        potzendai_progress(tester);
+    }
+    return status == 0 && tester->undecided > 0 ? POTZENDAI_IS_UNDECIDED : status;
+}
+
+#endif

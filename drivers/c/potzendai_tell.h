@@ -1,0 +1,168 @@
+/* Tells in words what the library explains. It writes its lines in the compact form of docs/FORMATS.md. Included by potzendai_test.h. */
+#ifndef POTZENDAI_TELL_H
+#define POTZENDAI_TELL_H
+
+#include <inttypes.h>
+#include <stdbool.h>
+#include <stdint.h>
+#include <stdio.h>
+#include <stdlib.h>
+#include <string.h>
+
+/* What stands behind a member's name in a line, or NULL. */
+static inline const char *potzendai_member(const char *line, const char *name)
+{
+    const char *end = strchr(line, '\n');
+    const char *at = strstr(line, name);
+    return at && (!end || at < end) ? at + strlen(name) : NULL;
+}
+
+/* A member that is a number, or 0. */
+static inline uint64_t potzendai_number(const char *line, const char *name)
+{
+    const char *at = potzendai_member(line, name);
+    return at ? strtoull(at, NULL, 10) : 0;
+}
+
+/* The next line, or NULL. */
+static inline const char *potzendai_next_line(const char *line)
+{
+    const char *end = strchr(line, '\n');
+    return end && end[1] ? end + 1 : NULL;
+}
+
+static inline const char *potzendai_behind_number(const char *at)
+{
+    return at + strspn(at, "0123456789");
+}
+
+/* Writes pairs in words and answers where their text ends. */
+static inline const char *potzendai_tell_pairs(FILE *out, const char *at)
+{
+    const char *comma = "";
+    if (at[1] == ']')
+        fputs("nothing", out);
+    for (at++; *at == '['; at += *at == ',') {
+        const char *value = potzendai_behind_number(at + 1) + 1;
+        fprintf(out, "%s%.*s: %.*s", comma, (int)(value - at - 2), at + 1, (int)strspn(value, "0123456789"), value);
+        comma = ", ";
+        at = potzendai_behind_number(value) + 1;
+    }
+    return at;
+}
+
+/* Writes what a call was answered, or would be. */
+static inline void potzendai_tell_answer(FILE *out, const char *at)
+{
+    static const char *const names[][2] = {
+        {"null", "none"}, {"\"done\"", "that it was done"}, {"\"found\"", "that there was a value"}, {"\"other\"", "another value"},
+        {"\"refused\"", "that it was refused"}, {"\"open\"", "nothing that counts"}
+    };
+    for (size_t i = 0; i < sizeof names / sizeof *names; i++)
+        if (strncmp(at, names[i][0], strlen(names[i][0])) == 0) {
+            fputs(names[i][1], out);
+            return;
+        }
+    if (*at == '[')
+        potzendai_tell_pairs(out, at);
+    else
+        fprintf(out, "%.*s", (int)strspn(at, "0123456789"), at);
+}
+
+/* Writes a call in words, from its text as ["insert",5,7]. */
+static inline void potzendai_tell_call(FILE *out, const char *at)
+{
+    char name[9] = "", numbers[3][21] = {"", "", ""};
+    sscanf(at, "[\"%8[a-z]\",%20[0-9],%20[0-9],%20[0-9]", name, numbers[0], numbers[1], numbers[2]);
+    if (strcmp(name, "insert") == 0)
+        fprintf(out, "put %s at %s", numbers[1], numbers[0]);
+    else if (strcmp(name, "replace") == 0)
+        fprintf(out, "replace %s at %s by %s", numbers[1], numbers[0], numbers[2]);
+    else if (strcmp(name, "scan") == 0)
+        fprintf(out, "scan from %s to %s", numbers[0], numbers[1]);
+    else
+        fprintf(out, "%s %s", name, numbers[0]);
+}
+
+/* Whether a value is in a pair that the history starts from. */
+static inline bool potzendai_is_at_start(const char *text, const char *value, size_t digits)
+{
+    const char *start = strstr(text, "\"start\":[");
+    for (const char *at = start ? strchr(start, ',') : NULL; at; at = strchr(at + 1, ','))
+        if (strncmp(at + 1, value, digits) == 0 && at[digits + 1] == ']')
+            return true;
+    return false;
+}
+
+/* Writes who put a value, where one event of the history says that: `text` is the whole history. */
+static inline void potzendai_tell_writer(FILE *out, const char *text, const char *value)
+{
+    size_t digits = strspn(value, "0123456789");
+    uint64_t event = 0;
+    for (const char *at = strstr(text, "{\""); at && digits > 0; at = strstr(at + 1, "{\""), event++) {
+        const char *call = strncmp(at, "{\"invoke\":", 10) == 0 ? at + 10 : NULL;
+        const char *end = call ? strchr(call, ']') : NULL;
+        bool puts = call && (strncmp(call, "[\"insert", 8) == 0 || strncmp(call, "[\"replace", 9) == 0);
+        if (event == 0 && strncmp(at, "{\"events\"", 9) == 0)
+            event--;
+        if (puts && end && (size_t)(end - call) > digits && end[-(int)digits - 1] == ','
+            && memcmp(end - digits, value, digits) == 0) {
+            fprintf(out, "; %.*s is what process %" PRIu64 " put (event %" PRIu64 ")", (int)digits, value,
+                    potzendai_number(end, "\"process\":"), event);
+            return;
+        }
+    }
+    if (digits > 0)
+        fprintf(out, "; %.*s %s", (int)digits, value,
+                potzendai_is_at_start(text, value, digits) ? "was there at the start" : "is what nobody put");
+}
+
+/* How far an order of the few calls gets, and what the map would answer to each call that could come next. */
+static inline void potzendai_tell_front(FILE *out, const char *text, const char *line)
+{
+    const char *front = potzendai_member(line, "\"front\":["), *holds = potzendai_member(line, "\"holds\":");
+    const char *next = potzendai_member(line, "\"next\":[");
+    if (!front || !holds || !next)
+        return;
+    fprintf(out, "  an order of them gets as far as the events [%.*s; the map then holds ", (int)strcspn(front, "]") + 1, front);
+    potzendai_tell_pairs(out, holds);
+    fputs("\n", out);
+    for (const char *at = strchr(next, '{'); at; at = strstr(at + 1, "{\"answer\":")) {
+        const char *answer = at + strlen("{\"answer\":"), *would = potzendai_member(at, "\"would\":");
+        fprintf(out, "  the call of event %" PRIu64 " was answered ", potzendai_number(at, "\"event\":"));
+        potzendai_tell_answer(out, answer);
+        fputs(", and would be answered ", out);
+        if (would)
+            potzendai_tell_answer(out, would);
+        potzendai_tell_writer(out, text, answer);
+        fputs("\n", out);
+    }
+}
+
+/* Writes a report of `explain` in words; `text` is the history. Answers the line that is the few calls' history, or NULL. */
+static inline const char *potzendai_tell(FILE *out, const char *text, const char *report)
+{
+    const char *few = NULL, *line = potzendai_next_line(report);
+    fprintf(out, "%.*s\n", (int)strcspn(report, "\n"), report);
+    if (line)
+        fputs("these calls have no order, whatever else was done:\n", out);
+    for (; line; line = potzendai_next_line(line)) {
+        const char *answer = potzendai_member(line, "{\"answer\":"), *call = potzendai_member(line, "\"call\":");
+        if (strncmp(line, "{\"events\"", 9) == 0)
+            few = line;
+        else if (strncmp(line, "{\"front\"", 8) == 0)
+            potzendai_tell_front(out, text, line);
+        else if (answer && call) {
+            fprintf(out, "  event %-6" PRIu64 " process %-3" PRIu64 " ", potzendai_number(line, "\"event\":"),
+                    potzendai_number(line, "\"process\":"));
+            potzendai_tell_call(out, call);
+            fputs(", answered ", out);
+            potzendai_tell_answer(out, answer);
+            potzendai_tell_writer(out, text, answer);
+            fputs("\n", out);
+        }
+    }
+    return few;
+}
+
+#endif

@@ -1,0 +1,148 @@
+/* Tests an ordered map of one's own: threads call its functions, what they do is recorded, and each recording is judged.
+ *
+ * C11 or C++11, POSIX threads, and libpotzendai.a with potzendai.h: copy the headers of this folder. Include this one first in the one
+ * source that has `main`:
+ *
+ *     #include "potzendai_test.h"
+ *     static enum map_said get(void *session, uint64_t key, uint64_t *found) { .. }
+ *     static enum map_said put(void *session, uint64_t key, uint64_t value, uint64_t *found) { .. }
+ *     int main(int argc, char **argv)
+ *     {
+ *         struct potzendai_map map = {"mine", &mine, 0, NULL, NULL, get, put, NULL, NULL, NULL, NULL, NULL, NULL, NULL};
+ *         return potzendai_test_main(argc, argv, &map);
+ *     }
+ *
+ * README.md says what the words and the statuses are. With the macro POTZENDAI_NO_LIBRARY the archive is not needed: histories are
+ * written to files or to standard output, and so is a stream, for `bench`. What is proved is the verdict on a text; that these headers
+ * record the map is tested. */
+#ifndef POTZENDAI_TEST_H
+#define POTZENDAI_TEST_H
+
+#ifndef _POSIX_C_SOURCE
+#define _POSIX_C_SOURCE 200809L
+#endif
+#include "potzendai_follow.h"
+#include <signal.h>
+
+static const char *const potzendai_verdicts[] = {"yes", "no", "undecided"};
+
+/* The last line: the verdict, and what it rests on. */
+static inline void potzendai_tell_all(FILE *out, const struct potzendai_tester *tester, const char *verdict)
+{
+    const char *comma = ": ";
+    double calls = (double)(tester->calls ? tester->calls : 1);
+    fprintf(out, "%s: ", verdict);
+    if (!tester->options->is_stream)
+        fprintf(out, "%" PRIu64 " rounds, ", tester->rounds);
+    fprintf(out, "%" PRIu64 " calls in %.1f seconds, overlap %.2f a call", tester->calls, potzendai_now() - tester->began,
+            (double)tester->overlap / calls);
+    for (int said = 0; said < POTZENDAI_SAYINGS; said++)
+        if (tester->run->sayings[said] > 0) {
+            fprintf(out, "%s%" PRIu64 " %s", comma, tester->run->sayings[said], potzendai_sayings[said]);
+            comma = ", ";
+        }
+    if (tester->undecided > 0)
+        fprintf(out, "; %" PRIu64 " undecided", tester->undecided);
+    fputc('\n', out);
+}
+
+/* Says how it went, and answers the status of the program. */
+static inline int potzendai_finish(const struct potzendai_tester *tester, int status)
+{
+    struct potzendai_run *run = tester->run;
+    if (status < 0) {
+        status = (int)atomic_load(&run->fault);
+        fprintf(stderr, "%s: %s\n", run->truly->name, run->complaint);
+        if (status == POTZENDAI_IS_UNDECIDED)
+            potzendai_tell_all(stdout, tester, potzendai_verdicts[status]);
+        return status;
+    }
+    if (potzendai_is_unjudged(tester->options)) {
+        potzendai_tell_all(stderr, tester, "not judged");
+        return status;
+    }
+    potzendai_tell_all(stdout, tester, potzendai_verdicts[status]);
+    if (fflush(stdout) == 0)
+        return status;
+    fputs("standard output: not written\n", stderr);
+    return status == POTZENDAI_IS_YES ? POTZENDAI_BAD_FILE : status;
+}
+
+static inline void potzendai_close_tester(struct potzendai_tester *tester)
+{
+    struct potzendai_run *run = tester->run;
+    for (uint64_t key = 0; run && run->keys && key < tester->options->keys; key++)
+        pthread_mutex_destroy(&run->keys[key].lock);
+    if (run) {
+        free(run->keys);
+        free(run->recording);
+    }
+    free(run);
+    free(tester->start);
+    free(tester->next_start);
+}
+
+/* Memory for a run: -1 where it is wanting. */
+static inline int potzendai_open_tester(struct potzendai_tester *tester, const struct potzendai_options *o)
+{
+    struct potzendai_run *run = (struct potzendai_run *)calloc(1, sizeof *run);
+    tester->run = run;
+    tester->options = o;
+    tester->start = (struct recording_pair *)calloc((size_t)o->keys, sizeof *tester->start);
+    tester->next_start = (struct recording_pair *)calloc((size_t)o->keys, sizeof *tester->next_start);
+    if (run) {
+        run->recording = (struct recording *)calloc(1, sizeof *run->recording);
+        run->keys = (struct potzendai_key *)calloc((size_t)o->keys, sizeof *run->keys);
+    }
+    for (uint64_t key = 0; run && run->keys && key < o->keys; key++)
+        pthread_mutex_init(&run->keys[key].lock, NULL);
+    return run && run->recording && run->keys && tester->start && tester->next_start ? 0 : -1;
+}
+
+/* Opens the session of this thread, and runs rounds or a stream. */
+static inline int potzendai_run_all(struct potzendai_tester *tester, const struct potzendai_map *map)
+{
+    struct potzendai_run *run = tester->run;
+    tester->session = map->open ? map->open(map->map, (unsigned)run->threads) : map->map;
+    if (map->open && !tester->session)
+        return potzendai_fail(run, POTZENDAI_BAD_WORDS, "open: no session for thread %" PRIu64, run->threads);
+    int status = tester->options->is_stream ? potzendai_stream(tester) : potzendai_rounds(tester);
+    if (map->close)
+        map->close(tester->session);
+    return status;
+}
+
+/* A whole program: reads the words, tests the map, says the verdict, and answers the status. The map is at rest before, and holds no
+ * other keys than those from 0 on. */
+static inline int potzendai_test_main(int argc, char **argv, const struct potzendai_map *map)
+{
+    struct potzendai_options options;
+    struct potzendai_broken broken;
+    struct potzendai_tester tester;
+    int status = potzendai_read_words(&options, argc, argv, map);
+    if (status)
+        return status < 0 ? 0 : status;
+    memset(&tester, 0, sizeof tester);
+    memset(&broken, 0, sizeof broken);
+    if (potzendai_open_tester(&tester, &options)) {
+        potzendai_close_tester(&tester);
+        fputs("memory: a run has no room\n", stderr);
+        return POTZENDAI_NO_MEMORY;
+    }
+    if (potzendai_is_unjudged(&options))
+        signal(SIGPIPE, SIG_IGN);
+    tester.program = argv[0];
+    tester.has_terminal = isatty(2);
+    tester.began = tester.told = potzendai_now();
+    tester.run->options = &options;
+    tester.run->truly = map;
+    tester.run->map = potzendai_break_map(&broken, map, &options, &tester.run->round);
+    tester.run->threads = options.threads;
+    tester.run->keys_drawn = options.keys;
+    tester.run->calls = options.calls;
+    status = potzendai_finish(&tester, potzendai_run_all(&tester, map));
+    potzendai_close_tester(&tester);
+    return status;
+}
+
+#endif

@@ -1,0 +1,438 @@
+/* Threads that draw calls, make them and record them. Included by potzendai_test.h. */
+#ifndef POTZENDAI_THREADS_H
+#define POTZENDAI_THREADS_H
+
+#include "potzendai_words.h"
+#include <pthread.h>
+
+#ifdef __cplusplus
+#define POTZENDAI_RELAXED std::memory_order_relaxed
+#else
+#define POTZENDAI_RELAXED memory_order_relaxed
+#endif
+
+enum potzendai_memory { POTZENDAI_FORGOTTEN, POTZENDAI_ABSENT, POTZENDAI_PRESENT };
+
+/* What is known of a key: how many write it now, and whether two ever did; what its one writer remembers, or its lock. It is loose
+ * once a write may come about at any time: then nobody knows what the next one finds. */
+struct potzendai_key {
+    recording_word writers, is_met;
+    pthread_mutex_t lock;
+    enum potzendai_memory memory;
+    bool is_loose;
+    uint64_t value;
+};
+
+/* A call of which nobody knows whether it was done, as it is recorded. */
+struct potzendai_open { enum recording_kind call; uint64_t words[3]; };
+
+/* What the threads share. `truly` is the map that was given, `map` the one that is called, which may be made wrong. */
+struct potzendai_run {
+    const struct potzendai_options *options;
+    const struct potzendai_map *map, *truly;
+    struct potzendai_key *keys;
+    struct recording *recording;
+    struct streaming *stream;
+    uint64_t threads, keys_drawn, calls, round;
+    uint64_t puts[1024], values_from;
+    uint64_t sayings[POTZENDAI_SAYINGS];
+    struct potzendai_open open_calls[RECORDING_PROCESSES];
+    recording_word open_count;
+    recording_word next_process, processes, arrived, has_begun, is_over, fault;
+    char complaint[200];
+};
+
+/* What a thread alone uses, but for the number of its calls. */
+struct potzendai_thread {
+    struct potzendai_run *run;
+    unsigned number, process;
+    uint64_t state, made, sayings[POTZENDAI_SAYINGS];
+    uint64_t *seen;
+    struct recording_pair *pairs;
+    void *session;
+    pthread_t id;
+    recording_word calls, refused;
+    char apart[128];
+};
+
+/* Ends the run with a status, and says why: the first that is wrong. */
+__attribute__((format(printf, 3, 4)))
+static inline int potzendai_fail(struct potzendai_run *run, enum potzendai_status status, const char *format, ...)
+{
+    uint64_t none = 0;
+    if (!atomic_compare_exchange_strong(&run->fault, &none, (uint64_t)100))
+        return -1;
+    va_list arguments;
+    va_start(arguments, format);
+    vsnprintf(run->complaint, sizeof run->complaint, format, arguments);
+    va_end(arguments);
+    atomic_store(&run->fault, (uint64_t)status);
+    return -1;
+}
+
+static inline int potzendai_note_hold(struct potzendai_run *run, unsigned p)
+{
+    return run->stream ? streaming_hold(run->stream, p) : recording_hold(run->recording, p);
+}
+
+static inline int potzendai_note_drop(struct potzendai_run *run, unsigned p)
+{
+    return run->stream ? streaming_drop(run->stream, p) : recording_drop(run->recording, p);
+}
+
+static inline int potzendai_note_call(struct potzendai_run *run, unsigned p, enum recording_kind call, const uint64_t words[3])
+{
+    return run->stream ? streaming_invoke(run->stream, p, call, words[0], words[1], words[2])
+                       : recording_add(run->recording, p, call, words[0], words[1], words[2]);
+}
+
+static inline int potzendai_note_pairs(struct potzendai_run *run, unsigned p, const struct recording_pair *pairs, size_t count)
+{
+    return run->stream ? streaming_answer_pairs(run->stream, p, pairs, count) : recording_answer_pairs(run->recording, p, pairs, count);
+}
+
+static inline int potzendai_note_answer(struct potzendai_run *run, unsigned p, enum recording_kind kind,
+                                        const struct potzendai_request *request, const struct potzendai_answer *answer)
+{
+    if (kind == RECORDING_LIST)
+        return request->function == POTZENDAI_SCAN
+                   ? potzendai_note_pairs(run, p, answer->pairs, answer->said == MAP_TOLD ? answer->count : 0)
+                   : potzendai_note_pairs(run, p, &answer->pair, answer->said == MAP_TOLD);
+    bool is_done_replace = request->function == POTZENDAI_REPLACE && answer->said == MAP_DONE;
+    uint64_t value = is_done_replace ? request->other : answer->pair.value;
+    return run->stream ? streaming_respond(run->stream, p, kind, value, 0) : recording_add(run->recording, p, kind, value, 0, 0);
+}
+
+/* Which event was answered by which saying; NULL, and the run ends, where the saying does not fit its function. */
+static inline const struct potzendai_row *potzendai_row_of(struct potzendai_run *run, const struct potzendai_request *request,
+                                                           const struct potzendai_answer *answer)
+{
+    const char *name = potzendai_functions[request->function];
+    if ((unsigned)answer->said >= POTZENDAI_SAYINGS) {
+        potzendai_fail(run, POTZENDAI_BAD_WORDS, "%s said %d, which is no answer", name, (int)answer->said);
+        return NULL;
+    }
+    const char *said = potzendai_sayings[answer->said];
+    const struct potzendai_row *row = &potzendai_rows[request->function][answer->said];
+    bool tells_less = row->fate == POTZENDAI_ANSWERED && row->answer >= RECORDING_DONE;
+    bool is_write = request->function == POTZENDAI_PUT || request->function == POTZENDAI_DEL;
+    if (row->fate == POTZENDAI_UNFIT)
+        potzendai_fail(run, POTZENDAI_BAD_WORDS, "%s said %s, which does not fit it", name, said);
+    else if (request->function == POTZENDAI_SCAN && answer->said == MAP_TOLD && answer->count > answer->room)
+        potzendai_fail(run, POTZENDAI_BAD_WORDS, "scan said %zu pairs, and there was room for %zu", answer->count, answer->room);
+    else if (tells_less && run->stream && run->stream->version < 3)
+        potzendai_fail(run, POTZENDAI_BAD_WORDS, "%s said %s, and a stream whose answers tell less than the value is not followed as yet",
+                       name, said);
+    else if (tells_less && is_write && run->options->void_puts == POTZENDAI_VOID_TOLD)
+        potzendai_fail(run, POTZENDAI_BAD_WORDS, "%s said %s, and --void told wants the value before", name, said);
+    else
+        return row;
+    return NULL;
+}
+
+/* Keeps a call that may come about at any time: the rounds behind this one have it too. */
+static inline void potzendai_keep_open(struct potzendai_run *run, enum recording_kind call, const uint64_t words[3])
+{
+    uint64_t place = atomic_fetch_add(&run->open_count, (uint64_t)1);
+    if (place >= RECORDING_PROCESSES)
+        return;
+    run->open_calls[place].call = call;
+    memcpy(run->open_calls[place].words, words, sizeof run->open_calls[place].words);
+}
+
+/* Records the call and what was said to it, once it is over. In a stream a call that is known before is there already. */
+static inline int potzendai_note(struct potzendai_thread *t, const struct potzendai_request *request,
+                                 const struct potzendai_answer *answer, bool is_held)
+{
+    struct potzendai_run *run = t->run;
+    uint64_t words[3];
+    const struct potzendai_row *row = potzendai_row_of(run, request, answer);
+    if (!row && is_held)
+        potzendai_note_drop(run, t->process);
+    if (!row)
+        return -1;
+    if (row->fate == POTZENDAI_LEFT_OUT)
+        return is_held ? potzendai_note_drop(run, t->process)
+                       : potzendai_note_answer(run, t->process, RECORDING_REFUSED, request, answer);
+    potzendai_words(request, answer, row->call, words);
+    if (is_held && potzendai_note_call(run, t->process, row->call, words))
+        return -1;
+    if (row->fate == POTZENDAI_ANSWERED)
+        return potzendai_note_answer(run, t->process, row->answer, request, answer);
+    potzendai_keep_open(run, row->call, words);
+    t->process = (unsigned)atomic_fetch_add(&run->next_process, (uint64_t)1);
+    return t->process < atomic_load(&run->processes) ? 0 : -1;
+}
+
+/* What the one writer of a key remembers: it tells what a put or del that said `done` found. */
+static inline void potzendai_remember(struct potzendai_key *key, const struct potzendai_request *request, struct potzendai_answer *answer)
+{
+    enum map_said said = answer->said;
+    enum potzendai_memory before = key->memory;
+    uint64_t value_before = key->value;
+    bool is_put = request->function == POTZENDAI_PUT || (request->function == POTZENDAI_PUT_IF_ABSENT && said == MAP_NONE)
+        || (request->function == POTZENDAI_REPLACE
+            && (said == MAP_DONE || (said == MAP_TOLD && answer->pair.value == request->other)));
+    if (said == MAP_REFUSED || key->is_loose)
+        return;
+    if (request->function == POTZENDAI_REPLACE && said == MAP_FOUND)
+        key->memory = POTZENDAI_FORGOTTEN;
+    else if (request->function == POTZENDAI_DEL)
+        key->memory = POTZENDAI_ABSENT;
+    else if (is_put) {
+        key->memory = POTZENDAI_PRESENT;
+        key->value = request->value;
+    }
+    bool is_told = said == MAP_DONE && (request->function == POTZENDAI_PUT || request->function == POTZENDAI_DEL);
+    if (!is_told || before == POTZENDAI_FORGOTTEN)
+        return;
+    answer->said = before == POTZENDAI_PRESENT ? MAP_TOLD : MAP_NONE;
+    answer->pair.value = value_before;
+}
+
+/* Calls a function, and counts what it said. */
+static inline void potzendai_ask_and_count(struct potzendai_thread *t, const struct potzendai_request *request,
+                                           struct potzendai_answer *answer)
+{
+    potzendai_ask(t->run->map, t->session, request, answer);
+    if ((unsigned)answer->said < POTZENDAI_SAYINGS)
+        t->sayings[answer->said]++;
+}
+
+/* Asks for the value, and then writes, under a lock of the key's own: what the get found is what the write found. */
+static inline void potzendai_ask_locked(struct potzendai_thread *t, const struct potzendai_request *request,
+                                        struct potzendai_answer *answer)
+{
+    struct potzendai_request get = {POTZENDAI_GET, request->key, 0, 0};
+    struct potzendai_answer got = *answer;
+    potzendai_ask(t->run->map, t->session, &get, &got);
+    potzendai_ask_and_count(t, request, answer);
+    bool is_known = got.said == MAP_TOLD || got.said == MAP_NONE;
+    if (answer->said == MAP_DONE && is_known && !t->run->keys[request->key].is_loose) {
+        answer->said = got.said;
+        answer->pair.value = got.pair.value;
+    }
+}
+
+/* The last value that the thread saw at a key, for a replace to expect. */
+static inline void potzendai_see(struct potzendai_thread *t, const struct potzendai_request *request, const struct potzendai_answer *answer)
+{
+    bool is_put = request->function == POTZENDAI_PUT || (request->function == POTZENDAI_REPLACE && answer->said == MAP_DONE);
+    if (is_put)
+        t->seen[request->key] = request->value;
+    else if (request->function <= POTZENDAI_PUT_IF_ABSENT && request->function != POTZENDAI_SCAN && answer->said == MAP_TOLD)
+        t->seen[request->key] = answer->pair.value;
+}
+
+/* Whether nobody else may write the key of the call meanwhile. */
+static inline bool potzendai_has_key_of_its_own(const struct potzendai_run *run, enum potzendai_function function)
+{
+    enum potzendai_void how = run->options->void_puts;
+    return (how == POTZENDAI_VOID_OWN || how == POTZENDAI_VOID_LOCK) && potzendai_writes(function);
+}
+
+/* Makes a call and records it: -1 where the thread has to stop. */
+static inline int potzendai_make(struct potzendai_thread *t, const struct potzendai_request *request, struct potzendai_answer *answer)
+{
+    struct potzendai_run *run = t->run;
+    bool is_held = !run->stream || potzendai_is_held(request->function);
+    uint64_t words[3];
+    memset(answer, 0, sizeof *answer);
+    answer->pairs = t->pairs;
+    answer->room = POTZENDAI_SPAN + 1;
+    potzendai_words(request, answer, potzendai_rows[request->function][MAP_TOLD].call, words);
+    if (is_held ? potzendai_note_hold(run, t->process)
+                : potzendai_note_call(run, t->process, potzendai_rows[request->function][MAP_TOLD].call, words))
+        return -1;
+    bool is_locked = run->options->void_puts == POTZENDAI_VOID_LOCK
+        && (request->function == POTZENDAI_PUT || request->function == POTZENDAI_DEL);
+    if (is_locked)
+        potzendai_ask_locked(t, request, answer);
+    else
+        potzendai_ask_and_count(t, request, answer);
+    if (answer->said == MAP_UNKNOWN && potzendai_has_key_of_its_own(run, request->function))
+        run->keys[request->key].is_loose = true;
+    if (run->options->void_puts == POTZENDAI_VOID_OWN && potzendai_writes(request->function))
+        potzendai_remember(&run->keys[request->key], request, answer);
+    potzendai_see(t, request, answer);
+    atomic_store_explicit(&t->calls, ++t->made, POTZENDAI_RELAXED);
+    if (answer->said == MAP_REFUSED)
+        atomic_store_explicit(&t->refused, t->sayings[MAP_REFUSED], POTZENDAI_RELAXED);
+    return potzendai_note(t, request, answer, is_held);
+}
+
+/* Makes a call that writes a key: notes where two meet, and takes the key's lock where that is wanted. */
+static inline int potzendai_write_key(struct potzendai_thread *t, const struct potzendai_request *request, struct potzendai_answer *answer)
+{
+    struct potzendai_key *key = &t->run->keys[request->key];
+    bool is_locked = t->run->options->void_puts == POTZENDAI_VOID_LOCK;
+    if (is_locked)
+        pthread_mutex_lock(&key->lock);
+    if (atomic_fetch_add_explicit(&key->writers, (uint64_t)1, POTZENDAI_RELAXED) > 0)
+        atomic_store_explicit(&key->is_met, (uint64_t)1, POTZENDAI_RELAXED);
+    int status = potzendai_make(t, request, answer);
+    atomic_fetch_sub_explicit(&key->writers, (uint64_t)1, POTZENDAI_RELAXED);
+    if (is_locked)
+        pthread_mutex_unlock(&key->lock);
+    return status;
+}
+
+/* Whether the thread may make one call more. */
+static inline bool potzendai_may_call(const struct potzendai_thread *t)
+{
+    return (t->run->calls == 0 || t->made < t->run->calls) && !atomic_load_explicit(&t->run->is_over, POTZENDAI_RELAXED)
+        && !atomic_load_explicit(&t->run->fault, POTZENDAI_RELAXED);
+}
+
+/* A range by steps: each asks for the first pair from a key on. */
+static inline int potzendai_make_steps(struct potzendai_thread *t, uint64_t low, uint64_t high)
+{
+    struct potzendai_answer answer;
+    struct potzendai_request step = {POTZENDAI_CEILING, low, 0, 0};
+    int status;
+    do {
+        status = potzendai_make(t, &step, &answer);
+        if (status || answer.said != MAP_TOLD || answer.pair.key < step.key)
+            break;
+        step.key = answer.pair.key + 1;
+    } while (answer.pair.key < high && potzendai_may_call(t));
+    return status;
+}
+
+/* Each put has a value of its own, which was not in the map before, as far as there are enough of them. */
+static inline uint64_t potzendai_next_value(struct potzendai_thread *t)
+{
+    unsigned bits = t->run->truly->value_bits;
+    uint64_t most = bits == 0 || bits >= 64 ? UINT64_MAX : ((uint64_t)1 << bits) - 1;
+    return 1 + (t->run->values_from + t->run->puts[t->number]++ * t->run->options->threads + t->number) % most;
+}
+
+static inline uint64_t potzendai_draw_key(struct potzendai_thread *t, enum potzendai_function function)
+{
+    const struct potzendai_run *run = t->run;
+    uint64_t hot = run->options->hot < run->keys_drawn ? run->options->hot : 0;
+    bool is_hot = hot > 0 && potzendai_draw_below(&t->state, 10) < 9;
+    uint64_t key = potzendai_draw_below(&t->state, is_hot ? hot : run->keys_drawn);
+    if (run->options->void_puts != POTZENDAI_VOID_OWN || !potzendai_writes(function))
+        return key;
+    key = key / run->threads * run->threads + t->number;
+    return key < run->keys_drawn ? key : t->number;
+}
+
+static inline void potzendai_draw_call(struct potzendai_thread *t, struct potzendai_request *request)
+{
+    const struct potzendai_run *run = t->run;
+    uint64_t total = 0, f = 0;
+    for (int i = 0; i < POTZENDAI_FUNCTIONS; i++)
+        total += run->options->shares[i];
+    uint64_t place = potzendai_draw_below(&t->state, total);
+    for (; place >= run->options->shares[f]; f++)
+        place -= run->options->shares[f];
+    request->function = (enum potzendai_function)f;
+    request->key = potzendai_draw_key(t, request->function);
+    request->value = request->other = 0;
+    if (potzendai_writes(request->function))
+        request->value = potzendai_next_value(t);
+    if (request->function == POTZENDAI_REPLACE)
+        request->other = t->seen[request->key];
+    if (request->function == POTZENDAI_SCAN) {
+        request->other = request->key + potzendai_draw_below(&t->state, POTZENDAI_SPAN);
+        request->other = request->other < run->keys_drawn ? request->other : run->keys_drawn - 1;
+    }
+}
+
+static inline int potzendai_draw_and_make(struct potzendai_thread *t)
+{
+    struct potzendai_request request;
+    struct potzendai_answer answer;
+    potzendai_draw_call(t, &request);
+    potzendai_point();
+    if (request.function == POTZENDAI_SCAN && t->run->options->is_steps)
+        return potzendai_make_steps(t, request.key, request.other);
+    if (potzendai_writes(request.function) && request.function != POTZENDAI_POP_FIRST)
+        return potzendai_write_key(t, &request, &answer);
+    return potzendai_make(t, &request, &answer);
+}
+
+/* What a thread does. Its calls are those of the seed, of the round and of its number, as far as answers decide nothing. */
+static inline void *potzendai_thread_body(void *own)
+{
+    struct potzendai_thread *t = (struct potzendai_thread *)own;
+    struct potzendai_run *run = t->run;
+    uint64_t seed = run->options->seed, round = run->round + ((uint64_t)1 << 40), number = t->number + ((uint64_t)1 << 50);
+    t->state = potzendai_mix(&seed) ^ potzendai_mix(&round) ^ potzendai_mix(&number);
+    potzendai_yield_state = t->state + 1;
+    potzendai_yields = (unsigned)run->options->yields;
+    t->session = run->map->open ? run->map->open(run->map->map, t->number) : run->map->map;
+    if (!t->session && run->map->open)
+        potzendai_fail(run, POTZENDAI_BAD_WORDS, "open: no session for thread %u", t->number);
+    atomic_fetch_add(&run->arrived, (uint64_t)1);
+    while (!atomic_load(&run->has_begun))
+        sched_yield();
+    while (potzendai_may_call(t) && potzendai_draw_and_make(t) == 0)
+        ;
+    if (run->map->close && (t->session || !run->map->open))
+        run->map->close(t->session);
+    atomic_fetch_sub(&run->arrived, (uint64_t)1);
+    return NULL;
+}
+
+/* Gives back what the threads had. */
+static inline void potzendai_free_threads(struct potzendai_thread *threads, uint64_t count)
+{
+    for (uint64_t i = 0; threads && i < count; i++) {
+        free(threads[i].seen);
+        free(threads[i].pairs);
+    }
+    free(threads);
+}
+
+/* Memory for so many threads; NULL where it is wanting. */
+static inline struct potzendai_thread *potzendai_new_threads(struct potzendai_run *run)
+{
+    struct potzendai_thread *threads = (struct potzendai_thread *)calloc((size_t)run->threads, sizeof *threads);
+    for (uint64_t i = 0; threads && i < run->threads; i++) {
+        struct potzendai_thread *t = &threads[i];
+        t->run = run;
+        t->number = t->process = (unsigned)i;
+        t->seen = (uint64_t *)calloc((size_t)run->options->keys, sizeof *t->seen);
+        t->pairs = (struct recording_pair *)calloc(POTZENDAI_SPAN + 1, sizeof *t->pairs);
+        atomic_store(&t->calls, (uint64_t)0);
+        atomic_store(&t->refused, (uint64_t)0);
+        if (!t->seen || !t->pairs) {
+            potzendai_free_threads(threads, run->threads);
+            return NULL;
+        }
+    }
+    return threads;
+}
+
+/* Starts the threads, lets them all begin at once where `begins` says when, and answers how many there are. Where one cannot be started
+ * the run fails. */
+static inline uint64_t potzendai_start_threads(struct potzendai_run *run, struct potzendai_thread *threads)
+{
+    uint64_t started = 0;
+    atomic_store(&run->arrived, (uint64_t)0);
+    atomic_store(&run->has_begun, (uint64_t)0);
+    atomic_store(&run->is_over, (uint64_t)0);
+    while (started < run->threads && pthread_create(&threads[started].id, NULL, potzendai_thread_body, &threads[started]) == 0)
+        started++;
+    if (started < run->threads)
+        potzendai_fail(run, POTZENDAI_NO_MEMORY, "memory: thread %" PRIu64 " was not started", started);
+    for (unsigned times = 0; atomic_load(&run->arrived) < started;)
+        streaming_rest(&times);
+    atomic_store(&run->has_begun, (uint64_t)1);
+    return started;
+}
+
+/* Waits for all, and adds up what was said to them. */
+static inline void potzendai_join_threads(struct potzendai_run *run, struct potzendai_thread *threads, uint64_t started)
+{
+    for (uint64_t i = 0; i < started; i++) {
+        pthread_join(threads[i].id, NULL);
+        for (int said = 0; said < POTZENDAI_SAYINGS; said++)
+            run->sayings[said] += threads[i].sayings[said];
+    }
+}
+
+#endif

@@ -1,0 +1,300 @@
+/* The words of a run, and what they mean. Included by potzendai_test.h. */
+#ifndef POTZENDAI_WORDS_H
+#define POTZENDAI_WORDS_H
+
+#include "potzendai_map.h"
+#include <stdarg.h>
+
+/* Statuses of a run, which are those of the program. */
+enum potzendai_status {
+    POTZENDAI_IS_YES, POTZENDAI_IS_NO, POTZENDAI_IS_UNDECIDED, POTZENDAI_IS_REFUSED, POTZENDAI_NO_MEMORY, POTZENDAI_BAD_WORDS,
+    POTZENDAI_BAD_FILE
+};
+
+/* How a put or a del that says `done` is recorded: as that; not at all, since the value before is to be told; as of one that alone
+ * writes its key, and remembers; or by a get in front of it, under a lock of the key's own. */
+enum potzendai_void { POTZENDAI_VOID_DONE, POTZENDAI_VOID_TOLD, POTZENDAI_VOID_OWN, POTZENDAI_VOID_LOCK };
+
+enum potzendai_break {
+    POTZENDAI_DROP, POTZENDAI_RACE, POTZENDAI_REPLAY, POTZENDAI_STALE, POTZENDAI_ZOMBIE, POTZENDAI_TORN, POTZENDAI_CAS,
+    POTZENDAI_UNBROKEN
+};
+
+static const char *const potzendai_voids[] = {"done", "told", "own", "lock", NULL};
+static const char *const potzendai_breaks[] = {"drop", "race", "replay", "stale", "zombie", "torn", "cas", NULL};
+static const char *const potzendai_scans[] = {"snapshot", "steps", NULL};
+
+struct potzendai_options {
+    uint64_t seconds, threads, keys, hot, calls, seed, rounds, yields;
+    uint64_t shares[POTZENDAI_FUNCTIONS];
+    enum potzendai_void void_puts;
+    enum potzendai_break broken;
+    bool is_steps, is_stream, has_mix, has_void;
+    const char *out;
+};
+
+/* Of a range of a scan, the most keys. Where no number is given: the calls of a thread in a round, and the keys. Of a stream they are
+ * more, since its follower keeps a call until all have ended that overlap it on its keys, directly or through others. */
+enum { POTZENDAI_SPAN = 16, POTZENDAI_CALLS = 200, POTZENDAI_KEYS = 16, POTZENDAI_STREAM_KEYS = 1000 };
+
+static const char potzendai_usage[] =
+    "  --seconds N       how long (10, or as long as --rounds take)\n"
+    "  --rounds N        at most so many rounds\n"
+    "  --threads N       threads that call the map (4)\n"
+    "  --keys N          keys, from 0 (16; of a stream 1000)\n"
+    "  --hot N           so many of the keys are those of nine calls in ten\n"
+    "  --calls N         calls of a thread in a round, or in a stream (200; no end)\n"
+    "  --seed N          what the calls are drawn from (of the clock)\n"
+    "  --mix LIST        shares, as get=50,put=30,del=10,scan=10; also replace, put_if_absent, floor, ceiling, pop_first\n"
+    "  --void HOW        a put that tells nothing is recorded as done; has to be told; own: one writer a key remembers what it put;\n"
+    "                    lock: a lock a key around a get and the put (done)\n"
+    "  --scan HOW        snapshot: a scan is of one moment; steps: steps of ceiling (snapshot)\n"
+    "  --yield N         of a thousand points between and in calls, so many give way to other threads (0)\n"
+    "  --break HOW       makes the map wrong now and then: drop, race, replay, stale, zombie, torn or cas\n"
+    "  --stream          one stream that is followed, in the place of rounds\n"
+    "  --out FOLDER      where files are put (.), or - for standard output: all histories or the stream, which nobody judges then;\n"
+    "                    a stream with answers that tell less than the value is written where --void done asks for it\n";
+
+static inline int potzendai_complain(const char *word, const char *what)
+{
+    fprintf(stderr, "%s: %s\n", word, what);
+    return POTZENDAI_BAD_WORDS;
+}
+
+/* Reads a number up to a limit; -1 where the text is none. */
+static inline int potzendai_read_number(const char *text, uint64_t most, uint64_t *number)
+{
+    *number = 0;
+    if (!*text)
+        return -1;
+    for (; *text; text++) {
+        if (*text < '0' || *text > '9' || *number > (most - (uint64_t)(*text - '0')) / 10)
+            return -1;
+        *number = *number * 10 + (uint64_t)(*text - '0');
+    }
+    return *number <= most ? 0 : -1;
+}
+
+/* The place of a word in a list of names that NULL ends; -1 where it is none of them. */
+static inline int potzendai_place(const char *const *names, const char *word, size_t length)
+{
+    for (int i = 0; names[i]; i++)
+        if (strlen(names[i]) == length && memcmp(names[i], word, length) == 0)
+            return i;
+    return -1;
+}
+
+static inline int potzendai_read_mix(struct potzendai_options *o, const char *text)
+{
+    static const char *const names[] = {"get", "put", "del", "scan", "replace", "put_if_absent", "floor", "ceiling", "pop_first", NULL};
+    memset(o->shares, 0, sizeof o->shares);
+    o->has_mix = true;
+    for (;;) {
+        const char *is = strchr(text, '=');
+        int function = is ? potzendai_place(names, text, (size_t)(is - text)) : -1;
+        uint64_t share = 0;
+        size_t digits = is ? strspn(is + 1, "0123456789") : 0;
+        if (function < 0 || digits < 1 || digits > 6 || (is[digits + 1] && is[digits + 1] != ','))
+            return potzendai_complain("--mix", "shares, as get=50,put=30,del=10,scan=10");
+        for (size_t i = 1; i <= digits; i++)
+            share = share * 10 + (uint64_t)(is[i] - '0');
+        o->shares[function] = share;
+        if (!is[digits + 1])
+            return 0;
+        text = is + digits + 2;
+    }
+}
+
+struct potzendai_numbered { const char *name; uint64_t least, most, *to; };
+struct potzendai_named { const char *name; const char *const *names; int place; };
+
+/* Reads a word with a number behind it: 1 where it is none of these. */
+static inline int potzendai_read_numbered(struct potzendai_options *o, const char *word, const char *text)
+{
+    const struct potzendai_numbered all[] = {
+        {"--seconds", 1, 1000000000, &o->seconds}, {"--rounds", 1, UINT64_MAX, &o->rounds}, {"--threads", 1, 1024, &o->threads},
+        {"--keys", 1, 16384, &o->keys}, {"--hot", 1, 16384, &o->hot}, {"--calls", 1, UINT64_MAX, &o->calls},
+        {"--seed", 0, UINT64_MAX, &o->seed}, {"--yield", 0, 1000, &o->yields}
+    };
+    for (size_t i = 0; i < sizeof all / sizeof *all; i++)
+        if (strcmp(word, all[i].name) == 0) {
+            char range[80];
+            snprintf(range, sizeof range, "a number from %" PRIu64 " to %" PRIu64, all[i].least, all[i].most);
+            bool is_one = text && potzendai_read_number(text, all[i].most, all[i].to) == 0 && *all[i].to >= all[i].least;
+            return is_one ? 0 : potzendai_complain(word, range);
+        }
+    return -1;
+}
+
+/* Reads a word with a name behind it: -1 where it is none of these. */
+static inline int potzendai_read_named(struct potzendai_options *o, const char *word, const char *text)
+{
+    const struct potzendai_named all[] = {{"--void", potzendai_voids, 0}, {"--break", potzendai_breaks, 0}, {"--scan", potzendai_scans, 0}};
+    for (size_t i = 0; i < sizeof all / sizeof *all; i++)
+        if (strcmp(word, all[i].name) == 0) {
+            int place = text ? potzendai_place(all[i].names, text, strlen(text)) : -1;
+            if (place < 0)
+                return potzendai_complain(word, "none of its names; --help has them");
+            o->has_void = o->has_void || i == 0;
+            if (i == 0)
+                o->void_puts = (enum potzendai_void)place;
+            else if (i == 1)
+                o->broken = (enum potzendai_break)place;
+            else
+                o->is_steps = place == 1;
+            return 0;
+        }
+    return -1;
+}
+
+static inline int potzendai_read_word(struct potzendai_options *o, char **words, int *at)
+{
+    const char *word = words[*at];
+    if (strcmp(word, "--stream") == 0) {
+        o->is_stream = true;
+        return 0;
+    }
+    const char *text = words[++*at];
+    if (strcmp(word, "--mix") == 0)
+        return text ? potzendai_read_mix(o, text) : potzendai_complain(word, "shares, as get=50,put=30,del=10,scan=10");
+    if (strcmp(word, "--out") == 0) {
+        o->out = text;
+        return text ? 0 : potzendai_complain(word, "a folder, or -");
+    }
+    int status = potzendai_read_numbered(o, word, text);
+    status = status < 0 ? potzendai_read_named(o, word, text) : status;
+    return status < 0 ? potzendai_complain(word, "no such word; --help has them") : status;
+}
+
+/* Shares where none are given: of the functions that there are. */
+static inline void potzendai_take_shares(struct potzendai_options *o, const struct potzendai_map *map)
+{
+    static const unsigned usual[POTZENDAI_FUNCTIONS] = {40, 30, 10, 5, 10, 5, 3, 3, 2};
+    bool has_keys_of_its_own = o->void_puts == POTZENDAI_VOID_OWN || o->void_puts == POTZENDAI_VOID_LOCK;
+    for (int f = 0; f < POTZENDAI_FUNCTIONS; f++)
+        o->shares[f] = potzendai_has(map, (enum potzendai_function)f) ? usual[f] : 0;
+    if (has_keys_of_its_own)
+        o->shares[POTZENDAI_POP_FIRST] = 0;
+    if (o->is_steps)
+        o->shares[POTZENDAI_SCAN] = map->ceiling ? 5 : 0;
+}
+
+/* Whether each function that has a share is there, and may be called under these words. */
+static inline int potzendai_check_shares(const struct potzendai_options *o, const struct potzendai_map *map)
+{
+    uint64_t total = 0;
+    for (int f = 0; f < POTZENDAI_FUNCTIONS; f++) {
+        bool is_steps = f == POTZENDAI_SCAN && o->is_steps;
+        total += o->shares[f];
+        if (o->shares[f] > 0 && !(is_steps ? map->ceiling != NULL : potzendai_has(map, (enum potzendai_function)f)))
+            return potzendai_complain(potzendai_functions[f], is_steps ? "steps need the function ceiling" : "no such function of the map");
+    }
+    if (total == 0)
+        return potzendai_complain("--mix", "no share");
+    if (o->shares[POTZENDAI_POP_FIRST] > 0 && (o->void_puts == POTZENDAI_VOID_OWN || o->void_puts == POTZENDAI_VOID_LOCK))
+        return potzendai_complain("pop_first", "takes keys of others, so not with --void own or lock");
+    return 0;
+}
+
+/* Whether what is to be broken is called at all. */
+static inline int potzendai_check_break(const struct potzendai_options *o)
+{
+    static const enum potzendai_function needed[] = {
+        POTZENDAI_PUT, POTZENDAI_PUT, POTZENDAI_PUT, POTZENDAI_GET, POTZENDAI_DEL, POTZENDAI_SCAN, POTZENDAI_REPLACE
+    };
+    if (o->broken == POTZENDAI_UNBROKEN)
+        return 0;
+    if (o->shares[needed[o->broken]] == 0 || (o->broken == POTZENDAI_TORN && o->is_steps))
+        return potzendai_complain("--break", "what it makes wrong is not called");
+    return 0;
+}
+
+/* How many calls a process may make in a round: those of a thread, or the last gets of all keys. */
+static inline uint64_t potzendai_calls_each(const struct potzendai_options *o)
+{
+    return o->calls > o->keys ? o->calls : o->keys;
+}
+
+/* The calls of a thread in a round where no number is given: what has room, with spare processes. */
+static inline uint64_t potzendai_calls_where_none(const struct potzendai_options *o)
+{
+    uint64_t calls = RECORDING_CALLS / (o->threads + 2);
+    return calls < POTZENDAI_CALLS ? calls : (uint64_t)POTZENDAI_CALLS;
+}
+
+static inline int potzendai_check_sizes(struct potzendai_options *o)
+{
+    if (o->hot > o->keys)
+        return potzendai_complain("--hot", "more than there are keys");
+    if (o->void_puts == POTZENDAI_VOID_OWN && o->keys < o->threads)
+        return potzendai_complain("--void", "own: each thread needs a key");
+    if (o->is_stream)
+        return 0;
+    if (o->calls == 0)
+        o->calls = potzendai_calls_where_none(o);
+    if (o->threads >= RECORDING_PROCESSES || o->calls > RECORDING_CALLS || (o->threads + 1) * potzendai_calls_each(o) > RECORDING_CALLS)
+        return potzendai_complain("--calls", "a round has at most 63 threads, and 4096 calls: those of each thread, or as many as there are"
+                                             " keys, for the threads and one more; --stream has no such end");
+    return 0;
+}
+
+/* Reads all words. 0, or the status of what is wrong with them; -1 where they ask for help, which is printed. */
+static inline int potzendai_read_words(struct potzendai_options *o, int argc, char **argv, const struct potzendai_map *map)
+{
+    struct timespec now;
+    memset(o, 0, sizeof *o);
+    clock_gettime(CLOCK_REALTIME, &now);
+    o->threads = 4;
+    o->seed = ((uint64_t)now.tv_sec * 1000003u + (uint64_t)now.tv_nsec) % 1000000007u;
+    o->broken = POTZENDAI_UNBROKEN;
+    o->out = ".";
+    for (int at = 1; at < argc; at++) {
+        if (strcmp(argv[at], "--help") == 0) {
+            printf("usage: %s [WORDS]\n%s", argv[0], potzendai_usage);
+            return -1;
+        }
+        int status = potzendai_read_word(o, argv, &at);
+        if (status)
+            return status;
+    }
+    if (o->keys == 0)
+        o->keys = o->is_stream ? POTZENDAI_STREAM_KEYS : POTZENDAI_KEYS;
+    if (o->seconds == 0)
+        o->seconds = o->rounds > 0 ? 1000000000 : 10;
+    if (!map->get || !map->put)
+        return potzendai_complain(map->name, "a map needs the functions get and put");
+    if (!o->has_mix)
+        potzendai_take_shares(o, map);
+    int status = potzendai_check_shares(o, map);
+    status = status ? status : potzendai_check_break(o);
+    return status ? status : potzendai_check_sizes(o);
+}
+
+/* Writes the words that repeat the draws of a run of so many rounds. */
+static inline void potzendai_write_words(FILE *out, const struct potzendai_options *o, const char *program, uint64_t rounds)
+{
+    const char *comma = "";
+    fprintf(out, "%s --seed %" PRIu64 " --threads %" PRIu64 " --keys %" PRIu64, program, o->seed, o->threads, o->keys);
+    if (o->hot)
+        fprintf(out, " --hot %" PRIu64, o->hot);
+    if (o->calls)
+        fprintf(out, " --calls %" PRIu64, o->calls);
+    fputs(" --mix ", out);
+    for (int f = 0; f < POTZENDAI_FUNCTIONS; f++)
+        if (o->shares[f] > 0) {
+            fprintf(out, "%s%s=%" PRIu64, comma, potzendai_functions[f], o->shares[f]);
+            comma = ",";
+        }
+    fprintf(out, " --void %s --scan %s", potzendai_voids[o->void_puts], potzendai_scans[o->is_steps]);
+    if (o->yields)
+        fprintf(out, " --yield %" PRIu64, o->yields);
+    if (o->broken != POTZENDAI_UNBROKEN)
+        fprintf(out, " --break %s", potzendai_breaks[o->broken]);
+    if (o->is_stream)
+        fprintf(out, " --stream --seconds %" PRIu64, o->seconds);
+    else if (rounds > 0)
+        fprintf(out, " --rounds %" PRIu64, rounds);
+    fputc('\n', out);
+}
+
+#endif

@@ -1,0 +1,157 @@
+/* SQLite, tested: a connection for each thread, to one file with a write-ahead log. With the word `plain` in front, each call is one
+ * statement, and tells as much as that does; else the writes read first, in one transaction. README.md says how it is built. */
+#include "../c/potzendai_test.h"
+#include <sqlite3.h>
+
+enum { GET, PUT, DEL, REPLACE, ABSENT, RANGE, CEILING, FLOOR, POP, BEGIN, COMMIT, ROLLBACK, STATEMENTS };
+
+static const char *const texts[STATEMENTS] = {
+    "SELECT k, v FROM m WHERE k = ?1", "INSERT OR REPLACE INTO m VALUES (?1, ?2)", "DELETE FROM m WHERE k = ?1",
+    "UPDATE m SET v = ?2 WHERE k = ?1 AND v = ?3", "INSERT OR IGNORE INTO m VALUES (?1, ?2)",
+    "SELECT k, v FROM m WHERE k BETWEEN ?1 AND ?2 ORDER BY k", "SELECT k, v FROM m WHERE k >= ?1 ORDER BY k LIMIT 1",
+    "SELECT k, v FROM m WHERE k <= ?1 ORDER BY k DESC LIMIT 1", "DELETE FROM m WHERE k = (SELECT min(k) FROM m) RETURNING k, v",
+    "BEGIN IMMEDIATE", "COMMIT", "ROLLBACK"
+};
+
+static const char first[] =
+    "PRAGMA journal_mode = WAL; PRAGMA synchronous = OFF; CREATE TABLE IF NOT EXISTS m (k INTEGER PRIMARY KEY, v INTEGER)";
+
+struct session { sqlite3 *base; sqlite3_stmt *all[STATEMENTS]; };
+
+static char file[] = "/tmp/potzendai-sqlite-XXXXXX";
+static bool is_plain;
+
+/* Runs a statement to its end, which commits it where no transaction is open: the pairs, or MAP_REFUSED where it is busy. */
+static enum map_said ask(struct session *s, int which, const uint64_t words[3], struct recording_pair *pairs, size_t room, size_t *count)
+{
+    sqlite3_stmt *statement = s->all[which];
+    int status;
+    for (int i = 0; i < sqlite3_bind_parameter_count(statement); i++)
+        sqlite3_bind_int64(statement, i + 1, (sqlite3_int64)words[i]);
+    for (*count = 0; (status = sqlite3_step(statement)) == SQLITE_ROW; ++*count)
+        if (*count < room)
+            pairs[*count] = (struct recording_pair){(uint64_t)sqlite3_column_int64(statement, 0),
+                                                    (uint64_t)sqlite3_column_int64(statement, 1)};
+    sqlite3_reset(statement);
+    return status != SQLITE_DONE ? MAP_REFUSED : *count ? MAP_TOLD : MAP_NONE;
+}
+
+static enum map_said ask_one(void *session, int which, uint64_t key, struct recording_pair *pair)
+{
+    const uint64_t words[3] = {key, 0, 0};
+    size_t count;
+    return ask((struct session *)session, which, words, pair, 1, &count);
+}
+
+/* One statement, of which is told whether it has changed anything: what it says then, and else. */
+static enum map_said change(struct session *s, int which, const uint64_t words[3], enum map_said changed, enum map_said not_changed)
+{
+    size_t count;
+    if (ask(s, which, words, NULL, 0, &count) == MAP_REFUSED)
+        return MAP_REFUSED;
+    return sqlite3_changes(s->base) ? changed : not_changed;
+}
+
+/* What is there, and then the statement, in one transaction. */
+static enum map_said look_and_change(struct session *s, int which, const uint64_t words[3], uint64_t *found)
+{
+    struct recording_pair pair = {0, 0};
+    size_t count;
+    if (ask(s, BEGIN, words, NULL, 0, &count) == MAP_REFUSED)
+        return MAP_REFUSED;
+    enum map_said said = ask(s, GET, words, &pair, 1, &count);
+    *found = pair.value;
+    bool is_done = said != MAP_REFUSED && ask(s, which, words, NULL, 0, &count) != MAP_REFUSED;
+    if (is_done && ask(s, COMMIT, words, NULL, 0, &count) != MAP_REFUSED)
+        return said;
+    ask(s, ROLLBACK, words, NULL, 0, &count);
+    return MAP_REFUSED;
+}
+
+static enum map_said get(void *session, uint64_t key, uint64_t *found)
+{
+    struct recording_pair pair = {0, 0};
+    enum map_said said = ask_one(session, GET, key, &pair);
+    *found = pair.value;
+    return said;
+}
+
+static enum map_said put(void *session, uint64_t key, uint64_t value, uint64_t *found)
+{
+    const uint64_t words[3] = {key, value, 0};
+    return is_plain ? change((struct session *)session, PUT, words, MAP_DONE, MAP_DONE)
+                    : look_and_change((struct session *)session, PUT, words, found);
+}
+
+static enum map_said del(void *session, uint64_t key, uint64_t *found)
+{
+    const uint64_t words[3] = {key, 0, 0};
+    return is_plain ? change((struct session *)session, DEL, words, MAP_FOUND, MAP_NONE)
+                    : look_and_change((struct session *)session, DEL, words, found);
+}
+
+static enum map_said replace(void *session, uint64_t key, uint64_t old, uint64_t value, uint64_t *found)
+{
+    const uint64_t words[3] = {key, value, old};
+    return is_plain ? change((struct session *)session, REPLACE, words, MAP_DONE, MAP_OTHER)
+                    : look_and_change((struct session *)session, REPLACE, words, found);
+}
+
+static enum map_said put_if_absent(void *session, uint64_t key, uint64_t value, uint64_t *found)
+{
+    const uint64_t words[3] = {key, value, 0};
+    return is_plain ? change((struct session *)session, ABSENT, words, MAP_NONE, MAP_FOUND)
+                    : look_and_change((struct session *)session, ABSENT, words, found);
+}
+
+static enum map_said scan(void *session, uint64_t low, uint64_t high, struct recording_pair *pairs, size_t room, size_t *count)
+{
+    const uint64_t words[3] = {low, high, 0};
+    return ask((struct session *)session, RANGE, words, pairs, room, count);
+}
+
+static enum map_said ceiling_of(void *session, uint64_t key, struct recording_pair *pair) { return ask_one(session, CEILING, key, pair); }
+static enum map_said floor_of(void *session, uint64_t key, struct recording_pair *pair) { return ask_one(session, FLOOR, key, pair); }
+static enum map_said pop_first(void *session, struct recording_pair *pair) { return ask_one(session, POP, 0, pair); }
+
+static void close_session(void *session)
+{
+    struct session *s = (struct session *)session;
+    for (int i = 0; i < STATEMENTS; i++)
+        sqlite3_finalize(s->all[i]);
+    sqlite3_close(s->base);
+    free(s);
+}
+
+static void *open_session(void *map, unsigned thread)
+{
+    struct session *s = (struct session *)calloc(1, sizeof *s);
+    (void)map, (void)thread;
+    bool is_open = s && sqlite3_open(file, &s->base) == SQLITE_OK && sqlite3_busy_timeout(s->base, 5000) == SQLITE_OK
+        && sqlite3_exec(s->base, first, NULL, NULL, NULL) == SQLITE_OK;
+    for (int i = 0; i < STATEMENTS && is_open; i++)
+        is_open = sqlite3_prepare_v2(s->base, texts[i], -1, &s->all[i], NULL) == SQLITE_OK;
+    if (!is_open && s)
+        close_session(s);
+    return is_open ? s : NULL;
+}
+
+int main(int argc, char **argv)
+{
+    struct potzendai_map map = {.name = "sqlite", .value_bits = 63, .open = open_session, .close = close_session, .get = get, .put = put,
+                                .del = del, .scan = scan, .replace = replace, .put_if_absent = put_if_absent, .floor = floor_of,
+                                .ceiling = ceiling_of, .pop_first = pop_first};
+    char again[] = "sqlite plain";
+    int made = mkstemp(file);
+    is_plain = argc > 1 && strcmp(argv[1], "plain") == 0;
+    if (made < 0) {
+        fputs("sqlite: no file\n", stderr);
+        return 6;
+    }
+    close(made);
+    if (is_plain)
+        argv[1] = again;
+    int status = potzendai_test_main(argc - is_plain, argv + is_plain, &map);
+    unlink(file);
+    return status;
+}
