@@ -28,33 +28,34 @@ pairs where it tells them, or one of the words in brackets:
     floor(self, key)                 the greatest pair up to the key [NONE or None, REFUSED, UNKNOWN]
     pop_first(self)                  the pair taken [NONE or None, REFUSED]
 
+Of a pair the value may be FOUND, where only the key is told.
+
 NONE: the key held nothing. FOUND: it held a value, which one is not told. DONE: the call was done, what it found is not told. REFUSED: it
 changed nothing. UNKNOWN, or an OSError that is raised (a timeout, a lost connection): nobody knows whether it was done.
 
 Keys and values are numbers. Nothing else changes the map during a run, and it holds no other keys.
 """
 import argparse
+import copy
 import itertools
 import json
 import multiprocessing
 import os
 import queue
-import shlex
 import shutil
 import subprocess
 import sys
-import tempfile
 import threading
 import time
 import traceback
 
 NONE, FOUND, DONE, OTHER, REFUSED, UNKNOWN = "none", "found", "done", "other", "refused", "unknown"
 GREATEST = 2 ** 64 - 1
-PROCESSES, CALLS = 64, 4096  # limits of a history
+PROCESSES, CALLS, SPAN = 64, 4096, 16  # limits of a history; the most keys of a scan
+SELDOM = 20  # one call in so many goes wrong in a map that is broken
 YES, NO, UNDECIDED, FAULTY, MEMORY, WORDS, IO = range(7)  # statuses, as the program's
-KINDS = ("get", "put", "delete", "scan", "replace", "put_if_absent", "floor", "ceiling", "pop_first")
-BREAKS = ("drop", "race", "replay", "stale", "zombie", "torn", "cas")
-SHARES = {"get": 30, "put": 30, "delete": 15, "scan": 5, "replace": 10, "put_if_absent": 5, "floor": 5, "ceiling": 5, "pop_first": 2}
+SHARES = {"get": 40, "put": 30, "delete": 10, "scan": 5, "replace": 10, "put_if_absent": 5, "floor": 3, "ceiling": 3, "pop_first": 2}
+BREAKS = {"drop": "put", "race": "put", "replay": "put", "stale": "get", "zombie": "delete", "torn": "scan", "cas": "replace"}
 
 
 class Stop(Exception):
@@ -70,318 +71,309 @@ def told(value):
     return NONE if value is None else value
 
 
-class Draws:
-    """Numbers that a seed decides (SplitMix64)."""
+def word(kind):
+    """The name of a function in words: `del` is none that Python has."""
+    return "del" if kind == "delete" else kind
 
-    def __init__(self, seed, thread):
-        self.state = (seed * 0x9E3779B97F4A7C15 + thread * 0xD1B54A32D192ED03) & GREATEST
+
+# Draws
+
+def mixed(state):
+    """Steele, Lea and Flood's SplitMix: the number behind a state."""
+    z = (state + 0x9E3779B97F4A7C15) & GREATEST
+    z = ((z ^ z >> 30) * 0xBF58476D1CE4E5B9) & GREATEST
+    z = ((z ^ z >> 27) * 0x94D049BB133111EB) & GREATEST
+    return z ^ z >> 31
+
+
+class Draws:
+    """Numbers that a seed, a round and a thread decide."""
+
+    def __init__(self, seed, number, thread):
+        self.state = mixed(seed) ^ mixed(number + (1 << 40)) ^ mixed(thread + (1 << 50))
 
     def below(self, bound):
-        self.state = z = (self.state + 0x9E3779B97F4A7C15) & GREATEST
-        z = ((z ^ z >> 30) * 0xBF58476D1CE4E5B9) & GREATEST
-        z = ((z ^ z >> 27) * 0x94D049BB133111EB) & GREATEST
-        return (z ^ z >> 31) % bound
+        drawn = mixed(self.state) % bound
+        self.state = (self.state + 0x9E3779B97F4A7C15) & GREATEST
+        return drawn
 
 
-_yields = threading.local()
+_of_thread = threading.local()
 
 
 def point():
     """To be called by a map's functions where another thread should get in between: under `--yield` it sometimes does."""
-    often = getattr(_yields, "often", 0)
-    if often and _yields.draws.below(1000) < often:
-        time.sleep(0 if _yields.draws.below(4) else (1 + _yields.draws.below(50)) / 1e6)
+    often = getattr(_of_thread, "often", 0)
+    if often and _of_thread.draws.below(1000) < often:
+        time.sleep(0 if _of_thread.draws.below(4) else (1 + _of_thread.draws.below(50)) / 1e6)
 
 
 # What a history has of a call
 
-def _value(answer):
+def is_value(answer):
     return type(answer) is int and 0 <= answer <= GREATEST
 
 
-def _pair(answer):
-    return isinstance(answer, (tuple, list)) and len(answer) == 2 and all(map(_value, answer))
+def is_pair(answer):
+    return isinstance(answer, (tuple, list)) and len(answer) == 2 and is_value(answer[0]) and (is_value(answer[1]) or answer[1] == FOUND)
 
 
-_OPEN = object()
-_PLAIN = {NONE: None, FOUND: "found", DONE: "done", REFUSED: "refused", UNKNOWN: _OPEN}
-_WORDS = {  # the words that each function may answer beside what it tells
-    "get": (NONE, FOUND, DONE, REFUSED, UNKNOWN), "put": (NONE, FOUND, DONE, REFUSED, UNKNOWN),
-    "delete": (NONE, FOUND, DONE, REFUSED, UNKNOWN), "scan": (REFUSED, UNKNOWN),
-    "replace": (NONE, FOUND, DONE, OTHER, REFUSED, UNKNOWN), "put_if_absent": (NONE, FOUND, REFUSED, UNKNOWN),
-    "ceiling": (NONE, REFUSED, UNKNOWN), "floor": (NONE, REFUSED, UNKNOWN), "pop_first": (NONE, REFUSED)}
+def is_pairs(answer):
+    return isinstance(answer, (tuple, list)) and all(is_pair(pair) and is_value(pair[1]) for pair in answer)
 
 
-def _check(kind, answer):
-    """The answer, or an error where the function cannot answer so."""
-    if answer is None and kind in ("get", "ceiling", "floor", "pop_first"):
+OPEN = object()
+EVENTS = {NONE: None, FOUND: "found", DONE: "done", OTHER: "other", REFUSED: "refused", UNKNOWN: OPEN}
+# Of each function its call in a history, what it tells, and the words that it may answer beside.
+ANSWERS = {
+    "get": ("get", is_value, (NONE, FOUND, DONE, REFUSED, UNKNOWN)),
+    "put": ("insert", is_value, (NONE, FOUND, DONE, REFUSED, UNKNOWN)),
+    "delete": ("remove", is_value, (NONE, FOUND, DONE, REFUSED, UNKNOWN)),
+    "scan": ("scan", is_pairs, (DONE, REFUSED, UNKNOWN)),
+    "replace": ("replace", is_value, (NONE, FOUND, DONE, OTHER, REFUSED, UNKNOWN)),
+    "put_if_absent": ("insert", is_value, (NONE, FOUND, REFUSED, UNKNOWN)),
+    "floor": ("scan", is_pair, (NONE, DONE, REFUSED, UNKNOWN)),
+    "ceiling": ("scan", is_pair, (NONE, DONE, REFUSED, UNKNOWN)),
+    "pop_first": ("scan", is_pair, (NONE, REFUSED)),
+}
+
+
+def checked(kind, answer):
+    """The answer, where the function may answer so."""
+    if answer is None and kind in ("get", "floor", "ceiling", "pop_first"):
         return NONE
-    if isinstance(answer, str) and answer in _WORDS[kind]:
+    _, tells, words = ANSWERS[kind]
+    if tells(answer) or isinstance(answer, str) and answer in words:
         return answer
-    tells = {"scan": lambda a: isinstance(a, (list, tuple)) and all(map(_pair, a)),
-             "ceiling": _pair, "floor": _pair, "pop_first": _pair}.get(kind, _value)
-    if tells(answer):
-        return answer
-    hint = " (NONE where the key held nothing, DONE where that is not told)" if answer is None else ""
-    raise TypeError("%s answered %r%s" % (kind, answer, hint))
+    hint = ": NONE where the key held nothing, DONE where that is not told" if answer is None else ", which does not fit it"
+    raise TypeError("%s answered %r%s" % (word(kind), answer, hint))
 
 
-def _edge(kind, key, pair):
-    """Ceiling and floor are scans from the key to what was found, or to the end."""
-    low, high = (key, GREATEST) if kind == "ceiling" else (0, key)
+def edge(kind, key, pair):
+    """Floor and ceiling are scans from the key to what was found, or to the end."""
+    low, high = (0, key) if kind == "floor" else (key, GREATEST)
     if pair == NONE:
         return ["scan", low, high], []
+    if pair[1] == FOUND:
+        return ["get", pair[0]], FOUND
     if low <= pair[0] <= high:
-        low, high = (key, pair[0]) if kind == "ceiling" else (pair[0], key)
+        low, high = (pair[0], key) if kind == "floor" else (key, pair[0])
     return ["scan", low, high], [list(pair)]
 
 
-def events(kind, words, answer):
-    """The invocation and the answer that a history has of a call; None where it is left out, which may be where nothing changed."""
-    if kind in ("get", "scan", "ceiling", "floor") and answer in (DONE, UNKNOWN) or kind == "pop_first" and answer == REFUSED:
+def noted(kind, words, answer):
+    """The invocation and the answer that a history has of a call; None where it is left out, since it tells nothing."""
+    changes = kind in ("put", "delete", "replace")
+    if answer == REFUSED and not changes or answer in (DONE, UNKNOWN) and kind in ("get", "scan", "floor", "ceiling"):
         return None
-    if kind in ("ceiling", "floor"):
-        return None if answer == REFUSED else _edge(kind, words[0], answer)
-    if kind == "scan":
-        return ["scan", *words], answer if answer == REFUSED else [list(pair) for pair in answer]
+    if kind in ("floor", "ceiling"):
+        return edge(kind, words[0], answer)
     if kind == "pop_first":
         return (["scan", 0, GREATEST], []) if answer == NONE else (["remove", answer[0]], answer[1])
-    if kind == "put_if_absent" and (_value(answer) or answer == FOUND):
+    if kind == "scan":
+        return ["scan", *words], [list(pair) for pair in answer]
+    if kind == "put_if_absent" and (is_value(answer) or answer == FOUND):
         return ["get", words[0]], answer
     if kind == "replace" and answer == DONE:
-        return ["replace", *words], words[1]
-    name = {"get": "get", "put": "insert", "put_if_absent": "insert", "delete": "remove", "replace": "replace"}[kind]
-    return [name, *words], _PLAIN.get(answer, answer)
+        answer = words[1]
+    return [ANSWERS[kind][0], *words], answer if is_value(answer) else EVENTS[answer]
 
 
-# Wrong maps, which a run has to refute
+# A map that is wrong now and then, around one that may be right: a test of the test
 
 class Broken:
-    """A session that goes wrong now and then, in one way."""
+    """A session that goes wrong in one way, one call in so many."""
 
-    def __init__(self, session, how, draws):
-        self.session, self.how, self.draws = session, how, draws
-        self.later, self.seen, self.last = [], {}, NONE
-        for kind in KINDS:
+    def __init__(self, session, how, draws, keys):
+        self.session, self.how, self.draws, self.keys, self.late, self.once, self.style = session, how, draws, keys, None, {}, None
+        for kind in ANSWERS:
             if callable(getattr(session, kind, None)):
-                setattr(self, kind, self._through(kind))
+                setattr(self, kind, self.around(kind))
+        if hasattr(session, "close"):
+            self.close = session.close
 
-    def _through(self, kind):
-        changed = getattr(self, "_%s_%s" % (self.how, kind), getattr(self.session, kind))
+    def around(self, kind):
+        function, wrong = getattr(self.session, kind), getattr(self, "%s_%s" % (self.how, kind), None)
 
         def call(*words):
-            self.later = [(turns - 1, key, value) for turns, key, value in self.later]
-            for turns, key, value in self.later:
-                if turns == 0:
-                    self.session.put(key, value)
-            return changed(*words)
+            if self.late and self.draws.below(2):
+                late, self.late = self.late, None
+                self.session.put(*late)
+            answer = wrong(*words) if wrong and self.draws.below(SELDOM) == 0 else None
+            if answer is None:
+                answer = function(*words)
+                self.see(kind, words, answer)
+            return answer
         return call
 
-    def close(self):
-        if hasattr(self.session, "close"):
-            self.session.close()
+    def see(self, kind, words, answer):
+        if kind == "put" and (is_value(answer) or answer in (DONE, FOUND)):
+            self.style = answer if answer in (DONE, FOUND) else "told"
+        elif kind == "get" and (words[0] not in self.once or self.draws.below(4) == 0):
+            self.once[words[0]] = told(answer)
 
-    def _now(self, share):
-        return self.draws.below(share) == 0
+    def pause(self):
+        time.sleep(0 if self.draws.below(4) else (1 + self.draws.below(50)) / 1e6)
 
-    def _pause(self):
-        time.sleep(self.draws.below(100) / 1e6)
+    def in_style(self, got):
+        """What the put of the map would say where a get says this."""
+        return DONE if self.style == DONE else self.style if is_value(got) and self.style != "told" else got
 
-    def _drop_put(self, key, value):
-        if not self._now(6):
-            self.last = self.session.put(key, value)
-            return self.last
-        found = told(self.session.get(key))
-        return DONE if self.last == DONE else found if found == NONE or self.last != FOUND else FOUND
+    def drop_put(self, key, value):
+        return self.in_style(told(self.session.get(key))) if self.style else None
 
-    def _race_put(self, key, value):
-        found = self.session.get(key)
-        self._pause()
-        self.session.put(key, value)
-        return told(found)
-
-    def _replay_put(self, key, value):
+    def race_put(self, key, value):
+        """A put after a get, as if they were one: of the key itself where the put tells what it found, else of the key beside it, which
+        is put back as it was got."""
+        if not self.style:
+            return None
+        beside = key if self.style == "told" or key ^ 1 >= self.keys else key ^ 1
+        got = told(self.session.get(beside))
+        self.pause()
+        if beside != key and is_value(got):
+            self.session.put(beside, got)
         answer = self.session.put(key, value)
-        if self._now(6):
-            self.later = [(2, key, value)]
-        return answer
+        return answer if beside != key or self.style == DONE else self.in_style(got)
 
-    def _stale_get(self, key):
-        if key in self.seen and self._now(4):
-            return self.seen[key]
-        answer = self.session.get(key)
-        if key not in self.seen or self._now(4):
-            self.seen[key] = answer
-        return answer
+    def replay_put(self, key, value):
+        self.late = (key, value)
 
-    def _zombie_delete(self, key):
+    def stale_get(self, key):
+        return self.once.get(key)
+
+    def zombie_delete(self, key):
         found = self.session.get(key)
-        answer = self.session.delete(key)
-        if _value(found) and self._now(3):
-            self.later = [(2, key, found)]
-        return answer
+        if is_value(found):
+            self.late = (key, found)
 
-    def _torn_scan(self, low, high):
-        middle = (low + high) // 2
-        first = self.session.scan(low, middle)
-        if middle == high or not isinstance(first, (list, tuple)):
-            return first
-        self._pause()
-        second = self.session.scan(middle + 1, high)
-        return second if isinstance(second, str) else list(first) + list(second)
+    def torn_scan(self, low, high):
+        first = self.session.scan(low, (low + high) // 2)
+        if low == high or not is_pairs(first):
+            return None
+        self.pause()
+        second = self.session.scan((low + high) // 2 + 1, high)
+        return list(first) + list(second) if is_pairs(second) else second
 
-    def _cas_replace(self, key, old, new):
-        found = self.session.get(key)
-        if not _value(found) or found == old or self._now(2):
-            return self.session.replace(key, old, new)
-        self.session.put(key, new)
-        return old
+    def cas_replace(self, key, old, new):
+        said = self.session.put(key, new)
+        return said if said == REFUSED or said == UNKNOWN else DONE
 
 
 # Threads and what they record
 
-class Plan:
-    """What the threads of a run do: the words of the command line that they need, and what the map has."""
-
-    def __init__(self, words, has, mix):
-        self.threads, self.keys, self.calls, self.hot = words.threads, words.keys, words.calls, words.hot
-        self.void, self.scan, self.often, self.broken = words.void, words.scan, words.yields, words.broken
-        self.shares = [(kind, mix[kind]) for kind in KINDS if mix.get(kind)]
-        self.has, self.processes = has, words.processes
-
-
 class Worker:
     """One thread or process: draws calls, makes them, and notes them with the stamps of their beginning and their end."""
 
-    def __init__(self, number, plan, stamp, locks):
-        self.number, self.plan, self.stamp, self.locks = number, plan, stamp, locks
-        self.total = sum(share for _, share in plan.shares)
-        self.counter, self.seen, self.log, self.put_last = 0, {}, [], {}
+    def __init__(self, number, options, stamp, locks):
+        self.number, self.options, self.stamp, self.locks, self.puts = number, options, stamp, locks, 0
+        self.total = sum(options.shares.values())
 
     def open(self, made):
-        session = made.session() if hasattr(made, "session") else made
-        if self.plan.broken:
-            session = Broken(session, self.plan.broken, Draws(77, self.number))
-        self.session = session
-        _yields.often, _yields.draws = self.plan.often, Draws(88, self.number)
+        self.session = made.session() if hasattr(made, "session") else made
+        if self.options.broken:
+            self.session = Broken(self.session, self.options.broken, Draws(0, 0, self.number), self.options.keys)
 
-    def run(self, seed, calls, lives, start, doubtful):
-        """Makes so many calls, as at most so many processes: one whose answer is unknown makes no further call."""
-        self.draws, self.log, self.life, self.refused = Draws(seed, self.number), [], 0, 0
-        self.put_last = {key: start.get(key, NONE) for key in range(self.plan.keys) if key not in doubtful}
-        for _ in range(calls):
+    def run(self, number, lives, start, doubtful):
+        """The calls of a round, as at most so many processes: one whose answer is unknown makes no further call."""
+        options = self.options
+        self.draws, self.log, self.life, self.made, self.refused, self.seen = Draws(options.seed, number, self.number), [], 0, 0, 0, {}
+        self.memory = {key: start.get(key, NONE) for key in range(options.keys) if key not in doubtful} if options.void == "own" else {}
+        _of_thread.often, _of_thread.draws = options.yields, copy.copy(self.draws)
+        while self.made < options.calls and self.life < lives:
             self.draw()
-            if self.life == lives:
-                break
-            point()
         return self.log, self.refused
 
     def draw(self):
-        drawn = self.draws.below(self.total)
-        for kind, share in self.plan.shares:
-            if drawn < share:
+        options, place = self.options, self.draws.below(self.total)
+        for kind, share in options.shares.items():
+            if place < share:
                 break
-            drawn -= share
-        key = self.key()
-        self.counter += 1
-        value = self.counter * PROCESSES + self.number
-        if self.plan.void == "own" and kind in ("put", "delete", "replace", "put_if_absent"):
-            key = self.own(key)
+            place -= share
+        is_write = kind in ("put", "delete", "replace", "put_if_absent", "pop_first")
+        key = self.key(is_write)
+        if is_write:
+            value = 1 + self.puts * options.threads + self.number
+            self.puts += 1
         if kind == "scan":
-            other = self.key()
-            self.scan(min(key, other), max(key, other))
-        elif kind in ("put", "delete"):
-            self.change(kind, *((key, value) if kind == "put" else (key,)))
-        elif kind == "replace":
-            self.locked(key, lambda: self.call(kind, key, self.seen.get(key, 0), value))
-        elif kind == "put_if_absent":
-            self.locked(key, lambda: self.call(kind, key, value))
-        else:
-            self.call(kind, *(() if kind == "pop_first" else (key,)))
-
-    def key(self):
-        bound = self.plan.keys
-        if self.plan.hot and self.draws.below(2):
-            bound = min(self.plan.hot, bound)
-        return self.draws.below(bound)
-
-    def own(self, key):
-        """A key that no other thread writes. There are at least as many as threads."""
-        mine = key - key % self.plan.threads + self.number
-        return mine if mine < self.plan.keys else self.number
-
-    def locked(self, key, call):
-        if self.plan.void != "lock":
-            return call()
-        with self.locks[key]:
-            return call()
-
-    def change(self, kind, key, *value):
-        """A put or a delete. Where it does not tell what it found, this may be known otherwise."""
-        if self.plan.void == "lock":
+            high = min(key + self.draws.below(SPAN), options.keys - 1)
+        point()
+        if kind == "scan" and options.scan == "steps":
+            return self.steps(key, high)
+        words = {"scan": lambda: (key, high), "put": lambda: (key, value), "put_if_absent": lambda: (key, value), "pop_first": tuple,
+                 "replace": lambda: (key, self.seen.get(key, 0), value)}.get(kind, lambda: (key,))()
+        if is_write and self.locks:
             with self.locks[key]:
-                begin = self.stamp()
-                found = self.make("get", key)
-                self.call(kind, key, *value, begin=begin, known=found if found == NONE or _value(found) else DONE)
-            return
-        answer = self.call(kind, key, *value, known=self.put_last.get(key, DONE) if self.plan.void == "own" else None)
-        if answer == UNKNOWN or answer == REFUSED:
-            if answer == UNKNOWN:
-                self.put_last.pop(key, None)
-        elif key in self.put_last:
-            self.put_last[key] = value[0] if value else NONE
+                self.make(kind, *words)
+        else:
+            self.make(kind, *words)
 
-    def scan(self, low, high):
-        if self.plan.scan == "snapshot":
-            self.call("scan", low, high)
-            return
-        while low <= high:
-            pair = self.call("ceiling", low)
-            if not _pair(pair) or pair[0] < low:
+    def key(self, is_write):
+        options = self.options
+        is_hot = 0 < options.hot < options.keys and self.draws.below(10) < 9
+        key = self.draws.below(options.hot if is_hot else options.keys)
+        if options.void != "own" or not is_write:
+            return key
+        key = key // options.threads * options.threads + self.number
+        return key if key < options.keys else self.number
+
+    def steps(self, low, high):
+        while low <= high and self.made < self.options.calls:
+            pair = self.make("ceiling", low)
+            if not is_pair(pair) or pair[0] < low:
                 break
             low = pair[0] + 1
 
-    def make(self, kind, *words):
+    def ask(self, kind, *words):
         try:
-            return _check(kind, getattr(self.session, kind)(*words))
+            return checked(kind, getattr(self.session, kind)(*words))
         except OSError:
             return UNKNOWN
 
-    def call(self, kind, *words, begin=None, known=None):
-        """Makes a call between two stamps and notes it. `known` is what is told of a put or a delete that does not tell it."""
-        if begin is None:
-            begin = self.stamp()
-        answer = self.make(kind, *words)
+    def make(self, kind, *words):
+        """Makes a call between two stamps, and notes it."""
+        begin, got = self.stamp(), DONE
+        if self.locks and kind in ("put", "delete"):
+            got = self.ask("get", words[0])
+        answer = self.ask(kind, *words)
         end = self.stamp()
-        noted = answer
-        if known is not None and answer in (DONE, FOUND, NONE):
-            noted = known if answer == DONE else answer
-        elif self.plan.void == "done" and kind in ("put", "delete") and answer != REFUSED and answer != UNKNOWN:
-            noted = DONE
-        self.note(begin, end, events(kind, words, noted))
+        self.made += 1
         self.refused += answer == REFUSED
-        self.remember(kind, words, answer)
+        says = self.known(kind, words, answer, got)
+        if self.options.void == "told" and kind in ("put", "delete") and says in (DONE, FOUND):
+            raise TypeError("%s said %s, and --void told wants the value before" % (word(kind), says))
+        if kind == "put" or kind == "replace" and answer == DONE:
+            self.seen[words[0]] = words[-1]
+        elif kind in ("get", "delete", "replace", "put_if_absent") and is_value(answer):
+            self.seen[words[0]] = answer
+        self.note(begin, end, noted(kind, words, says))
         return answer
 
-    def remember(self, kind, words, answer):
-        """Values that a replace may expect."""
-        if kind in ("put", "put_if_absent"):
-            self.seen[words[0]] = words[1]
-        elif kind == "get" and _value(answer):
-            self.seen[words[0]] = answer
+    def known(self, kind, words, answer, got):
+        """What is known of the answer: where a put or a delete was done, and does not tell what it found, from the get in front of it
+        under the key's lock, or from what the one writer of the key remembers."""
+        before = self.memory.get(words[0]) if words else None
+        if kind in ("put", "delete", "replace", "put_if_absent") and before is not None and answer != REFUSED:
+            if answer == UNKNOWN or kind == "replace" and answer == FOUND:
+                del self.memory[words[0]]
+            elif kind == "delete":
+                self.memory[words[0]] = NONE
+            elif kind == "put" or kind == "put_if_absent" and answer == NONE or kind == "replace" and answer in (DONE, words[1]):
+                self.memory[words[0]] = words[-1]
+        if kind not in ("put", "delete") or answer != DONE:
+            return answer
+        return before if before is not None else got if got == NONE or is_value(got) else DONE
 
-    def note(self, begin, end, noted):
-        if noted is None:
+    def note(self, begin, end, events):
+        if events is None:
             return
-        invocation, answer = noted
-        self.log.append((begin, self.number, self.life, invocation, True))
-        if answer is _OPEN:
+        self.log.append((begin, self.number, self.life, "invoke", events[0]))
+        if events[1] is OPEN:
             self.life += 1
         else:
-            self.log.append((end, self.number, self.life, answer, False))
+            self.log.append((end, self.number, self.life, "answer", events[1]))
 
 
-def _serve(worker, made, inbox, outbox, barrier):
+def serve(worker, made, inbox, outbox, barrier):
     """What a thread or a process does from its first round to its last."""
     try:
         worker.open(made)
@@ -389,96 +381,93 @@ def _serve(worker, made, inbox, outbox, barrier):
         for task in iter(inbox.get, None):
             barrier.wait()
             outbox.put(worker.run(*task))
-        if hasattr(worker.session, "close"):
+        if hasattr(made, "session") and hasattr(worker.session, "close"):
             worker.session.close()
-    except BaseException:
+    except BaseException as error:
         barrier.abort()
-        outbox.put(traceback.format_exc())
+        outbox.put((error, traceback.format_exc()) if worker.options.processes is False else (None, traceback.format_exc()))
 
 
-def _stamps(processes):
+def stamps(processes):
     """One word, and a sequentially consistent fetch-and-add on it."""
     if processes:
-        word = multiprocessing.Value("Q", 0)
+        shared = multiprocessing.get_context("fork").Value("Q", 0)
 
-        def shared():
-            with word.get_lock():
-                word.value += 1
-                return word.value
-        return shared
+        def of_processes():
+            with shared.get_lock():
+                shared.value += 1
+                return shared.value
+        return of_processes
     if getattr(sys, "_is_gil_enabled", lambda: True)():
         return itertools.count().__next__  # one step of the interpreter, under its lock
     lock, count = threading.Lock(), itertools.count()
 
-    def locked():
+    def of_threads():
         with lock:
             return next(count)
-    return locked
+    return of_threads
 
 
 class Crew:
     """The threads or processes of a run, and a session of the driver's own."""
 
-    def __init__(self, plan, made):
-        self.plan, self.stamp = plan, _stamps(plan.processes)
-        lock = multiprocessing.Lock if plan.processes else threading.Lock
-        locks = [lock() for _ in range(plan.keys)] if plan.void == "lock" else []
-        pipe = multiprocessing.SimpleQueue if plan.processes else queue.SimpleQueue
-        barrier = (multiprocessing if plan.processes else threading).Barrier(plan.threads)
-        member = multiprocessing.Process if plan.processes else threading.Thread
-        self.pipes, self.members = [], []
-        for number in range(plan.threads):
-            pipes = pipe(), pipe()
-            worker = Worker(number, plan, self.stamp, locks)
-            self.pipes.append(pipes)
-            self.members.append(member(target=_serve, args=(worker, made, *pipes, barrier), daemon=True))
+    def __init__(self, options, made):
+        self.options, self.stamp = options, stamps(options.processes)
+        kit = multiprocessing.get_context("fork") if options.processes else threading
+        pipe, member = (kit.SimpleQueue, kit.Process) if options.processes else (queue.SimpleQueue, threading.Thread)
+        locks = [kit.Lock() for _ in range(options.keys)] if options.void == "lock" else []
+        barrier = kit.Barrier(options.threads)
+        self.pipes = [(pipe(), pipe()) for _ in range(options.threads)]
+        self.members = [
+            member(target=serve, args=(Worker(number, options, self.stamp, locks), made, *pipes, barrier), daemon=True)
+            for number, pipes in enumerate(self.pipes)]
         for one in self.members:
             one.start()
-        self.take()
-        self.session = made.session() if hasattr(made, "session") else made
+        self.taken()
+        self.made, self.session = made, made.session() if hasattr(made, "session") else made
 
-    def take(self):
-        """What each member puts out, or the error of one."""
+    def taken(self):
+        """What each member puts out. Where one has met an error, the run ends."""
         taken = [outbox.get() for _, outbox in self.pipes]
-        errors = [one for one in taken if isinstance(one, str)]
+        errors = [one[1] for one in taken if one and isinstance(one[1], str)]
         if errors:
-            first = next((e for e in errors if "BrokenBarrierError" not in e), errors[0])
-            raise Stop(FAULTY, "the map's functions went wrong:\n" + first.rstrip())
+            first = next((error for error in errors if "BrokenBarrierError" not in error), errors[0])
+            raise Stop(WORDS, first.rstrip())
         return taken
 
-    def run(self, seed, calls, lives, start, doubtful):
-        share, rest = divmod(calls, self.plan.threads)
-        for number, (inbox, _) in enumerate(self.pipes):
-            inbox.put((seed, share + (number < rest), lives, start, doubtful))
-        return self.take()
+    def run(self, *task):
+        for inbox, _ in self.pipes:
+            inbox.put(task)
+        return self.taken()
 
     def contents(self):
-        """Gets of all keys by the driver, between stamps, and what they told."""
-        log, told_all = [], {}
-        for key in range(self.plan.keys):
+        """Gets of all keys, and what they told: the last calls of a round."""
+        log, pairs = [], {}
+        for key in range(self.options.keys):
             for _ in range(1000):
                 begin = self.stamp()
                 try:
-                    answer = _check("get", self.session.get(key))
+                    answer = checked("get", self.session.get(key))
                 except OSError:
                     answer = UNKNOWN
                 end = self.stamp()
-                if answer == NONE or _value(answer):
+                if answer == NONE or is_value(answer):
                     break
                 time.sleep(0.001)
             else:
-                raise Stop(FAULTY, "get of key %d told no value: between rounds each get has to tell" % key)
-            log += [(begin, self.plan.threads, 0, ["get", key], True), (end, self.plan.threads, 0, _PLAIN.get(answer, answer), False)]
+                raise Stop(WORDS, "get said %s, and between rounds each get has to tell" % answer)
+            log.append((begin, self.options.threads, 0, "invoke", ["get", key]))
+            log.append((end, self.options.threads, 0, "answer", None if answer == NONE else answer))
             if answer != NONE:
-                told_all[key] = answer
-        return log, told_all
+                pairs[key] = answer
+        return log, pairs
 
     def close(self):
         for inbox, _ in self.pipes:
             inbox.put(None)
         for one in self.members:
             one.join(1)
-        if self.session is not None and hasattr(self.session, "close"):
+        if hasattr(self.made, "session") and hasattr(self.session, "close"):
             self.session.close()
 
 
@@ -489,50 +478,58 @@ class Round:
 
     def __init__(self, logs, start, pending):
         lines = sorted((line for log in logs for line in log), key=lambda line: line[0])
-        numbers, self.events, self.text_of = {}, [], []
-        for invocation in pending:
-            self.add("invoke", invocation, numbers.setdefault(("pending", len(numbers)), len(numbers)))
-        for _, thread, life, what, is_call in lines:
-            self.add("invoke" if is_call else "answer", what, numbers.setdefault((thread, life), len(numbers)))
-        self.start, self.calls = start, sum("invoke" in event for event in self.events)
+        numbers = {}
+        self.start, self.events = start, [{"invoke": call, "process": process} for process, call in enumerate(pending)]
+        for _, thread, life, member, what in lines:
+            process = numbers.setdefault((thread, life), len(pending) + len(numbers))
+            self.events.append({member: what, "process": process})
         self.measure()
 
-    def add(self, member, what, process):
-        self.events.append({member: what, "process": process})
-
     def measure(self):
-        """How many calls were open where another began; at which keys two writers met; and which changes have no answer."""
-        opened, self.overlap, self.met = {}, 0, set()
+        """How many calls were open where another began, at which keys two writers met, and which changes have no answer."""
+        opened, self.calls, self.overlap, self.met = {}, 0, 0, set()
         for event in self.events:
-            if "answer" in event:
-                del opened[event["process"]]
+            process, call = event["process"], event.get("invoke")
+            if call is None:
+                del opened[process]
                 continue
-            call = event["invoke"]
+            self.calls += 1
             self.overlap += len(opened)
-            if call[0] in ("insert", "remove", "replace"):
-                if any(other[0] in ("insert", "remove", "replace") and other[1] == call[1] for other in opened.values()):
-                    self.met.add(call[1])
-            opened[event["process"]] = call
+            if call[0] in WRITES and any(other[0] in WRITES and other[1] == call[1] for other in opened.values()):
+                self.met.add(call[1])
+            opened[process] = call
         self.pending = list(opened.values())
 
     def text(self):
-        answers = [event["answer"] for event in self.events if "answer" in event]
-        version = 3 if any(answer in ("done", "found", "other") for answer in answers if isinstance(answer, str)) else (
-            2 if self.start or any(event.get("invoke", [""])[0] == "replace" for event in self.events) else 1)
+        answers = [event["answer"] for event in self.events if isinstance(event.get("answer"), str)]
+        if any(answer != "refused" for answer in answers):
+            version = 3
+        else:
+            version = 2 if self.start or any("replace" in event.get("invoke", "") for event in self.events) else 1
         whole = {"events": self.events, "version": version}
         if version > 1:
             whole["start"] = sorted([key, value] for key, value in self.start.items())
         return json.dumps(whole, separators=(",", ":"), sort_keys=True) + "\n"
 
 
+WRITES = ("insert", "remove", "replace")
+
+
 class Program:
     """The program `bench`."""
 
-    def __init__(self, path, budget):
-        self.path, self.budget = path or os.environ.get("POTZENDAI_BENCH") or _program(), budget
-        status, _ = self.ask("explain", '{"events":[],"version":1}\n')
-        if status != YES:
-            raise Stop(IO, "%s: cannot be run" % self.path)
+    def __init__(self, options):
+        self.path, self.budget = options.bench or os.environ.get("POTZENDAI_BENCH") or self.found(), options.budget
+        if self.ask("explain", '{"events":[],"version":1}\n')[0] != YES:
+            raise Stop(IO, "%s: is not the program" % self.path)
+
+    @staticmethod
+    def found():
+        beside = os.path.join(os.path.dirname(os.path.abspath(__file__)), "..", "..", "bench")
+        found = next((path for path in ("./bench", beside) if os.path.isfile(path) and os.access(path, os.X_OK)), shutil.which("bench"))
+        if not found:
+            raise Stop(WORDS, "--bench: no program `bench` here or on the PATH")
+        return found
 
     def ask(self, command, text):
         try:
@@ -540,387 +537,321 @@ class Program:
         except OSError as error:
             raise Stop(IO, "%s: %s" % (self.path, error.strerror))
         if done.returncode not in (YES, NO, UNDECIDED):
-            raise Stop(done.returncode if 0 < done.returncode <= IO else IO, "%s %s ended with %d" % (self.path, command, done.returncode))
+            raise Stop(done.returncode if FAULTY <= done.returncode <= IO else IO, "%s %s: status %d" % (self.path, command, done.returncode))
         return done.returncode, done.stdout.decode()
-
-
-def _program():
-    for path in ("./bench", os.path.join(os.path.dirname(os.path.abspath(__file__)), "..", "..", "bench")):
-        if os.access(path, os.X_OK) and os.path.isfile(path):
-            return path
-    found = shutil.which("bench")
-    if found:
-        return found
-    raise Stop(WORDS, "no program `bench` here or on the PATH: --bench says where it is")
 
 
 # A run
 
-class Trial:
-    """Rounds of one plan at a new map."""
+class Run:
+    """Rounds at a new map, each of which begins with what the one before has left."""
 
-    def __init__(self, plan, make, program, calls):
-        self.plan, self.make, self.program, self.calls = plan, make, program, calls
-        self.rounds = self.done = self.overlap = self.refused = self.undecided = 0
-        self.met, self.began, self.failed = set(), time.monotonic(), None
+    def __init__(self, options, make, program):
+        self.options, self.make, self.program = options, make, program
+        self.rounds = self.calls = self.overlap = self.refused = self.undecided = 0
+        self.met, self.failed, self.began = set(), None, time.monotonic()
 
-    def run(self, seed, is_over):
-        """Rounds until one has no order, or it is over. Round r has the draws of seed + r."""
-        crew = Crew(self.plan, self.make())
+    def go(self, number=0):
+        """Rounds from this number on, until one has no order, or the time is over."""
+        crew = Crew(self.options, self.make())
         try:
-            _, start = crew.contents()
-            pending = []
-            while not is_over(self):
-                lives = (PROCESSES - 1 - len(pending)) // self.plan.threads
+            start, pending = crew.contents()[1], []
+            while not self.is_over():
+                lives = (PROCESSES - 1 - len(pending)) // self.options.threads
                 if lives == 0:
-                    raise Stop(FAULTY, "%d calls have no answer: more than a history has room for" % len(pending))
-                doubtful = {call[1] for call in pending}
-                taken = crew.run(seed + self.rounds, self.calls, lives, start, doubtful)
-                gets, contents = crew.contents()
+                    raise Stop(WORDS, "%d calls have no answer: more than a round has processes for" % len(pending))
+                taken = crew.run(number + self.rounds, lives, start, {call[1] for call in pending})
+                gets, left = crew.contents()
                 one = Round([log for log, _ in taken] + [gets], start, pending)
-                if self.judge(one, seed + self.rounds, sum(refused for _, refused in taken)):
+                self.judge(one, sum(refused for _, refused in taken))
+                if self.failed:
                     break
-                start, pending = contents, one.pending
+                start, pending = left, one.pending
         finally:
             crew.close()
         return self
 
-    def judge(self, one, seed, refused):
-        status, _ = self.program.ask("judge", one.text())
+    def judge(self, one, refused):
+        status = self.program.ask("judge", one.text())[0] if self.program else print(one.text(), end="", flush=True)
         self.rounds += 1
-        self.done += one.calls
+        self.calls += one.calls
         self.overlap += one.overlap
         self.refused += refused
         self.met |= one.met
         self.undecided += status == UNDECIDED
-        if status == NO:
-            self.failed, self.seed = one, seed
-        return status == NO
+        self.failed = one if status == NO else None
+
+    def is_over(self):
+        now, options = time.monotonic(), self.options
+        if options.shows and now - options.shown >= 1:
+            options.shown = now
+            print(self.measures(), file=sys.stderr)
+        return 0 < options.rounds <= self.rounds or now - self.began >= options.seconds
 
     def measures(self):
         seconds = max(time.monotonic() - self.began, 1e-9)
         return "%d calls, %d a second, overlap %.1f a call, %.0f%% refused, two writers met on %d of %d keys" % (
-            self.done, self.done / seconds, self.overlap / max(self.done, 1), 100 * self.refused / max(self.done, 1), len(self.met),
-            self.plan.keys)
+            self.calls, self.calls / seconds, self.overlap / max(self.calls, 1), 100 * self.refused / max(self.calls, 1), len(self.met),
+            self.options.keys)
 
 
-class Clock:
-    """Whether a run is over; and a line each second on a terminal."""
-
-    def __init__(self, seconds, rounds):
-        self.seconds, self.rounds, self.told_at = seconds, rounds, time.monotonic()
-        self.shows = sys.stderr.isatty()
-
-    def __call__(self, trial):
-        now = time.monotonic()
-        if self.shows and now - self.told_at >= 1:
-            self.told_at = now
-            print(trial.measures(), file=sys.stderr)
-        if self.rounds:
-            return trial.rounds >= self.rounds
-        return now - trial.began >= self.seconds
-
-
-def _smaller(words, make, program, failed):
-    """A smaller run that fails too, by bounded tries: fewer calls, keys and threads of the same seed. Threads interleave as they
-    will, so one that does not fail may be wrong all the same."""
-    best, until = failed, time.monotonic() + words.smaller
-    sizes = [words.threads, words.keys, words.calls]
-    at = 0
-    while at < 3 and time.monotonic() < until:
-        fewer = list(sizes)
-        fewer[at] = sizes[at] * 2 // 3 if at else sizes[at] - 1
-        least = (2, 1, fewer[0])[at]
-        found = None
-        if fewer[at] >= least and fewer[at] < sizes[at]:
-            found = _failing(words, fewer, make, program, failed.seed, until)
-        if found:
-            best, sizes, at = found, fewer, 0
-        else:
-            at += 1
+def smaller(run, number):
+    """A run that fails too, of fewer threads, keys or calls, by bounded tries. Threads interleave as they will: none is promised."""
+    best, until, name = run, time.monotonic() + 5, 0
+    names = ("calls", "keys", "threads")
+    while name < len(names) and time.monotonic() < until:
+        options = copy.copy(best.options)
+        size = getattr(options, names[name])
+        fewer = size - 1 if names[name] == "threads" else size * 2 // 3
+        setattr(options, names[name], fewer)
+        options.rounds, options.shows, found = 1, False, None
+        if fewer >= (2 if names[name] == "threads" else 1) and not (options.void == "own" and options.keys < options.threads):
+            tries = (Run(options, run.make, run.program).go(number) for _ in range(6) if time.monotonic() < until)
+            found = next((one for one in tries if one.failed), None)
+        best, name = (found, 0) if found else (best, name + 1)
     return best
-
-
-def _failing(words, sizes, make, program, seed, until):
-    plan = words.plan(*sizes)
-    for _ in range(5):
-        if time.monotonic() >= until:
-            break
-        trial = Trial(plan, make, program, sizes[2]).run(seed, lambda trial: trial.rounds >= 1)
-        if trial.failed:
-            return trial
-    return None
 
 
 # A no in words
 
-def _call(words):
-    return " ".join(map(str, words))
+def said_pairs(pairs):
+    return ", ".join("%d: %d" % tuple(pair) for pair in pairs) or "nothing"
 
 
-def _said(answer):
+def said_answer(answer):
     if isinstance(answer, list):
-        return ", ".join("%d: %d" % tuple(pair) for pair in answer) or "no pairs"
-    return "none" if answer is None else str(answer)
+        return said_pairs(answer)
+    return {None: "none", "done": "that it was done", "found": "that there was a value", "other": "another value",
+            "refused": "that it was refused", "open": "nothing that counts"}.get(answer, str(answer))
 
 
-def _origin(value, one):
-    """Which call put this value."""
-    answered = {}
+def said_call(call):
+    name, words = call[0], call[1:]
+    if name == "insert":
+        return "put %d at %d" % (words[1], words[0])
+    if name == "replace":
+        return "replace %d at %d by %d" % (words[1], words[0], words[2])
+    return "scan from %d to %d" % tuple(words) if name == "scan" else "%s %d" % (name, words[0])
+
+
+def said_writer(one, value):
+    """Who put a value."""
+    if not is_value(value):
+        return ""
     for number, event in enumerate(one.events):
-        call = event.get("invoke")
-        if call and (call[0] == "insert" and call[2] == value or call[0] == "replace" and call[3] == value):
-            end = next((e for e in range(number + 1, len(one.events)) if one.events[e]["process"] == event["process"]), None)
-            upto = "has no answer" if end is None else "was answered %s at event %d" % (_said(one.events[end]["answer"]), end)
-            answered[number] = "%d was put by process %d: %s at event %d, which %s" % (value, event["process"], _call(call), number, upto)
-    for key, held in one.start.items():
-        if held == value:
-            answered[-1] = "%d was at key %d at the start" % (value, key)
-    return list(answered.values()) or ["%d was put by no call of this recording" % value]
+        call = event.get("invoke", ("",))
+        if call[0] in ("insert", "replace") and call[-1] == value:
+            return "; %d is what process %d put (event %d)" % (value, event["process"], number)
+    return "; who put %d is not in the history" % value
 
 
-def _values(answer):
-    if isinstance(answer, list):
-        return [pair[1] for pair in answer]
-    return [answer] if type(answer) is int else []
-
-
-def _table(rows):
-    widths = [max(len(row[column]) for row in rows) for column in range(len(rows[0]))]
-    return ["  " + "  ".join(cell.ljust(width) for cell, width in zip(row, widths)).rstrip() for row in rows]
-
-
-def explained(report, one):
-    """The table of the few calls that have no order, and what is wrong with them; the history of these calls, or None."""
-    lines = [json.loads(line) for line in report.splitlines()]
-    calls = [line for line in lines if "reason" in line]
-    few = next((text for line, text in zip(lines, report.splitlines()) if "events" in line), None)
-    if not calls:
-        return ["A search for few calls that show it met more configurations than the budget."], None
-    said = ["These calls have no order by themselves:"]
-    rows = [("event", "process", "call", "answered")]
-    for line in calls:
-        answer = "nothing that counts" if line["answer"] == "open" else _said(line["answer"])
-        rows.append((str(line["event"]), str(line["process"]), _call(line["call"]), answer))
-    said += _table(rows)
-    call_at = {line["event"]: _call(line["call"]) for line in calls}
-    values = [value for line in calls for value in _values(line["answer"])]
-    for front in (line for line in lines if "front" in line):
-        through = ", ".join("event %d" % event for event in front["front"]) or "none of them"
-        said.append("An order of them gets as far as %s; the map then holds %s." % (through, _said(front["holds"])))
-        for after in front["next"]:
-            if after["answer"] != "open":
-                said.append("%s at event %d was answered %s; the map would answer %s." % (
-                    call_at[after["event"]], after["event"], _said(after["answer"]), _said(after["would"])))
-                values += _values(after["would"])
-    said += [line + "." for value in dict.fromkeys(values) for line in _origin(value, one)]
+def said_report(report, one):
+    """A report of `explain` in words, and the line that is the few calls' history, or None."""
+    texts = report.splitlines()
+    lines, few = [json.loads(text) for text in texts], None
+    said = texts[:1] + ["these calls have no order, whatever else was done:"][:len(texts) - 1]
+    for line, text in zip(lines[1:], texts[1:]):
+        if "events" in line:
+            few = text
+        elif "reason" in line:
+            said.append("  event %-6d process %-3d %s, answered %s" % (
+                line["event"], line["process"], said_call(line["call"]), said_answer(line["answer"])))
+        elif "front" in line:
+            said.append("  an order of them gets as far as the events %s; the map then holds %s" % (
+                json.dumps(line["front"], separators=(",", ":")), said_pairs(line["holds"])))
+            said += ["  the call of event %d was answered %s, and would be answered %s%s" % (
+                call["event"], said_answer(call["answer"]), said_answer(call["would"]), said_writer(one, call["answer"]))
+                for call in line["next"]]
     return said, few
 
 
-def _keep(prefix, one, few, program):
-    """The recording, the few calls and their picture as files."""
-    kept = [(prefix + ".json", one.text())]
-    if few:
-        kept.append((prefix + "-few.json", few + "\n"))
-        kept.append((prefix + ".svg", program.ask("draw", few + "\n")[1]))
-    try:
-        for name, text in kept:
-            with open(name, "w") as out:
+def put_files(folder, files):
+    for name, text in files:
+        try:
+            with open(os.path.join(folder, name), "w") as out:
                 out.write(text)
-    except OSError as error:
-        raise Stop(IO, "%s: %s" % (error.filename, error.strerror))
-    return "Files: " + ", ".join(name for name, _ in kept)
+        except OSError as error:
+            raise Stop(IO, "%s: %s" % (os.path.join(folder, name), error.strerror))
+    return [os.path.join(folder, name) for name, _ in files]
 
 
 # Words
 
-class _Words(argparse.ArgumentParser):
+class Parser(argparse.ArgumentParser):
     def error(self, message):
-        raise Stop(WORDS, "%s\n%s" % (self.format_usage().rstrip(), message))
+        raise Stop(WORDS, message.replace("argument ", "", 1))
 
     def exit(self, status=0, message=None):
         sys.exit(WORDS)
 
 
-def _between(low, high):
+def number(least, most):
     def read(text):
-        number = int(text)
-        if not low <= number <= high:
-            raise ValueError
-        return number
-    read.__name__ = "number from %d to %d" % (low, high)
+        if not text.isdigit() or not least <= int(text) <= most:
+            raise argparse.ArgumentTypeError("a number from %d to %d" % (least, most))
+        return int(text)
     return read
 
 
-def _mix(text):
-    mix = {}
+def mix(text):
+    shares = {}
     for part in text.split(","):
-        name, share = part.split("=")
-        kind = "delete" if name == "del" else name
-        if kind not in KINDS or kind in mix:
-            raise ValueError
-        mix[kind] = _between(0, 1000000)(share)
-    if not sum(mix.values()):
-        raise ValueError
-    return mix
-
-
-_mix.__name__ = "mix"
+        name, _, share = part.partition("=")
+        kind = {"del": "delete", "delete": ""}.get(name, name)
+        if kind not in SHARES or not share.isdigit() or len(share) > 6:
+            raise argparse.ArgumentTypeError("shares, as get=50,put=30,del=10,scan=10")
+        shares[kind] = int(share)
+    return {kind: shares.get(kind, 0) for kind in SHARES}
 
 
 def words_of(argv):
-    """The words of the command line."""
-    words = _Words(prog=os.path.basename(sys.argv[0] or "potzendai"), description="Tests a map by threads, and judges what they recorded.")
-    add = words.add_argument
-    add("--seconds", type=float, default=10, metavar="N", help="how long (10)")
-    add("--rounds", type=_between(0, 10 ** 9), default=0, metavar="N", help="how many rounds, instead of seconds")
-    add("--threads", type=_between(1, 32), default=4, metavar="N", help="how many threads (4)")
-    add("--processes", action="store_true", help="processes instead of threads, for clients of servers")
-    add("--keys", type=_between(1, 1024), default=8, metavar="N", help="keys from 0 up to N - 1 (8)")
-    add("--hot", type=_between(0, 1024), default=0, metavar="N", help="half of the calls go to the first N keys (0: to all alike)")
-    add("--calls", type=_between(1, 3000), default=400, metavar="N", help="calls of a round (400)")
-    add("--seed", type=_between(0, GREATEST), default=1, metavar="N", help="what decides the draws (1)")
-    add("--mix", type=_mix, default=None, metavar="get=50,put=30,..", help="shares of get, put, del, scan, replace, put_if_absent, floor, ceiling, pop_first")
-    add("--void", choices=("told", "done", "own", "lock"), default="told", help="what is known of a put that tells nothing")
-    add("--scan", choices=("snapshot", "steps"), default=None, help="one scan of a moment, or steps of ceiling")
-    add("--yield", dest="yields", type=_between(0, 1000), default=20, metavar="N", help="of a thousand points, how many give way (20)")
-    add("--break", dest="broken", choices=BREAKS + ("all",), default=None, help="make the map wrong now and then: the run has to say no")
-    add("--smaller", type=float, default=5, metavar="N", help="seconds for a search for smaller runs that fail (5)")
-    add("--files", default="potzendai", metavar="PREFIX", help="where the recording of a no goes (potzendai)")
-    add("--budget", type=_between(1, 1000000), default=100000, metavar="N", help="the judge's (100000)")
-    add("--bench", default=None, metavar="PATH", help="the program (./bench, or on the PATH)")
+    words = Parser(prog=os.path.basename(sys.argv[0]), usage="%(prog)s [WORDS]", allow_abbrev=False)
+    for name, kind, usual, what in (
+            ("--seconds", number(1, 10 ** 9), 10, "how long (10)"),
+            ("--rounds", number(1, GREATEST), 0, "at most so many rounds"),
+            ("--threads", number(1, 62), 4, "threads that call the map (4)"),
+            ("--keys", number(1, CALLS), 16, "keys, from 0 (16)"),
+            ("--hot", number(1, CALLS), 0, "so many of the keys are those of nine calls in ten"),
+            ("--calls", number(1, CALLS), 0, "calls of a thread in a round (200)"),
+            ("--seed", number(0, GREATEST), time.time_ns() % 1000000007, "what the calls are drawn from (of the clock)"),
+            ("--mix", mix, None, "shares, as get=50,put=30,del=10,scan=10; also replace, put_if_absent, floor, ceiling, pop_first"),
+            ("--yield", number(0, 1000), 0, "of a thousand points between and in calls, so many give way to other threads (0)"),
+            ("--out", str, ".", "the folder where files are put (.), or - for standard output: all histories, which nobody judges then"),
+            ("--budget", number(1, 10 ** 6), 100000, "the judge's (100000)"),
+            ("--bench", str, None, "the program (./bench, or on the PATH)")):
+        words.add_argument(name, type=kind, default=usual, help=what, metavar="N" if isinstance(usual, int) else "WORD",
+                           dest=name[2:] + "s" * (name == "--yield"))
+    words.add_argument("--void", choices=("done", "told", "own", "lock"), default="done", help="a put that tells nothing is recorded as "
+                       "done; has to be told; own: one writer a key remembers what it put; lock: a lock a key around a get and the put (done)")
+    words.add_argument("--scan", choices=("snapshot", "steps"), default="snapshot", help="a scan is of one moment; or steps of ceiling")
+    words.add_argument("--break", dest="broken", choices=tuple(BREAKS) + ("all",), help="makes the map wrong now and then; all: in each way")
+    words.add_argument("--processes", action="store_true", help="processes in the place of threads, as for clients of servers")
     return words.parse_args(argv)
 
 
-class Words:
-    """The words, and what the map has: which functions are drawn, and how."""
-
-    def __init__(self, given, has):
-        self.__dict__.update(vars(given))
-        self.given, self.has = given, has
-        missing = [kind for kind in ("get", "put") if kind not in has]
-        if missing:
-            raise Stop(WORDS, "the map has no %s" % missing[0])
-        self.scan = given.scan or ("steps" if "scan" not in has and "ceiling" in has else "snapshot")
-        able = {kind for kind in KINDS if kind in has} | ({"scan"} if self.scan == "steps" and "ceiling" in has else set())
-        if self.scan == "steps" and "ceiling" not in has or self.scan == "snapshot" and "scan" not in has:
-            able.discard("scan")
-        if self.void in ("own", "lock"):
-            able.discard("pop_first")
-        for kind in given.mix or ():
-            if given.mix[kind] and kind not in able:
-                raise Stop(WORDS, "--mix: the map has no %s here" % ("del" if kind == "delete" else kind))
-        self.drawn = {kind: share for kind, share in (given.mix or SHARES).items() if kind in able}
-        self.hidden = {kind for kind in BREAKS if not self.shows(kind)}
-        if given.broken in self.hidden:
-            raise Stop(WORDS, "--break %s: nothing here shows it" % given.broken)
-        if self.void == "own" and self.keys < self.threads:
-            raise Stop(WORDS, "--void own: at least as many keys as threads")
-
-    def shows(self, broken):
-        """Whether the calls that are drawn can show this."""
-        needs = {"drop": "put", "race": "put", "replay": "put", "stale": "get", "zombie": "delete", "torn": "scan", "cas": "replace"}[broken]
-        if broken == "torn" and self.scan == "steps" or broken == "race" and self.void != "told":
-            return False
-        return bool(self.drawn.get(needs))
-
-    def plan(self, threads=None, keys=None, calls=None, broken=None):
-        words = argparse.Namespace(**vars(self))
-        words.threads, words.keys, words.calls = threads or self.threads, keys or self.keys, calls or self.calls
-        words.broken = broken or self.broken
-        return Plan(words, self.has, self.drawn)
-
-    def repeat(self, trial):
-        """The words of a run that begins with the round that failed."""
-        plan = trial.plan
-        said = ["--seed", trial.seed, "--threads", plan.threads, "--keys", plan.keys, "--calls", trial.calls]
-        if self.mix:
-            said += ["--mix", ",".join("%s=%d" % ("del" if kind == "delete" else kind, share) for kind, share in self.mix.items())]
-        for name, value, usual in (("hot", self.hot, 0), ("void", self.void, "told"), ("scan", self.given.scan, None),
-                                   ("yield", self.yields, 20), ("break", self.broken, None)):
-            if value != usual:
-                said += ["--" + name, value]
-        return " ".join(map(str, said + (["--processes"] if self.processes else [])))
+def fit(options, has):
+    """The words together, and with what the map has."""
+    def wrong(name, what):
+        raise Stop(WORDS, "%s: %s" % (name, what))
+    able = {kind: kind in has for kind in SHARES}
+    able["scan"] = "ceiling" in has if options.scan == "steps" else able["scan"]
+    if not able["get"] or not able["put"]:
+        wrong("the map", "a map needs the functions get and put")
+    apart = options.void in ("own", "lock")
+    options.has_mix = options.mix is not None
+    options.shares = options.mix or {kind: 0 if not able[kind] or kind == "pop_first" and apart else SHARES[kind] for kind in SHARES}
+    for kind, share in options.shares.items():
+        if share and not able[kind]:
+            wrong(word(kind), "steps need the function ceiling" if kind == "scan" and options.scan == "steps" else "no such function of the map")
+    if not sum(options.shares.values()):
+        wrong("--mix", "no share")
+    if options.shares["pop_first"] and apart:
+        wrong("pop_first", "takes keys of others, so not with --void own or lock")
+    options.shown_by = {how: options.shares[kind] > 0 and not (how == "torn" and options.scan == "steps") for how, kind in BREAKS.items()}
+    if not options.shown_by.get(options.broken, True):
+        wrong("--break", "what it makes wrong is not called")
+    if options.hot > options.keys:
+        wrong("--hot", "more than there are keys")
+    if options.void == "own" and options.keys < options.threads:
+        wrong("--void", "own: each thread needs a key")
+    options.calls = options.calls or min(CALLS // (options.threads + 2), 200)
+    if (options.threads + 1) * max(options.calls, options.keys) > CALLS:
+        wrong("--calls", "a round has at most 4096 calls: those of each thread, or as many as there are keys, for the threads and one more")
+    options.shows, options.shown = sys.stderr.isatty(), time.monotonic()
+    return options
 
 
-def _has(make):
-    """The functions of a map."""
+def words_again(options, rounds):
+    """The words that repeat the draws of a run of so many rounds."""
+    said = [os.path.basename(sys.argv[0]), "--seed", options.seed, "--threads", options.threads, "--keys", options.keys]
+    said += ["--hot", options.hot] if options.hot else []
+    said += ["--calls", options.calls, "--mix", ",".join("%s=%d" % (word(kind), share) for kind, share in options.shares.items() if share)]
+    said += ["--void", options.void, "--scan", options.scan] + (["--yield", options.yields] if options.yields else [])
+    said += (["--break", options.broken] if options.broken else []) + (["--processes"] if options.processes else [])
+    return " ".join(map(str, said + ["--rounds", rounds]))
+
+
+def functions(make):
+    """Those of a map."""
     made = make()
     session = made.session() if hasattr(made, "session") else made
-    has = {kind for kind in KINDS if callable(getattr(session, kind, None))}
+    has = {kind for kind in ANSWERS if callable(getattr(session, kind, None))}
     if session is not made and hasattr(session, "close"):
         session.close()
     return has
 
 
-def run(make, given):
+def tested(make, options):
     """A run by these words: its status, and what there is to say."""
-    words = Words(given, _has(make))
-    program = Program(words.bench, words.budget)
+    fit(options, functions(make))
+    program = None if options.out == "-" else Program(options)
     interval = sys.getswitchinterval()
-    sys.setswitchinterval(1e-5)
+    sys.setswitchinterval(1e-5)  # else a thread of Python goes on for 5 ms, and hardly a call overlaps another
     try:
-        if words.broken == "all":
-            return _all_broken(words, make, program)
-        trial = Trial(words.plan(), make, program, words.calls).run(words.seed, Clock(words.seconds, words.rounds))
-        if trial.failed:
-            return NO, _refuted(words, make, program, trial)
+        if options.broken == "all":
+            return all_broken(make, options, program)
+        run = Run(options, make, program).go()
+        return refuted(run) if run.failed else held(run)
     finally:
         sys.setswitchinterval(interval)
-    verdict = "undecided: %d of %d rounds" % (trial.undecided, trial.rounds) if trial.undecided else "yes: %d rounds" % trial.rounds
-    said = ["%s, %s" % (verdict, trial.measures())]
-    if not trial.overlap:
+
+
+def held(run):
+    if not run.program:
+        return YES, []
+    said = ["%d of %d rounds are undecided" % (run.undecided, run.rounds)] if run.undecided else []
+    said.append("%s: %d rounds, %s" % ("undecided" if run.undecided else "yes", run.rounds, run.measures()))
+    if run.calls > 1 and not run.overlap:
         said.append("note: no two calls overlap, and of such a history a yes says little")
-    return (UNDECIDED if trial.undecided else YES), said
+    return (UNDECIDED if run.undecided else YES), said + [words_again(run.options, run.rounds)]
 
 
-def _refuted(words, make, program, trial):
-    said = ["no: round %d of seed %d, %s" % (trial.rounds, words.seed, trial.measures())]
-    least = trial
-    if words.smaller > 0:
-        least = _smaller(words, make, program, trial)
-        if least is not trial:
-            said.append("A smaller run fails too: %d calls of %d threads at %d keys. That none smaller fails is not said." % (
-                least.failed.calls, least.plan.threads, least.plan.keys))
-    _, report = program.ask("explain", least.failed.text())
-    table, few = explained(report, least.failed)
-    said = [report.splitlines()[0]] + said + table + [_keep(words.files, least.failed, few, program)]
-    said.append("Again, as far as threads interleave so: " + words.repeat(least))
-    return said
+def refuted(run):
+    least = smaller(run, run.rounds - 1)
+    said, few = said_report(run.program.ask("explain", least.failed.text())[1], least.failed)
+    files = [("potzendai.json", least.failed.text())]
+    if few:
+        files += [("potzendai-few.json", few + "\n"), ("potzendai.svg", run.program.ask("draw", few + "\n")[1])]
+    said.append("no: round %d, %s" % (run.rounds, run.measures()))
+    if least is not run:
+        said.append("smaller: %d calls of %d threads at %d keys fail too" % (least.failed.calls, least.options.threads, least.options.keys))
+    said.append("files: " + " ".join(put_files(run.options.out, files)))
+    return NO, said + [words_again(run.options, run.rounds)]
 
 
-def _all_broken(words, make, program):
-    """Each way to go wrong that the drawn calls can show has to be refuted."""
-    said, missed = [], 0
-    for kind in BREAKS:
-        if kind in words.hidden:
-            said.append("%s: not tried, nothing here shows it" % kind)
-            continue
-        trial = Trial(words.plan(broken=kind), make, program, words.calls).run(words.seed, Clock(words.seconds, words.rounds))
-        missed += not trial.failed
-        said.append("%s: %s" % (kind, "no in round %d" % trial.rounds if trial.failed else "not seen in %d rounds" % trial.rounds))
-    return (YES if missed else NO), said
+def all_broken(make, options, program):
+    """Each way to go wrong that the drawn calls can show has to be refuted: then the status is that of a no."""
+    said, status = [], NO
+    for how, is_shown in options.shown_by.items():
+        options.broken = how
+        run = Run(options, make, program).go() if is_shown else None
+        status = status if not run or run.failed else YES
+        seen = "no, in round %d" % run.rounds if run and run.failed else "not seen in %d rounds" % run.rounds if run else "is not called"
+        said.append("%s: %s" % (how, seen))
+    return status, said
 
 
 def check(make, *argv):
-    """To be called from a test: raises an AssertionError with the explanation where the verdict is no or undecided. The words are
-    those of the command line, as in check(Map, "--seconds", "2")."""
-    status, said = run(make, words_of(list(map(str, argv))))
+    """To be called from a test: raises an AssertionError with the explanation where the verdict is no yes. The words are those of the
+    command line, as in check(Map, "--seconds", "2")."""
+    status, said = tested(make, words_of([str(one) for one in argv]))
     assert status == YES, "\n".join(said)
-    return said
 
 
 def main(make, argv=None):
-    """A whole program. `make` makes a new and empty map: it is called once for each run, and for each smaller run behind a no."""
+    """A whole program. `make` makes a new and empty map: it is called at the beginning, and again for each run behind a no."""
     try:
-        status, said = run(make, words_of(argv))
+        status, said = tested(make, words_of(argv))
         print("\n".join(said), flush=True)
     except Stop as stop:
         print(stop.line, file=sys.stderr)
         status = stop.status
-    except OSError as error:
-        print(error, file=sys.stderr)
-        status = IO
+    except MemoryError:
+        print("memory", file=sys.stderr)
+        status = MEMORY
     except KeyboardInterrupt:
         status = UNDECIDED
+    except Exception:
+        traceback.print_exc()
+        status = IO
     sys.exit(status)
