@@ -1,39 +1,28 @@
-"""Drives an ordered map by threads or processes, and has the program `bench` judge what they recorded.
-
-Copy this file: Python 3.8 and the program are all that it needs. Write the functions of your map, and hand over what makes one:
+"""Tests an ordered map of one's own: threads (or processes) call its functions, what they do is recorded, and the program `bench` judges
+each recording. Copy this file: Python 3.8 and the program are all that it needs.
 
     import potzendai
 
-    class Map:                                   # a new and empty one for each run
-        def get(self, key): ...                  # the value, or None
-        def put(self, key, value): ...           # told(what was there before), or DONE where that is not told
-        def delete(self, key): ...               # the same
+    class Map: ...                   # with the functions below; a new and empty map for each run
 
     if __name__ == "__main__":
         potzendai.main(Map)
 
-These are all that a map may have; of the last six those that are missing are not drawn. A function answers a value, a pair or
-pairs where it tells them, or one of the words in brackets:
+A function answers a value, a pair or pairs where it tells them, or one of the words in brackets. Any but get and put may be missing.
 
-    session(self)                    what one thread (or process) calls instead of the map: a connection, a cursor
-    close(self)                      of a session, at the end of a run
-    get(self, key)                   the value [NONE or None, FOUND, DONE, REFUSED, UNKNOWN]
-    put(self, key, value)            the value before [NONE, FOUND, DONE, REFUSED, UNKNOWN]
-    delete(self, key)                the value before [NONE, FOUND, DONE, REFUSED, UNKNOWN]
-    scan(self, low, high)            the pairs of one moment, both ends included [REFUSED, UNKNOWN]
-    replace(self, key, old, new)     the value found, whether or not it is the old one [NONE, DONE: it was replaced, OTHER: it was
-                                     not, FOUND, REFUSED, UNKNOWN]
+    session(self)                    what one thread calls in the place of the map: a connection, a cursor; it may have close(self)
+    get(self, key)                   the value [NONE or None, DONE, FOUND, REFUSED, UNKNOWN]
+    put(self, key, value)            the value before [NONE, DONE, FOUND, REFUSED, UNKNOWN]
+    delete(self, key)                the value before [NONE, DONE, FOUND, REFUSED, UNKNOWN]
+    scan(self, low, high)            the pairs of one moment, both ends included [DONE, REFUSED, UNKNOWN]
+    replace(self, key, old, new)     the value found [NONE, DONE: it was replaced, OTHER: it was not, FOUND, REFUSED, UNKNOWN]
     put_if_absent(self, key, value)  the value found [NONE: it was put, FOUND: it was not, REFUSED, UNKNOWN]
-    ceiling(self, key)               the least pair from the key on [NONE or None, REFUSED, UNKNOWN]
-    floor(self, key)                 the greatest pair up to the key [NONE or None, REFUSED, UNKNOWN]
-    pop_first(self)                  the pair taken [NONE or None, REFUSED]
+    floor, ceiling(self, key)        the greatest pair up to the key, the least one from it on [NONE or None, DONE, REFUSED, UNKNOWN]
+    pop_first(self)                  the least pair, which is taken [NONE or None, REFUSED]
 
-Of a pair the value may be FOUND, where only the key is told.
-
-NONE: the key held nothing. FOUND: it held a value, which one is not told. DONE: the call was done, what it found is not told. REFUSED: it
-changed nothing. UNKNOWN, or an OSError that is raised (a timeout, a lost connection): nobody knows whether it was done.
-
-Keys and values are numbers. Nothing else changes the map during a run, and it holds no other keys.
+NONE: there was no value. DONE: it was done, and nothing is told. FOUND: there was a value, which is not told; of a pair the value may be
+FOUND. OTHER: the old value was not there. REFUSED: nothing has changed. UNKNOWN, or an OSError that is raised, as of a timeout or a lost
+connection: nobody knows whether it was done. `told(value)` is NONE for None. Keys and values are numbers, and nothing else changes the map.
 """
 import argparse
 import copy
@@ -49,11 +38,11 @@ import threading
 import time
 import traceback
 
-NONE, FOUND, DONE, OTHER, REFUSED, UNKNOWN = "none", "found", "done", "other", "refused", "unknown"
+NONE, DONE, FOUND, OTHER, REFUSED, UNKNOWN = SAYINGS = ("none", "done", "found", "other", "refused", "unknown")
 GREATEST = 2 ** 64 - 1
 PROCESSES, CALLS, SPAN = 64, 4096, 16  # limits of a history; the most keys of a scan
 SELDOM = 20  # one call in so many goes wrong in a map that is broken
-YES, NO, UNDECIDED, FAULTY, MEMORY, WORDS, IO = range(7)  # statuses, as the program's
+YES, NO, UNDECIDED, FAULTY, MEMORY, WORDS, FILE = range(7)  # statuses, as the program's
 SHARES = {"get": 40, "put": 30, "delete": 10, "scan": 5, "replace": 10, "put_if_absent": 5, "floor": 3, "ceiling": 3, "pop_first": 2}
 BREAKS = {"drop": "put", "race": "put", "replay": "put", "stale": "get", "zombie": "delete", "torn": "scan", "cas": "replace"}
 
@@ -145,8 +134,8 @@ def checked(kind, answer):
     _, tells, words = ANSWERS[kind]
     if tells(answer) or isinstance(answer, str) and answer in words:
         return answer
-    hint = ": NONE where the key held nothing, DONE where that is not told" if answer is None else ", which does not fit it"
-    raise TypeError("%s answered %r%s" % (word(kind), answer, hint))
+    hint = "nothing: NONE where the key held none, DONE where that is not told" if answer is None else "%r, which does not fit it" % (answer,)
+    raise Stop(WORDS, "%s said %s" % (word(kind), hint))
 
 
 def edge(kind, key, pair):
@@ -276,12 +265,13 @@ class Worker:
     def run(self, number, lives, start, doubtful):
         """The calls of a round, as at most so many processes: one whose answer is unknown makes no further call."""
         options = self.options
-        self.draws, self.log, self.life, self.made, self.refused, self.seen = Draws(options.seed, number, self.number), [], 0, 0, 0, {}
+        self.draws, self.log, self.life, self.made, self.seen = Draws(options.seed, number, self.number), [], 0, 0, {}
+        self.sayings = dict.fromkeys(("told",) + SAYINGS, 0)
         self.memory = {key: start.get(key, NONE) for key in range(options.keys) if key not in doubtful} if options.void == "own" else {}
         _of_thread.often, _of_thread.draws = options.yields, copy.copy(self.draws)
         while self.made < options.calls and self.life < lives:
             self.draw()
-        return self.log, self.refused
+        return self.log, self.sayings
 
     def draw(self):
         options, place = self.options, self.draws.below(self.total)
@@ -337,10 +327,10 @@ class Worker:
         answer = self.ask(kind, *words)
         end = self.stamp()
         self.made += 1
-        self.refused += answer == REFUSED
+        self.sayings[answer if isinstance(answer, str) else "told"] += 1
         says = self.known(kind, words, answer, got)
         if self.options.void == "told" and kind in ("put", "delete") and says in (DONE, FOUND):
-            raise TypeError("%s said %s, and --void told wants the value before" % (word(kind), says))
+            raise Stop(WORDS, "%s said %s, and --void told wants the value before" % (word(kind), says))
         if kind == "put" or kind == "replace" and answer == DONE:
             self.seen[words[0]] = words[-1]
         elif kind in ("get", "delete", "replace", "put_if_absent") and is_value(answer):
@@ -385,7 +375,7 @@ def serve(worker, made, inbox, outbox, barrier):
             worker.session.close()
     except BaseException as error:
         barrier.abort()
-        outbox.put((error, traceback.format_exc()) if worker.options.processes is False else (None, traceback.format_exc()))
+        outbox.put((None, error.line if isinstance(error, Stop) else traceback.format_exc()))
 
 
 def stamps(processes):
@@ -432,7 +422,7 @@ class Crew:
         errors = [one[1] for one in taken if one and isinstance(one[1], str)]
         if errors:
             first = next((error for error in errors if "BrokenBarrierError" not in error), errors[0])
-            raise Stop(WORDS, first.rstrip())
+            raise Stop(WORDS, "%s: %s" % (self.options.name, first.rstrip()))
         return taken
 
     def run(self, *task):
@@ -455,7 +445,7 @@ class Crew:
                     break
                 time.sleep(0.001)
             else:
-                raise Stop(WORDS, "get said %s, and between rounds each get has to tell" % answer)
+                raise Stop(WORDS, "%s: get of %d said %s at rest, where it has to tell" % (self.options.name, key, answer))
             log.append((begin, self.options.threads, 0, "invoke", ["get", key]))
             log.append((end, self.options.threads, 0, "answer", None if answer == NONE else answer))
             if answer != NONE:
@@ -520,8 +510,8 @@ class Program:
 
     def __init__(self, options):
         self.path, self.budget = options.bench or os.environ.get("POTZENDAI_BENCH") or self.found(), options.budget
-        if self.ask("explain", '{"events":[],"version":1}\n')[0] != YES:
-            raise Stop(IO, "%s: is not the program" % self.path)
+        if self.ask("explain", '{"events":[],"version":1}\n', self.budget)[0] != YES:
+            raise Stop(FILE, "%s: is not the program" % self.path)
 
     @staticmethod
     def found():
@@ -531,13 +521,18 @@ class Program:
             raise Stop(WORDS, "--bench: no program `bench` here or on the PATH")
         return found
 
-    def ask(self, command, text):
+    def judge(self, text):
+        """The verdict: once more at ten times the budget where it is undecided."""
+        status = self.ask("judge", text, self.budget)[0]
+        return self.ask("judge", text, min(10 * self.budget, 10 ** 6))[0] if status == UNDECIDED else status
+
+    def ask(self, command, text, budget):
         try:
-            done = subprocess.run([self.path, command, "--budget", str(self.budget)], input=text.encode(), stdout=subprocess.PIPE)
+            done = subprocess.run([self.path, command, "--budget", str(budget)], input=text.encode(), stdout=subprocess.PIPE)
         except OSError as error:
-            raise Stop(IO, "%s: %s" % (self.path, error.strerror))
+            raise Stop(FILE, "%s: %s" % (self.path, error.strerror))
         if done.returncode not in (YES, NO, UNDECIDED):
-            raise Stop(done.returncode if FAULTY <= done.returncode <= IO else IO, "%s %s: status %d" % (self.path, command, done.returncode))
+            raise Stop(done.returncode if FAULTY <= done.returncode <= FILE else FILE, "%s %s: status %d" % (self.path, command, done.returncode))
         return done.returncode, done.stdout.decode()
 
 
@@ -548,8 +543,8 @@ class Run:
 
     def __init__(self, options, make, program):
         self.options, self.make, self.program = options, make, program
-        self.rounds = self.calls = self.overlap = self.refused = self.undecided = 0
-        self.met, self.failed, self.began = set(), None, time.monotonic()
+        self.rounds = self.calls = self.overlap = self.undecided = 0
+        self.sayings, self.met, self.failed, self.began = dict.fromkeys(("told",) + SAYINGS, 0), set(), None, time.monotonic()
 
     def go(self, number=0):
         """Rounds from this number on, until one has no order, or the time is over."""
@@ -559,11 +554,11 @@ class Run:
             while not self.is_over():
                 lives = (PROCESSES - 1 - len(pending)) // self.options.threads
                 if lives == 0:
-                    raise Stop(WORDS, "%d calls have no answer: more than a round has processes for" % len(pending))
+                    raise Stop(WORDS, "%s: %d calls have no answer, and a round has no processes for more" % (self.options.name, len(pending)))
                 taken = crew.run(number + self.rounds, lives, start, {call[1] for call in pending})
                 gets, left = crew.contents()
                 one = Round([log for log, _ in taken] + [gets], start, pending)
-                self.judge(one, sum(refused for _, refused in taken))
+                self.take(one, [sayings for _, sayings in taken])
                 if self.failed:
                     break
                 start, pending = left, one.pending
@@ -571,44 +566,54 @@ class Run:
             crew.close()
         return self
 
-    def judge(self, one, refused):
-        status = self.program.ask("judge", one.text())[0] if self.program else print(one.text(), end="", flush=True)
+    def take(self, one, sayings):
         self.rounds += 1
         self.calls += one.calls
         self.overlap += one.overlap
-        self.refused += refused
         self.met |= one.met
+        for said in self.sayings:
+            self.sayings[said] += sum(each[said] for each in sayings)
+        if self.program is None:
+            print(one.text(), end="", flush=True)
+            return
+        status = self.program.judge(one.text())
         self.undecided += status == UNDECIDED
         self.failed = one if status == NO else None
 
     def is_over(self):
+        """At least one round is made. Each second a line on a terminal says how far this is."""
         now, options = time.monotonic(), self.options
-        if options.shows and now - options.shown >= 1:
+        if options.shows and now - options.shown >= 1 and self.calls:
             options.shown = now
-            print(self.measures(), file=sys.stderr)
-        return 0 < options.rounds <= self.rounds or now - self.began >= options.seconds
+            refused = 100 * self.sayings[REFUSED] / max(sum(self.sayings.values()), 1)
+            print("%d calls, %.0f a second, overlap %.1f a call, %.1f%% refused, two writers met on %d of %d keys" % (
+                self.calls, self.calls / (now - self.began), self.overlap / self.calls, refused, len(self.met), options.keys), file=sys.stderr)
+        return self.rounds > 0 and (0 < options.rounds <= self.rounds or now - self.began >= options.seconds)
 
-    def measures(self):
-        seconds = max(time.monotonic() - self.began, 1e-9)
-        return "%d calls, %d a second, overlap %.1f a call, %.0f%% refused, two writers met on %d of %d keys" % (
-            self.calls, self.calls / seconds, self.overlap / max(self.calls, 1), 100 * self.refused / max(self.calls, 1), len(self.met),
-            self.options.keys)
+    def summary(self, status):
+        """The verdict, and what it rests on."""
+        said = ", ".join("%d %s" % (count, said) for said, count in self.sayings.items() if count)
+        return "%s: %d rounds, %d calls in %.1f seconds, overlap %.2f a call: %s%s" % (
+            ("yes", "no", "undecided")[status], self.rounds, self.calls, time.monotonic() - self.began, self.overlap / max(self.calls, 1), said,
+            "; %d undecided" % self.undecided if self.undecided else "")
 
 
-def smaller(run, number):
-    """A run that fails too, of fewer threads, keys or calls, by bounded tries. Threads interleave as they will: none is promised."""
-    best, until, name = run, time.monotonic() + 5, 0
-    names = ("calls", "keys", "threads")
-    while name < len(names) and time.monotonic() < until:
-        options = copy.copy(best.options)
-        size = getattr(options, names[name])
-        fewer = size - 1 if names[name] == "threads" else size * 2 // 3
-        setattr(options, names[name], fewer)
-        options.rounds, options.shows, found = 1, False, None
-        if fewer >= (2 if names[name] == "threads" else 1) and not (options.void == "own" and options.keys < options.threads):
-            tries = (Run(options, run.make, run.program).go(number) for _ in range(6) if time.monotonic() < until)
-            found = next((one for one in tries if one.failed), None)
-        best, name = (found, 0) if found else (best, name + 1)
+def smaller(run):
+    """The smallest run that failed, of some tries with half of the calls or keys, or a thread less. Threads interleave as they will."""
+    best, until, tries, names = run, time.monotonic() + 5, 60, ["calls", "keys", "threads"]
+    while names:
+        options, found = copy.copy(best.options), None
+        size = getattr(options, names[0])
+        setattr(options, names[0], size - 1 if names[0] == "threads" else size // 2)
+        options.rounds, options.shows = 1, False
+        is_less = min(options.calls, options.threads, options.keys // (options.threads if options.void == "own" else 1)) > 0
+        for _ in range(6 if is_less else 0):
+            tries -= 1
+            if tries < 0 or time.monotonic() > until or found:
+                break
+            again = Run(options, run.make, run.program).go(run.rounds - 1)
+            found = again if again.failed else None
+        best, names = (found, ["calls", "keys", "threads"]) if found else (best, names[1:])
     return best
 
 
@@ -665,14 +670,15 @@ def said_report(report, one):
     return said, few
 
 
-def put_files(folder, files):
-    for name, text in files:
-        try:
-            with open(os.path.join(folder, name), "w") as out:
-                out.write(text)
-        except OSError as error:
-            raise Stop(IO, "%s: %s" % (os.path.join(folder, name), error.strerror))
-    return [os.path.join(folder, name) for name, _ in files]
+def keep(options, ending, text):
+    """Writes a file of a round, and says how it is called."""
+    path = os.path.join(options.out, "%s-%d-%d%s" % (options.name, options.seed, options.round, ending))
+    try:
+        with open(path, "w") as out:
+            out.write(text)
+    except OSError:
+        return "file: not written: " + path
+    return "  file: " + path
 
 
 # Words
@@ -782,8 +788,9 @@ def functions(make):
 
 
 def tested(make, options):
-    """A run by these words: its status, and what there is to say."""
+    """A run by these words: its status, what is to be told before the last line, and the last line."""
     fit(options, functions(make))
+    options.name = getattr(make, "__name__", "map")
     program = None if options.out == "-" else Program(options)
     interval = sys.getswitchinterval()
     sys.setswitchinterval(1e-5)  # else a thread of Python goes on for 5 ms, and hardly a call overlaps another
@@ -791,58 +798,52 @@ def tested(make, options):
         if options.broken == "all":
             return all_broken(make, options, program)
         run = Run(options, make, program).go()
-        return refuted(run) if run.failed else held(run)
+        if run.failed:
+            return NO, refuted(run), run.summary(NO)
     finally:
         sys.setswitchinterval(interval)
-
-
-def held(run):
-    if not run.program:
-        return YES, []
-    said = ["%d of %d rounds are undecided" % (run.undecided, run.rounds)] if run.undecided else []
-    said.append("%s: %d rounds, %s" % ("undecided" if run.undecided else "yes", run.rounds, run.measures()))
-    if run.calls > 1 and not run.overlap:
-        said.append("note: no two calls overlap, and of such a history a yes says little")
-    return (UNDECIDED if run.undecided else YES), said + [words_again(run.options, run.rounds)]
+    status = UNDECIDED if run.undecided else YES
+    return status, [], run.summary(status) if program else None
 
 
 def refuted(run):
-    least = smaller(run, run.rounds - 1)
-    said, few = said_report(run.program.ask("explain", least.failed.text())[1], least.failed)
-    files = [("potzendai.json", least.failed.text())]
-    if few:
-        files += [("potzendai-few.json", few + "\n"), ("potzendai.svg", run.program.ask("draw", few + "\n")[1])]
-    said.append("no: round %d, %s" % (run.rounds, run.measures()))
-    if least is not run:
-        said.append("smaller: %d calls of %d threads at %d keys fail too" % (least.failed.calls, least.options.threads, least.options.keys))
-    said.append("files: " + " ".join(put_files(run.options.out, files)))
-    return NO, said + [words_again(run.options, run.rounds)]
+    """A round that has no order: what shows it, and how to repeat it."""
+    options = run.options
+    options.round = run.rounds - 1
+    least = smaller(run)
+    said = ["round %d has no order" % options.round, "the smallest that failed, of some tries: %d threads, %d keys, %d calls each" % (
+        least.options.threads, least.options.keys, least.options.calls)]
+    text = least.failed.text()
+    told_of, few = said_report(run.program.ask("explain", text, 10 * options.budget if run.undecided else options.budget)[1], least.failed)
+    said += told_of + [keep(options, ".json", text)] + ([keep(options, "-few.json", few + "\n")] if few else [])
+    said.append(keep(options, ".svg", run.program.ask("draw", few + "\n" if few else text, options.budget)[1]))
+    return said + ["  again: " + words_again(options, run.rounds)]
 
 
 def all_broken(make, options, program):
     """Each way to go wrong that the drawn calls can show has to be refuted: then the status is that of a no."""
-    said, status = [], NO
-    for how, is_shown in options.shown_by.items():
+    said, missed = [], 0
+    for how, is_called in options.shown_by.items():
         options.broken = how
-        run = Run(options, make, program).go() if is_shown else None
-        status = status if not run or run.failed else YES
-        seen = "no, in round %d" % run.rounds if run and run.failed else "not seen in %d rounds" % run.rounds if run else "is not called"
-        said.append("%s: %s" % (how, seen))
-    return status, said
+        run = Run(options, make, program).go() if is_called else None
+        missed += run is not None and not run.failed
+        said.append("%s: %s" % (how, run.summary(NO if run.failed else YES) if run else "what it makes wrong is not called"))
+    return (YES, said, "yes: %d of the broken maps were not refuted" % missed) if missed else (NO, said, "no: each broken map was refuted")
 
 
 def check(make, *argv):
     """To be called from a test: raises an AssertionError with the explanation where the verdict is no yes. The words are those of the
     command line, as in check(Map, "--seconds", "2")."""
-    status, said = tested(make, words_of([str(one) for one in argv]))
-    assert status == YES, "\n".join(said)
+    status, said, last = tested(make, words_of([str(one) for one in argv]))
+    assert status == YES, "\n".join(said + [last])
 
 
 def main(make, argv=None):
     """A whole program. `make` makes a new and empty map: it is called at the beginning, and again for each run behind a no."""
     try:
-        status, said = tested(make, words_of(argv))
-        print("\n".join(said), flush=True)
+        status, said, last = tested(make, words_of(argv))
+        print("".join(line + "\n" for line in said), end="", file=sys.stderr)
+        print(last if last else "", end="\n" if last else "", flush=True)
     except Stop as stop:
         print(stop.line, file=sys.stderr)
         status = stop.status
@@ -853,5 +854,5 @@ def main(make, argv=None):
         status = UNDECIDED
     except Exception:
         traceback.print_exc()
-        status = IO
+        status = FILE
     sys.exit(status)
