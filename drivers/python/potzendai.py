@@ -418,6 +418,11 @@ class Crew:
 
     def taken(self):
         """What each member puts out. Where one has met an error, the run ends."""
+        for member, (_, outbox) in zip(self.members, self.pipes):
+            while outbox.empty():
+                if not member.is_alive() and outbox.empty():
+                    raise Stop(WORDS, "%s: a process has ended" % self.options.name)
+                time.sleep(0.0002)
         taken = [outbox.get() for _, outbox in self.pipes]
         errors = [one[1] for one in taken if one and isinstance(one[1], str)]
         if errors:
