@@ -784,9 +784,10 @@ public final class Potzendai {
                     Round round = new Round(crew.round(new Task(number + rounds, lives, start, doubtful)), start, pending);
                     take(round);
                     pending = round.pending;
+                    sayings.clear();
+                    for (Worker worker : crew.workers)
+                        worker.sayings.forEach((word, count) -> sayings.merge(word, count, Long::sum));
                 }
-                for (Worker worker : crew.workers)
-                    worker.sayings.forEach((word, count) -> sayings.merge(word, count, Long::sum));
             }
             return this;
         }
@@ -811,8 +812,10 @@ public final class Potzendai {
         private boolean isOver() {
             if (options.shows && System.nanoTime() - options.shown > 1000000000L && calls > 0) {
                 options.shown = System.nanoTime();
-                System.err.printf("%d calls, %.0f a second, overlap %.1f a call, two writers met on %d of %d keys%n", calls, calls / seconds(),
-                    (double) overlap / calls, met.size(), options.keys);
+                long all = sayings.values().stream().mapToLong(Long::longValue).sum();
+                System.err.printf("%d calls, %.0f a second, overlap %.1f a call, %.1f%% refused, two writers met on %d of %d keys%n", calls,
+                    calls / seconds(), (double) overlap / calls, 100.0 * sayings.getOrDefault(Word.REFUSED, 0L) / Math.max(all, 1), met.size(),
+                    options.keys);
             }
             return rounds > 0 && (options.rounds > 0 && rounds >= options.rounds || seconds() >= options.seconds);
         }
@@ -970,8 +973,8 @@ public final class Potzendai {
         Run least = run.smaller();
         List<String> said = new ArrayList<>();
         said.add("round " + (run.rounds - 1) + " has no order");
-        said.add("the smallest that failed, of some tries: " + least.options.threads + " threads, " + least.options.keys + " keys, "
-            + least.options.calls + " calls each");
+        said.add("the smallest of some tries that failed: threads " + least.options.threads + ", keys " + least.options.keys + ", calls "
+            + least.options.calls);
         String text = least.failed.text();
         List<String> report = run.program.ask("explain", text, run.options.budget).text.lines().toList();
         String few = report.stream().filter(line -> line.startsWith("{\"events\"")).findFirst().map(line -> line + "\n").orElse(null);

@@ -816,7 +816,7 @@ def refuted(run):
     options = run.options
     options.round = run.rounds - 1
     least = smaller(run)
-    said = ["round %d has no order" % options.round, "the smallest that failed, of some tries: %d threads, %d keys, %d calls each" % (
+    said = ["round %d has no order" % options.round, "the smallest of some tries that failed: threads %d, keys %d, calls %d" % (
         least.options.threads, least.options.keys, least.options.calls)]
     text = least.failed.text()
     told_of, few = said_report(run.program.ask("explain", text, 10 * options.budget if run.undecided else options.budget)[1], least.failed)
