@@ -20,9 +20,11 @@ func (m *lockedMap) at(key uint64, change func(before uint64)) Said {
 	return ToldIf(before, found)
 }
 
-func (m *lockedMap) Get(key uint64) Said        { return m.at(key, func(uint64) {}) }
-func (m *lockedMap) Put(key, value uint64) Said { return m.at(key, func(uint64) { m.pairs[key] = value }) }
-func (m *lockedMap) Del(key uint64) Said        { return m.at(key, func(uint64) { delete(m.pairs, key) }) }
+func (m *lockedMap) Get(key uint64) Said { return m.at(key, func(uint64) {}) }
+func (m *lockedMap) Put(key, value uint64) Said {
+	return m.at(key, func(uint64) { m.pairs[key] = value })
+}
+func (m *lockedMap) Del(key uint64) Said { return m.at(key, func(uint64) { delete(m.pairs, key) }) }
 
 // Values are from 1 up, so that what is not there is none that is expected, but for a 0.
 func (m *lockedMap) Replace(key, old, value uint64) Said {
