@@ -463,12 +463,18 @@ type task struct {
 	doubtful map[uint64]bool
 }
 
+// The lock of a key; and whether a call that writes it has no answer, and so may still come between a get and the put behind it.
+type keyLock struct {
+	sync.Mutex
+	isDoubtful bool
+}
+
 // A worker is one thread: it draws calls, makes them, and notes them with the stamps of their beginning and their end.
 type worker struct {
 	number  uint64
 	options *options
 	stamps  *atomic.Uint64
-	locks   []sync.Mutex
+	locks   []keyLock
 	has     functions
 	close   func()
 	sayings map[string]uint64
@@ -587,6 +593,12 @@ func (w *worker) make(kind string, words ...uint64) Said {
 	w.sayings[said.word]++
 	known := said
 	if writes(kind) && len(words) > 0 {
+		if w.locks != nil {
+			lock := &w.locks[words[0]]
+			if lock.isDoubtful = lock.isDoubtful || said.word == "unknown"; lock.isDoubtful {
+				got = Done
+			}
+		}
 		known = w.known(kind, words, said, got)
 	}
 	if w.options.void == "told" && isVoid && isOneOf(known.word, "done", "found") {
@@ -653,9 +665,9 @@ type crew struct {
 
 func newCrew(o *options, m Map) *crew {
 	c := &crew{options: o}
-	var locks []sync.Mutex
+	var locks []keyLock
 	if o.void == "lock" {
-		locks = make([]sync.Mutex, o.keys)
+		locks = make([]keyLock, o.keys)
 	}
 	for number := uint64(0); number < o.threads; number++ {
 		c.workers = append(c.workers, &worker{number: number, options: o, stamps: &c.stamps, locks: locks, sayings: map[string]uint64{}})
@@ -898,7 +910,8 @@ func newRun(o *options, make func() Map, p *program, number uint64) *run {
 	for r.failed == nil && !r.isOver() {
 		lives := (processes - 1 - len(pending)) / int(o.threads)
 		if lives == 0 {
-			fail(badWords, "%s: %d calls have no answer, and a round has no processes for more", o.name, len(pending))
+			fmt.Fprintf(os.Stderr, "%s: it ends here: %d calls have no answer, and a round has no processes for more\n", o.name, len(pending))
+			break
 		}
 		doubtful := map[uint64]bool{}
 		for _, one := range pending {

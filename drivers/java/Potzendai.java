@@ -413,12 +413,18 @@ public final class Potzendai {
     /** The number of the round, as how many processes a thread may go on, what the map holds, and keys at which calls have no answer. */
     private record Task(long round, int lives, Map<Long, Long> start, Set<Long> doubtful) { }
 
+    /** The lock of a key; and whether a call that writes it has no answer, and so may still come between a get and the put behind it. */
+    private static final class KeyLock extends ReentrantLock {
+        private static final long serialVersionUID = 1;
+        boolean isDoubtful;
+    }
+
     /** One thread: draws calls, makes them, and notes them with the stamps of their beginning and their end. */
     private static final class Worker {
         final int number;
         final Options options;
         final AtomicLong stamps;
-        final ReentrantLock[] locks;
+        final KeyLock[] locks;
         final EnumMap<Word, Long> sayings = new EnumMap<>(Word.class);
         final Map<Long, Long> seen = new HashMap<>();
         final Map<Long, Said> memory = new HashMap<>();
@@ -429,7 +435,7 @@ public final class Potzendai {
         int life;
         boolean closes;
 
-        Worker(int number, Options options, AtomicLong stamps, ReentrantLock[] locks) {
+        Worker(int number, Options options, AtomicLong stamps, KeyLock[] locks) {
             this.number = number;
             this.options = options;
             this.stamps = stamps;
@@ -519,7 +525,11 @@ public final class Potzendai {
             long end = stamps.getAndIncrement();
             made++;
             sayings.merge(said.word, 1L, Long::sum);
-            Said known = kind.writes() && words.length > 0 ? known(kind, words, said, got) : said;
+            boolean isWrite = kind.writes() && words.length > 0;
+            KeyLock lock = locks != null && isWrite ? locks[(int) words[0]] : null;
+            if (lock != null)
+                lock.isDoubtful |= said.word == Word.UNKNOWN;
+            Said known = isWrite ? known(kind, words, said, lock != null && lock.isDoubtful ? Said.DONE : got) : said;
             if (options.isVoid("told") && isVoid && (known.word == Word.DONE || known.word == Word.FOUND))
                 throw new Stop(WORDS, kind.name + " said " + known.word.name().toLowerCase() + ", and --void told wants the value before");
             if (kind == Kind.PUT || kind == Kind.REPLACE && said.word == Word.DONE)
@@ -569,9 +579,9 @@ public final class Potzendai {
 
         Crew(Options options, Index map) {
             this.options = options;
-            ReentrantLock[] locks = options.isVoid("lock") ? new ReentrantLock[(int) options.keys] : null;
+            KeyLock[] locks = options.isVoid("lock") ? new KeyLock[(int) options.keys] : null;
             for (int key = 0; locks != null && key < locks.length; key++)
-                locks[key] = new ReentrantLock();
+                locks[key] = new KeyLock();
             for (int number = 0; number < options.threads; number++) {
                 workers.add(new Worker(number, options, stamps, locks));
                 threads.add(Executors.newSingleThreadExecutor(body -> {
@@ -777,8 +787,10 @@ public final class Potzendai {
                 List<Call> pending = List.of();
                 while (!isOver() && failed == null) {
                     int lives = (PROCESSES - 1 - pending.size()) / (int) options.threads;
-                    if (lives == 0)
-                        throw new Stop(WORDS, options.name + ": " + pending.size() + " calls have no answer, and a round has no processes for more");
+                    if (lives == 0) {
+                        System.err.println(options.name + ": it ends here: " + pending.size() + " calls have no answer, and a round has no processes for more");
+                        break;
+                    }
                     Map<Long, Long> start = crew.contents;
                     Set<Long> doubtful = pending.stream().map(call -> call.words[0]).collect(Collectors.toSet());
                     Round round = new Round(crew.round(new Task(number + rounds, lives, start, doubtful)), start, pending);

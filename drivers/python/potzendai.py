@@ -250,11 +250,14 @@ class Broken:
 
 # Threads and what they record
 
+WRITING = ("put", "delete", "replace", "put_if_absent")
+
+
 class Worker:
     """One thread or process: draws calls, makes them, and notes them with the stamps of their beginning and their end."""
 
-    def __init__(self, number, options, stamp, locks):
-        self.number, self.options, self.stamp, self.locks, self.puts = number, options, stamp, locks, 0
+    def __init__(self, number, options, stamp, locks, doubts):
+        self.number, self.options, self.stamp, self.locks, self.doubts, self.puts = number, options, stamp, locks, doubts, 0
         self.total = sum(options.shares.values())
 
     def open(self, made):
@@ -279,7 +282,7 @@ class Worker:
             if place < share:
                 break
             place -= share
-        is_write = kind in ("put", "delete", "replace", "put_if_absent", "pop_first")
+        is_write = kind in WRITING or kind == "pop_first"
         key = self.key(is_write)
         if is_write:
             value = 1 + self.puts * options.threads + self.number
@@ -328,7 +331,9 @@ class Worker:
         end = self.stamp()
         self.made += 1
         self.sayings[answer if isinstance(answer, str) else "told"] += 1
-        says = self.known(kind, words, answer, got)
+        if self.locks and answer == UNKNOWN and words:
+            self.doubts[words[0]] |= kind in WRITING  # it may still come between a get and the put behind it
+        says = self.known(kind, words, answer, DONE if words and self.locks and self.doubts[words[0]] else got)
         if self.options.void == "told" and kind in ("put", "delete") and says in (DONE, FOUND):
             raise Stop(WORDS, "%s said %s, and --void told wants the value before" % (word(kind), says))
         if kind == "put" or kind == "replace" and answer == DONE:
@@ -342,7 +347,7 @@ class Worker:
         """What is known of the answer: where a put or a delete was done, and does not tell what it found, from the get in front of it
         under the key's lock, or from what the one writer of the key remembers."""
         before = self.memory.get(words[0]) if words else None
-        if kind in ("put", "delete", "replace", "put_if_absent") and before is not None and answer != REFUSED:
+        if kind in WRITING and before is not None and answer != REFUSED:
             if answer == UNKNOWN or kind == "replace" and answer == FOUND:
                 del self.memory[words[0]]
             elif kind == "delete":
@@ -406,10 +411,11 @@ class Crew:
         kit = multiprocessing.get_context("fork") if options.processes else threading
         pipe, member = (kit.SimpleQueue, kit.Process) if options.processes else (queue.SimpleQueue, threading.Thread)
         locks = [kit.Lock() for _ in range(options.keys)] if options.void == "lock" else []
+        doubts = multiprocessing.get_context("fork").RawArray("b", options.keys) if options.processes else bytearray(options.keys)
         barrier = kit.Barrier(options.threads)
         self.pipes = [(pipe(), pipe()) for _ in range(options.threads)]
         self.members = [
-            member(target=serve, args=(Worker(number, options, self.stamp, locks), made, *pipes, barrier), daemon=True)
+            member(target=serve, args=(Worker(number, options, self.stamp, locks, doubts), made, *pipes, barrier), daemon=True)
             for number, pipes in enumerate(self.pipes)]
         for one in self.members:
             one.start()
@@ -559,7 +565,9 @@ class Run:
             while not self.is_over():
                 lives = (PROCESSES - 1 - len(pending)) // self.options.threads
                 if lives == 0:
-                    raise Stop(WORDS, "%s: %d calls have no answer, and a round has no processes for more" % (self.options.name, len(pending)))
+                    print("%s: it ends here: %d calls have no answer, and a round has no processes for more" % (
+                        self.options.name, len(pending)), file=sys.stderr)
+                    break
                 taken = crew.run(number + self.rounds, lives, start, {call[1] for call in pending})
                 gets, left = crew.contents()
                 one = Round([log for log, _ in taken] + [gets], start, pending)

@@ -488,10 +488,11 @@ struct Task {
     missing: Arc<AtomicUsize>,
 }
 
-/// What all threads share: the word of stamps, and the locks of keys.
+/// What all threads share: the word of stamps; and the locks of keys, with whether a call that writes the key has no answer, and so may
+/// still come between a get and the put behind it.
 struct Shared {
     stamps: AtomicU64,
-    locks: Vec<Mutex<()>>,
+    locks: Vec<Mutex<bool>>,
 }
 
 impl Shared {
@@ -602,18 +603,32 @@ impl<'a> Worker<'a> {
 
     fn write(&mut self, kind: Kind, words: &[u64]) -> Result<(), Stop> {
         let shared = self.shared;
-        let _guard = shared.locks.get(words[0] as usize).map(|lock| lock.lock().unwrap_or_else(|poisoned| poisoned.into_inner()));
-        self.make(kind, words).map(|_| ())
+        match shared.locks.get(words[0] as usize) {
+            Some(lock) => self.make_locked(kind, words, &mut lock.lock().unwrap_or_else(|poisoned| poisoned.into_inner())),
+            None => self.make(kind, words).map(|_| ()),
+        }
+    }
+
+    /// A get and a call that writes its key, as one.
+    fn make_locked(&mut self, kind: Kind, words: &[u64], is_doubtful: &mut bool) -> Result<(), Stop> {
+        let begin = self.shared.stamp();
+        let got = if matches!(kind, Put | Del) { ask(&mut *self.session, Get, &words[..1])? } else { Said::Done };
+        let said = ask(&mut *self.session, kind, words)?;
+        let end = self.shared.stamp();
+        *is_doubtful |= said == Said::Unknown;
+        self.made_one(kind, words, said, if *is_doubtful { Said::Done } else { got }, begin, end).map(|_| ())
     }
 
     /// Makes a call between two stamps, and notes it.
     fn make(&mut self, kind: Kind, words: &[u64]) -> Result<Said, Stop> {
-        let is_void = matches!(kind, Put | Del);
         let begin = self.shared.stamp();
-        let is_locked = is_void && !self.shared.locks.is_empty();
-        let got = if is_locked { ask(&mut *self.session, Get, &words[..1])? } else { Said::Done };
         let said = ask(&mut *self.session, kind, words)?;
         let end = self.shared.stamp();
+        self.made_one(kind, words, said, Said::Done, begin, end)
+    }
+
+    fn made_one(&mut self, kind: Kind, words: &[u64], said: Said, got: Said, begin: u64, end: u64) -> Result<Said, Stop> {
+        let is_void = matches!(kind, Put | Del);
         self.made += 1;
         self.sayings[said.word()] += 1;
         let known = if words.is_empty() || !kind.writes() { said.clone() } else { self.known(kind, words, &said, got) };
@@ -838,7 +853,7 @@ impl Run {
     /// Rounds from this number on, until one has no order, or the time is over.
     fn new<M: Map>(options: &Options, make: &dyn Fn() -> M, program: Option<&Program>, number: u64) -> Result<Run, Stop> {
         let (map, options) = (make(), options.clone());
-        let locks = if options.void == "lock" { (0..options.keys).map(|_| Mutex::new(())).collect() } else { vec![] };
+        let locks = if options.void == "lock" { (0..options.keys).map(|_| Mutex::new(false)).collect() } else { vec![] };
         let shared = Shared { stamps: AtomicU64::new(0), locks };
         let mut run = Run {
             options: options.clone(), sayings: [0; 8], met: HashSet::new(), began: Instant::now(), rounds: 0, calls: 0, overlap: 0,
@@ -868,8 +883,8 @@ impl Run {
             let named = |stop: Stop| Stop(stop.0, format!("{}: {}", options.name, stop.1));
             let lives = (PROCESSES - 1 - pending.len()) / threads.len();
             if lives == 0 {
-                let line = format!("{} calls have no answer, and a round has no processes for more", pending.len());
-                return fail(BAD_WORDS, line).map_err(named);
+                eprintln!("{}: it ends here: {} calls have no answer, and a round has no processes for more", options.name, pending.len());
+                break;
             }
             let doubtful = Arc::new(pending.iter().map(|call: &Call| call.1[0]).collect());
             let missing = Arc::new(AtomicUsize::new(threads.len()));
