@@ -984,9 +984,13 @@ func (r *run) summary(status int) string {
 		r.calls, time.Since(r.began).Seconds(), float64(r.overlap)/math.Max(float64(r.calls), 1), strings.Join(said, ", "), undecideds)
 }
 
-// The smallest run that failed, of some tries with half of the calls or keys, or a thread less. Threads interleave as they will.
+// The smallest run that failed, of some tries with half of the calls or keys, or a thread less. Threads interleave as they will. Where calls
+// have no answer none is tried, since they may still come.
 func (r *run) smaller() *run {
 	best, until, tries := r, time.Now().Add(5*time.Second), 0
+	if r.sayings["unknown"] > 0 {
+		return best
+	}
 	for how := 0; how < 3; how++ {
 		less := best.options.less(how)
 		for i := 0; less != nil && i < 6 && tries < 60 && time.Now().Before(until); i++ {

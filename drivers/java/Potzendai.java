@@ -839,11 +839,12 @@ public final class Potzendai {
                 rounds, calls, seconds(), (double) overlap / Math.max(calls, 1), said, undecided > 0 ? "; " + undecided + " undecided" : "");
         }
 
-        /** The smallest run that failed, of some tries with half of the calls or keys, or a thread less. Threads interleave as they will. */
+        /** The smallest run that failed, of some tries with half of the calls or keys, or a thread less. Threads interleave as they will. Where
+         * calls have no answer none is tried, since they may still come. */
         Run smaller() {
             Run best = this;
             long until = System.nanoTime() + 5000000000L;
-            for (int how = 0, tries = 0; how < 3; how++) {
+            for (int how = 0, tries = sayings.containsKey(Word.UNKNOWN) ? 60 : 0; how < 3; how++) {
                 Options less = best.options.less(how);
                 for (int i = 0; less != null && i < 6 && tries++ < 60 && System.nanoTime() < until; i++) {
                     Run again = new Run(less, make, program).go(rounds - 1);

@@ -612,8 +612,9 @@ class Run:
 
 
 def smaller(run):
-    """The smallest run that failed, of some tries with half of the calls or keys, or a thread less. Threads interleave as they will."""
-    best, until, tries, names = run, time.monotonic() + 5, 60, ["calls", "keys", "threads"]
+    """The smallest run that failed, of some tries with half of the calls or keys, or a thread less. Threads interleave as they will.
+    Where calls have no answer none is tried, since they may still come."""
+    best, until, tries, names = run, time.monotonic() + 5, 60 if run.sayings[UNKNOWN] == 0 else 0, ["calls", "keys", "threads"]
     while names:
         options, found = copy.copy(best.options), None
         size = getattr(options, names[0])

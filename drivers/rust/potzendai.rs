@@ -953,11 +953,12 @@ impl Run {
     }
 }
 
-/// The smallest run that failed, of some tries with half of the calls or keys, or a thread less. Threads interleave as they will.
+/// The smallest run that failed, of some tries with half of the calls or keys, or a thread less. Threads interleave as they will. Where calls
+/// have no answer none is tried, since they may still come.
 fn smaller<M: Map>(run: &Run, make: &dyn Fn() -> M, program: &Program) -> Result<Option<Run>, Stop> {
     let (mut best, began, mut tries, mut how) = (None, Instant::now(), 0, 0);
     let mut options = run.options.clone();
-    while how < 3 {
+    while how < 3 && run.sayings[Said::Unknown.word()] == 0 {
         let less = options.less(how);
         how += 1;
         for _ in 0..if less.is_some() { 6 } else { 0 } {
