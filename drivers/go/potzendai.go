@@ -887,7 +887,8 @@ func (p *program) ask(command, text string, budget uint64) (int, string) {
 
 // A run
 
-// A run is of rounds at a new map, each of which begins with what the one before has left.
+// A run is of rounds at a new map, each of which begins with what the one before has left: the pairs, and calls without an answer that may
+// still come, which are those of which the last gets have not found what they put.
 type run struct {
 	options                            *options
 	make                               func() Map
@@ -910,8 +911,7 @@ func newRun(o *options, make func() Map, p *program, number uint64) *run {
 	for r.failed == nil && !r.isOver() {
 		lives := (processes - 1 - len(pending)) / int(o.threads)
 		if lives == 0 {
-			fmt.Fprintf(os.Stderr, "%s: it ends here: %d calls have no answer, and a round has no processes for more\n", o.name, len(pending))
-			break
+			fail(undecided, "%s: %d calls are without an answer, which leaves no room for others", o.name, len(pending))
 		}
 		doubtful := map[uint64]bool{}
 		for _, one := range pending {
@@ -920,7 +920,12 @@ func newRun(o *options, make func() Map, p *program, number uint64) *run {
 		start := c.contents
 		one := newRound(c.round(task{number + r.rounds, lives, start, doubtful}), start, pending)
 		r.take(one, c.workers)
-		pending = one.pending
+		pending = nil
+		for _, open := range one.pending {
+			if value, is := c.contents[open.words[0]]; open.name == "remove" || !is || value != open.words[len(open.words)-1] {
+				pending = append(pending, open)
+			}
+		}
 	}
 	return r
 }

@@ -201,6 +201,11 @@ public final class Potzendai {
             return "[\"" + name + "\"" + Arrays.stream(words).mapToObj(word -> "," + Long.toUnsignedString(word)).collect(Collectors.joining()) + "]";
         }
         boolean writes() { return name.equals("insert") || name.equals("remove") || name.equals("replace"); }
+
+        /** Of a call without an answer: whether what it puts is not there yet. */
+        boolean mayStillCome(Map<Long, Long> contents) {
+            return name.equals("remove") || !Long.valueOf(words[words.length - 1]).equals(contents.get(words[0]));
+        }
     }
 
     /** A call with its answer as a text; null where it has none. */
@@ -762,7 +767,8 @@ public final class Potzendai {
 
     // A run
 
-    /** Rounds at a new map, each of which begins with what the one before has left. */
+    /** Rounds at a new map, each of which begins with what the one before has left: the pairs, and calls without an answer that may still
+     * come. */
     private static final class Run {
         final Options options;
         final Supplier<? extends Index> make;
@@ -787,15 +793,13 @@ public final class Potzendai {
                 List<Call> pending = List.of();
                 while (!isOver() && failed == null) {
                     int lives = (PROCESSES - 1 - pending.size()) / (int) options.threads;
-                    if (lives == 0) {
-                        System.err.println(options.name + ": it ends here: " + pending.size() + " calls have no answer, and a round has no processes for more");
-                        break;
-                    }
+                    if (lives == 0)
+                        throw new Stop(UNDECIDED, options.name + ": " + pending.size() + " calls are without an answer, which leaves no room for others");
                     Map<Long, Long> start = crew.contents;
                     Set<Long> doubtful = pending.stream().map(call -> call.words[0]).collect(Collectors.toSet());
                     Round round = new Round(crew.round(new Task(number + rounds, lives, start, doubtful)), start, pending);
                     take(round);
-                    pending = round.pending;
+                    pending = round.pending.stream().filter(call -> call.mayStillCome(crew.contents)).toList();
                     sayings.clear();
                     for (Worker worker : crew.workers)
                         worker.sayings.forEach((word, count) -> sayings.merge(word, count, Long::sum));

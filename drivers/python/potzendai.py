@@ -550,7 +550,8 @@ class Program:
 # A run
 
 class Run:
-    """Rounds at a new map, each of which begins with what the one before has left."""
+    """Rounds at a new map, each of which begins with what the one before has left: the pairs, and calls without an answer that may still
+    come, which are those of which the last gets have not found what they put."""
 
     def __init__(self, options, make, program):
         self.options, self.make, self.program = options, make, program
@@ -565,16 +566,15 @@ class Run:
             while not self.is_over():
                 lives = (PROCESSES - 1 - len(pending)) // self.options.threads
                 if lives == 0:
-                    print("%s: it ends here: %d calls have no answer, and a round has no processes for more" % (
-                        self.options.name, len(pending)), file=sys.stderr)
-                    break
+                    raise Stop(UNDECIDED, "%s: %d calls are without an answer, which leaves no room for others" % (
+                        self.options.name, len(pending)))
                 taken = crew.run(number + self.rounds, lives, start, {call[1] for call in pending})
                 gets, left = crew.contents()
                 one = Round([log for log, _ in taken] + [gets], start, pending)
                 self.take(one, [sayings for _, sayings in taken])
                 if self.failed:
                     break
-                start, pending = left, one.pending
+                start, pending = left, [call for call in one.pending if call[0] == "remove" or left.get(call[1]) != call[-1]]
         finally:
             crew.close()
         return self

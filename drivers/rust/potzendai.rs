@@ -836,7 +836,8 @@ impl Program {
 
 // A run
 
-/// Rounds at a new map, each of which begins with what the one before has left.
+/// Rounds at a new map, each of which begins with what the one before has left: the pairs, and calls without an answer that may still come,
+/// which are those of which the last gets have not found what they put.
 struct Run {
     options: Options,
     sayings: [u64; 8],
@@ -883,8 +884,8 @@ impl Run {
             let named = |stop: Stop| Stop(stop.0, format!("{}: {}", options.name, stop.1));
             let lives = (PROCESSES - 1 - pending.len()) / threads.len();
             if lives == 0 {
-                eprintln!("{}: it ends here: {} calls have no answer, and a round has no processes for more", options.name, pending.len());
-                break;
+                let line = format!("{} calls are without an answer, which leaves no room for others", pending.len());
+                return fail(UNDECIDED, line).map_err(named);
             }
             let doubtful = Arc::new(pending.iter().map(|call: &Call| call.1[0]).collect());
             let missing = Arc::new(AtomicUsize::new(threads.len()));
@@ -903,7 +904,9 @@ impl Run {
             let (gets, left) = rest(&mut *session, &options, shared).map_err(named)?;
             events.extend(gets);
             let round = Round::new(events, start, &pending);
-            (start, pending, self.sayings) = (Arc::new(left), round.pending.clone(), sayings);
+            pending = round.pending.clone();
+            pending.retain(|call| call.0 == "remove" || left.get(&call.1[0]) != call.1.last());
+            (start, self.sayings) = (Arc::new(left), sayings);
             self.take(round, program)?;
         }
         Ok(())
