@@ -783,7 +783,8 @@ def fit(options, has):
 
 def words_again(options, rounds):
     """The words that repeat the draws of a run of so many rounds."""
-    said = [os.path.basename(sys.argv[0]), "--seed", options.seed, "--threads", options.threads, "--keys", options.keys]
+    said = [os.path.basename(sys.argv[0]), *itertools.takewhile(lambda word: not word.startswith("--"), sys.argv[1:])]
+    said += ["--seed", options.seed, "--threads", options.threads, "--keys", options.keys]
     said += ["--hot", options.hot] if options.hot else []
     said += ["--calls", options.calls, "--mix", ",".join("%s=%d" % (word(kind), share) for kind, share in options.shares.items() if share)]
     said += ["--void", options.void, "--scan", options.scan] + (["--yield", options.yields] if options.yields else [])

@@ -9,29 +9,38 @@ import sys
 import potzendai
 from potzendai import DONE, FOUND, NONE, told
 
-PORT = 7379
+PORT, TIMEOUT = 7379, 5
 
 
 class Connection:
-    def __init__(self):
-        self.wire = socket.create_connection(("127.0.0.1", PORT), timeout=5)
-        self.lines = self.wire.makefile("rb")
+    """One behind another: where a request has no answer in time, its connection is not used any more, since the answer may still come."""
+    wire = None
 
     def ask(self, *words):
-        self.wire.sendall(b"".join([b"*%d\r\n" % len(words)] + [b"$%d\r\n%s\r\n" % (len(w), w) for w in (str(w).encode() for w in words)]))
-        line = self.lines.readline()
-        if line[:1] not in b"$:+" or not line.endswith(b"\n"):
-            raise OSError(line)
-        if line[:1] != b"$":
-            return line[1:-2]
-        return None if line == b"$-1\r\n" else self.lines.read(int(line[1:]) + 2)[:-2]
+        try:
+            if self.wire is None:
+                self.wire = socket.create_connection(("127.0.0.1", PORT), TIMEOUT)
+                self.lines = self.wire.makefile("rb")
+            parts = [str(word).encode() for word in words]
+            self.wire.sendall(b"*%d\r\n" % len(parts) + b"".join(b"$%d\r\n%s\r\n" % (len(part), part) for part in parts))
+            line = self.lines.readline()
+            if line[:1] not in (b"$", b":", b"+"):
+                raise OSError(line)
+            if line[:1] != b"$":
+                return line[1:-2]
+            return None if line == b"$-1\r\n" else self.lines.read(int(line[1:]) + 2)[:-2]
+        except OSError:
+            self.close()
+            raise
+
+    def close(self):
+        if self.wire is not None:
+            self.wire.close()
+        self.wire = None
 
     def get(self, key):
         found = self.ask("GET", key)
         return NONE if found is None else int(found)
-
-    def close(self):
-        self.wire.close()
 
 
 class Untold(Connection):
@@ -46,11 +55,11 @@ class Untold(Connection):
 class Told(Connection):
     def put(self, key, value):
         before = self.ask("SET", key, value, "GET")
-        return told(before and int(before))
+        return told(None if before is None else int(before))
 
     def delete(self, key):
         before = self.ask("GETDEL", key)
-        return told(before and int(before))
+        return told(None if before is None else int(before))
 
 
 class Redis:
@@ -62,6 +71,5 @@ class Redis:
 
 
 if __name__ == "__main__":
-    if sys.argv[1:2] in (["told"], ["untold"]):
-        Redis.session = Told if sys.argv.pop(1) == "told" else Untold
-    potzendai.main(Redis)
+    Redis.session = Untold if sys.argv[1:2] == ["untold"] else Told
+    potzendai.main(Redis, sys.argv[2:])
