@@ -95,6 +95,7 @@ var (
 	kinds     = []string{"get", "put", "del", "scan", "replace", "put_if_absent", "floor", "ceiling", "pop_first"}
 	shares    = map[string]uint64{"get": 40, "put": 30, "del": 10, "scan": 5, "replace": 10, "put_if_absent": 5, "floor": 3, "ceiling": 3, "pop_first": 2}
 	histories = map[string]string{"get": "get", "put": "insert", "del": "remove", "scan": "scan", "replace": "replace", "put_if_absent": "insert"}
+	verdicts  = []string{"yes", "no", "undecided"}
 	breaks    = []string{"drop", "race", "replay", "stale", "zombie", "torn", "cas"}
 	broken    = map[string]string{"drop": "put", "race": "put", "replay": "put", "stale": "get", "zombie": "del", "torn": "scan", "cas": "replace"}
 )
@@ -882,6 +883,10 @@ func (p *program) ask(command, text string, budget uint64) (int, string) {
 	if status > undecided {
 		fail(status, "%s %s: status %d", p.path, command, status)
 	}
+	report, _, _ := strings.Cut(out.String(), "\n")
+	if command != "draw" && !strings.HasSuffix(report, `"verdict":"`+verdicts[status]+`"}`) {
+		fail(badFile, "%s %s: status %d without its verdict", p.path, command, status)
+	}
 	return status, out.String()
 }
 
@@ -985,7 +990,7 @@ func (r *run) summary(status int) string {
 	if r.undecideds > 0 {
 		undecideds = fmt.Sprintf("; %d undecided", r.undecideds)
 	}
-	return fmt.Sprintf("%s: %d rounds, %d calls in %.1f seconds, overlap %.2f a call: %s%s", []string{"yes", "no", "undecided"}[status], r.rounds,
+	return fmt.Sprintf("%s: %d rounds, %d calls in %.1f seconds, overlap %.2f a call: %s%s", verdicts[status], r.rounds,
 		r.calls, time.Since(r.began).Seconds(), float64(r.overlap)/math.Max(float64(r.calls), 1), strings.Join(said, ", "), undecideds)
 }
 

@@ -139,6 +139,7 @@ public final class Potzendai {
     }
 
     private static final int YES = 0, NO = 1, UNDECIDED = 2, MEMORY = 4, WORDS = 5, FILE = 6;
+    private static final List<String> VERDICTS = List.of("yes", "no", "undecided");
     private static final int PROCESSES = 64, CALLS = 4096, SPAN = 16, SELDOM = 20;
     private static final Map<String, Kind> BREAKS = new LinkedHashMap<>();
     static {
@@ -758,6 +759,9 @@ public final class Potzendai {
                 int status = process.waitFor();
                 if (status > UNDECIDED)
                     throw new Stop(status <= FILE ? status : FILE, path + " " + command + ": status " + status);
+                String report = answer.lines().findFirst().orElse("");
+                if (!command.equals("draw") && !report.endsWith("\"verdict\":\"" + VERDICTS.get(status) + "\"}"))
+                    throw new Stop(FILE, path + " " + command + ": status " + status + " without its verdict");
                 return new Answer(status, answer);
             } catch (IOException | InterruptedException error) {
                 throw new Stop(FILE, path + ": " + error.getMessage());
@@ -839,7 +843,7 @@ public final class Potzendai {
         /** The verdict, and what it rests on. */
         String summary(int status) {
             String said = sayings.entrySet().stream().map(one -> one.getValue() + " " + one.getKey().name().toLowerCase()).collect(Collectors.joining(", "));
-            return String.format("%s: %d rounds, %d calls in %.1f seconds, overlap %.2f a call: %s%s", List.of("yes", "no", "undecided").get(status),
+            return String.format("%s: %d rounds, %d calls in %.1f seconds, overlap %.2f a call: %s%s", VERDICTS.get(status),
                 rounds, calls, seconds(), (double) overlap / Math.max(calls, 1), said, undecided > 0 ? "; " + undecided + " undecided" : "");
         }
 

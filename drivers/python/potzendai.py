@@ -43,6 +43,7 @@ GREATEST = 2 ** 64 - 1
 PROCESSES, CALLS, SPAN = 64, 4096, 16  # limits of a history; the most keys of a scan
 SELDOM = 20  # one call in so many goes wrong in a map that is broken
 YES, NO, UNDECIDED, FAULTY, MEMORY, WORDS, FILE = range(7)  # statuses, as the program's
+VERDICTS = ("yes", "no", "undecided")
 SHARES = {"get": 40, "put": 30, "delete": 10, "scan": 5, "replace": 10, "put_if_absent": 5, "floor": 3, "ceiling": 3, "pop_first": 2}
 BREAKS = {"drop": "put", "race": "put", "replay": "put", "stale": "get", "zombie": "delete", "torn": "scan", "cas": "replace"}
 
@@ -521,8 +522,7 @@ class Program:
 
     def __init__(self, options):
         self.path, self.budget = options.bench or os.environ.get("POTZENDAI_BENCH") or self.found(), options.budget
-        if self.ask("explain", '{"events":[],"version":1}\n', self.budget)[0] != YES:
-            raise Stop(FILE, "%s: is not the program" % self.path)
+        self.ask("explain", '{"events":[],"version":1}\n', self.budget)
 
     @staticmethod
     def found():
@@ -544,7 +544,10 @@ class Program:
             raise Stop(FILE, "%s: %s" % (self.path, error.strerror))
         if done.returncode not in (YES, NO, UNDECIDED):
             raise Stop(done.returncode if FAULTY <= done.returncode <= FILE else FILE, "%s %s: status %d" % (self.path, command, done.returncode))
-        return done.returncode, done.stdout.decode()
+        answer = done.stdout.decode("utf-8", "replace")
+        if command != "draw" and not answer.partition("\n")[0].endswith('"verdict":"%s"}' % VERDICTS[done.returncode]):
+            raise Stop(FILE, "%s %s: status %d without its verdict" % (self.path, command, done.returncode))
+        return done.returncode, answer
 
 
 # A run
@@ -607,7 +610,7 @@ class Run:
         """The verdict, and what it rests on."""
         said = ", ".join("%d %s" % (count, said) for said, count in self.sayings.items() if count)
         return "%s: %d rounds, %d calls in %.1f seconds, overlap %.2f a call: %s%s" % (
-            ("yes", "no", "undecided")[status], self.rounds, self.calls, time.monotonic() - self.began, self.overlap / max(self.calls, 1), said,
+            VERDICTS[status], self.rounds, self.calls, time.monotonic() - self.began, self.overlap / max(self.calls, 1), said,
             "; %d undecided" % self.undecided if self.undecided else "")
 
 

@@ -109,6 +109,7 @@ pub trait Map: Sync {
 }
 
 const SAYINGS: [&str; 8] = ["told", "none", "done", "found", "other", "refused", "unknown", "that it is missing"];
+const VERDICTS: [&str; 3] = ["yes", "no", "undecided"];
 const YES: i32 = 0;
 const NO: i32 = 1;
 const UNDECIDED: i32 = 2;
@@ -827,7 +828,13 @@ impl Program {
             output.read_to_string(&mut answer).map_err(told)?;
         }
         match child.wait().map_err(told)?.code() {
-            Some(status) if status <= UNDECIDED => Ok((status, answer)),
+            Some(status) if status <= UNDECIDED => {
+                let verdict = format!("\"verdict\":\"{}\"}}", VERDICTS[status as usize]);
+                if command == "draw" || answer.lines().next().unwrap_or("").ends_with(&verdict) {
+                    return Ok((status, answer));
+                }
+                fail(BAD_FILE, format!("{} {command}: status {status} without its verdict", self.path))
+            }
             Some(status) => fail(status.min(BAD_FILE), format!("{} {command}: status {status}", self.path)),
             None => fail(BAD_FILE, format!("{} {command}: was killed", self.path)),
         }
@@ -950,7 +957,7 @@ impl Run {
         let undecided = if self.undecided > 0 { format!("; {} undecided", self.undecided) } else { String::new() };
         format!(
             "{}: {} rounds, {} calls in {:.1} seconds, overlap {:.2} a call: {}{undecided}",
-            ["yes", "no", "undecided"][status as usize], self.rounds, self.calls, self.began.elapsed().as_secs_f64(),
+            VERDICTS[status as usize], self.rounds, self.calls, self.began.elapsed().as_secs_f64(),
             self.overlap as f64 / self.calls.max(1) as f64, said.join(", ")
         )
     }
