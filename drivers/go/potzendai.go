@@ -492,7 +492,7 @@ func (w *worker) open(m Map) {
 	session, closing := sessionOf(m)
 	w.has, w.close = functionsOf(session), closing
 	if w.options.broken != "" {
-		all := &wrong{truly: w.has, how: w.options.broken, draws: newDraws(0, 0, w.number), keys: w.options.keys, once: map[uint64]Said{}}
+		all := &wrong{truly: w.has, how: w.options.broken, draws: newDraws(w.options.seed, 0, w.number), keys: w.options.keys, once: map[uint64]Said{}}
 		w.has = all.functions()
 	}
 }
@@ -979,7 +979,7 @@ func (r *run) isOver() bool {
 }
 
 // The verdict, and what it rests on.
-func (r *run) summary(status int) string {
+func (r *run) summary(verdict string) string {
 	said := []string{}
 	for _, word := range sayings {
 		if r.sayings[word] > 0 {
@@ -990,7 +990,7 @@ func (r *run) summary(status int) string {
 	if r.undecideds > 0 {
 		undecideds = fmt.Sprintf("; %d undecided", r.undecideds)
 	}
-	return fmt.Sprintf("%s: %d rounds, %d calls in %.1f seconds, overlap %.2f a call: %s%s", verdicts[status], r.rounds,
+	return fmt.Sprintf("%s: %d rounds, %d calls in %.1f seconds, overlap %.2f a call: %s%s", verdict, r.rounds,
 		r.calls, time.Since(r.began).Seconds(), float64(r.overlap)/math.Max(float64(r.calls), 1), strings.Join(said, ", "), undecideds)
 }
 
@@ -1062,7 +1062,12 @@ func saidWriter(r *round, answer interface{}) string {
 			return fmt.Sprintf("; %v is what process %d put (event %d)", value, one.process, i)
 		}
 	}
-	return fmt.Sprintf("; who put %v is not in the history", value)
+	for _, held := range r.start {
+		if fmt.Sprint(held) == value.String() {
+			return fmt.Sprintf("; %v was there at the start", value)
+		}
+	}
+	return fmt.Sprintf("; %v is what nobody put", value)
 }
 
 // A line of a report: what it is of is seen by its members.
@@ -1094,7 +1099,8 @@ func saidReport(report string, r *round) (said []string, few string) {
 		case strings.HasPrefix(text, `{"events"`):
 			few = text + "\n"
 		case line.Reason != "":
-			said = append(said, fmt.Sprintf("  event %-6d process %-3d %s, answered %s", event, process, saidCall(line.Call), saidAnswer(line.Answer)))
+			said = append(said, fmt.Sprintf("  event %-6d process %-3d %s, answered %s", event, process, saidCall(line.Call),
+				saidAnswer(line.Answer)+saidWriter(r, line.Answer)))
 		case line.Front != nil:
 			front := strings.ReplaceAll(fmt.Sprint(line.Front), " ", ",")
 			said = append(said, "  an order of them gets as far as the events "+front+"; the map then holds "+saidPairs(line.Holds))
@@ -1136,7 +1142,7 @@ func (r *run) refuted() []string {
 
 // Words
 
-const usage = `  --seconds N       how long (10)
+const usage = `  --seconds N       how long (10, or as long as --rounds take)
   --rounds N        at most so many rounds
   --threads N       threads that call the map (4)
   --keys N          keys, from 0 (16)
@@ -1209,7 +1215,7 @@ func (o *options) again(rounds uint64) string {
 }
 
 func readWords(name string, words []string) *options {
-	o := &options{name: name, void: "done", scan: "snapshot", out: ".", seconds: 10, threads: 4, keys: 16, budget: 100000, shown: time.Now(),
+	o := &options{name: name, void: "done", scan: "snapshot", out: ".", threads: 4, keys: 16, budget: 100000, shown: time.Now(),
 		seed: uint64(time.Now().UnixNano()) % 1000000007}
 	info, err := os.Stderr.Stat()
 	o.shows = err == nil && info.Mode()&os.ModeCharDevice != 0
@@ -1297,6 +1303,11 @@ func (o *options) fit(has functions) {
 			o.calls = 200
 		}
 	}
+	if o.seconds == 0 && o.rounds == 0 {
+		o.seconds = 10
+	} else if o.seconds == 0 {
+		o.seconds = 1000000000
+	}
 	switch {
 	case o.total() == 0:
 		fail(badWords, "--mix: no share")
@@ -1338,15 +1349,15 @@ func tested(name string, make func() Map, words []string) (status int, said []st
 	}
 	r := newRun(o, make, p, 0)
 	if r.failed != nil {
-		return no, r.refuted(), r.summary(no), nil
+		return no, r.refuted(), r.summary("no"), nil
 	}
 	if r.undecideds > 0 {
 		status = undecided
 	}
 	if p == nil {
-		return status, nil, "", nil
+		return status, []string{r.summary("not judged")}, "", nil
 	}
-	return status, nil, r.summary(status), nil
+	return status, nil, r.summary(verdicts[status]), nil
 }
 
 // Each way to go wrong that the drawn calls can show has to be refuted: then the status is that of a no.
@@ -1357,12 +1368,12 @@ func allBroken(o *options, make func() Map, p *program) (int, []string, string) 
 			said = append(said, how+": what it makes wrong is not called")
 			continue
 		}
-		r, status := newRun(o, make, p, 0), no
+		r, verdict := newRun(o, make, p, 0), "no"
 		if r.failed == nil {
-			status = yes
+			verdict = "yes"
 			missed++
 		}
-		said = append(said, how+": "+r.summary(status))
+		said = append(said, how+": "+r.summary(verdict))
 	}
 	if missed > 0 {
 		return yes, said, fmt.Sprintf("yes: %d of the broken maps were not refuted", missed)

@@ -452,7 +452,7 @@ public final class Potzendai {
             session = map.session();
             closes = session != map;
             if (options.broken != null)
-                session = new Broken(session, options.broken, new Draws(0, 0, number), options.keys);
+                session = new Broken(session, options.broken, new Draws(options.seed, 0, number), options.keys);
         }
 
         /** The calls of a round. A process whose answer is unknown makes no further call. */
@@ -841,9 +841,9 @@ public final class Potzendai {
         }
 
         /** The verdict, and what it rests on. */
-        String summary(int status) {
+        String summary(String verdict) {
             String said = sayings.entrySet().stream().map(one -> one.getValue() + " " + one.getKey().name().toLowerCase()).collect(Collectors.joining(", "));
-            return String.format("%s: %d rounds, %d calls in %.1f seconds, overlap %.2f a call: %s%s", VERDICTS.get(status),
+            return String.format("%s: %d rounds, %d calls in %.1f seconds, overlap %.2f a call: %s%s", verdict,
                 rounds, calls, seconds(), (double) overlap / Math.max(calls, 1), said, undecided > 0 ? "; " + undecided + " undecided" : "");
         }
 
@@ -952,7 +952,7 @@ public final class Potzendai {
             if (call != null && (call.name.equals("insert") || call.name.equals("replace")) && call.words[call.words.length - 1] == value)
                 return "; " + saidAnswer(value) + " is what process " + round.events.get(i).thread + " put (event " + i + ")";
         }
-        return "; who put " + saidAnswer(value) + " is not in the history";
+        return "; " + saidAnswer(value) + (round.start.containsValue(value) ? " was there at the start" : " is what nobody put");
     }
 
     /** A report of `explain` in words. */
@@ -963,8 +963,8 @@ public final class Potzendai {
         for (String text : report.subList(1, report.size())) {
             Map<?, ?> line = (Map<?, ?>) Json.of(text);
             if (line.containsKey("reason"))
-                said.add(String.format("  event %-6d process %-3d %s, answered %s", line.get("event"), line.get("process"),
-                    saidCall((List<?>) line.get("call")), saidAnswer(line.get("answer"))));
+                said.add(String.format("  event %-6d process %-3d %s, answered %s%s", line.get("event"), line.get("process"),
+                    saidCall((List<?>) line.get("call")), saidAnswer(line.get("answer")), saidWriter(round, line.get("answer"))));
             if (!line.containsKey("front"))
                 continue;
             said.add("  an order of them gets as far as the events " + line.get("front").toString().replace(" ", "") + "; the map then holds "
@@ -1011,7 +1011,7 @@ public final class Potzendai {
     // Words
 
     private static final String USAGE = """
-        --seconds N       how long (10)
+        --seconds N       how long (10, or as long as --rounds take)
         --rounds N        at most so many rounds
         --threads N       threads that call the map (4)
         --keys N          keys, from 0 (16)
@@ -1031,7 +1031,7 @@ public final class Potzendai {
 
     private static final class Options implements Cloneable {
         String name, voids = "done", broken, out = ".", bench;
-        long seconds = 10, rounds, threads = 4, keys = 16, hot, calls, seed = Math.floorMod(System.nanoTime() * 31 + System.currentTimeMillis(), 1000000007L),
+        long seconds, rounds, threads = 4, keys = 16, hot, calls, seed = Math.floorMod(System.nanoTime() * 31 + System.currentTimeMillis(), 1000000007L),
             yields, budget = 100000, shown = System.nanoTime();
         boolean isSteps, shows = System.console() != null;
         EnumMap<Kind, Long> shares;
@@ -1143,6 +1143,7 @@ public final class Potzendai {
             wrong(hot > keys, "--hot: more than there are keys");
             wrong(isVoid("own") && keys < threads, "--void: own: each thread needs a key");
             calls = calls > 0 ? calls : Math.min(CALLS / (threads + 2), 200);
+            seconds = seconds > 0 ? seconds : rounds > 0 ? 1000000000 : 10;
             wrong((threads + 1) * Math.max(calls, keys) > CALLS, "--calls: a round has at most 4096 calls: those of each thread, or as many as there are keys, "
                 + "for the threads and one more");
         }
@@ -1173,9 +1174,10 @@ public final class Potzendai {
             return allBroken(options, make, program);
         Run run = new Run(options, make, program).go(0);
         if (run.failed != null)
-            return new Outcome(NO, refuted(run), run.summary(NO));
+            return new Outcome(NO, refuted(run), run.summary("no"));
         int status = run.undecided > 0 ? UNDECIDED : YES;
-        return new Outcome(status, List.of(), program == null ? "" : run.summary(status));
+        return program == null ? new Outcome(status, List.of(run.summary("not judged")), "")
+            : new Outcome(status, List.of(), run.summary(VERDICTS.get(status)));
     }
 
     /** Each way to go wrong that the drawn calls can show has to be refuted: then the status is that of a no. */
@@ -1186,7 +1188,7 @@ public final class Potzendai {
             options.broken = how;
             Run run = options.isCalled(how) ? new Run(options, make, program).go(0) : null;
             missed += run != null && run.failed == null ? 1 : 0;
-            said.add(how + ": " + (run == null ? "what it makes wrong is not called" : run.summary(run.failed != null ? NO : YES)));
+            said.add(how + ": " + (run == null ? "what it makes wrong is not called" : run.summary(run.failed != null ? "no" : "yes")));
         }
         return missed > 0 ? new Outcome(YES, said, "yes: " + missed + " of the broken maps were not refuted")
             : new Outcome(NO, said, "no: each broken map was refuted");

@@ -264,7 +264,7 @@ class Worker:
     def open(self, made):
         self.session = made.session() if hasattr(made, "session") else made
         if self.options.broken:
-            self.session = Broken(self.session, self.options.broken, Draws(0, 0, self.number), self.options.keys)
+            self.session = Broken(self.session, self.options.broken, Draws(self.options.seed, 0, self.number), self.options.keys)
 
     def run(self, number, lives, start, doubtful):
         """The calls of a round, as at most so many processes: one whose answer is unknown makes no further call."""
@@ -606,11 +606,11 @@ class Run:
                 self.calls, self.calls / (now - self.began), self.overlap / self.calls, refused, len(self.met), options.keys), file=sys.stderr)
         return self.rounds > 0 and (0 < options.rounds <= self.rounds or now - self.began >= options.seconds)
 
-    def summary(self, status):
+    def summary(self, verdict):
         """The verdict, and what it rests on."""
         said = ", ".join("%d %s" % (count, said) for said, count in self.sayings.items() if count)
         return "%s: %d rounds, %d calls in %.1f seconds, overlap %.2f a call: %s%s" % (
-            VERDICTS[status], self.rounds, self.calls, time.monotonic() - self.began, self.overlap / max(self.calls, 1), said,
+            verdict, self.rounds, self.calls, time.monotonic() - self.began, self.overlap / max(self.calls, 1), said,
             "; %d undecided" % self.undecided if self.undecided else "")
 
 
@@ -664,7 +664,7 @@ def said_writer(one, value):
         call = event.get("invoke", ("",))
         if call[0] in ("insert", "replace") and call[-1] == value:
             return "; %d is what process %d put (event %d)" % (value, event["process"], number)
-    return "; who put %d is not in the history" % value
+    return "; %d %s" % (value, "was there at the start" if value in one.start.values() else "is what nobody put")
 
 
 def said_report(report, one):
@@ -676,8 +676,8 @@ def said_report(report, one):
         if "events" in line:
             few = text
         elif "reason" in line:
-            said.append("  event %-6d process %-3d %s, answered %s" % (
-                line["event"], line["process"], said_call(line["call"]), said_answer(line["answer"])))
+            said.append("  event %-6d process %-3d %s, answered %s%s" % (
+                line["event"], line["process"], said_call(line["call"]), said_answer(line["answer"]), said_writer(one, line["answer"])))
         elif "front" in line:
             said.append("  an order of them gets as far as the events %s; the map then holds %s" % (
                 json.dumps(line["front"], separators=(",", ":")), said_pairs(line["holds"])))
@@ -730,7 +730,7 @@ def mix(text):
 def words_of(argv):
     words = Parser(prog=os.path.basename(sys.argv[0]), usage="%(prog)s [WORDS]", allow_abbrev=False)
     for name, kind, usual, what in (
-            ("--seconds", number(1, 10 ** 9), 10, "how long (10)"),
+            ("--seconds", number(1, 10 ** 9), 0, "how long (10, or as long as --rounds take)"),
             ("--rounds", number(1, GREATEST), 0, "at most so many rounds"),
             ("--threads", number(1, 62), 4, "threads that call the map (4)"),
             ("--keys", number(1, CALLS), 16, "keys, from 0 (16)"),
@@ -778,6 +778,7 @@ def fit(options, has):
     if options.void == "own" and options.keys < options.threads:
         wrong("--void", "own: each thread needs a key")
     options.calls = options.calls or min(CALLS // (options.threads + 2), 200)
+    options.seconds = options.seconds or (10 ** 9 if options.rounds else 10)
     if (options.threads + 1) * max(options.calls, options.keys) > CALLS:
         wrong("--calls", "a round has at most 4096 calls: those of each thread, or as many as there are keys, for the threads and one more")
     options.shows, options.shown = sys.stderr.isatty(), time.monotonic()
@@ -817,11 +818,11 @@ def tested(make, options):
             return all_broken(make, options, program)
         run = Run(options, make, program).go()
         if run.failed:
-            return NO, refuted(run), run.summary(NO)
+            return NO, refuted(run), run.summary("no")
     finally:
         sys.setswitchinterval(interval)
     status = UNDECIDED if run.undecided else YES
-    return status, [], run.summary(status) if program else None
+    return (status, [], run.summary(VERDICTS[status])) if program else (status, [run.summary("not judged")], None)
 
 
 def refuted(run):
@@ -845,7 +846,7 @@ def all_broken(make, options, program):
         options.broken = how
         run = Run(options, make, program).go() if is_called else None
         missed += run is not None and not run.failed
-        said.append("%s: %s" % (how, run.summary(NO if run.failed else YES) if run else "what it makes wrong is not called"))
+        said.append("%s: %s" % (how, run.summary("no" if run.failed else "yes") if run else "what it makes wrong is not called"))
     return (YES, said, "yes: %d of the broken maps were not refuted" % missed) if missed else (NO, said, "no: each broken map was refuted")
 
 

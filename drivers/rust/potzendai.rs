@@ -522,7 +522,7 @@ impl<'a> Worker<'a> {
     fn new(number: u64, options: &'a Options, shared: &'a Shared, map: &'a dyn Map) -> Worker<'a> {
         let mut session = map.open();
         if let Some(how) = options.broken.clone() {
-            let draws = Draws::new(0, 0, number);
+            let draws = Draws::new(options.seed, 0, number);
             session = Box::new(Broken { truly: session, how, draws, keys: options.keys, once: HashMap::new(), late: None, style: None });
         }
         let (seen, memory) = (HashMap::new(), HashMap::new());
@@ -951,13 +951,13 @@ impl Run {
     }
 
     /// The verdict, and what it rests on.
-    fn summary(&self, status: i32) -> String {
+    fn summary(&self, verdict: &str) -> String {
         let said: Vec<String> =
             self.sayings.iter().zip(SAYINGS).filter(|(count, _)| **count > 0).map(|(count, word)| format!("{count} {word}")).collect();
         let undecided = if self.undecided > 0 { format!("; {} undecided", self.undecided) } else { String::new() };
         format!(
-            "{}: {} rounds, {} calls in {:.1} seconds, overlap {:.2} a call: {}{undecided}",
-            VERDICTS[status as usize], self.rounds, self.calls, self.began.elapsed().as_secs_f64(),
+            "{verdict}: {} rounds, {} calls in {:.1} seconds, overlap {:.2} a call: {}{undecided}",
+            self.rounds, self.calls, self.began.elapsed().as_secs_f64(),
             self.overlap as f64 / self.calls.max(1) as f64, said.join(", ")
         )
     }
@@ -1098,7 +1098,8 @@ fn said_writer(round: &Round, answer: &Json) -> String {
             _ => (),
         }
     }
-    format!("; who put {value} is not in the history")
+    let was_there = round.start.values().any(|held| held == value);
+    format!("; {value} {}", if was_there { "was there at the start" } else { "is what nobody put" })
 }
 
 /// A report of `explain` in words, and the line that is the few calls' history, if it is there.
@@ -1114,8 +1115,9 @@ fn said_report(report: &str, round: &Round) -> (Vec<String>, Option<String>) {
             few = Some(format!("{text}\n"));
         } else if *line.member("reason") != Json::Null {
             let (event, process) = (line.member("event").number(), line.member("process").number());
-            let (call, answer) = (said_call(line.member("call")), said_answer(line.member("answer")));
-            said.push(format!("  event {event:<6} process {process:<3} {call}, answered {answer}"));
+            let (call, writer) = (said_call(line.member("call")), said_writer(round, line.member("answer")));
+            let answer = said_answer(line.member("answer"));
+            said.push(format!("  event {event:<6} process {process:<3} {call}, answered {answer}{writer}"));
         } else if *line.member("front") != Json::Null {
             let front: Vec<String> = line.member("front").items().iter().map(|event| event.number().to_string()).collect();
             let holds = said_answer(line.member("holds"));
@@ -1162,7 +1164,7 @@ fn refuted<M: Map>(run: &Run, make: &dyn Fn() -> M, program: &Program) -> Result
 
 // Words
 
-const USAGE: &str = "  --seconds N       how long (10)
+const USAGE: &str = "  --seconds N       how long (10, or as long as --rounds take)
   --rounds N        at most so many rounds
   --threads N       threads that call the map (4)
   --keys N          keys, from 0 (16)
@@ -1207,7 +1209,7 @@ impl Options {
         let seed = SystemTime::now().duration_since(SystemTime::UNIX_EPOCH).map_or(1, |time| time.as_nanos() as u64 % 1_000_000_007);
         let mut options = Options {
             name: name.to_string(), void: "done".to_string(), scan: "snapshot".to_string(), out: ".".to_string(), broken: None, bench: None,
-            seconds: 10, rounds: 0, threads: 4, keys: 16, hot: 0, calls: 0, seed, yields: 0, budget: 100_000, has_mix: false, shares: [0; 9],
+            seconds: 0, rounds: 0, threads: 4, keys: 16, hot: 0, calls: 0, seed, yields: 0, budget: 100_000, has_mix: false, shares: [0; 9],
             shows: std::io::stderr().is_terminal(), shown: Instant::now(),
         };
         if words.iter().any(|word| word == "--help") {
@@ -1294,6 +1296,7 @@ impl Options {
             }
         }
         self.calls = if self.calls > 0 { self.calls } else { 200.min(CALLS / (self.threads + 2)) };
+        self.seconds = if self.seconds > 0 { self.seconds } else if self.rounds > 0 { 1_000_000_000 } else { 10 };
         let is_unbroken = self.broken.as_ref().map_or(true, |how| how == "all" || self.is_called(how));
         let rows = [
             (self.shares.iter().sum::<u64>() == 0, "--mix: no share"),
@@ -1351,9 +1354,9 @@ fn tested<M: Map>(name: &str, make: &dyn Fn() -> M, words: &[String]) -> Result<
     }
     let run = Run::new(&options, make, program.as_ref(), 0)?;
     let status = if run.failed.is_some() { NO } else if run.undecided > 0 { UNDECIDED } else { YES };
-    let Some(program) = program else { return Ok((status, vec![], String::new())) };
+    let Some(program) = program else { return Ok((status, vec![run.summary("not judged")], String::new())) };
     let said = if run.failed.is_some() { refuted(&run, make, &program)? } else { vec![] };
-    Ok((status, said, run.summary(status)))
+    Ok((status, said, run.summary(VERDICTS[status as usize])))
 }
 
 /// Each way to go wrong that the drawn calls can show has to be refuted: then the status is that of a no.
@@ -1367,7 +1370,7 @@ fn all_broken<M: Map>(mut options: Options, make: &dyn Fn() -> M, program: &Prog
         options.broken = Some(how.to_string());
         let run = Run::new(&options, make, Some(program), 0)?;
         missed += usize::from(run.failed.is_none());
-        said.push(format!("{how}: {}", run.summary(if run.failed.is_some() { NO } else { YES })));
+        said.push(format!("{how}: {}", run.summary(if run.failed.is_some() { "no" } else { "yes" })));
     }
     Ok(match missed {
         0 => (NO, said, "no: each broken map was refuted".to_string()),
