@@ -197,7 +197,7 @@ func pairsText(pairs [][2]uint64) string {
 // The words that a function may answer beside what it tells.
 var fits = map[string][]string{
 	"get": {"told", "none", "done", "found", "refused", "unknown"}, "put": {"told", "none", "done", "found", "refused", "unknown"},
-	"del": {"told", "none", "done", "found", "refused", "unknown"}, "scan": {"told", "done", "refused", "unknown"},
+	"del": {"told", "none", "done", "found", "refused", "unknown"}, "scan": {"told", "none", "done", "refused", "unknown"},
 	"replace":       {"told", "none", "done", "found", "other", "refused", "unknown"},
 	"put_if_absent": {"told", "none", "found", "refused", "unknown"}, "floor": {"told", "none", "done", "found", "refused", "unknown"},
 	"ceiling": {"told", "none", "done", "found", "refused", "unknown"}, "pop_first": {"told", "none", "found", "refused"},

@@ -221,7 +221,7 @@ public final class Potzendai {
         boolean isRead = kind == Kind.GET || kind == Kind.SCAN || kind == Kind.FLOOR || kind == Kind.CEILING;
         return switch (said.word) {
             case TOLD -> kind == Kind.SCAN == (said.pairs != null);
-            case NONE -> kind != Kind.SCAN;
+            case NONE -> true;
             case DONE -> isRead || kind == Kind.PUT || kind == Kind.DEL || kind == Kind.REPLACE;
             case FOUND -> kind != Kind.SCAN;
             case OTHER -> kind == Kind.REPLACE;
@@ -265,6 +265,8 @@ public final class Potzendai {
             case POP_FIRST:
                 return said.word == Word.NONE ? new Noted(new Call("scan", 0, GREATEST), "[]") : new Noted(new Call("remove", said.key), answerText(said));
             case SCAN:
+                if (said.word == Word.NONE)
+                    return new Noted(new Call("scan", words), "[]");
                 return new Noted(new Call("scan", words), said.pairs.stream().map(pair -> pairText(pair[0], pair[1])).collect(Collectors.joining(",", "[", "]")));
             case PUT_IF_ABSENT:
                 if (said.word == Word.TOLD || said.word == Word.FOUND)

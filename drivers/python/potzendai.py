@@ -14,7 +14,7 @@ A function answers a value, a pair or pairs where it tells them, or one of the w
     get(self, key)                   the value [NONE or None, DONE, FOUND, REFUSED, UNKNOWN]
     put(self, key, value)            the value before [NONE, DONE, FOUND, REFUSED, UNKNOWN]
     delete(self, key)                the value before [NONE, DONE, FOUND, REFUSED, UNKNOWN]
-    scan(self, low, high)            the pairs of one moment, both ends included [DONE, REFUSED, UNKNOWN]
+    scan(self, low, high)            the pairs of one moment, both ends included [NONE, DONE, REFUSED, UNKNOWN]
     replace(self, key, old, new)     the value found [NONE, DONE: it was replaced, OTHER: it was not, FOUND, REFUSED, UNKNOWN]
     put_if_absent(self, key, value)  the value found [NONE: it was put, FOUND: it was not, REFUSED, UNKNOWN]
     floor, ceiling(self, key)        the greatest pair up to the key, the least one from it on [NONE or None, DONE, REFUSED, UNKNOWN]
@@ -119,7 +119,7 @@ ANSWERS = {
     "get": ("get", is_value, (NONE, FOUND, DONE, REFUSED, UNKNOWN)),
     "put": ("insert", is_value, (NONE, FOUND, DONE, REFUSED, UNKNOWN)),
     "delete": ("remove", is_value, (NONE, FOUND, DONE, REFUSED, UNKNOWN)),
-    "scan": ("scan", is_pairs, (DONE, REFUSED, UNKNOWN)),
+    "scan": ("scan", is_pairs, (NONE, DONE, REFUSED, UNKNOWN)),
     "replace": ("replace", is_value, (NONE, FOUND, DONE, OTHER, REFUSED, UNKNOWN)),
     "put_if_absent": ("insert", is_value, (NONE, FOUND, REFUSED, UNKNOWN)),
     "floor": ("scan", is_pair, (NONE, DONE, REFUSED, UNKNOWN)),
@@ -135,7 +135,7 @@ def checked(kind, answer):
     _, tells, words = ANSWERS[kind]
     if tells(answer) or isinstance(answer, str) and answer in words:
         return answer
-    hint = "nothing: NONE where the key held none, DONE where that is not told" if answer is None else "%r, which does not fit it" % (answer,)
+    hint = "nothing: NONE where the key held none, DONE where that is not told" if answer is None else "%s, which does not fit it" % (answer,)
     raise Stop(WORDS, "%s said %s" % (word(kind), hint))
 
 
@@ -161,7 +161,7 @@ def noted(kind, words, answer):
     if kind == "pop_first":
         return (["scan", 0, GREATEST], []) if answer == NONE else (["remove", answer[0]], answer[1])
     if kind == "scan":
-        return ["scan", *words], [list(pair) for pair in answer]
+        return ["scan", *words], [] if answer == NONE else [list(pair) for pair in answer]
     if kind == "put_if_absent" and (is_value(answer) or answer == FOUND):
         return ["get", words[0]], answer
     if kind == "replace" and answer == DONE:

@@ -159,7 +159,7 @@ impl Kind {
             Said::Told(_) => matches!(self, Get | Put | Del | Replace | PutIfAbsent),
             Said::Pair(..) | Said::FoundKey(_) => matches!(self, Floor | Ceiling | PopFirst),
             Said::Pairs(_) => self == Scan,
-            Said::None => self != Scan,
+            Said::None => true,
             Said::Done => self.reads() || matches!(self, Put | Del | Replace),
             Said::Found => matches!(self, Get | Put | Del | Replace | PutIfAbsent),
             Said::Other => self == Replace,
@@ -284,6 +284,7 @@ fn noted(kind: Kind, words: &[u64], said: &Said) -> Option<(Call, Option<String>
         (Floor | Ceiling, _) => edge(kind, words[0], said),
         (PopFirst, Said::Pair(key, _) | Said::FoundKey(key)) => (Call("remove", vec![*key]), answer_text(said)),
         (PopFirst, _) => (Call("scan", vec![0, u64::MAX]), Some("[]".to_string())),
+        (Scan, Said::None) => (Call("scan", words.to_vec()), Some("[]".to_string())),
         (Scan, Said::Pairs(pairs)) => (Call("scan", words.to_vec()), Some(pairs_text(pairs))),
         (PutIfAbsent, Said::Told(_) | Said::Found) => (Call("get", vec![words[0]]), answer_text(said)),
         (Replace, Said::Done) => (Call("replace", words.to_vec()), Some(words[1].to_string())),
@@ -684,10 +685,12 @@ impl<'a> Worker<'a> {
 
 type Outcome = Result<(Vec<Event>, [u64; 8]), Stop>;
 
-/// What a thread does: one task after another, each of which puts out what it has recorded, or why the run ends.
+/// What a thread does: it opens a session and puts out nothing, and then one task after another, each of which puts out what it has
+/// recorded, or why the run ends.
 fn serve(number: u64, options: &Options, shared: &Shared, map: &dyn Map, tasks: &Receiver<Task>, out: &Sender<Outcome>) {
     let done = catch_unwind(AssertUnwindSafe(|| {
         let mut worker = Worker::new(number, options, shared, map);
+        let _ = out.send(Ok((vec![], [0; 8])));
         for task in tasks {
             if out.send(worker.run(&task)).is_err() {
                 break;
@@ -884,6 +887,12 @@ impl Run {
         &mut self, map: &dyn Map, shared: &Shared, threads: &[(Sender<Task>, Receiver<Outcome>)], program: Option<&Program>, number: u64,
     ) -> Result<(), Stop> {
         let named = |stop: Stop| Stop(stop.0, format!("{}: {}", self.options.name, stop.1));
+        let taken = || -> Vec<Outcome> {
+            threads.iter().map(|(_, outbox)| outbox.recv().unwrap_or_else(|_| fail(BAD_WORDS, "a thread has ended"))).collect()
+        };
+        for one in taken() {
+            one.map_err(named)?;
+        }
         let (mut session, options) = (map.open(), self.options.clone());
         let (_, contents) = rest(&mut *session, &options, shared).map_err(named)?;
         let (mut start, mut pending) = (Arc::new(contents), vec![]);
@@ -901,9 +910,7 @@ impl Run {
                 let _ = tasks.send(task.clone());
             }
             let (mut events, mut sayings) = (vec![], [0; 8]);
-            let taken: Vec<Outcome> =
-                threads.iter().map(|(_, outbox)| outbox.recv().unwrap_or_else(|_| fail(BAD_WORDS, "a thread has ended"))).collect();
-            for one in taken {
+            for one in taken() {
                 let (log, said) = one.map_err(named)?;
                 events.extend(log);
                 (0..8).for_each(|word| sayings[word] += said[word]);
