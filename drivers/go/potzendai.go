@@ -1125,8 +1125,11 @@ func (r *run) keep(ending, text string) string {
 // A round that has no order: what shows it, and how to repeat it.
 func (r *run) refuted() []string {
 	least := r.smaller()
-	said := []string{fmt.Sprintf("round %d has no order", r.rounds-1), fmt.Sprintf("the smallest of some tries that failed: threads %d, keys %d, calls %d",
-		least.options.threads, least.options.keys, least.options.calls)}
+	said := []string{
+		fmt.Sprintf("round %d has no order", r.rounds-1),
+		fmt.Sprintf("the smallest of some tries that failed: threads %d, keys %d, calls %d", least.options.threads, least.options.keys,
+			least.options.calls),
+	}
 	text := least.failed.text()
 	_, report := r.program.ask("explain", text, r.options.budget)
 	lines, few := saidReport(report, least.failed)
@@ -1247,7 +1250,9 @@ func (o *options) read(word, text string) {
 			return
 		}
 	}
-	named := map[string][]string{"--void": {"done", "told", "own", "lock"}, "--scan": {"snapshot", "steps"}, "--break": append([]string{"all"}, breaks...)}
+	named := map[string][]string{
+		"--void": {"done", "told", "own", "lock"}, "--scan": {"snapshot", "steps"}, "--break": append([]string{"all"}, breaks...),
+	}
 	if names, is := named[word]; is && !isOneOf(text, names...) {
 		fail(badWords, "%s: none of its names; --help has them", word)
 	}
@@ -1257,6 +1262,8 @@ func (o *options) read(word, text string) {
 		*to = text
 	case word == "--mix":
 		o.shares = readMix(text)
+	case word == "--stream":
+		fail(badWords, "--stream: rounds alone here; the drivers in C and C++ have it")
 	default:
 		fail(badWords, "%s: no such word; --help has them", word)
 	}

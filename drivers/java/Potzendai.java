@@ -199,7 +199,7 @@ public final class Potzendai {
     /** A call of a history: its name and its words. */
     private record Call(String name, long... words) {
         String text() {
-            return "[\"" + name + "\"" + Arrays.stream(words).mapToObj(word -> "," + Long.toUnsignedString(word)).collect(Collectors.joining()) + "]";
+            return Arrays.stream(words).mapToObj(word -> "," + Long.toUnsignedString(word)).collect(Collectors.joining("", "[\"" + name + "\"", "]"));
         }
         boolean writes() { return name.equals("insert") || name.equals("remove") || name.equals("replace"); }
 
@@ -263,11 +263,13 @@ public final class Potzendai {
             case FLOOR: case CEILING:
                 return edge(kind, words[0], said);
             case POP_FIRST:
-                return said.word == Word.NONE ? new Noted(new Call("scan", 0, GREATEST), "[]") : new Noted(new Call("remove", said.key), answerText(said));
+                return said.word == Word.NONE ? new Noted(new Call("scan", 0, GREATEST), "[]")
+                    : new Noted(new Call("remove", said.key), answerText(said));
             case SCAN:
                 if (said.word == Word.NONE)
                     return new Noted(new Call("scan", words), "[]");
-                return new Noted(new Call("scan", words), said.pairs.stream().map(pair -> pairText(pair[0], pair[1])).collect(Collectors.joining(",", "[", "]")));
+                return new Noted(new Call("scan", words), said.pairs.stream().map(pair -> pairText(pair[0], pair[1]))
+                    .collect(Collectors.joining(",", "[", "]")));
             case PUT_IF_ABSENT:
                 if (said.word == Word.TOLD || said.word == Word.FOUND)
                     return new Noted(new Call("get", words[0]), answerText(said));
@@ -660,7 +662,8 @@ public final class Potzendai {
                     end = stamps.getAndIncrement();
                 }
                 if (!said.tells())
-                    throw new Stop(WORDS, options.name + ": get of " + key + " said " + said.word.name().toLowerCase() + " at rest, where it has to tell");
+                    throw new Stop(WORDS, options.name + ": get of " + key + " said " + said.word.name().toLowerCase()
+                        + " at rest, where it has to tell");
                 events.add(new Event(begin, (int) options.threads, 0, new Call("get", key), null));
                 events.add(new Event(end, (int) options.threads, 0, null, answerText(said)));
                 if (said.word == Word.TOLD)
@@ -844,7 +847,8 @@ public final class Potzendai {
 
         /** The verdict, and what it rests on. */
         String summary(String verdict) {
-            String said = sayings.entrySet().stream().map(one -> one.getValue() + " " + one.getKey().name().toLowerCase()).collect(Collectors.joining(", "));
+            String said = sayings.entrySet().stream().map(one -> one.getValue() + " " + one.getKey().name().toLowerCase())
+                .collect(Collectors.joining(", "));
             return String.format("%s: %d rounds, %d calls in %.1f seconds, overlap %.2f a call: %s%s", verdict,
                 rounds, calls, seconds(), (double) overlap / Math.max(calls, 1), said, undecided > 0 ? "; " + undecided + " undecided" : "");
         }
@@ -916,8 +920,8 @@ public final class Potzendai {
     }
 
     private static String saidPairs(List<?> pairs) {
-        return pairs.isEmpty() ? "nothing" : pairs.stream().map(pair -> saidAnswer(((List<?>) pair).get(0)) + ": " + saidAnswer(((List<?>) pair).get(1)))
-            .collect(Collectors.joining(", "));
+        return pairs.isEmpty() ? "nothing" : pairs.stream().map(pair -> (List<?>) pair)
+            .map(pair -> saidAnswer(pair.get(0)) + ": " + saidAnswer(pair.get(1))).collect(Collectors.joining(", "));
     }
 
     private static String saidAnswer(Object answer) {
@@ -1033,8 +1037,8 @@ public final class Potzendai {
 
     private static final class Options implements Cloneable {
         String name, voids = "done", broken, out = ".", bench;
-        long seconds, rounds, threads = 4, keys = 16, hot, calls, seed = Math.floorMod(System.nanoTime() * 31 + System.currentTimeMillis(), 1000000007L),
-            yields, budget = 100000, shown = System.nanoTime();
+        long seconds, rounds, threads = 4, keys = 16, hot, calls, yields, budget = 100000, shown = System.nanoTime();
+        long seed = Math.floorMod(System.nanoTime() * 31 + System.currentTimeMillis(), 1000000007L);
         boolean isSteps, shows = System.console() != null;
         EnumMap<Kind, Long> shares;
 
@@ -1082,7 +1086,7 @@ public final class Potzendai {
                 case "--keys" -> keys = number(word, text, 1, CALLS);
                 case "--hot" -> hot = number(word, text, 1, CALLS);
                 case "--calls" -> calls = number(word, text, 1, CALLS);
-                case "--seed" -> seed = number(word, text, 0, Long.MAX_VALUE);
+                case "--seed" -> seed = number(word, text, 0, GREATEST);
                 case "--yield" -> yields = number(word, text, 0, 1000);
                 case "--budget" -> budget = number(word, text, 1, 1000000);
                 case "--void" -> voids = named(word, text, List.of("done", "told", "own", "lock"));
@@ -1091,14 +1095,20 @@ public final class Potzendai {
                 case "--mix" -> shares = mix(text);
                 case "--out" -> out = text;
                 case "--bench" -> bench = text;
+                case "--stream" -> throw new Stop(WORDS, "--stream: rounds alone here; the drivers in C and C++ have it");
                 default -> throw new Stop(WORDS, word + ": no such word; --help has them");
             }
         }
 
         private static long number(String word, String text, long least, long most) {
-            if (text.matches("[0-9]{1,18}") && Long.parseLong(text) >= least && Long.parseLong(text) <= most)
-                return Long.parseLong(text);
-            throw new Stop(WORDS, word + ": a number from " + least + " to " + most);
+            try {
+                long number = Long.parseUnsignedLong(text);
+                if (Long.compareUnsigned(least, number) <= 0 && Long.compareUnsigned(number, most) <= 0)
+                    return number;
+            } catch (NumberFormatException none) {
+                // It is told below.
+            }
+            throw new Stop(WORDS, word + ": a number from " + least + " to " + Long.toUnsignedString(most));
         }
 
         private static String named(String word, String text, List<String> names) {
@@ -1137,7 +1147,8 @@ public final class Potzendai {
                 boolean isThere = has.contains(kind == Kind.SCAN && isSteps ? Kind.CEILING : kind);
                 if (isUsual)
                     shares.put(kind, isThere && !(kind == Kind.POP_FIRST && isApart) ? kind.share : 0);
-                wrong(shares.get(kind) > 0 && !isThere, kind.name + (kind == Kind.SCAN && isSteps ? ": steps need the function ceiling" : ": no such function of the map"));
+                String why = kind == Kind.SCAN && isSteps ? ": steps need the function ceiling" : ": no such function of the map";
+                wrong(shares.get(kind) > 0 && !isThere, kind.name + why);
             }
             wrong(total() == 0, "--mix: no share");
             wrong(shares.get(Kind.POP_FIRST) > 0 && isApart, "pop_first: takes keys of others, so not with --void own or lock");
@@ -1146,8 +1157,8 @@ public final class Potzendai {
             wrong(isVoid("own") && keys < threads, "--void: own: each thread needs a key");
             calls = calls > 0 ? calls : Math.min(CALLS / (threads + 2), 200);
             seconds = seconds > 0 ? seconds : rounds > 0 ? 1000000000 : 10;
-            wrong((threads + 1) * Math.max(calls, keys) > CALLS, "--calls: a round has at most 4096 calls: those of each thread, or as many as there are keys, "
-                + "for the threads and one more");
+            wrong((threads + 1) * Math.max(calls, keys) > CALLS, "--calls: a round has at most 4096 calls: those of each thread, or as many "
+                + "as there are keys, for the threads and one more");
         }
     }
 

@@ -749,7 +749,11 @@ def words_of(argv):
     words.add_argument("--scan", choices=("snapshot", "steps"), default="snapshot", help="a scan is of one moment; or steps of ceiling")
     words.add_argument("--break", dest="broken", choices=tuple(BREAKS) + ("all",), help="makes the map wrong now and then; all: in each way")
     words.add_argument("--processes", action="store_true", help="processes in the place of threads, as for clients of servers")
-    return words.parse_args(argv)
+    words.add_argument("--stream", action="store_true", help="a run without end, as one stream: the drivers in C and C++ have it")
+    given = words.parse_args(argv)
+    if given.stream:
+        raise Stop(WORDS, "--stream: rounds alone here; the drivers in C and C++ have it")
+    return given
 
 
 def fit(options, has):
@@ -870,6 +874,7 @@ def main(make, argv=None):
         print("memory", file=sys.stderr)
         status = MEMORY
     except KeyboardInterrupt:
+        print("interrupted", file=sys.stderr)
         status = UNDECIDED
     except Exception:
         traceback.print_exc()

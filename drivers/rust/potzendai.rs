@@ -1265,6 +1265,7 @@ impl Options {
             "--out" => self.out = text.to_string(),
             "--bench" => self.bench = Some(text.to_string()),
             "--mix" => return self.read_mix(text),
+            "--stream" => return fail(BAD_WORDS, "--stream: rounds alone here; the drivers in C and C++ have it"),
             _ => return fail(BAD_WORDS, format!("{word}: no such word; --help has them")),
         }
         Ok(())
