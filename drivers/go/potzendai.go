@@ -788,7 +788,7 @@ func newRound(events []event, start map[uint64]uint64, before []*call) *round {
 	return r
 }
 
-// How many calls were open where another began, at which keys two writers met, and which changes have no answer.
+// How many calls were open where another began, at which keys two writers met, and which changes may still come.
 func (r *round) measure() {
 	open := map[int]*call{}
 	for _, one := range r.events {
@@ -806,8 +806,21 @@ func (r *round) measure() {
 		open[one.process] = one.call
 	}
 	for _, one := range open {
-		r.pending = append(r.pending, one)
+		if !r.tells(one) {
+			r.pending = append(r.pending, one)
+		}
 	}
+}
+
+// Whether an answer tells what a call puts: then it was done.
+func (r *round) tells(one *call) bool {
+	value := strconv.FormatUint(one.words[len(one.words)-1], 10)
+	for _, each := range r.events {
+		if one.name != "remove" && (each.answer == value || strings.Contains(each.answer, ","+value+"]")) {
+			return true
+		}
+	}
+	return false
 }
 
 func (r *round) text() string {
@@ -893,7 +906,7 @@ func (p *program) ask(command, text string, budget uint64) (int, string) {
 // A run
 
 // A run is of rounds at a new map, each of which begins with what the one before has left: the pairs, and calls without an answer that may
-// still come, which are those of which the last gets have not found what they put.
+// still come.
 type run struct {
 	options                            *options
 	make                               func() Map
@@ -925,12 +938,7 @@ func newRun(o *options, make func() Map, p *program, number uint64) *run {
 		start := c.contents
 		one := newRound(c.round(task{number + r.rounds, lives, start, doubtful}), start, pending)
 		r.take(one, c.workers)
-		pending = nil
-		for _, open := range one.pending {
-			if value, is := c.contents[open.words[0]]; open.name == "remove" || !is || value != open.words[len(open.words)-1] {
-				pending = append(pending, open)
-			}
-		}
+		pending = one.pending
 	}
 	return r
 }

@@ -203,9 +203,10 @@ public final class Potzendai {
         }
         boolean writes() { return name.equals("insert") || name.equals("remove") || name.equals("replace"); }
 
-        /** Of a call without an answer: whether what it puts is not there yet. */
-        boolean mayStillCome(Map<Long, Long> contents) {
-            return name.equals("remove") || !Long.valueOf(words[words.length - 1]).equals(contents.get(words[0]));
+        /** Whether an answer tells what this call puts: then it was done. */
+        boolean isToldBy(String answer) {
+            String value = Long.toUnsignedString(words[words.length - 1]);
+            return !name.equals("remove") && answer != null && (answer.equals(value) || answer.contains("," + value + "]"));
         }
     }
 
@@ -721,7 +722,7 @@ public final class Potzendai {
                     met.add(event.call.words[0]);
                 open.put(event.thread, event.call);
             }
-            return new ArrayList<>(open.values());
+            return open.values().stream().filter(call -> events.stream().noneMatch(event -> call.isToldBy(event.answer))).toList();
         }
 
         String text() {
@@ -808,7 +809,7 @@ public final class Potzendai {
                     Set<Long> doubtful = pending.stream().map(call -> call.words[0]).collect(Collectors.toSet());
                     Round round = new Round(crew.round(new Task(number + rounds, lives, start, doubtful)), start, pending);
                     take(round);
-                    pending = round.pending.stream().filter(call -> call.mayStillCome(crew.contents)).toList();
+                    pending = round.pending;
                     sayings.clear();
                     for (Worker worker : crew.workers)
                         worker.sayings.forEach((word, count) -> sayings.merge(word, count, Long::sum));

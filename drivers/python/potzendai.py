@@ -488,11 +488,13 @@ class Round:
         self.measure()
 
     def measure(self):
-        """How many calls were open where another began, at which keys two writers met, and which changes have no answer."""
-        opened, self.calls, self.overlap, self.met = {}, 0, 0, set()
+        """How many calls were open where another began, at which keys two writers met, and which changes may still come: those that have no
+        answer, and of which no answer tells what they put."""
+        opened, told_of, self.calls, self.overlap, self.met = {}, set(), 0, 0, set()
         for event in self.events:
             process, call = event["process"], event.get("invoke")
             if call is None:
+                told_of.update(pair[1] for pair in event["answer"]) if type(event["answer"]) is list else told_of.add(event["answer"])
                 del opened[process]
                 continue
             self.calls += 1
@@ -500,7 +502,7 @@ class Round:
             if call[0] in WRITES and any(other[0] in WRITES and other[1] == call[1] for other in opened.values()):
                 self.met.add(call[1])
             opened[process] = call
-        self.pending = list(opened.values())
+        self.pending = [call for call in opened.values() if call[0] == "remove" or call[-1] not in told_of]
 
     def text(self):
         answers = [event["answer"] for event in self.events if isinstance(event.get("answer"), str)]
@@ -554,7 +556,7 @@ class Program:
 
 class Run:
     """Rounds at a new map, each of which begins with what the one before has left: the pairs, and calls without an answer that may still
-    come, which are those of which the last gets have not found what they put."""
+    come."""
 
     def __init__(self, options, make, program):
         self.options, self.make, self.program = options, make, program
@@ -577,7 +579,7 @@ class Run:
                 self.take(one, [sayings for _, sayings in taken])
                 if self.failed:
                     break
-                start, pending = left, [call for call in one.pending if call[0] == "remove" or left.get(call[1]) != call[-1]]
+                start, pending = left, one.pending
         finally:
             crew.close()
         return self

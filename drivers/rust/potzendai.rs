@@ -756,7 +756,7 @@ impl Round {
         round
     }
 
-    /// How many calls were open where another began, at which keys two writers met, and which changes have no answer.
+    /// How many calls were open where another began, at which keys two writers met, and which changes may still come.
     fn measure(&mut self) {
         let mut open: BTreeMap<usize, &Call> = BTreeMap::new();
         for (process, what) in &self.events {
@@ -771,7 +771,15 @@ impl Round {
             }
             open.insert(*process, call);
         }
-        self.pending = open.into_values().cloned().collect();
+        self.pending = open.into_values().filter(|call| !self.tells(call)).cloned().collect();
+    }
+
+    /// Whether an answer tells what a call puts: then it was done.
+    fn tells(&self, call: &Call) -> bool {
+        let value = call.1.last().map_or(String::new(), u64::to_string);
+        let in_pair = format!(",{value}]");
+        call.0 != "remove"
+            && self.events.iter().any(|(_, what)| matches!(what, What::Answer(answer) if *answer == value || answer.contains(&in_pair)))
     }
 
     fn text(&self) -> String {
@@ -846,8 +854,7 @@ impl Program {
 
 // A run
 
-/// Rounds at a new map, each of which begins with what the one before has left: the pairs, and calls without an answer that may still come,
-/// which are those of which the last gets have not found what they put.
+/// Rounds at a new map, each of which begins with what the one before has left: the pairs, and calls without an answer that may still come.
 struct Run {
     options: Options,
     sayings: [u64; 8],
@@ -918,9 +925,7 @@ impl Run {
             let (gets, left) = rest(&mut *session, &options, shared).map_err(named)?;
             events.extend(gets);
             let round = Round::new(events, start, &pending);
-            pending = round.pending.clone();
-            pending.retain(|call| call.0 == "remove" || left.get(&call.1[0]) != call.1.last());
-            (start, self.sayings) = (Arc::new(left), sayings);
+            (start, pending, self.sayings) = (Arc::new(left), round.pending.clone(), sayings);
             self.take(round, program)?;
         }
         Ok(())
