@@ -484,6 +484,7 @@ type worker struct {
 	draws   *draws
 	log     []event
 	puts    uint64
+	from    uint64 // each put has a value of its own, which was not in the map before
 	made    uint64
 	life    int
 }
@@ -505,6 +506,14 @@ func (w *worker) run(t task) {
 			w.memory[key] = ToldIf(value, is)
 		}
 	}
+	if w.from == 0 {
+		w.from = 1
+		for _, value := range t.start {
+			if value >= w.from {
+				w.from = value + 1
+			}
+		}
+	}
 	w.draws = newDraws(w.options.seed, t.round, w.number)
 	for w.made < w.options.calls && w.life < t.lives {
 		w.draw()
@@ -521,7 +530,7 @@ func (w *worker) draw() {
 	}
 	key, value, high := w.drawKey(writes(kind)), uint64(0), uint64(0)
 	if writes(kind) {
-		value = 1 + w.puts*w.options.threads + w.number
+		value = w.from + w.puts*w.options.threads + w.number
 		w.puts++
 	}
 	if kind == "scan" {

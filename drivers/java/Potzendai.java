@@ -443,6 +443,7 @@ public final class Potzendai {
         Index session;
         Draws draws;
         long puts, made;
+        Long valuesFrom; // each put has a value of its own, which was not in the map before
         int life;
         boolean closes;
 
@@ -464,6 +465,8 @@ public final class Potzendai {
         List<Event> run(Task task) {
             log = new ArrayList<>();
             made = life = 0;
+            if (valuesFrom == null)
+                valuesFrom = 1 + task.start.values().stream().max(Long::compareUnsigned).orElse(0L);
             seen.clear();
             memory.clear();
             for (long key = 0; key < options.keys && options.isVoid("own"); key++)
@@ -485,7 +488,7 @@ public final class Potzendai {
                     break;
                 place -= options.shares.get(each);
             }
-            long key = drawKey(kind.writes()), value = kind.writes() ? 1 + puts++ * options.threads + number : 0;
+            long key = drawKey(kind.writes()), value = kind.writes() ? valuesFrom + puts++ * options.threads + number : 0;
             long high = kind == Kind.SCAN ? Math.min(key + draws.below(SPAN), options.keys - 1) : 0;
             point();
             switch (kind) {

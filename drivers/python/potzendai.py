@@ -258,7 +258,8 @@ class Worker:
     """One thread or process: draws calls, makes them, and notes them with the stamps of their beginning and their end."""
 
     def __init__(self, number, options, stamp, locks, doubts):
-        self.number, self.options, self.stamp, self.locks, self.doubts, self.puts = number, options, stamp, locks, doubts, 0
+        self.number, self.options, self.stamp, self.locks, self.doubts = number, options, stamp, locks, doubts
+        self.puts, self.values_from = 0, None
         self.total = sum(options.shares.values())
 
     def open(self, made):
@@ -269,6 +270,8 @@ class Worker:
     def run(self, number, lives, start, doubtful):
         """The calls of a round, as at most so many processes: one whose answer is unknown makes no further call."""
         options = self.options
+        if self.values_from is None:
+            self.values_from = 1 + max(start.values(), default=0)  # each put has a value of its own, which was not in the map before
         self.draws, self.log, self.life, self.made, self.seen = Draws(options.seed, number, self.number), [], 0, 0, {}
         self.sayings = dict.fromkeys(("told",) + SAYINGS, 0)
         self.memory = {key: start.get(key, NONE) for key in range(options.keys) if key not in doubtful} if options.void == "own" else {}
@@ -286,7 +289,7 @@ class Worker:
         is_write = kind in WRITING or kind == "pop_first"
         key = self.key(is_write)
         if is_write:
-            value = 1 + self.puts * options.threads + self.number
+            value = (self.values_from + self.puts * options.threads + self.number) & GREATEST
             self.puts += 1
         if kind == "scan":
             high = min(key + self.draws.below(SPAN), options.keys - 1)

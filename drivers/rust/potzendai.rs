@@ -515,6 +515,8 @@ struct Worker<'a> {
     memory: HashMap<u64, Said>,
     log: Vec<Event>,
     puts: u64,
+    /// Each put has a value of its own, which was not in the map before.
+    values_from: Option<u64>,
     made: u64,
     life: usize,
 }
@@ -527,12 +529,14 @@ impl<'a> Worker<'a> {
             session = Box::new(Broken { truly: session, how, draws, keys: options.keys, once: HashMap::new(), late: None, style: None });
         }
         let (seen, memory) = (HashMap::new(), HashMap::new());
-        Worker { number, options, shared, session, draws: Draws(0), sayings: [0; 8], seen, memory, log: vec![], puts: 0, made: 0, life: 0 }
+        let (draws, values_from) = (Draws(0), None);
+        Worker { number, options, shared, session, draws, sayings: [0; 8], seen, memory, log: vec![], puts: 0, values_from, made: 0, life: 0 }
     }
 
     /// The calls of a round. A process whose answer is unknown makes no further call.
     fn run(&mut self, task: &Task) -> Result<(Vec<Event>, [u64; 8]), Stop> {
         (self.made, self.life) = (0, 0);
+        self.values_from.get_or_insert(task.start.values().max().map_or(1, |value| value.wrapping_add(1)));
         self.seen.clear();
         self.memory.clear();
         for key in (0..self.options.keys).filter(|key| self.options.void == "own" && !task.doubtful.contains(key)) {
@@ -567,7 +571,7 @@ impl<'a> Worker<'a> {
             place -= self.options.shares[each as usize];
         }
         let key = self.draw_key(kind.writes());
-        let value = 1 + self.puts * self.options.threads + self.number;
+        let value = self.values_from.unwrap_or(1).wrapping_add(self.puts * self.options.threads + self.number);
         self.puts += u64::from(kind.writes());
         let high = if kind == Scan { (key + self.draws.below(SPAN)).min(self.options.keys - 1) } else { 0 };
         point();
