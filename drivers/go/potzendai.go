@@ -925,6 +925,7 @@ type run struct {
 	began                              time.Time
 	rounds, calls, overlap, undecideds uint64
 	failed                             *round
+	cut                                []string
 }
 
 // Rounds from this number on, until one has no order, or the time is over.
@@ -938,7 +939,8 @@ func newRun(o *options, make func() Map, p *program, number uint64) *run {
 	for r.failed == nil && !r.isOver() {
 		lives := (processes - 1 - len(pending)) / int(o.threads)
 		if lives == 0 {
-			fail(undecided, "%s: %d calls are without an answer, which leaves no room for others", o.name, len(pending))
+			r.cut = append(r.cut, fmt.Sprintf("%s: %d calls are without an answer, which leaves no room for others", o.name, len(pending)))
+			break
 		}
 		doubtful := map[uint64]bool{}
 		for _, one := range pending {
@@ -1375,13 +1377,13 @@ func tested(name string, make func() Map, words []string) (status int, said []st
 	if r.failed != nil {
 		return no, r.refuted(), r.summary("no"), nil
 	}
-	if r.undecideds > 0 {
+	if r.undecideds > 0 || len(r.cut) > 0 {
 		status = undecided
 	}
 	if p == nil {
-		return status, []string{r.summary("not judged")}, "", nil
+		return status, append(r.cut, r.summary("not judged")), "", nil
 	}
-	return status, nil, r.summary(verdicts[status]), nil
+	return status, r.cut, r.summary(verdicts[status]), nil
 }
 
 // Each way to go wrong that the drawn calls can show has to be refuted: then the status is that of a no.

@@ -789,6 +789,7 @@ public final class Potzendai {
         final EnumMap<Word, Long> sayings = new EnumMap<>(Word.class);
         final Set<Long> met = new HashSet<>();
         final long began = System.nanoTime();
+        final List<String> cut = new ArrayList<>();
         long rounds, calls, overlap, undecided;
         Round failed;
 
@@ -806,8 +807,10 @@ public final class Potzendai {
                 List<Call> pending = List.of();
                 while (!isOver() && failed == null) {
                     int lives = (PROCESSES - 1 - pending.size()) / (int) options.threads;
-                    if (lives == 0)
-                        throw new Stop(UNDECIDED, options.name + ": " + pending.size() + " calls are without an answer, which leaves no room for others");
+                    if (lives == 0) {
+                        cut.add(options.name + ": " + pending.size() + " calls are without an answer, which leaves no room for others");
+                        break;
+                    }
                     Map<Long, Long> start = crew.contents;
                     Set<Long> doubtful = pending.stream().map(call -> call.words[0]).collect(Collectors.toSet());
                     Round round = new Round(crew.round(new Task(number + rounds, lives, start, doubtful)), start, pending);
@@ -1192,9 +1195,11 @@ public final class Potzendai {
         Run run = new Run(options, make, program).go(0);
         if (run.failed != null)
             return new Outcome(NO, refuted(run), run.summary("no"));
-        int status = run.undecided > 0 ? UNDECIDED : YES;
-        return program == null ? new Outcome(status, List.of(run.summary("not judged")), "")
-            : new Outcome(status, List.of(), run.summary(VERDICTS.get(status)));
+        int status = run.undecided > 0 || !run.cut.isEmpty() ? UNDECIDED : YES;
+        if (program != null)
+            return new Outcome(status, run.cut, run.summary(VERDICTS.get(status)));
+        run.cut.add(run.summary("not judged"));
+        return new Outcome(status, run.cut, "");
     }
 
     /** Each way to go wrong that the drawn calls can show has to be refuted: then the status is that of a no. */

@@ -564,6 +564,7 @@ class Run:
     def __init__(self, options, make, program):
         self.options, self.make, self.program = options, make, program
         self.rounds = self.calls = self.overlap = self.undecided = 0
+        self.cut = []
         self.sayings, self.met, self.failed, self.began = dict.fromkeys(("told",) + SAYINGS, 0), set(), None, time.monotonic()
 
     def go(self, number=0):
@@ -574,8 +575,8 @@ class Run:
             while not self.is_over():
                 lives = (PROCESSES - 1 - len(pending)) // self.options.threads
                 if lives == 0:
-                    raise Stop(UNDECIDED, "%s: %d calls are without an answer, which leaves no room for others" % (
-                        self.options.name, len(pending)))
+                    self.cut = ["%s: %d calls are without an answer, which leaves no room for others" % (self.options.name, len(pending))]
+                    break
                 taken = crew.run(number + self.rounds, lives, start, {call[1] for call in pending})
                 gets, left = crew.contents()
                 one = Round([log for log, _ in taken] + [gets], start, pending)
@@ -830,8 +831,8 @@ def tested(make, options):
             return NO, refuted(run), run.summary("no")
     finally:
         sys.setswitchinterval(interval)
-    status = UNDECIDED if run.undecided else YES
-    return (status, [], run.summary(VERDICTS[status])) if program else (status, [run.summary("not judged")], None)
+    status = UNDECIDED if run.undecided or run.cut else YES
+    return (status, run.cut, run.summary(VERDICTS[status])) if program else (status, run.cut + [run.summary("not judged")], None)
 
 
 def refuted(run):

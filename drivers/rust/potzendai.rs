@@ -868,6 +868,7 @@ struct Run {
     calls: u64,
     overlap: u64,
     undecided: u64,
+    cut: Vec<String>,
     failed: Option<Round>,
 }
 
@@ -879,7 +880,7 @@ impl Run {
         let shared = Shared { stamps: AtomicU64::new(0), locks };
         let mut run = Run {
             options: options.clone(), sayings: [0; 8], met: HashSet::new(), began: Instant::now(), rounds: 0, calls: 0, overlap: 0,
-            undecided: 0, failed: None,
+            undecided: 0, cut: vec![], failed: None,
         };
         std::thread::scope(|scope| {
             let mut threads = vec![];
@@ -911,8 +912,9 @@ impl Run {
             let named = |stop: Stop| Stop(stop.0, format!("{}: {}", options.name, stop.1));
             let lives = (PROCESSES - 1 - pending.len()) / threads.len();
             if lives == 0 {
-                let line = format!("{} calls are without an answer, which leaves no room for others", pending.len());
-                return fail(UNDECIDED, line).map_err(named);
+                let (name, count) = (&options.name, pending.len());
+                self.cut.push(format!("{name}: {count} calls are without an answer, which leaves no room for others"));
+                break;
             }
             let doubtful = Arc::new(pending.iter().map(|call: &Call| call.1[0]).collect());
             let missing = Arc::new(AtomicUsize::new(threads.len()));
@@ -1370,9 +1372,16 @@ fn tested<M: Map>(name: &str, make: &dyn Fn() -> M, words: &[String]) -> Result<
         return all_broken(options, make, program);
     }
     let run = Run::new(&options, make, program.as_ref(), 0)?;
-    let status = if run.failed.is_some() { NO } else if run.undecided > 0 { UNDECIDED } else { YES };
-    let Some(program) = program else { return Ok((status, vec![run.summary("not judged")], String::new())) };
-    let said = if run.failed.is_some() { refuted(&run, make, &program)? } else { vec![] };
+    let is_undecided = run.undecided > 0 || !run.cut.is_empty();
+    let status = if run.failed.is_some() { NO } else if is_undecided { UNDECIDED } else { YES };
+    let mut said = run.cut.clone();
+    let Some(program) = program else {
+        said.push(run.summary("not judged"));
+        return Ok((status, said, String::new()));
+    };
+    if run.failed.is_some() {
+        said = refuted(&run, make, &program)?;
+    }
     Ok((status, said, run.summary(VERDICTS[status as usize])))
 }
 
