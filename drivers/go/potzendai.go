@@ -877,6 +877,10 @@ func newProgram(o *options) *program {
 	}
 	p := &program{path, o.budget}
 	p.ask("explain", `{"events":[],"version":1}`+"\n", o.budget)
+	built := filepath.Join(filepath.Dir(path), "crates", "bench", "out", "bench") // by the repository's own bench
+	if _, err := os.Stat(built); err == nil {
+		p.path, _ = filepath.Abs(built)
+	}
 	return p
 }
 

@@ -528,6 +528,8 @@ class Program:
     def __init__(self, options):
         self.path, self.budget = options.bench or os.environ.get("POTZENDAI_BENCH") or self.found(), options.budget
         self.ask("explain", '{"events":[],"version":1}\n', self.budget)
+        built = os.path.join(os.path.dirname(self.path), "crates", "bench", "out", "bench")
+        self.path = built if os.access(built, os.X_OK) else self.path  # what the repository's own `bench` has built by now
 
     @staticmethod
     def found():

@@ -819,8 +819,12 @@ impl Program {
         let beside = std::path::Path::new("bench").is_file();
         let named = options.bench.clone().or_else(|| std::env::var("POTZENDAI_BENCH").ok());
         let path = named.unwrap_or_else(|| if beside { "./bench" } else { "bench" }.to_string());
-        let program = Program { path, budget: options.budget };
+        let mut program = Program { path, budget: options.budget };
         program.ask("explain", "{\"events\":[],\"version\":1}\n", options.budget)?;
+        let built = std::path::Path::new(&program.path).with_file_name("crates/bench/out/bench");
+        if built.is_file() {
+            program.path = built.display().to_string(); // by the repository's own `bench`
+        }
         Ok(program)
     }
 
