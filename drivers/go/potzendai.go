@@ -1,0 +1,1443 @@
+// Tests an ordered map of one's own: threads (goroutines) call its methods, what they do is recorded, and the program bench judges each
+// recording. Copy this file: Go 1.19 and the program are all that it needs. In a package of its own its first line is `package potzendai`,
+// and a whole program is
+//
+//	func main() { os.Exit(potzendai.Run("mine", func() potzendai.Map { return newMap() }, os.Args[1:]...)) }
+//
+// From any test, err := potzendai.Check("mine", .., "--seconds", "5") has the explanation.
+package main
+
+import (
+	"bytes"
+	"encoding/json"
+	"errors"
+	"fmt"
+	"math"
+	"os"
+	"os/exec"
+	"path/filepath"
+	"runtime"
+	"sort"
+	"strconv"
+	"strings"
+	"sync"
+	"sync/atomic"
+	"time"
+)
+
+// Map is a map of numbers. It may also have any of these methods, and those that it lacks are not called:
+//
+//	Session() Map                        what one thread calls in the place of the map, as a connection
+//	Close()                              of a session, at the end of a run
+//	Del(key uint64) Said                 the value before
+//	Scan(low, high uint64) Said          the pairs of one moment, both ends included
+//	Replace(key, old, value uint64) Said the value found; or Done where it was replaced, Other where it was not
+//	PutIfAbsent(key, value uint64) Said  None where it was put; else the value found
+//	Floor(key uint64) Said               the greatest pair up to the key
+//	Ceiling(key uint64) Said             the least pair from the key on
+//	PopFirst() Said                      the least pair, which is taken
+//
+// Nothing else changes the map.
+type Map interface {
+	Get(key uint64) Said        // the value
+	Put(key, value uint64) Said // the value before
+}
+
+// Said is what a method of the map answers.
+type Said struct {
+	word       string
+	key, value uint64
+	pairs      [][2]uint64
+}
+
+// None: there was no value. Done: it was done, and nothing is told. Found: there was a value, which is not told. Refused: nothing has
+// changed. Unknown: nobody knows whether it was done, as of a request that timed out.
+var (
+	None    = Said{word: "none"}
+	Done    = Said{word: "done"}
+	Found   = Said{word: "found"}
+	Other   = Said{word: "other"}
+	Refused = Said{word: "refused"}
+	Unknown = Said{word: "unknown"}
+)
+
+// Told is the value that there was.
+func Told(value uint64) Said { return Said{word: "told", value: value} }
+
+// ToldIf is the value that there was, or None where there was none.
+func ToldIf(value uint64, isThere bool) Said {
+	if !isThere {
+		return None
+	}
+	return Told(value)
+}
+
+// ToldPair is the pair that there was.
+func ToldPair(key, value uint64) Said { return Said{word: "told", key: key, value: value} }
+
+// FoundKey is a pair of which only the key is told.
+func FoundKey(key uint64) Said { return Said{word: "found", key: key} }
+
+// ToldPairs are those of a scan, by rising keys.
+func ToldPairs(pairs [][2]uint64) Said {
+	return Said{word: "told", pairs: append([][2]uint64{}, pairs...)}
+}
+
+func (s Said) tells() bool { return s.word == "told" || s.word == "none" }
+
+const (
+	yes, no, undecided, badWords, badFile = 0, 1, 2, 5, 6
+	processes, mostCalls, span, seldom    = 64, 4096, 16, 20
+)
+
+var (
+	sayings   = []string{"told", "none", "done", "found", "other", "refused", "unknown"}
+	kinds     = []string{"get", "put", "del", "scan", "replace", "put_if_absent", "floor", "ceiling", "pop_first"}
+	shares    = map[string]uint64{"get": 40, "put": 30, "del": 10, "scan": 5, "replace": 10, "put_if_absent": 5, "floor": 3, "ceiling": 3, "pop_first": 2}
+	histories = map[string]string{"get": "get", "put": "insert", "del": "remove", "scan": "scan", "replace": "replace", "put_if_absent": "insert"}
+	verdicts  = []string{"yes", "no", "undecided"}
+	breaks    = []string{"drop", "race", "replay", "stale", "zombie", "torn", "cas"}
+	broken    = map[string]string{"drop": "put", "race": "put", "replay": "put", "stale": "get", "zombie": "del", "torn": "scan", "cas": "replace"}
+)
+
+// A stop ends a run with a line and a status.
+type stop struct {
+	status int
+	line   string
+}
+
+func (s stop) Error() string { return s.line }
+
+func fail(status int, format string, words ...interface{}) {
+	panic(stop{status, fmt.Sprintf(format, words...)})
+}
+
+func isOneOf(word string, words ...string) bool {
+	for _, one := range words {
+		if one == word {
+			return true
+		}
+	}
+	return false
+}
+
+func writes(kind string) bool {
+	return isOneOf(kind, "put", "del", "replace", "put_if_absent", "pop_first")
+}
+
+// Draws
+
+// Steele, Lea and Flood's SplitMix: the number behind a state.
+func mixed(state uint64) uint64 {
+	z := state + 0x9e3779b97f4a7c15
+	z = (z ^ z>>30) * 0xbf58476d1ce4e5b9
+	z = (z ^ z>>27) * 0x94d049bb133111eb
+	return z ^ z>>31
+}
+
+// Numbers that a seed, a round and a thread decide.
+type draws struct{ state uint64 }
+
+func newDraws(seed, round, thread uint64) *draws {
+	return &draws{mixed(seed) ^ mixed(round+1<<40) ^ mixed(thread+1<<50)}
+}
+
+func (d *draws) below(bound uint64) uint64 {
+	drawn := mixed(d.state) % bound
+	d.state += 0x9e3779b97f4a7c15
+	return drawn
+}
+
+func (d *draws) pause() {
+	if d.below(4) != 0 {
+		runtime.Gosched()
+	} else {
+		time.Sleep(time.Duration(1000 + d.below(50000)))
+	}
+}
+
+var yields, points uint64
+
+// Point is to be called by a map's methods where another thread should get in between: under --yield it sometimes does.
+func Point() {
+	if often := atomic.LoadUint64(&yields); often > 0 {
+		drawn := draws{atomic.AddUint64(&points, 0x9e3779b97f4a7c15)}
+		if drawn.below(1000) < often {
+			drawn.pause()
+		}
+	}
+}
+
+// What a history has of a call
+
+// A call of a history: its name and its words.
+type call struct {
+	name  string
+	words []uint64
+}
+
+func (c *call) text() string {
+	text := `["` + c.name + `"`
+	for _, word := range c.words {
+		text += "," + strconv.FormatUint(word, 10)
+	}
+	return text + "]"
+}
+
+func (c *call) writes() bool { return isOneOf(c.name, "insert", "remove", "replace") }
+
+func pairsText(pairs [][2]uint64) string {
+	texts := make([]string, len(pairs))
+	for i, pair := range pairs {
+		texts[i] = fmt.Sprintf("[%d,%d]", pair[0], pair[1])
+	}
+	return "[" + strings.Join(texts, ",") + "]"
+}
+
+// The words that a function may answer beside what it tells.
+var fits = map[string][]string{
+	"get": {"told", "none", "done", "found", "refused", "unknown"}, "put": {"told", "none", "done", "found", "refused", "unknown"},
+	"del": {"told", "none", "done", "found", "refused", "unknown"}, "scan": {"told", "none", "done", "refused", "unknown"},
+	"replace":       {"told", "none", "done", "found", "other", "refused", "unknown"},
+	"put_if_absent": {"told", "none", "found", "refused", "unknown"}, "floor": {"told", "none", "done", "found", "refused", "unknown"},
+	"ceiling": {"told", "none", "done", "found", "refused", "unknown"}, "pop_first": {"told", "none", "found", "refused"},
+}
+
+// An answer as a text; none where the call stays open.
+func answerText(said Said) string {
+	switch said.word {
+	case "told":
+		return strconv.FormatUint(said.value, 10)
+	case "none":
+		return "null"
+	case "unknown":
+		return ""
+	}
+	return `"` + said.word + `"`
+}
+
+// Floor and ceiling are scans from the key to what was found, or to the end.
+func edge(kind string, key uint64, said Said) (*call, string) {
+	low, high := key, uint64(math.MaxUint64)
+	if kind == "floor" {
+		low, high = 0, key
+	}
+	if said.word == "none" {
+		return &call{"scan", []uint64{low, high}}, "[]"
+	}
+	if said.word == "found" {
+		return &call{"get", []uint64{said.key}}, `"found"`
+	}
+	if low <= said.key && said.key <= high {
+		if kind == "floor" {
+			low = said.key
+		} else {
+			high = said.key
+		}
+	}
+	return &call{"scan", []uint64{low, high}}, pairsText([][2]uint64{{said.key, said.value}})
+}
+
+// The call and the answer that a history has; no call where it is left out, since it tells nothing.
+func noted(kind string, words []uint64, said Said) (*call, string) {
+	isRead := isOneOf(kind, "get", "scan", "floor", "ceiling")
+	if said.word == "refused" && !isOneOf(kind, "put", "del", "replace") || isRead && isOneOf(said.word, "done", "unknown") {
+		return nil, ""
+	}
+	switch {
+	case kind == "floor" || kind == "ceiling":
+		return edge(kind, words[0], said)
+	case kind == "pop_first" && said.word == "none":
+		return &call{"scan", []uint64{0, math.MaxUint64}}, "[]"
+	case kind == "pop_first":
+		return &call{"remove", []uint64{said.key}}, answerText(said)
+	case kind == "scan":
+		return &call{"scan", words}, pairsText(said.pairs)
+	case kind == "put_if_absent" && isOneOf(said.word, "told", "found"):
+		return &call{"get", words[:1]}, answerText(said)
+	case kind == "replace" && said.word == "done":
+		return &call{"replace", words}, strconv.FormatUint(words[1], 10)
+	}
+	return &call{histories[kind], words}, answerText(said)
+}
+
+// The functions of a session: of those that it lacks there is none.
+type functions map[string]func(words ...uint64) Said
+
+func functionsOf(session Map) functions {
+	has := functions{
+		"get": func(words ...uint64) Said { return session.Get(words[0]) },
+		"put": func(words ...uint64) Said { return session.Put(words[0], words[1]) },
+	}
+	if it, is := session.(interface{ Del(uint64) Said }); is {
+		has["del"] = func(words ...uint64) Said { return it.Del(words[0]) }
+	}
+	if it, is := session.(interface{ Scan(low, high uint64) Said }); is {
+		has["scan"] = func(words ...uint64) Said { return it.Scan(words[0], words[1]) }
+	}
+	if it, is := session.(interface {
+		Replace(key, old, value uint64) Said
+	}); is {
+		has["replace"] = func(words ...uint64) Said { return it.Replace(words[0], words[1], words[2]) }
+	}
+	if it, is := session.(interface{ PutIfAbsent(key, value uint64) Said }); is {
+		has["put_if_absent"] = func(words ...uint64) Said { return it.PutIfAbsent(words[0], words[1]) }
+	}
+	if it, is := session.(interface{ Floor(uint64) Said }); is {
+		has["floor"] = func(words ...uint64) Said { return it.Floor(words[0]) }
+	}
+	if it, is := session.(interface{ Ceiling(uint64) Said }); is {
+		has["ceiling"] = func(words ...uint64) Said { return it.Ceiling(words[0]) }
+	}
+	if it, is := session.(interface{ PopFirst() Said }); is {
+		has["pop_first"] = func(words ...uint64) Said { return it.PopFirst() }
+	}
+	return has
+}
+
+// The session of one thread, and what closes it.
+func sessionOf(m Map) (Map, func()) {
+	it, is := m.(interface{ Session() Map })
+	if !is {
+		return m, func() {}
+	}
+	session := it.Session()
+	if closing, is := session.(interface{ Close() }); is {
+		return session, closing.Close
+	}
+	return session, func() {}
+}
+
+func (f functions) ask(kind string, words ...uint64) Said {
+	said := f[kind](words...)
+	if !isOneOf(said.word, fits[kind]...) {
+		fail(badWords, "%s said %s, which does not fit it", kind, map[bool]string{true: "nothing", false: said.word}[said.word == ""])
+	}
+	return said
+}
+
+// A map that is wrong now and then, around one that may be right: a test of the test
+
+type wrong struct {
+	truly functions
+	how   string
+	draws *draws
+	keys  uint64
+	once  map[uint64]Said
+	late  []uint64
+	style string
+}
+
+func (w *wrong) goes(how string) bool { return w.how == how && w.draws.below(seldom) == 0 }
+
+// What the put of the map would say where a get says this.
+func (w *wrong) inStyle(got Said) Said {
+	if w.style == "done" {
+		return Done
+	}
+	if w.style == "found" && got.word == "told" {
+		return Found
+	}
+	return got
+}
+
+func (w *wrong) get(words ...uint64) Said {
+	once, is := w.once[words[0]]
+	if is && w.goes("stale") {
+		return once
+	}
+	said := w.truly["get"](words...)
+	if said.tells() && (!is || w.draws.below(4) == 0) {
+		w.once[words[0]] = said
+	}
+	return said
+}
+
+// A put after a get, as if they were one: of the key itself where the put tells what it found, else of the key beside it, which is put back
+// as it was got.
+func (w *wrong) race(key, value uint64) Said {
+	beside := key ^ 1
+	if w.style == "told" || beside >= w.keys {
+		beside = key
+	}
+	got := w.truly["get"](beside)
+	w.draws.pause()
+	if beside != key && got.word == "told" {
+		w.truly["put"](beside, got.value)
+	}
+	said := w.truly["put"](key, value)
+	if beside != key || w.style == "done" || !got.tells() {
+		return said
+	}
+	return w.inStyle(got)
+}
+
+func (w *wrong) put(words ...uint64) Said {
+	if w.style != "" && w.goes("race") {
+		return w.race(words[0], words[1])
+	}
+	if w.style != "" && w.goes("drop") {
+		if got := w.truly["get"](words[0]); got.tells() {
+			return w.inStyle(got)
+		}
+	}
+	if w.goes("replay") {
+		w.late = words
+	}
+	said := w.truly["put"](words...)
+	if isOneOf(said.word, "told", "done", "found") {
+		w.style = said.word
+	}
+	return said
+}
+
+func (w *wrong) del(words ...uint64) Said {
+	if w.goes("zombie") {
+		if got := w.truly["get"](words[0]); got.word == "told" {
+			w.late = []uint64{words[0], got.value}
+		}
+	}
+	return w.truly["del"](words...)
+}
+
+func (w *wrong) scan(words ...uint64) Said {
+	low, high := words[0], words[1]
+	if low == high || !w.goes("torn") {
+		return w.truly["scan"](low, high)
+	}
+	first := w.truly["scan"](low, (low+high)/2)
+	w.draws.pause()
+	second := w.truly["scan"]((low+high)/2+1, high)
+	if first.word != "told" || second.word != "told" {
+		return w.truly["scan"](low, high)
+	}
+	return ToldPairs(append(append([][2]uint64{}, first.pairs...), second.pairs...))
+}
+
+func (w *wrong) replace(words ...uint64) Said {
+	if !w.goes("cas") {
+		return w.truly["replace"](words...)
+	}
+	if said := w.truly["put"](words[0], words[2]); isOneOf(said.word, "refused", "unknown") {
+		return said
+	}
+	return Done
+}
+
+// The functions of the broken map: those of the true one. A put that still comes, comes soon, before another call.
+func (w *wrong) functions() functions {
+	all := functions{}
+	own := functions{"get": w.get, "put": w.put, "del": w.del, "scan": w.scan, "replace": w.replace}
+	for kind, function := range w.truly {
+		if wrongly, is := own[kind]; is {
+			function = wrongly
+		}
+		function := function
+		all[kind] = func(words ...uint64) Said {
+			if w.late != nil && w.draws.below(2) == 1 {
+				late := w.late
+				w.late = nil
+				w.truly["put"](late...)
+			}
+			return function(words...)
+		}
+	}
+	return all
+}
+
+// Threads and what they record
+
+// An event: the invocation of a call, or an answer where there is none. Once it is in a round, its process is told.
+type event struct {
+	stamp        uint64
+	thread, life int
+	process      int
+	call         *call
+	answer       string
+}
+
+// A task is the number of a round, as how many processes a thread may go on, what the map holds, and keys at which calls have no answer.
+type task struct {
+	round    uint64
+	lives    int
+	start    map[uint64]uint64
+	doubtful map[uint64]bool
+}
+
+// The lock of a key; and whether a call that writes it has no answer, and so may still come between a get and the put behind it.
+type keyLock struct {
+	sync.Mutex
+	isDoubtful bool
+}
+
+// A worker is one thread: it draws calls, makes them, and notes them with the stamps of their beginning and their end.
+type worker struct {
+	number  uint64
+	options *options
+	stamps  *atomic.Uint64
+	locks   []keyLock
+	has     functions
+	close   func()
+	sayings map[string]uint64
+	seen    map[uint64]uint64
+	memory  map[uint64]Said
+	draws   *draws
+	log     []event
+	puts    uint64
+	from    uint64 // each put has a value of its own, which was not in the map before
+	made    uint64
+	life    int
+}
+
+func (w *worker) open(m Map) {
+	session, closing := sessionOf(m)
+	w.has, w.close = functionsOf(session), closing
+	if w.options.broken != "" {
+		all := &wrong{truly: w.has, how: w.options.broken, draws: newDraws(w.options.seed, 0, w.number), keys: w.options.keys, once: map[uint64]Said{}}
+		w.has = all.functions()
+	}
+}
+
+// The calls of a round. A process whose answer is unknown makes no further call.
+func (w *worker) run(t task) {
+	w.log, w.made, w.life, w.seen, w.memory = nil, 0, 0, map[uint64]uint64{}, map[uint64]Said{}
+	for key := uint64(0); key < w.options.keys && w.options.void == "own"; key++ {
+		if value, is := t.start[key]; !t.doubtful[key] {
+			w.memory[key] = ToldIf(value, is)
+		}
+	}
+	if w.from == 0 {
+		w.from = 1
+		for _, value := range t.start {
+			if value >= w.from {
+				w.from = value + 1
+			}
+		}
+	}
+	w.draws = newDraws(w.options.seed, t.round, w.number)
+	for w.made < w.options.calls && w.life < t.lives {
+		w.draw()
+	}
+}
+
+func (w *worker) draw() {
+	place, kind := w.draws.below(w.options.total()), ""
+	for _, kind = range kinds {
+		if place < w.options.shares[kind] {
+			break
+		}
+		place -= w.options.shares[kind]
+	}
+	key, value, high := w.drawKey(writes(kind)), uint64(0), uint64(0)
+	if writes(kind) {
+		value = w.from + w.puts*w.options.threads + w.number
+		w.puts++
+	}
+	if kind == "scan" {
+		if high = key + w.draws.below(span); high >= w.options.keys {
+			high = w.options.keys - 1
+		}
+	}
+	Point()
+	switch {
+	case kind == "scan" && w.options.scan == "steps":
+		w.steps(key, high)
+	case kind == "scan":
+		w.make(kind, key, high)
+	case kind == "pop_first":
+		w.make(kind)
+	case kind == "put" || kind == "put_if_absent":
+		w.write(kind, key, value)
+	case kind == "del":
+		w.write(kind, key)
+	case kind == "replace":
+		w.write(kind, key, w.seen[key], value)
+	default:
+		w.make(kind, key)
+	}
+}
+
+func (w *worker) drawKey(isWrite bool) uint64 {
+	bound := w.options.keys
+	if 0 < w.options.hot && w.options.hot < bound && w.draws.below(10) < 9 {
+		bound = w.options.hot
+	}
+	key := w.draws.below(bound)
+	if w.options.void != "own" || !isWrite {
+		return key
+	}
+	if key = key/w.options.threads*w.options.threads + w.number; key < w.options.keys {
+		return key
+	}
+	return w.number
+}
+
+func (w *worker) steps(low, high uint64) {
+	for low <= high && w.made < w.options.calls {
+		said := w.make("ceiling", low)
+		if said.word != "told" || said.key < low || said.key == math.MaxUint64 {
+			break
+		}
+		low = said.key + 1
+	}
+}
+
+func (w *worker) write(kind string, words ...uint64) {
+	if w.locks != nil {
+		w.locks[words[0]].Lock()
+		defer w.locks[words[0]].Unlock()
+	}
+	w.make(kind, words...)
+}
+
+// Makes a call between two stamps, and notes it.
+func (w *worker) make(kind string, words ...uint64) Said {
+	isVoid, got := kind == "put" || kind == "del", Done
+	begin := w.stamps.Add(1)
+	if w.locks != nil && isVoid {
+		got = w.has.ask("get", words[0])
+	}
+	said := w.has.ask(kind, words...)
+	end := w.stamps.Add(1)
+	w.made++
+	w.sayings[said.word]++
+	known := said
+	if writes(kind) && len(words) > 0 {
+		if w.locks != nil {
+			lock := &w.locks[words[0]]
+			if lock.isDoubtful = lock.isDoubtful || said.word == "unknown"; lock.isDoubtful {
+				got = Done
+			}
+		}
+		known = w.known(kind, words, said, got)
+	}
+	if w.options.void == "told" && isVoid && isOneOf(known.word, "done", "found") {
+		fail(badWords, "%s said %s, and --void told wants the value before", kind, known.word)
+	}
+	if kind == "put" || kind == "replace" && said.word == "done" {
+		w.seen[words[0]] = words[len(words)-1]
+	} else if said.word == "told" && isOneOf(kind, "get", "del", "replace", "put_if_absent") {
+		w.seen[words[0]] = said.value
+	}
+	w.note(begin, end, kind, words, known)
+	return said
+}
+
+// What is known of the answer: where a put or del was done, and does not tell what it found, from the get in front of it under the key's
+// lock, or from what the one writer of the key remembers.
+func (w *worker) known(kind string, words []uint64, said, got Said) Said {
+	before, isKnown := w.memory[words[0]]
+	isPut := kind == "put" || kind == "put_if_absent" && said.word == "none" ||
+		kind == "replace" && (said.word == "done" || said.word == "told" && said.value == words[1])
+	switch {
+	case !isKnown || said.word == "refused":
+	case said.word == "unknown" || kind == "replace" && said.word == "found":
+		delete(w.memory, words[0])
+	case isPut:
+		w.memory[words[0]] = Told(words[len(words)-1])
+	case kind == "del":
+		w.memory[words[0]] = None
+	}
+	if kind != "put" && kind != "del" || said.word != "done" {
+		return said
+	}
+	if isKnown {
+		return before
+	}
+	if got.tells() {
+		return got
+	}
+	return said
+}
+
+func (w *worker) note(begin, end uint64, kind string, words []uint64, said Said) {
+	call, answer := noted(kind, words, said)
+	if call == nil {
+		return
+	}
+	w.log = append(w.log, event{stamp: begin, thread: int(w.number), life: w.life, call: call})
+	if answer == "" {
+		w.life++
+	} else {
+		w.log = append(w.log, event{stamp: end, thread: int(w.number), life: w.life, answer: answer})
+	}
+}
+
+// A crew is the threads of a run, and a session of the driver's own. Behind a round, `contents` is what the map holds.
+type crew struct {
+	options  *options
+	stamps   atomic.Uint64
+	workers  []*worker
+	session  functions
+	close    func()
+	contents map[uint64]uint64
+}
+
+func newCrew(o *options, m Map) *crew {
+	c := &crew{options: o}
+	var locks []keyLock
+	if o.void == "lock" {
+		locks = make([]keyLock, o.keys)
+	}
+	for number := uint64(0); number < o.threads; number++ {
+		c.workers = append(c.workers, &worker{number: number, options: o, stamps: &c.stamps, locks: locks, sayings: map[string]uint64{}})
+	}
+	c.each(func(w *worker) { w.open(m) })
+	session, closing := sessionOf(m)
+	c.session, c.close = functionsOf(session), closing
+	return c
+}
+
+// Has each worker do its part, all at once. Where one goes wrong, the run ends.
+func (c *crew) each(part func(*worker)) {
+	var all sync.WaitGroup
+	var missing atomic.Int64
+	missing.Store(int64(len(c.workers)))
+	wrongs := make([]interface{}, len(c.workers))
+	all.Add(len(c.workers))
+	for i, one := range c.workers {
+		i, one := i, one
+		go func() {
+			defer all.Done()
+			defer func() {
+				if wrongs[i] = recover(); wrongs[i] != nil {
+					if _, is := wrongs[i].(stop); !is {
+						buffer := make([]byte, 4096)
+						wrongs[i] = stop{badWords, fmt.Sprint(wrongs[i], "\n", string(buffer[:runtime.Stack(buffer, false)]))}
+					}
+				}
+			}()
+			missing.Add(-1)
+			for times := 0; missing.Load() > 0; times++ {
+				if times%1024 == 1023 {
+					runtime.Gosched()
+				}
+			}
+			part(one)
+		}()
+	}
+	all.Wait()
+	for _, wrong := range wrongs {
+		if wrong != nil {
+			fail(wrong.(stop).status, "%s: %s", c.options.name, wrong.(stop).line)
+		}
+	}
+}
+
+// A round: its events, with gets of all keys behind those of the threads.
+func (c *crew) round(t task) []event {
+	c.each(func(w *worker) { w.run(t) })
+	var events []event
+	for _, one := range c.workers {
+		events = append(events, one.log...)
+	}
+	return append(events, c.rest()...)
+}
+
+func (c *crew) rest() []event {
+	var events []event
+	c.contents = map[uint64]uint64{}
+	thread := int(c.options.threads)
+	for key := uint64(0); key < c.options.keys; key++ {
+		said, begin, end := Done, uint64(0), uint64(0)
+		for i := 0; i < 1000 && !said.tells(); i++ {
+			begin = c.stamps.Add(1)
+			said = c.session.ask("get", key)
+			end = c.stamps.Add(1)
+		}
+		if !said.tells() {
+			fail(badWords, "%s: get of %d said %s at rest, where it has to tell", c.options.name, key, said.word)
+		}
+		events = append(events, event{stamp: begin, thread: thread, call: &call{"get", []uint64{key}}},
+			event{stamp: end, thread: thread, answer: answerText(said)})
+		if said.word == "told" {
+			c.contents[key] = said.value
+		}
+	}
+	return events
+}
+
+func (c *crew) closeAll() {
+	for _, one := range c.workers {
+		if one.close != nil {
+			one.close()
+		}
+	}
+	c.close()
+}
+
+// Histories
+
+// A round as a history, and what its threads met.
+type round struct {
+	start          map[uint64]uint64
+	events         []event
+	pending        []*call
+	met            map[uint64]bool
+	calls, overlap uint64
+}
+
+// Each thread, and each of its lives, becomes a process; calls that have no answer from before are the first.
+func newRound(events []event, start map[uint64]uint64, before []*call) *round {
+	r := &round{start: start, met: map[uint64]bool{}}
+	for i, one := range before {
+		r.events = append(r.events, event{call: one, process: i})
+	}
+	sort.Slice(events, func(i, j int) bool { return events[i].stamp < events[j].stamp })
+	numbers := map[[2]int]int{}
+	for _, one := range events {
+		own := [2]int{one.thread, one.life}
+		if _, is := numbers[own]; !is {
+			numbers[own] = len(before) + len(numbers)
+		}
+		one.process = numbers[own]
+		r.events = append(r.events, one)
+	}
+	r.measure()
+	return r
+}
+
+// How many calls were open where another began, at which keys two writers met, and which changes may still come.
+func (r *round) measure() {
+	open := map[int]*call{}
+	for _, one := range r.events {
+		if one.call == nil {
+			delete(open, one.process)
+			continue
+		}
+		r.calls++
+		r.overlap += uint64(len(open))
+		for _, other := range open {
+			if one.call.writes() && other.writes() && one.call.words[0] == other.words[0] {
+				r.met[one.call.words[0]] = true
+			}
+		}
+		open[one.process] = one.call
+	}
+	for _, one := range open {
+		if !r.tells(one) {
+			r.pending = append(r.pending, one)
+		}
+	}
+}
+
+// Whether an answer tells what a call puts: then it was done.
+func (r *round) tells(one *call) bool {
+	value := strconv.FormatUint(one.words[len(one.words)-1], 10)
+	for _, each := range r.events {
+		if one.name != "remove" && (each.answer == value || strings.Contains(each.answer, ","+value+"]")) {
+			return true
+		}
+	}
+	return false
+}
+
+func (r *round) text() string {
+	version, texts := 1, make([]string, len(r.events))
+	var pairs [][2]uint64
+	for key, value := range r.start {
+		pairs = append(pairs, [2]uint64{key, value})
+		version = 2
+	}
+	sort.Slice(pairs, func(i, j int) bool { return pairs[i][0] < pairs[j][0] })
+	for i, one := range r.events {
+		if one.call != nil {
+			texts[i] = fmt.Sprintf(`{"invoke":%s,"process":%d}`, one.call.text(), one.process)
+		} else {
+			texts[i] = fmt.Sprintf(`{"answer":%s,"process":%d}`, one.answer, one.process)
+		}
+		if isOneOf(one.answer, `"done"`, `"found"`, `"other"`) {
+			version = 3
+		} else if one.call != nil && one.call.name == "replace" && version == 1 {
+			version = 2
+		}
+	}
+	begin := `{"events":[` + strings.Join(texts, ",") + `]`
+	if version > 1 {
+		begin += `,"start":` + pairsText(pairs)
+	}
+	return fmt.Sprintf("%s,\"version\":%d}\n", begin, version)
+}
+
+// The program bench.
+type program struct {
+	path   string
+	budget uint64
+}
+
+func newProgram(o *options) *program {
+	path := o.bench
+	if path == "" {
+		path = os.Getenv("POTZENDAI_BENCH")
+	}
+	if info, err := os.Stat("bench"); path == "" && err == nil && info.Mode().IsRegular() {
+		path = "./bench"
+	} else if path == "" {
+		path = "bench"
+	}
+	p := &program{path, o.budget}
+	p.ask("explain", `{"events":[],"version":1}`+"\n", o.budget)
+	built := filepath.Join(filepath.Dir(path), "crates", "bench", "out", "bench") // by the repository's own bench
+	if _, err := os.Stat(built); err == nil {
+		p.path, _ = filepath.Abs(built)
+	}
+	return p
+}
+
+// The verdict: once more at ten times the budget where it is undecided.
+func (p *program) judge(text string) int {
+	status, _ := p.ask("judge", text, p.budget)
+	if more := p.budget * 10; status == undecided && more <= 1000000 {
+		status, _ = p.ask("judge", text, more)
+	}
+	return status
+}
+
+func (p *program) ask(command, text string, budget uint64) (int, string) {
+	asked := exec.Command(p.path, command, "--budget", strconv.FormatUint(budget, 10))
+	var out bytes.Buffer
+	asked.Stdin, asked.Stdout, asked.Stderr = strings.NewReader(text), &out, os.Stderr
+	err := asked.Run()
+	var ended *exec.ExitError
+	if err != nil && !errors.As(err, &ended) {
+		fail(badFile, "%s: %s", p.path, err)
+	}
+	status := asked.ProcessState.ExitCode()
+	if status < yes || status > badFile {
+		fail(badFile, "%s %s: status %d", p.path, command, status)
+	}
+	if status > undecided {
+		fail(status, "%s %s: status %d", p.path, command, status)
+	}
+	report, _, _ := strings.Cut(out.String(), "\n")
+	if command != "draw" && !strings.HasSuffix(report, `"verdict":"`+verdicts[status]+`"}`) {
+		fail(badFile, "%s %s: status %d without its verdict", p.path, command, status)
+	}
+	return status, out.String()
+}
+
+// A run
+
+// A run is of rounds at a new map, each of which begins with what the one before has left: the pairs, and calls without an answer that may
+// still come.
+type run struct {
+	options                            *options
+	make                               func() Map
+	program                            *program
+	sayings                            map[string]uint64
+	met                                map[uint64]bool
+	began                              time.Time
+	rounds, calls, overlap, undecideds uint64
+	failed                             *round
+	cut                                []string
+}
+
+// Rounds from this number on, until one has no order, or the time is over.
+func newRun(o *options, make func() Map, p *program, number uint64) *run {
+	r := &run{options: o, make: make, program: p, met: map[uint64]bool{}, began: time.Now()}
+	atomic.StoreUint64(&yields, o.yields)
+	c := newCrew(o, make())
+	defer c.closeAll()
+	c.rest()
+	var pending []*call
+	for r.failed == nil && !r.isOver() {
+		lives := (processes - 1 - len(pending)) / int(o.threads)
+		if lives == 0 {
+			r.cut = append(r.cut, fmt.Sprintf("%s: %d calls are without an answer, which leaves no room for others", o.name, len(pending)))
+			break
+		}
+		doubtful := map[uint64]bool{}
+		for _, one := range pending {
+			doubtful[one.words[0]] = true
+		}
+		start := c.contents
+		one := newRound(c.round(task{number + r.rounds, lives, start, doubtful}), start, pending)
+		r.take(one, c.workers)
+		pending = one.pending
+	}
+	return r
+}
+
+func (r *run) take(one *round, workers []*worker) {
+	r.rounds++
+	r.calls += one.calls
+	r.overlap += one.overlap
+	for key := range one.met {
+		r.met[key] = true
+	}
+	r.sayings = map[string]uint64{}
+	for _, each := range workers {
+		for word, count := range each.sayings {
+			r.sayings[word] += count
+		}
+	}
+	if r.program == nil {
+		if _, err := os.Stdout.WriteString(one.text()); err != nil {
+			fail(badFile, "standard output: a history was not written")
+		}
+		return
+	}
+	switch r.program.judge(one.text()) {
+	case no:
+		r.failed = one
+	case undecided:
+		r.undecideds++
+	}
+}
+
+// At least one round is made. Each second a line on a terminal says how far this is.
+func (r *run) isOver() bool {
+	o, seconds := r.options, time.Since(r.began).Seconds()
+	if o.shows && time.Since(o.shown) > time.Second && r.calls > 0 {
+		all := uint64(0)
+		for _, count := range r.sayings {
+			all += count
+		}
+		o.shown = time.Now()
+		fmt.Fprintf(os.Stderr, "%d calls, %.0f a second, overlap %.1f a call, %.1f%% refused, two writers met on %d of %d keys\n", r.calls,
+			float64(r.calls)/seconds, float64(r.overlap)/float64(r.calls), 100*float64(r.sayings["refused"])/math.Max(float64(all), 1),
+			len(r.met), o.keys)
+	}
+	return r.rounds > 0 && (o.rounds > 0 && r.rounds >= o.rounds || seconds >= float64(o.seconds))
+}
+
+// The verdict, and what it rests on.
+func (r *run) summary(verdict string) string {
+	said := []string{}
+	for _, word := range sayings {
+		if r.sayings[word] > 0 {
+			said = append(said, fmt.Sprintf("%d %s", r.sayings[word], word))
+		}
+	}
+	undecideds := ""
+	if r.undecideds > 0 {
+		undecideds = fmt.Sprintf("; %d undecided", r.undecideds)
+	}
+	return fmt.Sprintf("%s: %d rounds, %d calls in %.1f seconds, overlap %.2f a call: %s%s", verdict, r.rounds,
+		r.calls, time.Since(r.began).Seconds(), float64(r.overlap)/math.Max(float64(r.calls), 1), strings.Join(said, ", "), undecideds)
+}
+
+// The smallest run that failed, of some tries with half of the calls or keys, or a thread less. Threads interleave as they will. Where calls
+// have no answer none is tried, since they may still come.
+func (r *run) smaller() *run {
+	best, until, tries := r, time.Now().Add(5*time.Second), 0
+	if r.sayings["unknown"] > 0 {
+		return best
+	}
+	for how := 0; how < 3; how++ {
+		less := best.options.less(how)
+		for i := 0; less != nil && i < 6 && tries < 60 && time.Now().Before(until); i++ {
+			tries++
+			if again := newRun(less, r.make, r.program, r.rounds-1); again.failed != nil {
+				best, how = again, -1
+				break
+			}
+		}
+	}
+	return best
+}
+
+// A no in words
+
+func saidPairs(pairs []interface{}) string {
+	texts := []string{}
+	for _, pair := range pairs {
+		texts = append(texts, fmt.Sprintf("%v: %v", pair.([]interface{})[0], pair.([]interface{})[1]))
+	}
+	if len(texts) == 0 {
+		return "nothing"
+	}
+	return strings.Join(texts, ", ")
+}
+
+func saidAnswer(answer interface{}) string {
+	if pairs, is := answer.([]interface{}); is {
+		return saidPairs(pairs)
+	}
+	said, is := map[interface{}]string{nil: "none", "done": "that it was done", "found": "that there was a value", "other": "another value",
+		"refused": "that it was refused", "open": "nothing that counts"}[answer]
+	if !is {
+		said = fmt.Sprint(answer)
+	}
+	return said
+}
+
+func saidCall(words []interface{}) string {
+	switch words[0] {
+	case "insert":
+		return fmt.Sprintf("put %v at %v", words[2], words[1])
+	case "replace":
+		return fmt.Sprintf("replace %v at %v by %v", words[2], words[1], words[3])
+	case "scan":
+		return fmt.Sprintf("scan from %v to %v", words[1], words[2])
+	}
+	return fmt.Sprintf("%v %v", words[0], words[1])
+}
+
+// Who put a value.
+func saidWriter(r *round, answer interface{}) string {
+	value, is := answer.(json.Number)
+	if !is {
+		return ""
+	}
+	for i, one := range r.events {
+		if one.call != nil && isOneOf(one.call.name, "insert", "replace") && fmt.Sprint(one.call.words[len(one.call.words)-1]) == value.String() {
+			return fmt.Sprintf("; %v is what process %d put (event %d)", value, one.process, i)
+		}
+	}
+	for _, held := range r.start {
+		if fmt.Sprint(held) == value.String() {
+			return fmt.Sprintf("; %v was there at the start", value)
+		}
+	}
+	return fmt.Sprintf("; %v is what nobody put", value)
+}
+
+// A line of a report: what it is of is seen by its members.
+type reported struct {
+	Answer, Would      interface{}
+	Call, Front, Holds []interface{}
+	Event, Process     json.Number
+	Reason             string
+	Next               []reported
+}
+
+// A report of explain in words, and the line that is the few calls' history, if it is there.
+func saidReport(report string, r *round) (said []string, few string) {
+	lines := strings.Split(strings.TrimSpace(report), "\n")
+	said = append(said, lines[0])
+	if len(lines) > 1 {
+		said = append(said, "these calls have no order, whatever else was done:")
+	}
+	for _, text := range lines[1:] {
+		var line reported
+		decoder := json.NewDecoder(strings.NewReader(text))
+		decoder.UseNumber()
+		if err := decoder.Decode(&line); err != nil {
+			fail(badFile, "explain: %s", err)
+		}
+		event, _ := line.Event.Int64()
+		process, _ := line.Process.Int64()
+		switch {
+		case strings.HasPrefix(text, `{"events"`):
+			few = text + "\n"
+		case line.Reason != "":
+			said = append(said, fmt.Sprintf("  event %-6d process %-3d %s, answered %s", event, process, saidCall(line.Call),
+				saidAnswer(line.Answer)+saidWriter(r, line.Answer)))
+		case line.Front != nil:
+			front := strings.ReplaceAll(fmt.Sprint(line.Front), " ", ",")
+			said = append(said, "  an order of them gets as far as the events "+front+"; the map then holds "+saidPairs(line.Holds))
+		}
+		for _, next := range line.Next {
+			said = append(said, fmt.Sprintf("  the call of event %v was answered %s, and would be answered %s%s", next.Event,
+				saidAnswer(next.Answer), saidAnswer(next.Would), saidWriter(r, next.Answer)))
+		}
+	}
+	return said, few
+}
+
+// Writes a file of a round, and says how it is called.
+func (r *run) keep(ending, text string) string {
+	path := filepath.Join(r.options.out, fmt.Sprintf("%s-%d-%d%s", r.options.name, r.options.seed, r.rounds-1, ending))
+	if err := os.WriteFile(path, []byte(text), 0o644); err != nil {
+		return "file: not written: " + path
+	}
+	return "  file: " + path
+}
+
+// A round that has no order: what shows it, and how to repeat it.
+func (r *run) refuted() []string {
+	least := r.smaller()
+	said := []string{
+		fmt.Sprintf("round %d has no order", r.rounds-1),
+		fmt.Sprintf("the smallest of some tries that failed: threads %d, keys %d, calls %d", least.options.threads, least.options.keys,
+			least.options.calls),
+	}
+	text := least.failed.text()
+	_, report := r.program.ask("explain", text, r.options.budget)
+	lines, few := saidReport(report, least.failed)
+	said = append(append(said, lines...), r.keep(".json", text))
+	drawn := text
+	if few != "" {
+		said = append(said, r.keep("-few.json", few))
+		drawn = few
+	}
+	_, picture := r.program.ask("draw", drawn, r.options.budget)
+	return append(said, r.keep(".svg", picture), "  again: "+r.options.again(r.rounds))
+}
+
+// Words
+
+const usage = `  --seconds N       how long (10, or as long as --rounds take)
+  --rounds N        at most so many rounds
+  --threads N       threads that call the map (4)
+  --keys N          keys, from 0 (16)
+  --hot N           so many of the keys are those of nine calls in ten
+  --calls N         calls of a thread in a round (200)
+  --seed N          what the calls are drawn from (of the clock)
+  --mix LIST        shares, as get=50,put=30,del=10,scan=10; also replace, put_if_absent, floor, ceiling, pop_first
+  --void HOW        a put that tells nothing is recorded as done; has to be told; own: one writer a key remembers what it put;
+                    lock: a lock a key around a get and the put (done)
+  --scan HOW        snapshot: a scan is of one moment; steps: steps of ceiling (snapshot)
+  --yield N         of a thousand points between and in calls, so many give way to other threads (0)
+  --break HOW       makes the map wrong now and then: drop, race, replay, stale, zombie, torn or cas; all: in each of these ways
+  --out FOLDER      where files are put (.), or - for standard output: all histories, which nobody judges then
+  --budget N        the judge's (100000)
+  --bench PATH      the program (./bench, or on the PATH)`
+
+type options struct {
+	name, void, scan, broken, out, bench                             string
+	seconds, rounds, threads, keys, hot, calls, seed, yields, budget uint64
+	shares                                                           map[string]uint64
+	shows                                                            bool
+	shown                                                            time.Time
+}
+
+func (o *options) total() (sum uint64) {
+	for _, share := range o.shares {
+		sum += share
+	}
+	return sum
+}
+
+// Half of the calls or the keys, or a thread less; none where there are none.
+func (o *options) less(how int) *options {
+	less := *o
+	less.rounds, less.shows = 1, false
+	switch how {
+	case 0:
+		less.calls /= 2
+	case 1:
+		less.keys /= 2
+	default:
+		less.threads--
+	}
+	if less.calls == 0 || less.keys == 0 || less.threads == 0 || o.void == "own" && less.keys < less.threads {
+		return nil
+	}
+	return &less
+}
+
+// The words that repeat the draws of a run of so many rounds.
+func (o *options) again(rounds uint64) string {
+	mix := []string{}
+	for _, kind := range kinds {
+		if o.shares[kind] > 0 {
+			mix = append(mix, fmt.Sprintf("%s=%d", kind, o.shares[kind]))
+		}
+	}
+	text := fmt.Sprintf("%s --seed %d --threads %d --keys %d", o.name, o.seed, o.threads, o.keys)
+	if o.hot > 0 {
+		text += fmt.Sprintf(" --hot %d", o.hot)
+	}
+	text += fmt.Sprintf(" --calls %d --mix %s --void %s --scan %s", o.calls, strings.Join(mix, ","), o.void, o.scan)
+	if o.yields > 0 {
+		text += fmt.Sprintf(" --yield %d", o.yields)
+	}
+	if o.broken != "" {
+		text += " --break " + o.broken
+	}
+	return text + fmt.Sprintf(" --rounds %d", rounds)
+}
+
+func readWords(name string, words []string) *options {
+	o := &options{name: name, void: "done", scan: "snapshot", out: ".", threads: 4, keys: 16, budget: 100000, shown: time.Now(),
+		seed: uint64(time.Now().UnixNano()) % 1000000007}
+	info, err := os.Stderr.Stat()
+	o.shows = err == nil && info.Mode()&os.ModeCharDevice != 0
+	if isOneOf("--help", words...) {
+		fail(badWords, "usage: %s [WORDS]\n%s", name, usage)
+	}
+	for i := 0; i < len(words); i += 2 {
+		o.read(words[i], append(words, "")[i+1])
+	}
+	return o
+}
+
+func (o *options) read(word, text string) {
+	for _, one := range []struct {
+		name        string
+		least, most uint64
+		to          *uint64
+	}{
+		{"--seconds", 1, 1000000000, &o.seconds}, {"--rounds", 1, math.MaxUint64, &o.rounds}, {"--threads", 1, processes - 2, &o.threads},
+		{"--keys", 1, mostCalls, &o.keys}, {"--hot", 1, mostCalls, &o.hot}, {"--calls", 1, mostCalls, &o.calls},
+		{"--seed", 0, math.MaxUint64, &o.seed}, {"--yield", 0, 1000, &o.yields}, {"--budget", 1, 1000000, &o.budget},
+	} {
+		if one.name == word {
+			number, err := strconv.ParseUint(text, 10, 64)
+			if err != nil || number < one.least || number > one.most {
+				fail(badWords, "%s: a number from %d to %d", word, one.least, one.most)
+			}
+			*one.to = number
+			return
+		}
+	}
+	named := map[string][]string{
+		"--void": {"done", "told", "own", "lock"}, "--scan": {"snapshot", "steps"}, "--break": append([]string{"all"}, breaks...),
+	}
+	if names, is := named[word]; is && !isOneOf(text, names...) {
+		fail(badWords, "%s: none of its names; --help has them", word)
+	}
+	to := map[string]*string{"--void": &o.void, "--scan": &o.scan, "--break": &o.broken, "--out": &o.out, "--bench": &o.bench}[word]
+	switch {
+	case to != nil:
+		*to = text
+	case word == "--mix":
+		o.shares = readMix(text)
+	case word == "--stream":
+		fail(badWords, "--stream: rounds alone here; the drivers in C and C++ have it")
+	default:
+		fail(badWords, "%s: no such word; --help has them", word)
+	}
+}
+
+func readMix(text string) map[string]uint64 {
+	mix := map[string]uint64{}
+	for _, part := range strings.Split(text, ",") {
+		pair := strings.Split(part+"=", "=")
+		share, err := strconv.ParseUint(pair[1], 10, 20)
+		if !isOneOf(pair[0], kinds...) || len(pair) != 3 || err != nil {
+			fail(badWords, "--mix: shares, as get=50,put=30,del=10,scan=10")
+		}
+		mix[pair[0]] = share
+	}
+	return mix
+}
+
+// Whether what a broken map makes wrong is called.
+func (o *options) isCalled(how string) bool {
+	return o.shares[broken[how]] > 0 && !(how == "torn" && o.scan == "steps")
+}
+
+// The words together, and with what the map has.
+func (o *options) fit(has functions) {
+	isApart, isUsual := o.void == "own" || o.void == "lock", o.shares == nil
+	if isUsual {
+		o.shares = map[string]uint64{}
+	}
+	for _, kind := range kinds {
+		needed, why := kind, "no such function of the map"
+		if kind == "scan" && o.scan == "steps" {
+			needed, why = "ceiling", "steps need the function ceiling"
+		}
+		if isUsual && has[needed] != nil && !(kind == "pop_first" && isApart) {
+			o.shares[kind] = shares[kind]
+		}
+		if o.shares[kind] > 0 && has[needed] == nil {
+			fail(badWords, "%s: %s", kind, why)
+		}
+	}
+	if o.calls == 0 {
+		if o.calls = mostCalls / (o.threads + 2); o.calls > 200 {
+			o.calls = 200
+		}
+	}
+	if o.seconds == 0 && o.rounds == 0 {
+		o.seconds = 10
+	} else if o.seconds == 0 {
+		o.seconds = 1000000000
+	}
+	switch {
+	case o.total() == 0:
+		fail(badWords, "--mix: no share")
+	case o.shares["pop_first"] > 0 && isApart:
+		fail(badWords, "pop_first: takes keys of others, so not with --void own or lock")
+	case o.broken != "" && o.broken != "all" && !o.isCalled(o.broken):
+		fail(badWords, "--break: what it makes wrong is not called")
+	case o.hot > o.keys:
+		fail(badWords, "--hot: more than there are keys")
+	case o.void == "own" && o.keys < o.threads:
+		fail(badWords, "--void: own: each thread needs a key")
+	case (o.threads+1)*o.calls > mostCalls || (o.threads+1)*o.keys > mostCalls:
+		fail(badWords, "--calls: a round has at most 4096 calls: those of each thread, or as many as there are keys, for the threads and one more")
+	}
+}
+
+// How a run went: its status, what is to be told before the last line, and that. A run that goes wrong is told as a stop.
+func tested(name string, make func() Map, words []string) (status int, said []string, last string, wrong *stop) {
+	defer func() {
+		if met := recover(); met != nil {
+			it, is := met.(stop)
+			if !is {
+				it = stop{badFile, fmt.Sprint(met)}
+			}
+			wrong = &it
+		}
+	}()
+	o := readWords(name, words)
+	session, closing := sessionOf(make())
+	o.fit(functionsOf(session))
+	closing()
+	var p *program
+	if o.out != "-" {
+		p = newProgram(o)
+	}
+	if o.broken == "all" {
+		status, said, last = allBroken(o, make, p)
+		return status, said, last, nil
+	}
+	r := newRun(o, make, p, 0)
+	if r.failed != nil {
+		return no, r.refuted(), r.summary("no"), nil
+	}
+	if r.undecideds > 0 || len(r.cut) > 0 {
+		status = undecided
+	}
+	if p == nil {
+		return status, append(r.cut, r.summary("not judged")), "", nil
+	}
+	return status, r.cut, r.summary(verdicts[status]), nil
+}
+
+// Each way to go wrong that the drawn calls can show has to be refuted: then the status is that of a no.
+func allBroken(o *options, make func() Map, p *program) (int, []string, string) {
+	said, missed := []string{}, 0
+	for _, how := range breaks {
+		if o.broken = how; !o.isCalled(how) {
+			said = append(said, how+": what it makes wrong is not called")
+			continue
+		}
+		r, verdict := newRun(o, make, p, 0), "no"
+		if r.failed == nil {
+			verdict = "yes"
+			missed++
+		}
+		said = append(said, how+": "+r.summary(verdict))
+	}
+	if missed > 0 {
+		return yes, said, fmt.Sprintf("yes: %d of the broken maps were not refuted", missed)
+	}
+	return no, said, "no: each broken map was refuted"
+}
+
+// Run is a whole program: it says how it went, and answers the status. `make` makes a new and empty map, for each run.
+func Run(name string, make func() Map, words ...string) int {
+	status, said, last, wrong := tested(name, make, words)
+	if wrong != nil {
+		fmt.Fprintln(os.Stderr, wrong.line)
+		return wrong.status
+	}
+	for _, line := range said {
+		fmt.Fprintln(os.Stderr, line)
+	}
+	if last == "" {
+		return status
+	}
+	if _, err := fmt.Println(last); err != nil && status == yes {
+		return badFile
+	}
+	return status
+}
+
+// Check is to be called from a test: the error has the explanation where the verdict is no yes.
+func Check(name string, make func() Map, words ...string) error {
+	status, said, last, wrong := tested(name, make, words)
+	if wrong != nil {
+		return wrong
+	}
+	if status != yes {
+		return errors.New(strings.Join(append(said, last), "\n"))
+	}
+	return nil
+}

@@ -1,0 +1,1253 @@
+import java.io.IOException;
+import java.io.UncheckedIOException;
+import java.nio.charset.StandardCharsets;
+import java.nio.file.Files;
+import java.nio.file.Path;
+import java.util.ArrayList;
+import java.util.Arrays;
+import java.util.Comparator;
+import java.util.EnumMap;
+import java.util.HashMap;
+import java.util.HashSet;
+import java.util.LinkedHashMap;
+import java.util.List;
+import java.util.Map;
+import java.util.Set;
+import java.util.TreeMap;
+import java.util.concurrent.ConcurrentMap;
+import java.util.concurrent.ConcurrentNavigableMap;
+import java.util.concurrent.ConcurrentSkipListMap;
+import java.util.concurrent.ExecutionException;
+import java.util.concurrent.ExecutorService;
+import java.util.concurrent.Executors;
+import java.util.concurrent.Future;
+import java.util.concurrent.TimeoutException;
+import java.util.concurrent.atomic.AtomicInteger;
+import java.util.concurrent.atomic.AtomicLong;
+import java.util.concurrent.locks.LockSupport;
+import java.util.concurrent.locks.ReentrantLock;
+import java.util.function.Supplier;
+import java.util.stream.Collectors;
+
+/**
+ * Tests an ordered map of one's own: threads call its functions, what they do is recorded, and the program {@code bench} judges each
+ * recording. Copy this file: Java 17 and the program are all that it needs.
+ *
+ * <pre>
+ * public static void main(String[] words) {
+ *     System.exit(Potzendai.run("mine", () -> Potzendai.of(new MyConcurrentMap()), words));
+ * }
+ * </pre>
+ *
+ * or, from any test, {@code Potzendai.check("mine", () -> .., "--seconds", "5")}, which throws with the explanation.
+ */
+public final class Potzendai {
+    /**
+     * A map of numbers. Any function but {@code get} and {@code put} may be left as it is: it is not called then. A function answers what
+     * {@link Said} has; an {@link IOException}, {@link UncheckedIOException} or {@link TimeoutException} means that nobody knows whether it
+     * was done. Nothing else changes the map.
+     */
+    public interface Index {
+        /** What one thread calls in the place of the map, as a connection. It is closed at the end of a run. */
+        default Index session() { return this; }
+        default void close() { }
+        /** The value. */
+        Said get(long key) throws Exception;
+        /** The value before. */
+        Said put(long key, long value) throws Exception;
+        /** The value before. */
+        default Said del(long key) throws Exception { throw new UnsupportedOperationException(); }
+        /** The pairs of one moment, both ends included. */
+        default Said scan(long low, long high) throws Exception { throw new UnsupportedOperationException(); }
+        /** The value found; or DONE where it was replaced, OTHER where it was not. */
+        default Said replace(long key, long old, long value) throws Exception { throw new UnsupportedOperationException(); }
+        /** NONE where it was put; else the value found. */
+        default Said putIfAbsent(long key, long value) throws Exception { throw new UnsupportedOperationException(); }
+        /** The greatest pair up to the key. */
+        default Said floor(long key) throws Exception { throw new UnsupportedOperationException(); }
+        /** The least pair from the key on. */
+        default Said ceiling(long key) throws Exception { throw new UnsupportedOperationException(); }
+        /** The least pair, which is taken. */
+        default Said popFirst() throws Exception { throw new UnsupportedOperationException(); }
+    }
+
+    /** Words that a function may answer: of FOUND the value is not told, UNKNOWN leaves the call open. */
+    public enum Word { TOLD, NONE, DONE, FOUND, OTHER, REFUSED, UNKNOWN }
+
+    /** What a function of the map answers. */
+    public record Said(Word word, long key, long value, List<long[]> pairs) {
+        public static final Said NONE = new Said(Word.NONE), DONE = new Said(Word.DONE), FOUND = new Said(Word.FOUND),
+            OTHER = new Said(Word.OTHER), REFUSED = new Said(Word.REFUSED), UNKNOWN = new Said(Word.UNKNOWN);
+
+        private Said(Word word) { this(word, 0, 0, null); }
+        /** The value that there was, or NONE for null. */
+        public static Said told(Long value) { return value == null ? NONE : new Said(Word.TOLD, 0, value, null); }
+        /** The pair that there was, or NONE for null. */
+        public static Said told(Map.Entry<Long, Long> pair) {
+            return pair == null ? NONE : new Said(Word.TOLD, pair.getKey(), pair.getValue(), null);
+        }
+        /** A pair of which only the key is told. */
+        public static Said found(long key) { return new Said(Word.FOUND, key, 0, null); }
+        /** The pairs of a scan, by rising keys. */
+        public static Said pairs(Map<Long, Long> pairs) {
+            return new Said(Word.TOLD, 0, 0, pairs.entrySet().stream().map(e -> new long[] {e.getKey(), e.getValue()}).toList());
+        }
+        boolean tells() { return word == Word.TOLD || word == Word.NONE; }
+    }
+
+    /** Any map of java.util.concurrent. */
+    private static class OfMap implements Index {
+        private final ConcurrentMap<Long, Long> map;
+        OfMap(ConcurrentMap<Long, Long> map) { this.map = map; }
+        @Override public Said get(long key) { return Said.told(map.get(key)); }
+        @Override public Said put(long key, long value) { return Said.told(map.put(key, value)); }
+        @Override public Said del(long key) { return Said.told(map.remove(key)); }
+        @Override public Said replace(long key, long old, long value) { return map.replace(key, old, value) ? Said.DONE : Said.OTHER; }
+        @Override public Said putIfAbsent(long key, long value) { return Said.told(map.putIfAbsent(key, value)); }
+    }
+
+    /** Its ranges promise no moment, so that they are no scans; their steps are. */
+    private static class OfNavigableMap extends OfMap {
+        final ConcurrentNavigableMap<Long, Long> map;
+        OfNavigableMap(ConcurrentNavigableMap<Long, Long> map) { super(map); this.map = map; }
+        @Override public Said floor(long key) { return Said.told(map.floorEntry(key)); }
+        @Override public Said ceiling(long key) { return Said.told(map.ceilingEntry(key)); }
+        @Override public Said popFirst() { return Said.told(map.pollFirstEntry()); }
+    }
+
+    private static final class OfRanges extends OfNavigableMap {
+        OfRanges(ConcurrentNavigableMap<Long, Long> map) { super(map); }
+        @Override public Said scan(long low, long high) { return Said.pairs(map.subMap(low, true, high, true)); }
+    }
+
+    public static Index of(ConcurrentMap<Long, Long> map) { return new OfMap(map); }
+    public static Index of(ConcurrentNavigableMap<Long, Long> map) { return new OfNavigableMap(map); }
+    /** The map with its ranges as scans of a moment, which those of java.util.concurrent are not. */
+    public static Index ofRanges(ConcurrentNavigableMap<Long, Long> map) { return new OfRanges(map); }
+
+    /** The functions, each with its name in words, its usual share, and its call in a history. */
+    private enum Kind {
+        GET("get", 40, "get"), PUT("put", 30, "insert"), DEL("del", 10, "remove"), SCAN("scan", 5, "scan"), REPLACE("replace", 10, "replace"),
+        PUT_IF_ABSENT("put_if_absent", 5, "insert"), FLOOR("floor", 3, "scan"), CEILING("ceiling", 3, "scan"), POP_FIRST("pop_first", 2, "scan");
+        final String name, call;
+        final long share;
+        Kind(String name, long share, String call) { this.name = name; this.share = share; this.call = call; }
+        boolean writes() { return this == PUT || this == DEL || this == REPLACE || this == PUT_IF_ABSENT || this == POP_FIRST; }
+        static Kind named(String name) {
+            return Arrays.stream(values()).filter(kind -> kind.name.equals(name)).findFirst().orElse(null);
+        }
+    }
+
+    private static final int YES = 0, NO = 1, UNDECIDED = 2, MEMORY = 4, WORDS = 5, FILE = 6;
+    private static final List<String> VERDICTS = List.of("yes", "no", "undecided");
+    private static final int PROCESSES = 64, CALLS = 4096, SPAN = 16, SELDOM = 20;
+    private static final Map<String, Kind> BREAKS = new LinkedHashMap<>();
+    static {
+        String[] names = {"drop", "race", "replay", "stale", "zombie", "torn", "cas"};
+        Kind[] kinds = {Kind.PUT, Kind.PUT, Kind.PUT, Kind.GET, Kind.DEL, Kind.SCAN, Kind.REPLACE};
+        for (int i = 0; i < names.length; i++)
+            BREAKS.put(names[i], kinds[i]);
+    }
+
+    /** Ends a run with a line and a status. */
+    private static final class Stop extends RuntimeException {
+        private static final long serialVersionUID = 1;
+        final int status;
+        Stop(int status, String line) { super(line); this.status = status; }
+    }
+
+    // Draws
+
+    /** Steele, Lea and Flood's SplitMix: the number behind a state. */
+    private static long mixed(long state) {
+        long z = state + 0x9e3779b97f4a7c15L;
+        z = (z ^ z >>> 30) * 0xbf58476d1ce4e5b9L;
+        z = (z ^ z >>> 27) * 0x94d049bb133111ebL;
+        return z ^ z >>> 31;
+    }
+
+    /** Numbers that a seed, a round and a thread decide. */
+    private static final class Draws {
+        private long state;
+        Draws(long seed, long round, long thread) { state = mixed(seed) ^ mixed(round + (1L << 40)) ^ mixed(thread + (1L << 50)); }
+        long below(long bound) {
+            long drawn = Long.remainderUnsigned(mixed(state), bound);
+            state += 0x9e3779b97f4a7c15L;
+            return drawn;
+        }
+    }
+
+    private static final ThreadLocal<Draws> DRAWS = new ThreadLocal<>();
+    private static volatile long yields;
+
+    /** To be called by a map's functions where another thread should get in between: under {@code --yield} it sometimes does. */
+    public static void point() {
+        Draws draws = yields > 0 ? DRAWS.get() : null;
+        if (draws != null && draws.below(1000) < yields)
+            pause(draws);
+    }
+
+    private static void pause(Draws draws) {
+        if (draws.below(4) != 0)
+            Thread.yield();
+        else
+            LockSupport.parkNanos(1000 + draws.below(50000));
+    }
+
+    // What a history has of a call
+
+    /** A call of a history: its name and its words. */
+    private record Call(String name, long... words) {
+        String text() {
+            return Arrays.stream(words).mapToObj(word -> "," + Long.toUnsignedString(word)).collect(Collectors.joining("", "[\"" + name + "\"", "]"));
+        }
+        boolean writes() { return name.equals("insert") || name.equals("remove") || name.equals("replace"); }
+
+        /** Whether an answer tells what this call puts: then it was done. */
+        boolean isToldBy(String answer) {
+            String value = Long.toUnsignedString(words[words.length - 1]);
+            return !name.equals("remove") && answer != null && (answer.equals(value) || answer.contains("," + value + "]"));
+        }
+    }
+
+    /** A call with its answer as a text; null where it has none. */
+    private record Noted(Call call, String answer) { }
+
+    private static String pairText(long key, long value) { return "[" + Long.toUnsignedString(key) + "," + Long.toUnsignedString(value) + "]"; }
+
+    private static final long GREATEST = -1;
+
+    /** Whether the function may answer so. */
+    private static boolean fits(Kind kind, Said said) {
+        boolean isRead = kind == Kind.GET || kind == Kind.SCAN || kind == Kind.FLOOR || kind == Kind.CEILING;
+        return switch (said.word) {
+            case TOLD -> kind == Kind.SCAN == (said.pairs != null);
+            case NONE -> true;
+            case DONE -> isRead || kind == Kind.PUT || kind == Kind.DEL || kind == Kind.REPLACE;
+            case FOUND -> kind != Kind.SCAN;
+            case OTHER -> kind == Kind.REPLACE;
+            case REFUSED -> true;
+            case UNKNOWN -> kind != Kind.POP_FIRST;
+        };
+    }
+
+    private static String answerText(Said said) {
+        return switch (said.word) {
+            case TOLD -> Long.toUnsignedString(said.value);
+            case NONE -> "null";
+            case UNKNOWN -> null;
+            default -> "\"" + said.word.name().toLowerCase() + "\"";
+        };
+    }
+
+    /** Floor and ceiling are scans from the key to what was found, or to the end. */
+    private static Noted edge(Kind kind, long key, Said said) {
+        long low = kind == Kind.FLOOR ? 0 : key, high = kind == Kind.FLOOR ? key : GREATEST;
+        if (said.word == Word.NONE)
+            return new Noted(new Call("scan", low, high), "[]");
+        if (said.word == Word.FOUND)
+            return new Noted(new Call("get", said.key), "\"found\"");
+        if (Long.compareUnsigned(low, said.key) <= 0 && Long.compareUnsigned(said.key, high) <= 0) {
+            low = kind == Kind.FLOOR ? said.key : key;
+            high = kind == Kind.FLOOR ? key : said.key;
+        }
+        return new Noted(new Call("scan", low, high), "[" + pairText(said.key, said.value) + "]");
+    }
+
+    /** The call and the answer that a history has; null where it is left out, since it tells nothing. */
+    private static Noted noted(Kind kind, long[] words, Said said) {
+        boolean changes = kind == Kind.PUT || kind == Kind.DEL || kind == Kind.REPLACE;
+        boolean isRead = kind == Kind.GET || kind == Kind.SCAN || kind == Kind.FLOOR || kind == Kind.CEILING;
+        if (said.word == Word.REFUSED && !changes || isRead && (said.word == Word.DONE || said.word == Word.UNKNOWN))
+            return null;
+        switch (kind) {
+            case FLOOR: case CEILING:
+                return edge(kind, words[0], said);
+            case POP_FIRST:
+                return said.word == Word.NONE ? new Noted(new Call("scan", 0, GREATEST), "[]")
+                    : new Noted(new Call("remove", said.key), answerText(said));
+            case SCAN:
+                if (said.word == Word.NONE)
+                    return new Noted(new Call("scan", words), "[]");
+                return new Noted(new Call("scan", words), said.pairs.stream().map(pair -> pairText(pair[0], pair[1]))
+                    .collect(Collectors.joining(",", "[", "]")));
+            case PUT_IF_ABSENT:
+                if (said.word == Word.TOLD || said.word == Word.FOUND)
+                    return new Noted(new Call("get", words[0]), answerText(said));
+                break;
+            case REPLACE:
+                if (said.word == Word.DONE)
+                    return new Noted(new Call("replace", words), Long.toUnsignedString(words[1]));
+                break;
+            default:
+        }
+        return new Noted(new Call(kind.call, words), answerText(said));
+    }
+
+    private static Said ask(Index session, Kind kind, long... words) {
+        try {
+            Said said = switch (kind) {
+                case GET -> session.get(words[0]);
+                case PUT -> session.put(words[0], words[1]);
+                case DEL -> session.del(words[0]);
+                case SCAN -> session.scan(words[0], words[1]);
+                case REPLACE -> session.replace(words[0], words[1], words[2]);
+                case PUT_IF_ABSENT -> session.putIfAbsent(words[0], words[1]);
+                case FLOOR -> session.floor(words[0]);
+                case CEILING -> session.ceiling(words[0]);
+                case POP_FIRST -> session.popFirst();
+            };
+            if (said != null && fits(kind, said))
+                return said;
+            throw new Stop(WORDS, kind.name + " said " + (said == null ? "nothing" : said.word.name().toLowerCase()) + ", which does not fit it");
+        } catch (IOException | UncheckedIOException | TimeoutException unknown) {
+            return Said.UNKNOWN;
+        } catch (RuntimeException error) {
+            throw error;
+        } catch (Exception error) {
+            throw new IllegalStateException(error);
+        }
+    }
+
+    // A map that is wrong now and then, around one that may be right: a test of the test
+
+    private static final class Broken implements Index {
+        private final Index truly;
+        private final String how;
+        private final Draws draws;
+        private final long keys;
+        private final Map<Long, Said> once = new HashMap<>();
+        private long[] late;
+        private Word style;
+
+        Broken(Index truly, String how, Draws draws, long keys) { this.truly = truly; this.how = how; this.draws = draws; this.keys = keys; }
+
+        private boolean goesWrong(String name) { return how.equals(name) && draws.below(SELDOM) == 0; }
+
+        /** Does the put that still comes, soon. */
+        private Index caughtUp() throws Exception {
+            if (late != null && draws.below(2) == 1) {
+                long[] now = late;
+                late = null;
+                truly.put(now[0], now[1]);
+            }
+            return truly;
+        }
+
+        /** What the put of the map would say where a get says this. */
+        private Said inStyle(Said got) {
+            return style == Word.DONE ? Said.DONE : style == Word.FOUND && got.word == Word.TOLD ? Said.FOUND : got;
+        }
+
+        @Override public void close() { truly.close(); }
+
+        @Override public Said get(long key) throws Exception {
+            caughtUp();
+            if (once.containsKey(key) && goesWrong("stale"))
+                return once.get(key);
+            Said said = truly.get(key);
+            if (said.tells() && (!once.containsKey(key) || draws.below(4) == 0))
+                once.put(key, said);
+            return said;
+        }
+
+        /** A put after a get, as if they were one: of the key itself where the put tells what it found, else of the key beside it, which is
+         * put back as it was got. */
+        private Said race(long key, long value) throws Exception {
+            long beside = style == Word.TOLD || (key ^ 1) >= keys ? key : key ^ 1;
+            Said got = truly.get(beside);
+            pause(draws);
+            if (beside != key && got.word == Word.TOLD)
+                truly.put(beside, got.value);
+            Said said = truly.put(key, value);
+            return beside != key || style == Word.DONE || !got.tells() ? said : inStyle(got);
+        }
+
+        @Override public Said put(long key, long value) throws Exception {
+            caughtUp();
+            if (style != null && goesWrong("race"))
+                return race(key, value);
+            if (style != null && goesWrong("drop")) {
+                Said got = truly.get(key);
+                if (got.tells())
+                    return inStyle(got);
+            }
+            if (goesWrong("replay"))
+                late = new long[] {key, value};
+            Said said = truly.put(key, value);
+            style = said.word == Word.TOLD || said.word == Word.DONE || said.word == Word.FOUND ? said.word : style;
+            return said;
+        }
+
+        @Override public Said del(long key) throws Exception {
+            caughtUp();
+            if (goesWrong("zombie")) {
+                Said got = truly.get(key);
+                late = got.word == Word.TOLD ? new long[] {key, got.value} : late;
+            }
+            return truly.del(key);
+        }
+
+        @Override public Said scan(long low, long high) throws Exception {
+            caughtUp();
+            if (low == high || !goesWrong("torn"))
+                return truly.scan(low, high);
+            Said first = truly.scan(low, (low + high) / 2);
+            pause(draws);
+            Said second = truly.scan((low + high) / 2 + 1, high);
+            if (first.pairs == null || second.pairs == null)
+                return first.pairs == null ? first : second;
+            List<long[]> pairs = new ArrayList<>(first.pairs);
+            pairs.addAll(second.pairs);
+            return new Said(Word.TOLD, 0, 0, pairs);
+        }
+
+        @Override public Said replace(long key, long old, long value) throws Exception {
+            caughtUp();
+            if (!goesWrong("cas"))
+                return truly.replace(key, old, value);
+            Said said = truly.put(key, value);
+            return said.word == Word.REFUSED || said.word == Word.UNKNOWN ? said : Said.DONE;
+        }
+
+        @Override public Said putIfAbsent(long key, long value) throws Exception { return caughtUp().putIfAbsent(key, value); }
+        @Override public Said floor(long key) throws Exception { return caughtUp().floor(key); }
+        @Override public Said ceiling(long key) throws Exception { return caughtUp().ceiling(key); }
+        @Override public Said popFirst() throws Exception { return caughtUp().popFirst(); }
+    }
+
+    // Threads and what they record
+
+    /** An event: the invocation of a call, or an answer where that is null. */
+    private record Event(long stamp, int thread, int life, Call call, String answer) { }
+
+    /** The number of the round, as how many processes a thread may go on, what the map holds, and keys at which calls have no answer. */
+    private record Task(long round, int lives, Map<Long, Long> start, Set<Long> doubtful) { }
+
+    /** The lock of a key; and whether a call that writes it has no answer, and so may still come between a get and the put behind it. */
+    private static final class KeyLock extends ReentrantLock {
+        private static final long serialVersionUID = 1;
+        boolean isDoubtful;
+    }
+
+    /** One thread: draws calls, makes them, and notes them with the stamps of their beginning and their end. */
+    private static final class Worker {
+        final int number;
+        final Options options;
+        final AtomicLong stamps;
+        final KeyLock[] locks;
+        final EnumMap<Word, Long> sayings = new EnumMap<>(Word.class);
+        final Map<Long, Long> seen = new HashMap<>();
+        final Map<Long, Said> memory = new HashMap<>();
+        List<Event> log;
+        Index session;
+        Draws draws;
+        long puts, made;
+        Long valuesFrom; // each put has a value of its own, which was not in the map before
+        int life;
+        boolean closes;
+
+        Worker(int number, Options options, AtomicLong stamps, KeyLock[] locks) {
+            this.number = number;
+            this.options = options;
+            this.stamps = stamps;
+            this.locks = locks;
+        }
+
+        void open(Index map) {
+            session = map.session();
+            closes = session != map;
+            if (options.broken != null)
+                session = new Broken(session, options.broken, new Draws(options.seed, 0, number), options.keys);
+        }
+
+        /** The calls of a round. A process whose answer is unknown makes no further call. */
+        List<Event> run(Task task) {
+            log = new ArrayList<>();
+            made = life = 0;
+            if (valuesFrom == null)
+                valuesFrom = 1 + task.start.values().stream().max(Long::compareUnsigned).orElse(0L);
+            seen.clear();
+            memory.clear();
+            for (long key = 0; key < options.keys && options.isVoid("own"); key++)
+                if (!task.doubtful.contains(key))
+                    memory.put(key, Said.told(task.start.get(key)));
+            draws = new Draws(options.seed, task.round, number);
+            DRAWS.set(new Draws(options.seed + 1, task.round, number));
+            while (made < options.calls && life < task.lives)
+                draw();
+            return log;
+        }
+
+        private void draw() {
+            long place = draws.below(options.total());
+            Kind kind = null;
+            for (Kind each : Kind.values()) {
+                kind = each;
+                if (place < options.shares.get(each))
+                    break;
+                place -= options.shares.get(each);
+            }
+            long key = drawKey(kind.writes()), value = kind.writes() ? valuesFrom + puts++ * options.threads + number : 0;
+            long high = kind == Kind.SCAN ? Math.min(key + draws.below(SPAN), options.keys - 1) : 0;
+            point();
+            switch (kind) {
+                case SCAN -> { if (options.isSteps) steps(key, high); else make(kind, key, high); }
+                case PUT, PUT_IF_ABSENT -> write(kind, key, value);
+                case DEL -> write(kind, key);
+                case REPLACE -> write(kind, key, seen.getOrDefault(key, 0L), value);
+                case POP_FIRST -> make(kind);
+                default -> make(kind, key);
+            }
+        }
+
+        private long drawKey(boolean isWrite) {
+            boolean isHot = 0 < options.hot && options.hot < options.keys && draws.below(10) < 9;
+            long key = draws.below(isHot ? options.hot : options.keys);
+            if (!options.isVoid("own") || !isWrite)
+                return key;
+            key = key / options.threads * options.threads + number;
+            return key < options.keys ? key : number;
+        }
+
+        private void steps(long low, long high) {
+            while (low <= high && made < options.calls) {
+                Said said = make(Kind.CEILING, low);
+                if (said.word != Word.TOLD || said.key < low)
+                    break;
+                low = said.key + 1;
+            }
+        }
+
+        private void write(Kind kind, long... words) {
+            if (locks != null)
+                locks[(int) words[0]].lock();
+            try {
+                make(kind, words);
+            } finally {
+                if (locks != null)
+                    locks[(int) words[0]].unlock();
+            }
+        }
+
+        /** Makes a call between two stamps, and notes it. */
+        private Said make(Kind kind, long... words) {
+            boolean isVoid = kind == Kind.PUT || kind == Kind.DEL;
+            long begin = stamps.getAndIncrement();
+            Said got = locks != null && isVoid ? ask(session, Kind.GET, words[0]) : Said.DONE;
+            Said said = ask(session, kind, words);
+            long end = stamps.getAndIncrement();
+            made++;
+            sayings.merge(said.word, 1L, Long::sum);
+            boolean isWrite = kind.writes() && words.length > 0;
+            KeyLock lock = locks != null && isWrite ? locks[(int) words[0]] : null;
+            if (lock != null)
+                lock.isDoubtful |= said.word == Word.UNKNOWN;
+            Said known = isWrite ? known(kind, words, said, lock != null && lock.isDoubtful ? Said.DONE : got) : said;
+            if (options.isVoid("told") && isVoid && (known.word == Word.DONE || known.word == Word.FOUND))
+                throw new Stop(WORDS, kind.name + " said " + known.word.name().toLowerCase() + ", and --void told wants the value before");
+            if (kind == Kind.PUT || kind == Kind.REPLACE && said.word == Word.DONE)
+                seen.put(words[0], words[words.length - 1]);
+            else if (said.word == Word.TOLD && (kind == Kind.GET || kind == Kind.DEL || kind == Kind.REPLACE || kind == Kind.PUT_IF_ABSENT))
+                seen.put(words[0], said.value);
+            note(begin, end, noted(kind, words, known));
+            return said;
+        }
+
+        /** What is known of the answer: where a put or del was done, and does not tell what it found, from the get in front of it under the
+         * key's lock, or from what the one writer of the key remembers. */
+        private Said known(Kind kind, long[] words, Said said, Said got) {
+            Said before = memory.get(words[0]);
+            boolean isPut = kind == Kind.PUT || kind == Kind.PUT_IF_ABSENT && said.word == Word.NONE || kind == Kind.REPLACE
+                && (said.word == Word.DONE || said.word == Word.TOLD && said.value == words[1]);
+            if (before != null && said.word != Word.REFUSED) {
+                if (said.word == Word.UNKNOWN || kind == Kind.REPLACE && said.word == Word.FOUND)
+                    memory.remove(words[0]);
+                else if (kind == Kind.DEL || isPut)
+                    memory.put(words[0], isPut ? Said.told(words[words.length - 1]) : Said.NONE);
+            }
+            if (kind != Kind.PUT && kind != Kind.DEL || said.word != Word.DONE)
+                return said;
+            return before != null ? before : got.tells() ? got : said;
+        }
+
+        private void note(long begin, long end, Noted noted) {
+            if (noted == null)
+                return;
+            log.add(new Event(begin, number, life, noted.call, null));
+            if (noted.answer == null)
+                life++;
+            else
+                log.add(new Event(end, number, life, null, noted.answer));
+        }
+    }
+
+    /** The threads of a run, and a session of the driver's own. */
+    private static final class Crew implements AutoCloseable {
+        final Options options;
+        final AtomicLong stamps = new AtomicLong();
+        final List<Worker> workers = new ArrayList<>();
+        final List<ExecutorService> threads = new ArrayList<>();
+        final Index session;
+        Map<Long, Long> contents;
+
+        Crew(Options options, Index map) {
+            this.options = options;
+            KeyLock[] locks = options.isVoid("lock") ? new KeyLock[(int) options.keys] : null;
+            for (int key = 0; locks != null && key < locks.length; key++)
+                locks[key] = new KeyLock();
+            for (int number = 0; number < options.threads; number++) {
+                workers.add(new Worker(number, options, stamps, locks));
+                threads.add(Executors.newSingleThreadExecutor(body -> {
+                    Thread thread = new Thread(body);
+                    thread.setDaemon(true);
+                    return thread;
+                }));
+            }
+            each(worker -> { worker.open(map); return List.of(); });
+            session = map.session();
+        }
+
+        private interface Part { List<Event> of(Worker worker) throws Exception; }
+
+        /** Has each thread do its part. Where one goes wrong, the run ends. */
+        private List<Event> each(Part part) {
+            List<Future<List<Event>>> futures = new ArrayList<>();
+            for (Worker worker : workers)
+                futures.add(threads.get(worker.number).submit(() -> part.of(worker)));
+            List<Event> events = new ArrayList<>();
+            Throwable wrong = null;
+            for (Future<List<Event>> future : futures)
+                try {
+                    events.addAll(future.get());
+                } catch (ExecutionException | InterruptedException error) {
+                    wrong = error.getCause() == null ? error : error.getCause();
+                }
+            if (wrong instanceof Stop || wrong instanceof OutOfMemoryError)
+                sneak(wrong);
+            if (wrong != null)
+                wrong.printStackTrace();
+            if (wrong != null)
+                throw new Stop(WORDS, options.name + ": " + wrong);
+            return events;
+        }
+
+        private void sneak(Throwable wrong) {
+            if (wrong instanceof Stop stop)
+                throw new Stop(stop.status, options.name + ": " + stop.getMessage());
+            throw (Error) wrong;
+        }
+
+        /** A round: its events, with gets of all keys behind those of the threads. What these tell is `contents` then. */
+        List<Event> round(Task task) {
+            AtomicInteger missing = new AtomicInteger(workers.size());
+            List<Event> events = each(worker -> {
+                missing.getAndDecrement();
+                for (int times = 0; missing.get() > 0; times++)
+                    if (times % 1024 == 1023)
+                        Thread.yield();
+                    else
+                        Thread.onSpinWait();
+                return worker.run(task);
+            });
+            events.addAll(rest());
+            return events;
+        }
+
+        List<Event> rest() {
+            List<Event> events = new ArrayList<>();
+            contents = new TreeMap<>();
+            for (long key = 0; key < options.keys; key++) {
+                Said said = Said.DONE;
+                long begin = 0, end = 0;
+                for (int i = 0; i < 1000 && !said.tells(); i++) {
+                    begin = stamps.getAndIncrement();
+                    said = ask(session, Kind.GET, key);
+                    end = stamps.getAndIncrement();
+                }
+                if (!said.tells())
+                    throw new Stop(WORDS, options.name + ": get of " + key + " said " + said.word.name().toLowerCase()
+                        + " at rest, where it has to tell");
+                events.add(new Event(begin, (int) options.threads, 0, new Call("get", key), null));
+                events.add(new Event(end, (int) options.threads, 0, null, answerText(said)));
+                if (said.word == Word.TOLD)
+                    contents.put(key, said.value);
+            }
+            return events;
+        }
+
+        @Override public void close() {
+            for (Worker worker : workers) {
+                if (worker.closes)
+                    threads.get(worker.number).submit(worker.session::close);
+                threads.get(worker.number).shutdown();
+            }
+            if (workers.get(0).closes)
+                session.close();
+        }
+    }
+
+    // Histories
+
+    /** What one round recorded, as a history, and what its threads met. */
+    private static final class Round {
+        final Map<Long, Long> start;
+        final List<Call> pending;
+        final List<Event> events = new ArrayList<>();
+        final Set<Long> met = new HashSet<>();
+        long calls, overlap;
+
+        /** Each thread, and each of its lives, becomes a process; calls that have no answer from before are the first. */
+        Round(List<Event> noted, Map<Long, Long> start, List<Call> before) {
+            this.start = start;
+            for (Call call : before)
+                events.add(new Event(0, events.size(), 0, call, null));
+            Map<List<Integer>, Integer> numbers = new HashMap<>();
+            noted.sort(Comparator.comparingLong(Event::stamp));
+            for (Event event : noted) {
+                List<Integer> own = List.of(event.thread, event.life);
+                numbers.putIfAbsent(own, before.size() + numbers.size());
+                events.add(new Event(event.stamp, numbers.get(own), 0, event.call, event.answer));
+            }
+            pending = measure();
+        }
+
+        private List<Call> measure() {
+            Map<Integer, Call> open = new LinkedHashMap<>();
+            for (Event event : events) {
+                if (event.call == null) {
+                    open.remove(event.thread);
+                    continue;
+                }
+                calls++;
+                overlap += open.size();
+                if (event.call.writes() && open.values().stream().anyMatch(call -> call.writes() && call.words[0] == event.call.words[0]))
+                    met.add(event.call.words[0]);
+                open.put(event.thread, event.call);
+            }
+            return open.values().stream().filter(call -> events.stream().noneMatch(event -> call.isToldBy(event.answer))).toList();
+        }
+
+        String text() {
+            boolean tellsLess = events.stream().anyMatch(event -> Set.of("\"done\"", "\"found\"", "\"other\"").contains("" + event.answer));
+            boolean replaces = events.stream().anyMatch(event -> event.call != null && event.call.name.equals("replace"));
+            int version = tellsLess ? 3 : replaces || !start.isEmpty() ? 2 : 1;
+            String pairs = start.entrySet().stream().map(pair -> pairText(pair.getKey(), pair.getValue())).collect(Collectors.joining(","));
+            return events.stream().map(event -> (event.call == null ? "{\"answer\":" + event.answer : "{\"invoke\":" + event.call.text())
+                + ",\"process\":" + event.thread + "}").collect(Collectors.joining(",", "{\"events\":[", "]"))
+                + (version > 1 ? ",\"start\":[" + pairs + "]" : "") + ",\"version\":" + version + "}\n";
+        }
+    }
+
+    /** The program {@code bench}. */
+    private record Program(String path, long budget) {
+        static Program of(Options options) {
+            String path = options.bench != null ? options.bench : System.getenv("POTZENDAI_BENCH");
+            Program program = new Program(path != null ? path : Files.isExecutable(Path.of("bench")) ? "./bench" : "bench", options.budget);
+            program.ask("explain", "{\"events\":[],\"version\":1}\n", options.budget);
+            Path built = Path.of(program.path).resolveSibling("crates/bench/out/bench"); // by the repository's own `bench`
+            return Files.isExecutable(built) ? new Program(built.toString(), options.budget) : program;
+        }
+
+        record Answer(int status, String text) { }
+
+        /** The verdict: once more at ten times the budget where it is undecided. */
+        int judge(String text) {
+            int status = ask("judge", text, budget).status;
+            return status == UNDECIDED ? ask("judge", text, Math.min(10 * budget, 1000000)).status : status;
+        }
+
+        Answer ask(String command, String text, long budget) {
+            try {
+                Process process = new ProcessBuilder(path, command, "--budget", "" + budget).redirectError(ProcessBuilder.Redirect.INHERIT).start();
+                try (var in = process.getOutputStream()) {
+                    in.write(text.getBytes(StandardCharsets.UTF_8));
+                } catch (IOException broken) {
+                    // It has ended before it read all: its status says why.
+                }
+                String answer = new String(process.getInputStream().readAllBytes(), StandardCharsets.UTF_8);
+                int status = process.waitFor();
+                if (status > UNDECIDED)
+                    throw new Stop(status <= FILE ? status : FILE, path + " " + command + ": status " + status);
+                String report = answer.lines().findFirst().orElse("");
+                if (!command.equals("draw") && !report.endsWith("\"verdict\":\"" + VERDICTS.get(status) + "\"}"))
+                    throw new Stop(FILE, path + " " + command + ": status " + status + " without its verdict");
+                return new Answer(status, answer);
+            } catch (IOException | InterruptedException error) {
+                throw new Stop(FILE, path + ": " + error.getMessage());
+            }
+        }
+    }
+
+    // A run
+
+    /** Rounds at a new map, each of which begins with what the one before has left: the pairs, and calls without an answer that may still
+     * come. */
+    private static final class Run {
+        final Options options;
+        final Supplier<? extends Index> make;
+        final Program program;
+        final EnumMap<Word, Long> sayings = new EnumMap<>(Word.class);
+        final Set<Long> met = new HashSet<>();
+        final long began = System.nanoTime();
+        final List<String> cut = new ArrayList<>();
+        long rounds, calls, overlap, undecided;
+        Round failed;
+
+        Run(Options options, Supplier<? extends Index> make, Program program) {
+            this.options = options;
+            this.make = make;
+            this.program = program;
+        }
+
+        /** Rounds from this number on, until one has no order, or the time is over. */
+        Run go(long number) {
+            yields = options.yields;
+            try (Crew crew = new Crew(options, make.get())) {
+                crew.rest();
+                List<Call> pending = List.of();
+                while (!isOver() && failed == null) {
+                    int lives = (PROCESSES - 1 - pending.size()) / (int) options.threads;
+                    if (lives == 0) {
+                        cut.add(options.name + ": " + pending.size() + " calls are without an answer, which leaves no room for others");
+                        break;
+                    }
+                    Map<Long, Long> start = crew.contents;
+                    Set<Long> doubtful = pending.stream().map(call -> call.words[0]).collect(Collectors.toSet());
+                    Round round = new Round(crew.round(new Task(number + rounds, lives, start, doubtful)), start, pending);
+                    take(round);
+                    pending = round.pending;
+                    sayings.clear();
+                    for (Worker worker : crew.workers)
+                        worker.sayings.forEach((word, count) -> sayings.merge(word, count, Long::sum));
+                }
+            }
+            return this;
+        }
+
+        private void take(Round round) {
+            rounds++;
+            calls += round.calls;
+            overlap += round.overlap;
+            met.addAll(round.met);
+            int status = YES;
+            if (program == null)
+                System.out.print(round.text());
+            else
+                status = program.judge(round.text());
+            undecided += status == UNDECIDED ? 1 : 0;
+            failed = status == NO ? round : null;
+        }
+
+        double seconds() { return (System.nanoTime() - began) / 1e9; }
+
+        /** At least one round is made. Each second a line on a terminal says how far this is. */
+        private boolean isOver() {
+            if (options.shows && System.nanoTime() - options.shown > 1000000000L && calls > 0) {
+                options.shown = System.nanoTime();
+                long all = sayings.values().stream().mapToLong(Long::longValue).sum();
+                System.err.printf("%d calls, %.0f a second, overlap %.1f a call, %.1f%% refused, two writers met on %d of %d keys%n", calls,
+                    calls / seconds(), (double) overlap / calls, 100.0 * sayings.getOrDefault(Word.REFUSED, 0L) / Math.max(all, 1), met.size(),
+                    options.keys);
+            }
+            return rounds > 0 && (options.rounds > 0 && rounds >= options.rounds || seconds() >= options.seconds);
+        }
+
+        /** The verdict, and what it rests on. */
+        String summary(String verdict) {
+            String said = sayings.entrySet().stream().map(one -> one.getValue() + " " + one.getKey().name().toLowerCase())
+                .collect(Collectors.joining(", "));
+            return String.format("%s: %d rounds, %d calls in %.1f seconds, overlap %.2f a call: %s%s", verdict,
+                rounds, calls, seconds(), (double) overlap / Math.max(calls, 1), said, undecided > 0 ? "; " + undecided + " undecided" : "");
+        }
+
+        /** The smallest run that failed, of some tries with half of the calls or keys, or a thread less. Threads interleave as they will. Where
+         * calls have no answer none is tried, since they may still come. */
+        Run smaller() {
+            Run best = this;
+            long until = System.nanoTime() + 5000000000L;
+            for (int how = 0, tries = sayings.containsKey(Word.UNKNOWN) ? 60 : 0; how < 3; how++) {
+                Options less = best.options.less(how);
+                for (int i = 0; less != null && i < 6 && tries++ < 60 && System.nanoTime() < until; i++) {
+                    Run again = new Run(less, make, program).go(rounds - 1);
+                    if (again.failed != null) {
+                        best = again;
+                        how = -1;
+                        break;
+                    }
+                }
+            }
+            return best;
+        }
+    }
+
+    // A no in words
+
+    /** A JSON text: objects, arrays, texts, numbers as Long, and null. */
+    private static final class Json {
+        private final String text;
+        private int at;
+        private Json(String text) { this.text = text; }
+        static Object of(String text) { return new Json(text).value(); }
+
+        private Object value() {
+            switch (text.charAt(at)) {
+                case '{': {
+                    Map<String, Object> members = new HashMap<>();
+                    for (at++; text.charAt(at) != '}'; at += text.charAt(at) == ',' ? 1 : 0) {
+                        String name = (String) value();
+                        at++;
+                        members.put(name, value());
+                    }
+                    at++;
+                    return members;
+                }
+                case '[': {
+                    List<Object> items = new ArrayList<>();
+                    for (at++; text.charAt(at) != ']'; at += text.charAt(at) == ',' ? 1 : 0)
+                        items.add(value());
+                    at++;
+                    return items;
+                }
+                case '"': {
+                    int from = at + 1;
+                    at = text.indexOf('"', from) + 1;
+                    return text.substring(from, at - 1);
+                }
+                case 'n':
+                    at += 4;
+                    return null;
+                default: {
+                    int from = at;
+                    while (at < text.length() && Character.isDigit(text.charAt(at)))
+                        at++;
+                    return Long.parseUnsignedLong(text.substring(from, at));
+                }
+            }
+        }
+    }
+
+    private static String saidPairs(List<?> pairs) {
+        return pairs.isEmpty() ? "nothing" : pairs.stream().map(pair -> (List<?>) pair)
+            .map(pair -> saidAnswer(pair.get(0)) + ": " + saidAnswer(pair.get(1))).collect(Collectors.joining(", "));
+    }
+
+    private static String saidAnswer(Object answer) {
+        if (answer instanceof List<?> pairs)
+            return saidPairs(pairs);
+        if (answer instanceof Long value)
+            return Long.toUnsignedString(value);
+        return switch (String.valueOf(answer)) {
+            case "null" -> "none";
+            case "done" -> "that it was done";
+            case "found" -> "that there was a value";
+            case "other" -> "another value";
+            case "refused" -> "that it was refused";
+            default -> "nothing that counts";
+        };
+    }
+
+    private static String saidCall(List<?> call) {
+        List<String> words = call.stream().skip(1).map(Potzendai::saidAnswer).toList();
+        return switch ((String) call.get(0)) {
+            case "insert" -> "put " + words.get(1) + " at " + words.get(0);
+            case "replace" -> "replace " + words.get(1) + " at " + words.get(0) + " by " + words.get(2);
+            case "scan" -> "scan from " + words.get(0) + " to " + words.get(1);
+            default -> call.get(0) + " " + words.get(0);
+        };
+    }
+
+    /** Who put a value. */
+    private static String saidWriter(Round round, Object answer) {
+        if (!(answer instanceof Long value))
+            return "";
+        for (int i = 0; i < round.events.size(); i++) {
+            Call call = round.events.get(i).call;
+            if (call != null && (call.name.equals("insert") || call.name.equals("replace")) && call.words[call.words.length - 1] == value)
+                return "; " + saidAnswer(value) + " is what process " + round.events.get(i).thread + " put (event " + i + ")";
+        }
+        return "; " + saidAnswer(value) + (round.start.containsValue(value) ? " was there at the start" : " is what nobody put");
+    }
+
+    /** A report of `explain` in words. */
+    private static List<String> saidReport(List<String> report, Round round) {
+        List<String> said = new ArrayList<>(report.subList(0, 1));
+        if (report.size() > 1)
+            said.add("these calls have no order, whatever else was done:");
+        for (String text : report.subList(1, report.size())) {
+            Map<?, ?> line = (Map<?, ?>) Json.of(text);
+            if (line.containsKey("reason"))
+                said.add(String.format("  event %-6d process %-3d %s, answered %s%s", line.get("event"), line.get("process"),
+                    saidCall((List<?>) line.get("call")), saidAnswer(line.get("answer")), saidWriter(round, line.get("answer"))));
+            if (!line.containsKey("front"))
+                continue;
+            said.add("  an order of them gets as far as the events " + line.get("front").toString().replace(" ", "") + "; the map then holds "
+                + saidPairs((List<?>) line.get("holds")));
+            for (Object next : (List<?>) line.get("next")) {
+                Map<?, ?> call = (Map<?, ?>) next;
+                said.add("  the call of event " + call.get("event") + " was answered " + saidAnswer(call.get("answer")) + ", and would be answered "
+                    + saidAnswer(call.get("would")) + saidWriter(round, call.get("answer")));
+            }
+        }
+        return said;
+    }
+
+    /** Writes a file of a round, and says how it is called. */
+    private static String keep(Run run, String ending, String text) {
+        Path path = Path.of(run.options.out, run.options.name + "-" + Long.toUnsignedString(run.options.seed) + "-" + (run.rounds - 1) + ending);
+        try {
+            Files.writeString(path, text);
+            return "  file: " + path;
+        } catch (IOException error) {
+            return "file: not written: " + path;
+        }
+    }
+
+    /** A round that has no order: what shows it, and how to repeat it. */
+    private static List<String> refuted(Run run) {
+        Run least = run.smaller();
+        List<String> said = new ArrayList<>();
+        said.add("round " + (run.rounds - 1) + " has no order");
+        said.add("the smallest of some tries that failed: threads " + least.options.threads + ", keys " + least.options.keys + ", calls "
+            + least.options.calls);
+        String text = least.failed.text();
+        List<String> report = run.program.ask("explain", text, run.options.budget).text.lines().toList();
+        String few = report.stream().filter(line -> line.startsWith("{\"events\"")).findFirst().map(line -> line + "\n").orElse(null);
+        said.addAll(saidReport(report, least.failed));
+        said.add(keep(run, ".json", text));
+        if (few != null)
+            said.add(keep(run, "-few.json", few));
+        said.add(keep(run, ".svg", run.program.ask("draw", few != null ? few : text, run.options.budget).text));
+        said.add("  again: " + run.options.again(run.rounds));
+        return said;
+    }
+
+    // Words
+
+    private static final String USAGE = """
+        --seconds N       how long (10, or as long as --rounds take)
+        --rounds N        at most so many rounds
+        --threads N       threads that call the map (4)
+        --keys N          keys, from 0 (16)
+        --hot N           so many of the keys are those of nine calls in ten
+        --calls N         calls of a thread in a round (200)
+        --seed N          what the calls are drawn from (of the clock)
+        --mix LIST        shares, as get=50,put=30,del=10,scan=10; also replace, put_if_absent, floor, ceiling, pop_first
+        --void HOW        a put that tells nothing is recorded as done; has to be told; own: one writer a key remembers what it put;
+                          lock: a lock a key around a get and the put (done)
+        --scan HOW        snapshot: a scan is of one moment; steps: steps of ceiling (snapshot)
+        --yield N         of a thousand points between and in calls, so many give way to other threads (0)
+        --break HOW       makes the map wrong now and then: drop, race, replay, stale, zombie, torn or cas; all: in each of these ways
+        --out FOLDER      where files are put (.), or - for standard output: all histories, which nobody judges then
+        --budget N        the judge's (100000)
+        --bench PATH      the program (./bench, or on the PATH)
+        """;
+
+    private static final class Options implements Cloneable {
+        String name, voids = "done", broken, out = ".", bench;
+        long seconds, rounds, threads = 4, keys = 16, hot, calls, yields, budget = 100000, shown = System.nanoTime();
+        long seed = Math.floorMod(System.nanoTime() * 31 + System.currentTimeMillis(), 1000000007L);
+        boolean isSteps, shows = System.console() != null;
+        EnumMap<Kind, Long> shares;
+
+        boolean isVoid(String how) { return voids.equals(how); }
+
+        long total() { return shares.values().stream().mapToLong(Long::longValue).sum(); }
+
+        /** Half of the calls or the keys, or a thread less; null where there are none. */
+        Options less(int how) {
+            try {
+                Options less = (Options) clone();
+                less.calls = how == 0 ? calls / 2 : calls;
+                less.keys = how == 1 ? keys / 2 : keys;
+                less.threads = how == 2 ? threads - 1 : threads;
+                less.rounds = 1;
+                less.shows = false;
+                return Math.min(Math.min(less.calls, less.threads), isVoid("own") ? less.keys / threads : less.keys) > 0 ? less : null;
+            } catch (CloneNotSupportedException never) {
+                throw new IllegalStateException(never);
+            }
+        }
+
+        /** The words that repeat the draws of a run of so many rounds. */
+        String again(long rounds) {
+            String mix = shares.entrySet().stream().filter(one -> one.getValue() > 0).map(one -> one.getKey().name + "=" + one.getValue())
+                .collect(Collectors.joining(","));
+            return name + " --seed " + Long.toUnsignedString(seed) + " --threads " + threads + " --keys " + keys + (hot > 0 ? " --hot " + hot : "")
+                + " --calls " + calls + " --mix " + mix + " --void " + voids + " --scan " + (isSteps ? "steps" : "snapshot")
+                + (yields > 0 ? " --yield " + yields : "") + (broken != null ? " --break " + broken : "") + " --rounds " + rounds;
+        }
+
+        Options(String name, String[] words) {
+            this.name = name;
+            if (List.of(words).contains("--help"))
+                throw new Stop(WORDS, "usage: " + name + " [WORDS]\n" + USAGE.stripTrailing());
+            for (int i = 0; i < words.length; i += 2)
+                read(words[i], i + 1 < words.length ? words[i + 1] : "");
+        }
+
+        private void read(String word, String text) {
+            switch (word) {
+                case "--seconds" -> seconds = number(word, text, 1, 1000000000);
+                case "--rounds" -> rounds = number(word, text, 1, Long.MAX_VALUE);
+                case "--threads" -> threads = number(word, text, 1, PROCESSES - 2);
+                case "--keys" -> keys = number(word, text, 1, CALLS);
+                case "--hot" -> hot = number(word, text, 1, CALLS);
+                case "--calls" -> calls = number(word, text, 1, CALLS);
+                case "--seed" -> seed = number(word, text, 0, GREATEST);
+                case "--yield" -> yields = number(word, text, 0, 1000);
+                case "--budget" -> budget = number(word, text, 1, 1000000);
+                case "--void" -> voids = named(word, text, List.of("done", "told", "own", "lock"));
+                case "--scan" -> isSteps = named(word, text, List.of("snapshot", "steps")).equals("steps");
+                case "--break" -> broken = text.equals("all") ? text : named(word, text, List.copyOf(BREAKS.keySet()));
+                case "--mix" -> shares = mix(text);
+                case "--out" -> out = text;
+                case "--bench" -> bench = text;
+                case "--stream" -> throw new Stop(WORDS, "--stream: rounds alone here; the drivers in C and C++ have it");
+                default -> throw new Stop(WORDS, word + ": no such word; --help has them");
+            }
+        }
+
+        private static long number(String word, String text, long least, long most) {
+            try {
+                long number = Long.parseUnsignedLong(text);
+                if (Long.compareUnsigned(least, number) <= 0 && Long.compareUnsigned(number, most) <= 0)
+                    return number;
+            } catch (NumberFormatException none) {
+                // It is told below.
+            }
+            throw new Stop(WORDS, word + ": a number from " + least + " to " + Long.toUnsignedString(most));
+        }
+
+        private static String named(String word, String text, List<String> names) {
+            if (names.contains(text))
+                return text;
+            throw new Stop(WORDS, word + ": none of its names; --help has them");
+        }
+
+        private static EnumMap<Kind, Long> mix(String text) {
+            EnumMap<Kind, Long> shares = new EnumMap<>(Kind.class);
+            for (Kind kind : Kind.values())
+                shares.put(kind, 0L);
+            for (String part : text.split(",", -1)) {
+                String[] pair = part.split("=", -1);
+                Kind kind = Kind.named(pair[0]);
+                if (kind == null || pair.length != 2 || !pair[1].matches("[0-9]{1,6}"))
+                    throw new Stop(WORDS, "--mix: shares, as get=50,put=30,del=10,scan=10");
+                shares.put(kind, Long.parseLong(pair[1]));
+            }
+            return shares;
+        }
+
+        private static void wrong(boolean isWrong, String line) {
+            if (isWrong)
+                throw new Stop(WORDS, line);
+        }
+
+        /** Whether what a broken map makes wrong is called. */
+        boolean isCalled(String how) { return shares.get(BREAKS.get(how)) > 0 && !(how.equals("torn") && isSteps); }
+
+        /** The words together, and with what the map has. */
+        void fit(Set<Kind> has) {
+            boolean isApart = isVoid("own") || isVoid("lock"), isUsual = shares == null;
+            shares = isUsual ? new EnumMap<>(Kind.class) : shares;
+            for (Kind kind : Kind.values()) {
+                boolean isThere = has.contains(kind == Kind.SCAN && isSteps ? Kind.CEILING : kind);
+                if (isUsual)
+                    shares.put(kind, isThere && !(kind == Kind.POP_FIRST && isApart) ? kind.share : 0);
+                String why = kind == Kind.SCAN && isSteps ? ": steps need the function ceiling" : ": no such function of the map";
+                wrong(shares.get(kind) > 0 && !isThere, kind.name + why);
+            }
+            wrong(total() == 0, "--mix: no share");
+            wrong(shares.get(Kind.POP_FIRST) > 0 && isApart, "pop_first: takes keys of others, so not with --void own or lock");
+            wrong(BREAKS.containsKey(broken) && !isCalled(broken), "--break: what it makes wrong is not called");
+            wrong(hot > keys, "--hot: more than there are keys");
+            wrong(isVoid("own") && keys < threads, "--void: own: each thread needs a key");
+            calls = calls > 0 ? calls : Math.min(CALLS / (threads + 2), 200);
+            seconds = seconds > 0 ? seconds : rounds > 0 ? 1000000000 : 10;
+            wrong((threads + 1) * Math.max(calls, keys) > CALLS, "--calls: a round has at most 4096 calls: those of each thread, or as many "
+                + "as there are keys, for the threads and one more");
+        }
+    }
+
+    /** Which functions a map has: those that it does not leave as they are. */
+    private static Set<Kind> functions(Index map) {
+        Index session = map.session();
+        Set<Kind> has = new HashSet<>(Set.of(Kind.GET, Kind.PUT));
+        Map<String, Kind> names = Map.of("del", Kind.DEL, "scan", Kind.SCAN, "replace", Kind.REPLACE, "putIfAbsent", Kind.PUT_IF_ABSENT,
+            "floor", Kind.FLOOR, "ceiling", Kind.CEILING, "popFirst", Kind.POP_FIRST);
+        for (var method : session.getClass().getMethods())
+            if (names.containsKey(method.getName()) && method.getReturnType() == Said.class && method.getDeclaringClass() != Index.class)
+                has.add(names.get(method.getName()));
+        if (session != map)
+            session.close();
+        return has;
+    }
+
+    /** How a run went: its status, what is to be told before the last line, and that. */
+    private record Outcome(int status, List<String> said, String last) { }
+
+    private static Outcome tested(String name, Supplier<? extends Index> make, String... words) {
+        Options options = new Options(name, words);
+        options.fit(functions(make.get()));
+        Program program = options.out.equals("-") ? null : Program.of(options);
+        if ("all".equals(options.broken))
+            return allBroken(options, make, program);
+        Run run = new Run(options, make, program).go(0);
+        if (run.failed != null)
+            return new Outcome(NO, refuted(run), run.summary("no"));
+        int status = run.undecided > 0 || !run.cut.isEmpty() ? UNDECIDED : YES;
+        if (program != null)
+            return new Outcome(status, run.cut, run.summary(VERDICTS.get(status)));
+        run.cut.add(run.summary("not judged"));
+        return new Outcome(status, run.cut, "");
+    }
+
+    /** Each way to go wrong that the drawn calls can show has to be refuted: then the status is that of a no. */
+    private static Outcome allBroken(Options options, Supplier<? extends Index> make, Program program) {
+        List<String> said = new ArrayList<>();
+        int missed = 0;
+        for (String how : BREAKS.keySet()) {
+            options.broken = how;
+            Run run = options.isCalled(how) ? new Run(options, make, program).go(0) : null;
+            missed += run != null && run.failed == null ? 1 : 0;
+            said.add(how + ": " + (run == null ? "what it makes wrong is not called" : run.summary(run.failed != null ? "no" : "yes")));
+        }
+        return missed > 0 ? new Outcome(YES, said, "yes: " + missed + " of the broken maps were not refuted")
+            : new Outcome(NO, said, "no: each broken map was refuted");
+    }
+
+    /** A whole program: says how it went, and answers the status. `make` makes a new and empty map, for each run. */
+    public static int run(String name, Supplier<? extends Index> make, String... words) {
+        try {
+            Outcome outcome = tested(name, make, words);
+            outcome.said.forEach(System.err::println);
+            if (!outcome.last.isEmpty())
+                System.out.println(outcome.last);
+            return System.out.checkError() && outcome.status == YES ? FILE : outcome.status;
+        } catch (Stop stop) {
+            System.err.println(stop.getMessage());
+            return stop.status;
+        } catch (OutOfMemoryError memory) {
+            System.err.println("memory");
+            return MEMORY;
+        } catch (RuntimeException error) {
+            error.printStackTrace();
+            return FILE;
+        }
+    }
+
+    /** To be called from a test: throws with the explanation where the verdict is no yes. */
+    public static void check(String name, Supplier<? extends Index> make, String... words) {
+        Outcome outcome = tested(name, make, words);
+        if (outcome.status != YES)
+            throw new AssertionError(String.join("\n", outcome.said) + "\n" + outcome.last);
+    }
+
+    /** Tests the ConcurrentSkipListMap of java.util.concurrent. */
+    public static void main(String[] words) {
+        System.exit(run("ConcurrentSkipListMap", () -> of(new ConcurrentSkipListMap<>()), words));
+    }
+
+    private Potzendai() { }
+}

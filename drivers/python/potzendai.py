@@ -1,0 +1,890 @@
+"""Tests an ordered map of one's own: threads (or processes) call its functions, what they do is recorded, and the program `bench` judges
+each recording. Copy this file: Python 3.8 and the program are all that it needs.
+
+    import potzendai
+
+    class Map: ...                   # with the functions below; a new and empty map for each run
+
+    if __name__ == "__main__":
+        potzendai.main(Map)
+
+A function answers a value, a pair or pairs where it tells them, or one of the words in brackets. Any but get and put may be missing.
+
+    session(self)                    what one thread calls in the place of the map: a connection, a cursor; it may have close(self)
+    get(self, key)                   the value [NONE or None, DONE, FOUND, REFUSED, UNKNOWN]
+    put(self, key, value)            the value before [NONE, DONE, FOUND, REFUSED, UNKNOWN]
+    delete(self, key)                the value before [NONE, DONE, FOUND, REFUSED, UNKNOWN]
+    scan(self, low, high)            the pairs of one moment, both ends included [NONE, DONE, REFUSED, UNKNOWN]
+    replace(self, key, old, new)     the value found [NONE, DONE: it was replaced, OTHER: it was not, FOUND, REFUSED, UNKNOWN]
+    put_if_absent(self, key, value)  the value found [NONE: it was put, FOUND: it was not, REFUSED, UNKNOWN]
+    floor, ceiling(self, key)        the greatest pair up to the key, the least one from it on [NONE or None, DONE, REFUSED, UNKNOWN]
+    pop_first(self)                  the least pair, which is taken [NONE or None, REFUSED]
+
+NONE: there was no value. DONE: it was done, and nothing is told. FOUND: there was a value, which is not told; of a pair the value may be
+FOUND. OTHER: the old value was not there. REFUSED: nothing has changed. UNKNOWN, or an OSError that is raised, as of a timeout or a lost
+connection: nobody knows whether it was done. `told(value)` is NONE for None. Keys and values are numbers, and nothing else changes the map.
+"""
+import argparse
+import copy
+import itertools
+import json
+import multiprocessing
+import os
+import queue
+import shutil
+import subprocess
+import sys
+import threading
+import time
+import traceback
+
+NONE, DONE, FOUND, OTHER, REFUSED, UNKNOWN = SAYINGS = ("none", "done", "found", "other", "refused", "unknown")
+GREATEST = 2 ** 64 - 1
+PROCESSES, CALLS, SPAN = 64, 4096, 16  # limits of a history; the most keys of a scan
+SELDOM = 20  # one call in so many goes wrong in a map that is broken
+YES, NO, UNDECIDED, FAULTY, MEMORY, WORDS, FILE = range(7)  # statuses, as the program's
+VERDICTS = ("yes", "no", "undecided")
+SHARES = {"get": 40, "put": 30, "delete": 10, "scan": 5, "replace": 10, "put_if_absent": 5, "floor": 3, "ceiling": 3, "pop_first": 2}
+BREAKS = {"drop": "put", "race": "put", "replay": "put", "stale": "get", "zombie": "delete", "torn": "scan", "cas": "replace"}
+
+
+class Stop(Exception):
+    """Ends the run with a line and a status."""
+
+    def __init__(self, status, line):
+        super().__init__(line)
+        self.status, self.line = status, line
+
+
+def told(value):
+    """The answer of a function that got this value of what was there before: NONE where it is None."""
+    return NONE if value is None else value
+
+
+def word(kind):
+    """The name of a function in words: `del` is none that Python has."""
+    return "del" if kind == "delete" else kind
+
+
+# Draws
+
+def mixed(state):
+    """Steele, Lea and Flood's SplitMix: the number behind a state."""
+    z = (state + 0x9E3779B97F4A7C15) & GREATEST
+    z = ((z ^ z >> 30) * 0xBF58476D1CE4E5B9) & GREATEST
+    z = ((z ^ z >> 27) * 0x94D049BB133111EB) & GREATEST
+    return z ^ z >> 31
+
+
+class Draws:
+    """Numbers that a seed, a round and a thread decide."""
+
+    def __init__(self, seed, number, thread):
+        self.state = mixed(seed) ^ mixed(number + (1 << 40)) ^ mixed(thread + (1 << 50))
+
+    def below(self, bound):
+        drawn = mixed(self.state) % bound
+        self.state = (self.state + 0x9E3779B97F4A7C15) & GREATEST
+        return drawn
+
+
+_of_thread = threading.local()
+
+
+def point():
+    """To be called by a map's functions where another thread should get in between: under `--yield` it sometimes does."""
+    often = getattr(_of_thread, "often", 0)
+    if often and _of_thread.draws.below(1000) < often:
+        time.sleep(0 if _of_thread.draws.below(4) else (1 + _of_thread.draws.below(50)) / 1e6)
+
+
+# What a history has of a call
+
+def is_value(answer):
+    return type(answer) is int and 0 <= answer <= GREATEST
+
+
+def is_pair(answer):
+    return isinstance(answer, (tuple, list)) and len(answer) == 2 and is_value(answer[0]) and (is_value(answer[1]) or answer[1] == FOUND)
+
+
+def is_pairs(answer):
+    return isinstance(answer, (tuple, list)) and all(is_pair(pair) and is_value(pair[1]) for pair in answer)
+
+
+OPEN = object()
+EVENTS = {NONE: None, FOUND: "found", DONE: "done", OTHER: "other", REFUSED: "refused", UNKNOWN: OPEN}
+# Of each function its call in a history, what it tells, and the words that it may answer beside.
+ANSWERS = {
+    "get": ("get", is_value, (NONE, FOUND, DONE, REFUSED, UNKNOWN)),
+    "put": ("insert", is_value, (NONE, FOUND, DONE, REFUSED, UNKNOWN)),
+    "delete": ("remove", is_value, (NONE, FOUND, DONE, REFUSED, UNKNOWN)),
+    "scan": ("scan", is_pairs, (NONE, DONE, REFUSED, UNKNOWN)),
+    "replace": ("replace", is_value, (NONE, FOUND, DONE, OTHER, REFUSED, UNKNOWN)),
+    "put_if_absent": ("insert", is_value, (NONE, FOUND, REFUSED, UNKNOWN)),
+    "floor": ("scan", is_pair, (NONE, DONE, REFUSED, UNKNOWN)),
+    "ceiling": ("scan", is_pair, (NONE, DONE, REFUSED, UNKNOWN)),
+    "pop_first": ("scan", is_pair, (NONE, REFUSED)),
+}
+
+
+def checked(kind, answer):
+    """The answer, where the function may answer so."""
+    if answer is None and kind in ("get", "floor", "ceiling", "pop_first"):
+        return NONE
+    _, tells, words = ANSWERS[kind]
+    if tells(answer) or isinstance(answer, str) and answer in words:
+        return answer
+    hint = "nothing: NONE where the key held none, DONE where that is not told" if answer is None else "%s, which does not fit it" % (answer,)
+    raise Stop(WORDS, "%s said %s" % (word(kind), hint))
+
+
+def edge(kind, key, pair):
+    """Floor and ceiling are scans from the key to what was found, or to the end."""
+    low, high = (0, key) if kind == "floor" else (key, GREATEST)
+    if pair == NONE:
+        return ["scan", low, high], []
+    if pair[1] == FOUND:
+        return ["get", pair[0]], FOUND
+    if low <= pair[0] <= high:
+        low, high = (pair[0], key) if kind == "floor" else (key, pair[0])
+    return ["scan", low, high], [list(pair)]
+
+
+def noted(kind, words, answer):
+    """The invocation and the answer that a history has of a call; None where it is left out, since it tells nothing."""
+    changes = kind in ("put", "delete", "replace")
+    if answer == REFUSED and not changes or answer in (DONE, UNKNOWN) and kind in ("get", "scan", "floor", "ceiling"):
+        return None
+    if kind in ("floor", "ceiling"):
+        return edge(kind, words[0], answer)
+    if kind == "pop_first":
+        return (["scan", 0, GREATEST], []) if answer == NONE else (["remove", answer[0]], answer[1])
+    if kind == "scan":
+        return ["scan", *words], [] if answer == NONE else [list(pair) for pair in answer]
+    if kind == "put_if_absent" and (is_value(answer) or answer == FOUND):
+        return ["get", words[0]], answer
+    if kind == "replace" and answer == DONE:
+        answer = words[1]
+    return [ANSWERS[kind][0], *words], answer if is_value(answer) else EVENTS[answer]
+
+
+# A map that is wrong now and then, around one that may be right: a test of the test
+
+class Broken:
+    """A session that goes wrong in one way, one call in so many."""
+
+    def __init__(self, session, how, draws, keys):
+        self.session, self.how, self.draws, self.keys, self.late, self.once, self.style = session, how, draws, keys, None, {}, None
+        for kind in ANSWERS:
+            if callable(getattr(session, kind, None)):
+                setattr(self, kind, self.around(kind))
+        if hasattr(session, "close"):
+            self.close = session.close
+
+    def around(self, kind):
+        function, wrong = getattr(self.session, kind), getattr(self, "%s_%s" % (self.how, kind), None)
+
+        def call(*words):
+            if self.late and self.draws.below(2):
+                late, self.late = self.late, None
+                self.session.put(*late)
+            answer = wrong(*words) if wrong and self.draws.below(SELDOM) == 0 else None
+            if answer is None:
+                answer = function(*words)
+                self.see(kind, words, answer)
+            return answer
+        return call
+
+    def see(self, kind, words, answer):
+        if kind == "put" and (is_value(answer) or answer in (DONE, FOUND)):
+            self.style = answer if answer in (DONE, FOUND) else "told"
+        elif kind == "get" and (words[0] not in self.once or self.draws.below(4) == 0):
+            self.once[words[0]] = told(answer)
+
+    def pause(self):
+        time.sleep(0 if self.draws.below(4) else (1 + self.draws.below(50)) / 1e6)
+
+    def in_style(self, got):
+        """What the put of the map would say where a get says this."""
+        return DONE if self.style == DONE else self.style if is_value(got) and self.style != "told" else got
+
+    def drop_put(self, key, value):
+        return self.in_style(told(self.session.get(key))) if self.style else None
+
+    def race_put(self, key, value):
+        """A put after a get, as if they were one: of the key itself where the put tells what it found, else of the key beside it, which
+        is put back as it was got."""
+        if not self.style:
+            return None
+        beside = key if self.style == "told" or key ^ 1 >= self.keys else key ^ 1
+        got = told(self.session.get(beside))
+        self.pause()
+        if beside != key and is_value(got):
+            self.session.put(beside, got)
+        answer = self.session.put(key, value)
+        return answer if beside != key or self.style == DONE else self.in_style(got)
+
+    def replay_put(self, key, value):
+        self.late = (key, value)
+
+    def stale_get(self, key):
+        return self.once.get(key)
+
+    def zombie_delete(self, key):
+        found = self.session.get(key)
+        if is_value(found):
+            self.late = (key, found)
+
+    def torn_scan(self, low, high):
+        first = self.session.scan(low, (low + high) // 2)
+        if low == high or not is_pairs(first):
+            return None
+        self.pause()
+        second = self.session.scan((low + high) // 2 + 1, high)
+        return list(first) + list(second) if is_pairs(second) else second
+
+    def cas_replace(self, key, old, new):
+        said = self.session.put(key, new)
+        return said if said == REFUSED or said == UNKNOWN else DONE
+
+
+# Threads and what they record
+
+WRITING = ("put", "delete", "replace", "put_if_absent")
+
+
+class Worker:
+    """One thread or process: draws calls, makes them, and notes them with the stamps of their beginning and their end."""
+
+    def __init__(self, number, options, stamp, locks, doubts):
+        self.number, self.options, self.stamp, self.locks, self.doubts = number, options, stamp, locks, doubts
+        self.puts, self.values_from = 0, None
+        self.total = sum(options.shares.values())
+
+    def open(self, made):
+        self.session = made.session() if hasattr(made, "session") else made
+        if self.options.broken:
+            self.session = Broken(self.session, self.options.broken, Draws(self.options.seed, 0, self.number), self.options.keys)
+
+    def run(self, number, lives, start, doubtful):
+        """The calls of a round, as at most so many processes: one whose answer is unknown makes no further call."""
+        options = self.options
+        if self.values_from is None:
+            self.values_from = 1 + max(start.values(), default=0)  # each put has a value of its own, which was not in the map before
+        self.draws, self.log, self.life, self.made, self.seen = Draws(options.seed, number, self.number), [], 0, 0, {}
+        self.sayings = dict.fromkeys(("told",) + SAYINGS, 0)
+        self.memory = {key: start.get(key, NONE) for key in range(options.keys) if key not in doubtful} if options.void == "own" else {}
+        _of_thread.often, _of_thread.draws = options.yields, copy.copy(self.draws)
+        while self.made < options.calls and self.life < lives:
+            self.draw()
+        return self.log, self.sayings
+
+    def draw(self):
+        options, place = self.options, self.draws.below(self.total)
+        for kind, share in options.shares.items():
+            if place < share:
+                break
+            place -= share
+        is_write = kind in WRITING or kind == "pop_first"
+        key = self.key(is_write)
+        if is_write:
+            value = (self.values_from + self.puts * options.threads + self.number) & GREATEST
+            self.puts += 1
+        if kind == "scan":
+            high = min(key + self.draws.below(SPAN), options.keys - 1)
+        point()
+        if kind == "scan" and options.scan == "steps":
+            return self.steps(key, high)
+        words = {"scan": lambda: (key, high), "put": lambda: (key, value), "put_if_absent": lambda: (key, value), "pop_first": tuple,
+                 "replace": lambda: (key, self.seen.get(key, 0), value)}.get(kind, lambda: (key,))()
+        if is_write and self.locks:
+            with self.locks[key]:
+                self.make(kind, *words)
+        else:
+            self.make(kind, *words)
+
+    def key(self, is_write):
+        options = self.options
+        is_hot = 0 < options.hot < options.keys and self.draws.below(10) < 9
+        key = self.draws.below(options.hot if is_hot else options.keys)
+        if options.void != "own" or not is_write:
+            return key
+        key = key // options.threads * options.threads + self.number
+        return key if key < options.keys else self.number
+
+    def steps(self, low, high):
+        while low <= high and self.made < self.options.calls:
+            pair = self.make("ceiling", low)
+            if not is_pair(pair) or pair[0] < low:
+                break
+            low = pair[0] + 1
+
+    def ask(self, kind, *words):
+        try:
+            return checked(kind, getattr(self.session, kind)(*words))
+        except OSError:
+            return UNKNOWN
+
+    def make(self, kind, *words):
+        """Makes a call between two stamps, and notes it."""
+        begin, got = self.stamp(), DONE
+        if self.locks and kind in ("put", "delete"):
+            got = self.ask("get", words[0])
+        answer = self.ask(kind, *words)
+        end = self.stamp()
+        self.made += 1
+        self.sayings[answer if isinstance(answer, str) else "told"] += 1
+        if self.locks and answer == UNKNOWN and words:
+            self.doubts[words[0]] |= kind in WRITING  # it may still come between a get and the put behind it
+        says = self.known(kind, words, answer, DONE if words and self.locks and self.doubts[words[0]] else got)
+        if self.options.void == "told" and kind in ("put", "delete") and says in (DONE, FOUND):
+            raise Stop(WORDS, "%s said %s, and --void told wants the value before" % (word(kind), says))
+        if kind == "put" or kind == "replace" and answer == DONE:
+            self.seen[words[0]] = words[-1]
+        elif kind in ("get", "delete", "replace", "put_if_absent") and is_value(answer):
+            self.seen[words[0]] = answer
+        self.note(begin, end, noted(kind, words, says))
+        return answer
+
+    def known(self, kind, words, answer, got):
+        """What is known of the answer: where a put or a delete was done, and does not tell what it found, from the get in front of it
+        under the key's lock, or from what the one writer of the key remembers."""
+        before = self.memory.get(words[0]) if words else None
+        if kind in WRITING and before is not None and answer != REFUSED:
+            if answer == UNKNOWN or kind == "replace" and answer == FOUND:
+                del self.memory[words[0]]
+            elif kind == "delete":
+                self.memory[words[0]] = NONE
+            elif kind == "put" or kind == "put_if_absent" and answer == NONE or kind == "replace" and answer in (DONE, words[1]):
+                self.memory[words[0]] = words[-1]
+        if kind not in ("put", "delete") or answer != DONE:
+            return answer
+        return before if before is not None else got if got == NONE or is_value(got) else DONE
+
+    def note(self, begin, end, events):
+        if events is None:
+            return
+        self.log.append((begin, self.number, self.life, "invoke", events[0]))
+        if events[1] is OPEN:
+            self.life += 1
+        else:
+            self.log.append((end, self.number, self.life, "answer", events[1]))
+
+
+def serve(worker, made, inbox, outbox, barrier):
+    """What a thread or a process does from its first round to its last."""
+    try:
+        worker.open(made)
+        outbox.put(None)
+        for task in iter(inbox.get, None):
+            barrier.wait()
+            outbox.put(worker.run(*task))
+        if hasattr(made, "session") and hasattr(worker.session, "close"):
+            worker.session.close()
+    except BaseException as error:
+        barrier.abort()
+        outbox.put((None, error.line if isinstance(error, Stop) else traceback.format_exc()))
+
+
+def stamps(processes):
+    """One word, and a sequentially consistent fetch-and-add on it."""
+    if processes:
+        shared = multiprocessing.get_context("fork").Value("Q", 0)
+
+        def of_processes():
+            with shared.get_lock():
+                shared.value += 1
+                return shared.value
+        return of_processes
+    if getattr(sys, "_is_gil_enabled", lambda: True)():
+        return itertools.count().__next__  # one step of the interpreter, under its lock
+    lock, count = threading.Lock(), itertools.count()
+
+    def of_threads():
+        with lock:
+            return next(count)
+    return of_threads
+
+
+class Crew:
+    """The threads or processes of a run, and a session of the driver's own."""
+
+    def __init__(self, options, made):
+        self.options, self.stamp = options, stamps(options.processes)
+        kit = multiprocessing.get_context("fork") if options.processes else threading
+        pipe, member = (kit.SimpleQueue, kit.Process) if options.processes else (queue.SimpleQueue, threading.Thread)
+        locks = [kit.Lock() for _ in range(options.keys)] if options.void == "lock" else []
+        doubts = multiprocessing.get_context("fork").RawArray("b", options.keys) if options.processes else bytearray(options.keys)
+        barrier = kit.Barrier(options.threads)
+        self.pipes = [(pipe(), pipe()) for _ in range(options.threads)]
+        self.members = [
+            member(target=serve, args=(Worker(number, options, self.stamp, locks, doubts), made, *pipes, barrier), daemon=True)
+            for number, pipes in enumerate(self.pipes)]
+        for one in self.members:
+            one.start()
+        self.taken()
+        self.made, self.session = made, made.session() if hasattr(made, "session") else made
+
+    def taken(self):
+        """What each member puts out. Where one has met an error, the run ends."""
+        for member, (_, outbox) in zip(self.members, self.pipes):
+            while outbox.empty():
+                if not member.is_alive() and outbox.empty():
+                    raise Stop(WORDS, "%s: a process has ended" % self.options.name)
+                time.sleep(0.0002)
+        taken = [outbox.get() for _, outbox in self.pipes]
+        errors = [one[1] for one in taken if one and isinstance(one[1], str)]
+        if errors:
+            first = next((error for error in errors if "BrokenBarrierError" not in error), errors[0])
+            raise Stop(WORDS, "%s: %s" % (self.options.name, first.rstrip()))
+        return taken
+
+    def run(self, *task):
+        for inbox, _ in self.pipes:
+            inbox.put(task)
+        return self.taken()
+
+    def contents(self):
+        """Gets of all keys, and what they told: the last calls of a round."""
+        log, pairs = [], {}
+        for key in range(self.options.keys):
+            for _ in range(1000):
+                begin = self.stamp()
+                try:
+                    answer = checked("get", self.session.get(key))
+                except OSError:
+                    answer = UNKNOWN
+                end = self.stamp()
+                if answer == NONE or is_value(answer):
+                    break
+                time.sleep(0.001)
+            else:
+                raise Stop(WORDS, "%s: get of %d said %s at rest, where it has to tell" % (self.options.name, key, answer))
+            log.append((begin, self.options.threads, 0, "invoke", ["get", key]))
+            log.append((end, self.options.threads, 0, "answer", None if answer == NONE else answer))
+            if answer != NONE:
+                pairs[key] = answer
+        return log, pairs
+
+    def close(self):
+        for inbox, _ in self.pipes:
+            inbox.put(None)
+        for one in self.members:
+            one.join(1)
+        if hasattr(self.made, "session") and hasattr(self.session, "close"):
+            self.session.close()
+
+
+# Histories
+
+class Round:
+    """What one round recorded, as a history, and what its threads met."""
+
+    def __init__(self, logs, start, pending):
+        lines = sorted((line for log in logs for line in log), key=lambda line: line[0])
+        numbers = {}
+        self.start, self.events = start, [{"invoke": call, "process": process} for process, call in enumerate(pending)]
+        for _, thread, life, member, what in lines:
+            process = numbers.setdefault((thread, life), len(pending) + len(numbers))
+            self.events.append({member: what, "process": process})
+        self.measure()
+
+    def measure(self):
+        """How many calls were open where another began, at which keys two writers met, and which changes may still come: those that have no
+        answer, and of which no answer tells what they put."""
+        opened, told_of, self.calls, self.overlap, self.met = {}, set(), 0, 0, set()
+        for event in self.events:
+            process, call = event["process"], event.get("invoke")
+            if call is None:
+                told_of.update(pair[1] for pair in event["answer"]) if type(event["answer"]) is list else told_of.add(event["answer"])
+                del opened[process]
+                continue
+            self.calls += 1
+            self.overlap += len(opened)
+            if call[0] in WRITES and any(other[0] in WRITES and other[1] == call[1] for other in opened.values()):
+                self.met.add(call[1])
+            opened[process] = call
+        self.pending = [call for call in opened.values() if call[0] == "remove" or call[-1] not in told_of]
+
+    def text(self):
+        answers = [event["answer"] for event in self.events if isinstance(event.get("answer"), str)]
+        if any(answer != "refused" for answer in answers):
+            version = 3
+        else:
+            version = 2 if self.start or any("replace" in event.get("invoke", "") for event in self.events) else 1
+        whole = {"events": self.events, "version": version}
+        if version > 1:
+            whole["start"] = sorted([key, value] for key, value in self.start.items())
+        return json.dumps(whole, separators=(",", ":"), sort_keys=True) + "\n"
+
+
+WRITES = ("insert", "remove", "replace")
+
+
+class Program:
+    """The program `bench`."""
+
+    def __init__(self, options):
+        self.path, self.budget = options.bench or os.environ.get("POTZENDAI_BENCH") or self.found(), options.budget
+        self.ask("explain", '{"events":[],"version":1}\n', self.budget)
+        built = os.path.join(os.path.dirname(self.path), "crates", "bench", "out", "bench")
+        self.path = built if os.access(built, os.X_OK) else self.path  # what the repository's own `bench` has built by now
+
+    @staticmethod
+    def found():
+        beside = os.path.join(os.path.dirname(os.path.abspath(__file__)), "..", "..", "bench")
+        found = next((path for path in ("./bench", beside) if os.path.isfile(path) and os.access(path, os.X_OK)), shutil.which("bench"))
+        if not found:
+            raise Stop(WORDS, "--bench: no program `bench` here or on the PATH")
+        return found
+
+    def judge(self, text):
+        """The verdict: once more at ten times the budget where it is undecided."""
+        status = self.ask("judge", text, self.budget)[0]
+        return self.ask("judge", text, min(10 * self.budget, 10 ** 6))[0] if status == UNDECIDED else status
+
+    def ask(self, command, text, budget):
+        try:
+            done = subprocess.run([self.path, command, "--budget", str(budget)], input=text.encode(), stdout=subprocess.PIPE)
+        except OSError as error:
+            raise Stop(FILE, "%s: %s" % (self.path, error.strerror))
+        if done.returncode not in (YES, NO, UNDECIDED):
+            raise Stop(done.returncode if FAULTY <= done.returncode <= FILE else FILE, "%s %s: status %d" % (self.path, command, done.returncode))
+        answer = done.stdout.decode("utf-8", "replace")
+        if command != "draw" and not answer.partition("\n")[0].endswith('"verdict":"%s"}' % VERDICTS[done.returncode]):
+            raise Stop(FILE, "%s %s: status %d without its verdict" % (self.path, command, done.returncode))
+        return done.returncode, answer
+
+
+# A run
+
+class Run:
+    """Rounds at a new map, each of which begins with what the one before has left: the pairs, and calls without an answer that may still
+    come."""
+
+    def __init__(self, options, make, program):
+        self.options, self.make, self.program = options, make, program
+        self.rounds = self.calls = self.overlap = self.undecided = 0
+        self.cut = []
+        self.sayings, self.met, self.failed, self.began = dict.fromkeys(("told",) + SAYINGS, 0), set(), None, time.monotonic()
+
+    def go(self, number=0):
+        """Rounds from this number on, until one has no order, or the time is over."""
+        crew = Crew(self.options, self.make())
+        try:
+            start, pending = crew.contents()[1], []
+            while not self.is_over():
+                lives = (PROCESSES - 1 - len(pending)) // self.options.threads
+                if lives == 0:
+                    self.cut = ["%s: %d calls are without an answer, which leaves no room for others" % (self.options.name, len(pending))]
+                    break
+                taken = crew.run(number + self.rounds, lives, start, {call[1] for call in pending})
+                gets, left = crew.contents()
+                one = Round([log for log, _ in taken] + [gets], start, pending)
+                self.take(one, [sayings for _, sayings in taken])
+                if self.failed:
+                    break
+                start, pending = left, one.pending
+        finally:
+            crew.close()
+        return self
+
+    def take(self, one, sayings):
+        self.rounds += 1
+        self.calls += one.calls
+        self.overlap += one.overlap
+        self.met |= one.met
+        for said in self.sayings:
+            self.sayings[said] += sum(each[said] for each in sayings)
+        if self.program is None:
+            print(one.text(), end="", flush=True)
+            return
+        status = self.program.judge(one.text())
+        self.undecided += status == UNDECIDED
+        self.failed = one if status == NO else None
+
+    def is_over(self):
+        """At least one round is made. Each second a line on a terminal says how far this is."""
+        now, options = time.monotonic(), self.options
+        if options.shows and now - options.shown >= 1 and self.calls:
+            options.shown = now
+            refused = 100 * self.sayings[REFUSED] / max(sum(self.sayings.values()), 1)
+            print("%d calls, %.0f a second, overlap %.1f a call, %.1f%% refused, two writers met on %d of %d keys" % (
+                self.calls, self.calls / (now - self.began), self.overlap / self.calls, refused, len(self.met), options.keys), file=sys.stderr)
+        return self.rounds > 0 and (0 < options.rounds <= self.rounds or now - self.began >= options.seconds)
+
+    def summary(self, verdict):
+        """The verdict, and what it rests on."""
+        said = ", ".join("%d %s" % (count, said) for said, count in self.sayings.items() if count)
+        return "%s: %d rounds, %d calls in %.1f seconds, overlap %.2f a call: %s%s" % (
+            verdict, self.rounds, self.calls, time.monotonic() - self.began, self.overlap / max(self.calls, 1), said,
+            "; %d undecided" % self.undecided if self.undecided else "")
+
+
+def smaller(run):
+    """The smallest run that failed, of some tries with half of the calls or keys, or a thread less. Threads interleave as they will.
+    Where calls have no answer none is tried, since they may still come."""
+    best, until, tries, names = run, time.monotonic() + 5, 60 if run.sayings[UNKNOWN] == 0 else 0, ["calls", "keys", "threads"]
+    while names:
+        options, found = copy.copy(best.options), None
+        size = getattr(options, names[0])
+        setattr(options, names[0], size - 1 if names[0] == "threads" else size // 2)
+        options.rounds, options.shows = 1, False
+        is_less = min(options.calls, options.threads, options.keys // (options.threads if options.void == "own" else 1)) > 0
+        for _ in range(6 if is_less else 0):
+            tries -= 1
+            if tries < 0 or time.monotonic() > until or found:
+                break
+            again = Run(options, run.make, run.program).go(run.rounds - 1)
+            found = again if again.failed else None
+        best, names = (found, ["calls", "keys", "threads"]) if found else (best, names[1:])
+    return best
+
+
+# A no in words
+
+def said_pairs(pairs):
+    return ", ".join("%d: %d" % tuple(pair) for pair in pairs) or "nothing"
+
+
+def said_answer(answer):
+    if isinstance(answer, list):
+        return said_pairs(answer)
+    return {None: "none", "done": "that it was done", "found": "that there was a value", "other": "another value",
+            "refused": "that it was refused", "open": "nothing that counts"}.get(answer, str(answer))
+
+
+def said_call(call):
+    name, words = call[0], call[1:]
+    if name == "insert":
+        return "put %d at %d" % (words[1], words[0])
+    if name == "replace":
+        return "replace %d at %d by %d" % (words[1], words[0], words[2])
+    return "scan from %d to %d" % tuple(words) if name == "scan" else "%s %d" % (name, words[0])
+
+
+def said_writer(one, value):
+    """Who put a value."""
+    if not is_value(value):
+        return ""
+    for number, event in enumerate(one.events):
+        call = event.get("invoke", ("",))
+        if call[0] in ("insert", "replace") and call[-1] == value:
+            return "; %d is what process %d put (event %d)" % (value, event["process"], number)
+    return "; %d %s" % (value, "was there at the start" if value in one.start.values() else "is what nobody put")
+
+
+def said_report(report, one):
+    """A report of `explain` in words, and the line that is the few calls' history, or None."""
+    texts = report.splitlines()
+    lines, few = [json.loads(text) for text in texts], None
+    said = texts[:1] + ["these calls have no order, whatever else was done:"][:len(texts) - 1]
+    for line, text in zip(lines[1:], texts[1:]):
+        if "events" in line:
+            few = text
+        elif "reason" in line:
+            said.append("  event %-6d process %-3d %s, answered %s%s" % (
+                line["event"], line["process"], said_call(line["call"]), said_answer(line["answer"]), said_writer(one, line["answer"])))
+        elif "front" in line:
+            said.append("  an order of them gets as far as the events %s; the map then holds %s" % (
+                json.dumps(line["front"], separators=(",", ":")), said_pairs(line["holds"])))
+            said += ["  the call of event %d was answered %s, and would be answered %s%s" % (
+                call["event"], said_answer(call["answer"]), said_answer(call["would"]), said_writer(one, call["answer"]))
+                for call in line["next"]]
+    return said, few
+
+
+def keep(options, ending, text):
+    """Writes a file of a round, and says how it is called."""
+    path = os.path.join(options.out, "%s-%d-%d%s" % (options.name, options.seed, options.round, ending))
+    try:
+        with open(path, "w") as out:
+            out.write(text)
+    except OSError:
+        return "file: not written: " + path
+    return "  file: " + path
+
+
+# Words
+
+class Parser(argparse.ArgumentParser):
+    def error(self, message):
+        raise Stop(WORDS, message.replace("argument ", "", 1))
+
+    def exit(self, status=0, message=None):
+        sys.exit(WORDS)
+
+
+def number(least, most):
+    def read(text):
+        if not text.isdigit() or not least <= int(text) <= most:
+            raise argparse.ArgumentTypeError("a number from %d to %d" % (least, most))
+        return int(text)
+    return read
+
+
+def mix(text):
+    shares = {}
+    for part in text.split(","):
+        name, _, share = part.partition("=")
+        kind = {"del": "delete", "delete": ""}.get(name, name)
+        if kind not in SHARES or not share.isdigit() or len(share) > 6:
+            raise argparse.ArgumentTypeError("shares, as get=50,put=30,del=10,scan=10")
+        shares[kind] = int(share)
+    return {kind: shares.get(kind, 0) for kind in SHARES}
+
+
+def words_of(argv):
+    words = Parser(prog=os.path.basename(sys.argv[0]), usage="%(prog)s [WORDS]", allow_abbrev=False)
+    for name, kind, usual, what in (
+            ("--seconds", number(1, 10 ** 9), 0, "how long (10, or as long as --rounds take)"),
+            ("--rounds", number(1, GREATEST), 0, "at most so many rounds"),
+            ("--threads", number(1, 62), 4, "threads that call the map (4)"),
+            ("--keys", number(1, CALLS), 16, "keys, from 0 (16)"),
+            ("--hot", number(1, CALLS), 0, "so many of the keys are those of nine calls in ten"),
+            ("--calls", number(1, CALLS), 0, "calls of a thread in a round (200)"),
+            ("--seed", number(0, GREATEST), time.time_ns() % 1000000007, "what the calls are drawn from (of the clock)"),
+            ("--mix", mix, None, "shares, as get=50,put=30,del=10,scan=10; also replace, put_if_absent, floor, ceiling, pop_first"),
+            ("--yield", number(0, 1000), 0, "of a thousand points between and in calls, so many give way to other threads (0)"),
+            ("--out", str, ".", "the folder where files are put (.), or - for standard output: all histories, which nobody judges then"),
+            ("--budget", number(1, 10 ** 6), 100000, "the judge's (100000)"),
+            ("--bench", str, None, "the program (./bench, or on the PATH)")):
+        words.add_argument(name, type=kind, default=usual, help=what, metavar="N" if isinstance(usual, int) else "WORD",
+                           dest=name[2:] + "s" * (name == "--yield"))
+    words.add_argument("--void", choices=("done", "told", "own", "lock"), default="done", help="a put that tells nothing is recorded as "
+                       "done; has to be told; own: one writer a key remembers what it put; lock: a lock a key around a get and the put (done)")
+    words.add_argument("--scan", choices=("snapshot", "steps"), default="snapshot", help="a scan is of one moment; or steps of ceiling")
+    words.add_argument("--break", dest="broken", choices=tuple(BREAKS) + ("all",), help="makes the map wrong now and then; all: in each way")
+    words.add_argument("--processes", action="store_true", help="processes in the place of threads, as for clients of servers")
+    words.add_argument("--stream", action="store_true", help="a run without end, as one stream: the drivers in C and C++ have it")
+    given = words.parse_args(argv)
+    if given.stream:
+        raise Stop(WORDS, "--stream: rounds alone here; the drivers in C and C++ have it")
+    return given
+
+
+def fit(options, has):
+    """The words together, and with what the map has."""
+    def wrong(name, what):
+        raise Stop(WORDS, "%s: %s" % (name, what))
+    able = {kind: kind in has for kind in SHARES}
+    able["scan"] = "ceiling" in has if options.scan == "steps" else able["scan"]
+    if not able["get"] or not able["put"]:
+        wrong("the map", "a map needs the functions get and put")
+    apart = options.void in ("own", "lock")
+    options.has_mix = options.mix is not None
+    options.shares = options.mix or {kind: 0 if not able[kind] or kind == "pop_first" and apart else SHARES[kind] for kind in SHARES}
+    for kind, share in options.shares.items():
+        if share and not able[kind]:
+            wrong(word(kind), "steps need the function ceiling" if kind == "scan" and options.scan == "steps" else "no such function of the map")
+    if not sum(options.shares.values()):
+        wrong("--mix", "no share")
+    if options.shares["pop_first"] and apart:
+        wrong("pop_first", "takes keys of others, so not with --void own or lock")
+    options.shown_by = {how: options.shares[kind] > 0 and not (how == "torn" and options.scan == "steps") for how, kind in BREAKS.items()}
+    if not options.shown_by.get(options.broken, True):
+        wrong("--break", "what it makes wrong is not called")
+    if options.hot > options.keys:
+        wrong("--hot", "more than there are keys")
+    if options.void == "own" and options.keys < options.threads:
+        wrong("--void", "own: each thread needs a key")
+    options.calls = options.calls or min(CALLS // (options.threads + 2), 200)
+    options.seconds = options.seconds or (10 ** 9 if options.rounds else 10)
+    if (options.threads + 1) * max(options.calls, options.keys) > CALLS:
+        wrong("--calls", "a round has at most 4096 calls: those of each thread, or as many as there are keys, for the threads and one more")
+    options.shows, options.shown = sys.stderr.isatty(), time.monotonic()
+    return options
+
+
+def words_again(options, rounds):
+    """The words that repeat the draws of a run of so many rounds."""
+    said = [os.path.basename(sys.argv[0]), *itertools.takewhile(lambda word: not word.startswith("--"), sys.argv[1:])]
+    said += ["--seed", options.seed, "--threads", options.threads, "--keys", options.keys]
+    said += ["--hot", options.hot] if options.hot else []
+    said += ["--calls", options.calls, "--mix", ",".join("%s=%d" % (word(kind), share) for kind, share in options.shares.items() if share)]
+    said += ["--void", options.void, "--scan", options.scan] + (["--yield", options.yields] if options.yields else [])
+    said += (["--break", options.broken] if options.broken else []) + (["--processes"] if options.processes else [])
+    return " ".join(map(str, said + ["--rounds", rounds]))
+
+
+def functions(make):
+    """Those of a map."""
+    made = make()
+    session = made.session() if hasattr(made, "session") else made
+    has = {kind for kind in ANSWERS if callable(getattr(session, kind, None))}
+    if session is not made and hasattr(session, "close"):
+        session.close()
+    return has
+
+
+def tested(make, options):
+    """A run by these words: its status, what is to be told before the last line, and the last line."""
+    fit(options, functions(make))
+    options.name = getattr(make, "__name__", "map")
+    program = None if options.out == "-" else Program(options)
+    interval = sys.getswitchinterval()
+    sys.setswitchinterval(1e-5)  # else a thread of Python goes on for 5 ms, and hardly a call overlaps another
+    try:
+        if options.broken == "all":
+            return all_broken(make, options, program)
+        run = Run(options, make, program).go()
+        if run.failed:
+            return NO, refuted(run), run.summary("no")
+    finally:
+        sys.setswitchinterval(interval)
+    status = UNDECIDED if run.undecided or run.cut else YES
+    return (status, run.cut, run.summary(VERDICTS[status])) if program else (status, run.cut + [run.summary("not judged")], None)
+
+
+def refuted(run):
+    """A round that has no order: what shows it, and how to repeat it."""
+    options = run.options
+    options.round = run.rounds - 1
+    least = smaller(run)
+    said = ["round %d has no order" % options.round, "the smallest of some tries that failed: threads %d, keys %d, calls %d" % (
+        least.options.threads, least.options.keys, least.options.calls)]
+    text = least.failed.text()
+    told_of, few = said_report(run.program.ask("explain", text, 10 * options.budget if run.undecided else options.budget)[1], least.failed)
+    said += told_of + [keep(options, ".json", text)] + ([keep(options, "-few.json", few + "\n")] if few else [])
+    said.append(keep(options, ".svg", run.program.ask("draw", few + "\n" if few else text, options.budget)[1]))
+    return said + ["  again: " + words_again(options, run.rounds)]
+
+
+def all_broken(make, options, program):
+    """Each way to go wrong that the drawn calls can show has to be refuted: then the status is that of a no."""
+    said, missed = [], 0
+    for how, is_called in options.shown_by.items():
+        options.broken = how
+        run = Run(options, make, program).go() if is_called else None
+        missed += run is not None and not run.failed
+        said.append("%s: %s" % (how, run.summary("no" if run.failed else "yes") if run else "what it makes wrong is not called"))
+    return (YES, said, "yes: %d of the broken maps were not refuted" % missed) if missed else (NO, said, "no: each broken map was refuted")
+
+
+def check(make, *argv):
+    """To be called from a test: raises an AssertionError with the explanation where the verdict is no yes. The words are those of the
+    command line, as in check(Map, "--seconds", "2")."""
+    status, said, last = tested(make, words_of([str(one) for one in argv]))
+    assert status == YES, "\n".join(said + [last])
+
+
+def main(make, argv=None):
+    """A whole program. `make` makes a new and empty map: it is called at the beginning, and again for each run behind a no."""
+    try:
+        status, said, last = tested(make, words_of(argv))
+        print("".join(line + "\n" for line in said), end="", file=sys.stderr)
+        print(last if last else "", end="\n" if last else "", flush=True)
+    except Stop as stop:
+        print(stop.line, file=sys.stderr)
+        status = stop.status
+    except MemoryError:
+        print("memory", file=sys.stderr)
+        status = MEMORY
+    except KeyboardInterrupt:
+        print("interrupted", file=sys.stderr)
+        status = UNDECIDED
+    except Exception:
+        traceback.print_exc()
+        status = FILE
+    sys.exit(status)

@@ -1,0 +1,1434 @@
+//! Tests an ordered map of one's own: threads call its functions, what they do is recorded, and the program `bench` judges each recording.
+//! Copy this file beside a source that says `mod potzendai;`: Rust 1.70 and the program are all that it needs.
+//!
+//!     fn main() {
+//!         std::process::exit(potzendai::run("mine", || Mine::new(), std::env::args().skip(1)));
+//!     }
+//!
+//! From any test, `potzendai::check("mine", || Mine::new(), &["--seconds", "5"])` panics with the explanation.
+#![allow(dead_code)]
+
+use std::cell::RefCell;
+use std::collections::{BTreeMap, HashMap, HashSet};
+use std::fmt::Write as _;
+use std::io::{IsTerminal, Read, Write};
+use std::panic::{catch_unwind, AssertUnwindSafe};
+use std::process::{Command, Stdio};
+use std::sync::atomic::{AtomicU64, AtomicUsize, Ordering};
+use std::sync::mpsc::{channel, Receiver, Sender};
+use std::sync::{Arc, Mutex};
+use std::time::{Duration, Instant, SystemTime};
+
+/// What a function of the map answers: what it tells, or how little.
+#[derive(Clone, Debug, PartialEq)]
+pub enum Said {
+    Told(u64),
+    Pair(u64, u64),
+    Pairs(Vec<(u64, u64)>),
+    /// There was no value.
+    None,
+    /// It was done, and nothing is told.
+    Done,
+    /// There was a value, which is not told; or a pair, of which only the key is.
+    Found,
+    FoundKey(u64),
+    /// The old value was not there, and nothing has changed.
+    Other,
+    /// Nothing has changed, as of a transaction that was rolled back.
+    Refused,
+    /// Nobody knows whether it was done, as of a request that timed out.
+    Unknown,
+    /// The map has no such function.
+    Missing,
+}
+
+impl From<Option<u64>> for Said {
+    fn from(value: Option<u64>) -> Said {
+        value.map_or(Said::None, Said::Told)
+    }
+}
+
+impl Said {
+    fn word(&self) -> usize {
+        match self {
+            Said::Told(_) | Said::Pair(..) | Said::Pairs(_) => 0,
+            Said::None => 1,
+            Said::Done => 2,
+            Said::Found | Said::FoundKey(_) => 3,
+            Said::Other => 4,
+            Said::Refused => 5,
+            Said::Unknown => 6,
+            Said::Missing => 7,
+        }
+    }
+
+    fn tells(&self) -> bool {
+        matches!(self, Said::Told(_) | Said::None)
+    }
+}
+
+/// What one thread calls: any function but `get` and `put` may be left out. Nothing else changes the map.
+pub trait Session {
+    /// The value.
+    fn get(&mut self, key: u64) -> Said;
+    /// The value before.
+    fn put(&mut self, key: u64, value: u64) -> Said;
+    /// The value before.
+    fn del(&mut self, _key: u64) -> Said {
+        Said::Missing
+    }
+    /// The pairs of one moment, both ends included.
+    fn scan(&mut self, _low: u64, _high: u64) -> Said {
+        Said::Missing
+    }
+    /// The value found; or Done where it was replaced, Other where it was not.
+    fn replace(&mut self, _key: u64, _old: u64, _value: u64) -> Said {
+        Said::Missing
+    }
+    /// None where it was put; else the value found.
+    fn put_if_absent(&mut self, _key: u64, _value: u64) -> Said {
+        Said::Missing
+    }
+    /// The greatest pair up to the key.
+    fn floor(&mut self, _key: u64) -> Said {
+        Said::Missing
+    }
+    /// The least pair from the key on.
+    fn ceiling(&mut self, _key: u64) -> Said {
+        Said::Missing
+    }
+    /// The least pair, which is taken.
+    fn pop_first(&mut self) -> Said {
+        Said::Missing
+    }
+}
+
+/// A map, of which each thread opens a session of its own.
+pub trait Map: Sync {
+    fn open(&self) -> Box<dyn Session + '_>;
+}
+
+const SAYINGS: [&str; 8] = ["told", "none", "done", "found", "other", "refused", "unknown", "that it is missing"];
+const VERDICTS: [&str; 3] = ["yes", "no", "undecided"];
+const YES: i32 = 0;
+const NO: i32 = 1;
+const UNDECIDED: i32 = 2;
+const BAD_WORDS: i32 = 5;
+const BAD_FILE: i32 = 6;
+const PROCESSES: usize = 64;
+const CALLS: u64 = 4096;
+const SPAN: u64 = 16;
+const SELDOM: u64 = 20;
+
+#[derive(Clone, Copy, Debug, PartialEq, Eq)]
+enum Kind {
+    Get,
+    Put,
+    Del,
+    Scan,
+    Replace,
+    PutIfAbsent,
+    Floor,
+    Ceiling,
+    PopFirst,
+}
+
+use Kind::*;
+
+const KINDS: [Kind; 9] = [Get, Put, Del, Scan, Replace, PutIfAbsent, Floor, Ceiling, PopFirst];
+const NAMES: [&str; 9] = ["get", "put", "del", "scan", "replace", "put_if_absent", "floor", "ceiling", "pop_first"];
+const SHARES: [u64; 9] = [40, 30, 10, 5, 10, 5, 3, 3, 2];
+const BREAKS: [(&str, Kind); 7] =
+    [("drop", Put), ("race", Put), ("replay", Put), ("stale", Get), ("zombie", Del), ("torn", Scan), ("cas", Replace)];
+
+impl Kind {
+    fn name(self) -> &'static str {
+        NAMES[self as usize]
+    }
+
+    fn writes(self) -> bool {
+        matches!(self, Put | Del | Replace | PutIfAbsent | PopFirst)
+    }
+
+    fn reads(self) -> bool {
+        matches!(self, Get | Scan | Floor | Ceiling)
+    }
+
+    fn fits(self, said: &Said) -> bool {
+        match said {
+            Said::Told(_) => matches!(self, Get | Put | Del | Replace | PutIfAbsent),
+            Said::Pair(..) | Said::FoundKey(_) => matches!(self, Floor | Ceiling | PopFirst),
+            Said::Pairs(_) => self == Scan,
+            Said::None => true,
+            Said::Done => self.reads() || matches!(self, Put | Del | Replace),
+            Said::Found => matches!(self, Get | Put | Del | Replace | PutIfAbsent),
+            Said::Other => self == Replace,
+            Said::Refused => true,
+            Said::Unknown => self != PopFirst,
+            Said::Missing => false,
+        }
+    }
+}
+
+/// Ends a run with a status and a line.
+#[derive(Clone, Debug)]
+struct Stop(i32, String);
+
+fn fail<T>(status: i32, line: impl Into<String>) -> Result<T, Stop> {
+    Err(Stop(status, line.into()))
+}
+
+// Draws
+
+const GAMMA: u64 = 0x9e37_79b9_7f4a_7c15;
+
+/// Steele, Lea and Flood's SplitMix: the number behind a state.
+fn mixed(state: u64) -> u64 {
+    let z = state.wrapping_add(GAMMA);
+    let z = (z ^ z >> 30).wrapping_mul(0xbf58_476d_1ce4_e5b9);
+    let z = (z ^ z >> 27).wrapping_mul(0x94d0_49bb_1331_11eb);
+    z ^ z >> 31
+}
+
+/// Numbers that a seed, a round and a thread decide.
+struct Draws(u64);
+
+impl Draws {
+    fn new(seed: u64, round: u64, thread: u64) -> Draws {
+        Draws(mixed(seed) ^ mixed(round + (1 << 40)) ^ mixed(thread + (1 << 50)))
+    }
+
+    fn below(&mut self, bound: u64) -> u64 {
+        let drawn = mixed(self.0) % bound;
+        self.0 = self.0.wrapping_add(GAMMA);
+        drawn
+    }
+
+    fn pause(&mut self) {
+        if self.below(4) != 0 {
+            std::thread::yield_now();
+        } else {
+            std::thread::sleep(Duration::from_nanos(1000 + self.below(50000)));
+        }
+    }
+}
+
+thread_local! {
+    static POINTS: RefCell<(u64, Draws)> = const { RefCell::new((0, Draws(0))) };
+}
+
+/// To be called by a map's functions where another thread should get in between: under `--yield` it sometimes does.
+pub fn point() {
+    POINTS.with(|points| {
+        let (often, draws) = &mut *points.borrow_mut();
+        if *often > 0 && draws.below(1000) < *often {
+            draws.pause();
+        }
+    });
+}
+
+// What a history has of a call
+
+/// A call of a history: its name and its words.
+#[derive(Clone, Debug)]
+struct Call(&'static str, Vec<u64>);
+
+impl Call {
+    fn text(&self) -> String {
+        let words: String = self.1.iter().map(|word| format!(",{word}")).collect();
+        format!("[\"{}\"{words}]", self.0)
+    }
+
+    fn writes(&self) -> bool {
+        matches!(self.0, "insert" | "remove" | "replace")
+    }
+}
+
+fn pairs_text(pairs: &[(u64, u64)]) -> String {
+    let texts: Vec<String> = pairs.iter().map(|(key, value)| format!("[{key},{value}]")).collect();
+    format!("[{}]", texts.join(","))
+}
+
+/// An answer as a text; none where the call stays open.
+fn answer_text(said: &Said) -> Option<String> {
+    match said {
+        Said::Told(value) | Said::Pair(_, value) => Some(value.to_string()),
+        Said::None => Some("null".to_string()),
+        Said::Unknown => None,
+        other => Some(format!("\"{}\"", SAYINGS[other.word()])),
+    }
+}
+
+/// Floor and ceiling are scans from the key to what was found, or to the end.
+fn edge(kind: Kind, key: u64, said: &Said) -> (Call, Option<String>) {
+    let (low, high) = if kind == Floor { (0, key) } else { (key, u64::MAX) };
+    match *said {
+        Said::FoundKey(found) => (Call("get", vec![found]), Some("\"found\"".to_string())),
+        Said::Pair(found, value) => {
+            let (from, to) = if kind == Floor { (found, key) } else { (key, found) };
+            let words = if from <= to { vec![from, to] } else { vec![low, high] };
+            (Call("scan", words), Some(pairs_text(&[(found, value)])))
+        }
+        _ => (Call("scan", vec![low, high]), Some("[]".to_string())),
+    }
+}
+
+/// The call and the answer that a history has; none where it is left out, since it tells nothing.
+fn noted(kind: Kind, words: &[u64], said: &Said) -> Option<(Call, Option<String>)> {
+    let tells_nothing = kind.reads() && matches!(said, Said::Done | Said::Unknown);
+    if tells_nothing || *said == Said::Refused && !matches!(kind, Put | Del | Replace) {
+        return None;
+    }
+    let name = ["get", "insert", "remove", "scan", "replace", "insert", "scan", "scan", "remove"][kind as usize];
+    Some(match (kind, said) {
+        (Floor | Ceiling, _) => edge(kind, words[0], said),
+        (PopFirst, Said::Pair(key, _) | Said::FoundKey(key)) => (Call("remove", vec![*key]), answer_text(said)),
+        (PopFirst, _) => (Call("scan", vec![0, u64::MAX]), Some("[]".to_string())),
+        (Scan, Said::None) => (Call("scan", words.to_vec()), Some("[]".to_string())),
+        (Scan, Said::Pairs(pairs)) => (Call("scan", words.to_vec()), Some(pairs_text(pairs))),
+        (PutIfAbsent, Said::Told(_) | Said::Found) => (Call("get", vec![words[0]]), answer_text(said)),
+        (Replace, Said::Done) => (Call("replace", words.to_vec()), Some(words[1].to_string())),
+        _ => (Call(name, words.to_vec()), answer_text(said)),
+    })
+}
+
+fn ask_any(session: &mut dyn Session, kind: Kind, words: &[u64]) -> Said {
+    match kind {
+        Get => session.get(words[0]),
+        Put => session.put(words[0], words[1]),
+        Del => session.del(words[0]),
+        Scan => session.scan(words[0], words[1]),
+        Replace => session.replace(words[0], words[1], words[2]),
+        PutIfAbsent => session.put_if_absent(words[0], words[1]),
+        Floor => session.floor(words[0]),
+        Ceiling => session.ceiling(words[0]),
+        PopFirst => session.pop_first(),
+    }
+}
+
+fn ask(session: &mut dyn Session, kind: Kind, words: &[u64]) -> Result<Said, Stop> {
+    let said = ask_any(session, kind, words);
+    if kind.fits(&said) {
+        return Ok(said);
+    }
+    fail(BAD_WORDS, format!("{} said {}, which does not fit it", kind.name(), SAYINGS[said.word()]))
+}
+
+/// Which functions a map has: they are called once each, of a map that is not used any more.
+fn functions<M: Map>(map: M) -> [bool; 9] {
+    let mut session = map.open();
+    KINDS.map(|kind| matches!(kind, Get | Put) || ask_any(&mut *session, kind, &[0, 1, 2]) != Said::Missing)
+}
+
+// A map that is wrong now and then, around one that may be right: a test of the test
+
+struct Broken<'a> {
+    truly: Box<dyn Session + 'a>,
+    how: String,
+    draws: Draws,
+    keys: u64,
+    once: HashMap<u64, Said>,
+    late: Option<(u64, u64)>,
+    style: Option<Said>,
+}
+
+impl<'a> Broken<'a> {
+    fn goes(&mut self, how: &str) -> bool {
+        self.how == how && self.draws.below(SELDOM) == 0
+    }
+
+    /// Does the put that still comes, soon.
+    fn caught_up(&mut self) -> &mut Box<dyn Session + 'a> {
+        if let Some((key, value)) = self.late {
+            if self.draws.below(2) == 1 {
+                self.late = None;
+                self.truly.put(key, value);
+            }
+        }
+        &mut self.truly
+    }
+
+    /// What the put of the map would say where a get says this.
+    fn in_style(&self, got: Said) -> Said {
+        match (&self.style, &got) {
+            (Some(Said::Done), _) => Said::Done,
+            (Some(Said::Found), Said::Told(_)) => Said::Found,
+            _ => got,
+        }
+    }
+
+    /// A put after a get, as if they were one: of the key itself where the put tells what it found, else of the key beside it, which is
+    /// put back as it was got.
+    fn race(&mut self, key: u64, value: u64) -> Said {
+        let tells = matches!(self.style, Some(Said::Told(_)));
+        let beside = if tells || key ^ 1 >= self.keys { key } else { key ^ 1 };
+        let got = self.truly.get(beside);
+        self.draws.pause();
+        if let (true, Said::Told(back)) = (beside != key, &got) {
+            self.truly.put(beside, *back);
+        }
+        let said = self.truly.put(key, value);
+        if beside != key || self.style == Some(Said::Done) || !got.tells() {
+            return said;
+        }
+        self.in_style(got)
+    }
+}
+
+impl Session for Broken<'_> {
+    fn get(&mut self, key: u64) -> Said {
+        self.caught_up();
+        let once = self.once.get(&key).cloned();
+        if once.is_some() && self.goes("stale") {
+            return once.unwrap_or(Said::None);
+        }
+        let said = self.truly.get(key);
+        if said.tells() && (once.is_none() || self.draws.below(4) == 0) {
+            self.once.insert(key, said.clone());
+        }
+        said
+    }
+
+    fn put(&mut self, key: u64, value: u64) -> Said {
+        self.caught_up();
+        if self.style.is_some() && self.goes("race") {
+            return self.race(key, value);
+        }
+        if self.style.is_some() && self.goes("drop") {
+            let got = self.truly.get(key);
+            if got.tells() {
+                return self.in_style(got);
+            }
+        }
+        if self.goes("replay") {
+            self.late = Some((key, value));
+        }
+        let said = self.truly.put(key, value);
+        if matches!(said, Said::Told(_) | Said::Done | Said::Found) {
+            self.style = Some(said.clone());
+        }
+        said
+    }
+
+    fn del(&mut self, key: u64) -> Said {
+        self.caught_up();
+        if self.goes("zombie") {
+            if let Said::Told(value) = self.truly.get(key) {
+                self.late = Some((key, value));
+            }
+        }
+        self.truly.del(key)
+    }
+
+    fn scan(&mut self, low: u64, high: u64) -> Said {
+        self.caught_up();
+        if low == high || !self.goes("torn") {
+            return self.truly.scan(low, high);
+        }
+        let middle = (low + high) / 2;
+        let first = self.truly.scan(low, middle);
+        self.draws.pause();
+        match (first, self.truly.scan(middle + 1, high)) {
+            (Said::Pairs(first), Said::Pairs(second)) => Said::Pairs([first, second].concat()),
+            _ => self.truly.scan(low, high),
+        }
+    }
+
+    fn replace(&mut self, key: u64, old: u64, value: u64) -> Said {
+        self.caught_up();
+        if !self.goes("cas") {
+            return self.truly.replace(key, old, value);
+        }
+        match self.truly.put(key, value) {
+            said @ (Said::Refused | Said::Unknown) => said,
+            _ => Said::Done,
+        }
+    }
+
+    fn put_if_absent(&mut self, key: u64, value: u64) -> Said {
+        self.caught_up().put_if_absent(key, value)
+    }
+
+    fn floor(&mut self, key: u64) -> Said {
+        self.caught_up().floor(key)
+    }
+
+    fn ceiling(&mut self, key: u64) -> Said {
+        self.caught_up().ceiling(key)
+    }
+
+    fn pop_first(&mut self) -> Said {
+        self.caught_up().pop_first()
+    }
+}
+
+// Threads and what they record
+
+/// An event: the invocation of a call, or an answer.
+#[derive(Clone, Debug)]
+enum What {
+    Invoke(Call),
+    Answer(String),
+}
+
+/// By which thread, and as which of its processes.
+#[derive(Clone, Debug)]
+struct Event {
+    stamp: u64,
+    thread: usize,
+    life: usize,
+    what: What,
+}
+
+/// The number of a round, as how many processes a thread may go on, what the map holds, and keys at which calls have no answer.
+#[derive(Clone)]
+struct Task {
+    round: u64,
+    lives: usize,
+    start: Arc<BTreeMap<u64, u64>>,
+    doubtful: Arc<HashSet<u64>>,
+    missing: Arc<AtomicUsize>,
+}
+
+/// What all threads share: the word of stamps; and the locks of keys, with whether a call that writes the key has no answer, and so may
+/// still come between a get and the put behind it.
+struct Shared {
+    stamps: AtomicU64,
+    locks: Vec<Mutex<bool>>,
+}
+
+impl Shared {
+    fn stamp(&self) -> u64 {
+        self.stamps.fetch_add(1, Ordering::SeqCst)
+    }
+}
+
+/// One thread: draws calls, makes them, and notes them with the stamps of their beginning and their end.
+struct Worker<'a> {
+    number: u64,
+    options: &'a Options,
+    shared: &'a Shared,
+    session: Box<dyn Session + 'a>,
+    draws: Draws,
+    sayings: [u64; 8],
+    seen: HashMap<u64, u64>,
+    memory: HashMap<u64, Said>,
+    log: Vec<Event>,
+    puts: u64,
+    /// Each put has a value of its own, which was not in the map before.
+    values_from: Option<u64>,
+    made: u64,
+    life: usize,
+}
+
+impl<'a> Worker<'a> {
+    fn new(number: u64, options: &'a Options, shared: &'a Shared, map: &'a dyn Map) -> Worker<'a> {
+        let mut session = map.open();
+        if let Some(how) = options.broken.clone() {
+            let draws = Draws::new(options.seed, 0, number);
+            session = Box::new(Broken { truly: session, how, draws, keys: options.keys, once: HashMap::new(), late: None, style: None });
+        }
+        let (seen, memory) = (HashMap::new(), HashMap::new());
+        let (draws, values_from) = (Draws(0), None);
+        Worker { number, options, shared, session, draws, sayings: [0; 8], seen, memory, log: vec![], puts: 0, values_from, made: 0, life: 0 }
+    }
+
+    /// The calls of a round. A process whose answer is unknown makes no further call.
+    fn run(&mut self, task: &Task) -> Result<(Vec<Event>, [u64; 8]), Stop> {
+        (self.made, self.life) = (0, 0);
+        self.values_from.get_or_insert(task.start.values().max().map_or(1, |value| value.wrapping_add(1)));
+        self.seen.clear();
+        self.memory.clear();
+        for key in (0..self.options.keys).filter(|key| self.options.void == "own" && !task.doubtful.contains(key)) {
+            self.memory.insert(key, task.start.get(&key).copied().into());
+        }
+        self.draws = Draws::new(self.options.seed, task.round, self.number);
+        POINTS.with(|points| *points.borrow_mut() = (self.options.yields, Draws(self.draws.0.wrapping_add(1))));
+        task.missing.fetch_sub(1, Ordering::SeqCst);
+        for times in 0u64.. {
+            if task.missing.load(Ordering::SeqCst) == 0 {
+                break;
+            }
+            if times % 1024 == 1023 {
+                std::thread::yield_now();
+            }
+            std::hint::spin_loop();
+        }
+        while self.made < self.options.calls && self.life < task.lives {
+            self.draw()?;
+        }
+        Ok((std::mem::take(&mut self.log), self.sayings))
+    }
+
+    fn draw(&mut self) -> Result<(), Stop> {
+        let mut place = self.draws.below(self.options.shares.iter().sum());
+        let mut kind = Get;
+        for each in KINDS {
+            kind = each;
+            if place < self.options.shares[each as usize] {
+                break;
+            }
+            place -= self.options.shares[each as usize];
+        }
+        let key = self.draw_key(kind.writes());
+        let value = self.values_from.unwrap_or(1).wrapping_add(self.puts * self.options.threads + self.number);
+        self.puts += u64::from(kind.writes());
+        let high = if kind == Scan { (key + self.draws.below(SPAN)).min(self.options.keys - 1) } else { 0 };
+        point();
+        match kind {
+            Scan if self.options.scan == "steps" => self.steps(key, high),
+            Scan => self.make(kind, &[key, high]).map(|_| ()),
+            PopFirst => self.make(kind, &[]).map(|_| ()),
+            Put | PutIfAbsent => self.write(kind, &[key, value]),
+            Del => self.write(kind, &[key]),
+            Replace => self.write(kind, &[key, self.seen.get(&key).copied().unwrap_or(0), value]),
+            _ => self.make(kind, &[key]).map(|_| ()),
+        }
+    }
+
+    fn draw_key(&mut self, is_write: bool) -> u64 {
+        let options = self.options;
+        let is_hot = 0 < options.hot && options.hot < options.keys && self.draws.below(10) < 9;
+        let key = self.draws.below(if is_hot { options.hot } else { options.keys });
+        if options.void != "own" || !is_write {
+            return key;
+        }
+        let own = key / options.threads * options.threads + self.number;
+        if own < options.keys { own } else { self.number }
+    }
+
+    fn steps(&mut self, mut low: u64, high: u64) -> Result<(), Stop> {
+        while low <= high && self.made < self.options.calls {
+            match self.make(Ceiling, &[low])? {
+                Said::Pair(key, _) if key >= low && key < u64::MAX => low = key + 1,
+                _ => break,
+            }
+        }
+        Ok(())
+    }
+
+    fn write(&mut self, kind: Kind, words: &[u64]) -> Result<(), Stop> {
+        let shared = self.shared;
+        match shared.locks.get(words[0] as usize) {
+            Some(lock) => self.make_locked(kind, words, &mut lock.lock().unwrap_or_else(|poisoned| poisoned.into_inner())),
+            None => self.make(kind, words).map(|_| ()),
+        }
+    }
+
+    /// A get and a call that writes its key, as one.
+    fn make_locked(&mut self, kind: Kind, words: &[u64], is_doubtful: &mut bool) -> Result<(), Stop> {
+        let begin = self.shared.stamp();
+        let got = if matches!(kind, Put | Del) { ask(&mut *self.session, Get, &words[..1])? } else { Said::Done };
+        let said = ask(&mut *self.session, kind, words)?;
+        let end = self.shared.stamp();
+        *is_doubtful |= said == Said::Unknown;
+        self.made_one(kind, words, said, if *is_doubtful { Said::Done } else { got }, begin, end).map(|_| ())
+    }
+
+    /// Makes a call between two stamps, and notes it.
+    fn make(&mut self, kind: Kind, words: &[u64]) -> Result<Said, Stop> {
+        let begin = self.shared.stamp();
+        let said = ask(&mut *self.session, kind, words)?;
+        let end = self.shared.stamp();
+        self.made_one(kind, words, said, Said::Done, begin, end)
+    }
+
+    fn made_one(&mut self, kind: Kind, words: &[u64], said: Said, got: Said, begin: u64, end: u64) -> Result<Said, Stop> {
+        let is_void = matches!(kind, Put | Del);
+        self.made += 1;
+        self.sayings[said.word()] += 1;
+        let known = if words.is_empty() || !kind.writes() { said.clone() } else { self.known(kind, words, &said, got) };
+        if self.options.void == "told" && is_void && matches!(known, Said::Done | Said::Found) {
+            let line = format!("{} said {}, and --void told wants the value before", kind.name(), SAYINGS[known.word()]);
+            return fail(BAD_WORDS, line);
+        }
+        match said {
+            _ if kind == Put => self.seen.insert(words[0], words[1]),
+            Said::Done if kind == Replace => self.seen.insert(words[0], words[2]),
+            Said::Told(value) => self.seen.insert(words[0], value),
+            _ => None,
+        };
+        if let Some((call, answer)) = noted(kind, words, &known) {
+            self.note(begin, What::Invoke(call));
+            match answer {
+                Some(answer) => self.note(end, What::Answer(answer)),
+                None => self.life += 1,
+            }
+        }
+        Ok(said)
+    }
+
+    /// What is known of the answer: where a put or del was done, and does not tell what it found, from the get in front of it under the
+    /// key's lock, or from what the one writer of the key remembers.
+    fn known(&mut self, kind: Kind, words: &[u64], said: &Said, got: Said) -> Said {
+        let before = self.memory.get(&words[0]).cloned();
+        let is_put = match (kind, said) {
+            (Put, _) | (PutIfAbsent, Said::None) | (Replace, Said::Done) => true,
+            (Replace, Said::Told(found)) => *found == words[1],
+            _ => false,
+        };
+        if before.is_some() && *said != Said::Refused {
+            if *said == Said::Unknown || kind == Replace && *said == Said::Found {
+                self.memory.remove(&words[0]);
+            } else if is_put {
+                self.memory.insert(words[0], Said::Told(words[words.len() - 1]));
+            } else if kind == Del {
+                self.memory.insert(words[0], Said::None);
+            }
+        }
+        match (kind, said) {
+            (Put | Del, Said::Done) => before.unwrap_or(if got.tells() { got } else { Said::Done }),
+            _ => said.clone(),
+        }
+    }
+
+    fn note(&mut self, stamp: u64, what: What) {
+        self.log.push(Event { stamp, thread: self.number as usize, life: self.life, what });
+    }
+}
+
+type Outcome = Result<(Vec<Event>, [u64; 8]), Stop>;
+
+/// What a thread does: it opens a session and puts out nothing, and then one task after another, each of which puts out what it has
+/// recorded, or why the run ends.
+fn serve(number: u64, options: &Options, shared: &Shared, map: &dyn Map, tasks: &Receiver<Task>, out: &Sender<Outcome>) {
+    let done = catch_unwind(AssertUnwindSafe(|| {
+        let mut worker = Worker::new(number, options, shared, map);
+        let _ = out.send(Ok((vec![], [0; 8])));
+        for task in tasks {
+            if out.send(worker.run(&task)).is_err() {
+                break;
+            }
+        }
+    }));
+    if done.is_err() {
+        let _ = out.send(fail(BAD_WORDS, "a thread has panicked"));
+    }
+}
+
+/// Gets of all keys at rest, and what they told: the last calls of a round.
+fn rest(session: &mut dyn Session, options: &Options, shared: &Shared) -> Result<(Vec<Event>, BTreeMap<u64, u64>), Stop> {
+    let (mut events, mut contents) = (vec![], BTreeMap::new());
+    let thread = options.threads as usize;
+    for key in 0..options.keys {
+        let (mut said, mut begin, mut end) = (Said::Done, 0, 0);
+        for _ in 0..1000 {
+            begin = shared.stamp();
+            said = ask(session, Get, &[key])?;
+            end = shared.stamp();
+            if said.tells() {
+                break;
+            }
+        }
+        let Some(answer) = answer_text(&said).filter(|_| said.tells()) else {
+            return fail(BAD_WORDS, format!("get of {key} said {} at rest, where it has to tell", SAYINGS[said.word()]));
+        };
+        events.push(Event { stamp: begin, thread, life: 0, what: What::Invoke(Call("get", vec![key])) });
+        events.push(Event { stamp: end, thread, life: 0, what: What::Answer(answer) });
+        if let Said::Told(value) = said {
+            contents.insert(key, value);
+        }
+    }
+    Ok((events, contents))
+}
+
+// Histories
+
+/// What one round recorded, as a history: its events with their processes; and what its threads met.
+struct Round {
+    start: Arc<BTreeMap<u64, u64>>,
+    events: Vec<(usize, What)>,
+    pending: Vec<Call>,
+    met: HashSet<u64>,
+    calls: u64,
+    overlap: u64,
+}
+
+impl Round {
+    /// Each thread, and each of its lives, becomes a process; calls that have no answer from before are the first.
+    fn new(mut noted: Vec<Event>, start: Arc<BTreeMap<u64, u64>>, before: &[Call]) -> Round {
+        let mut events: Vec<(usize, What)> = before.iter().cloned().map(What::Invoke).enumerate().collect();
+        let mut numbers = HashMap::new();
+        noted.sort_by_key(|event| event.stamp);
+        for event in noted {
+            let next = before.len() + numbers.len();
+            let process = *numbers.entry((event.thread, event.life)).or_insert(next);
+            events.push((process, event.what));
+        }
+        let mut round = Round { start, events, pending: vec![], met: HashSet::new(), calls: 0, overlap: 0 };
+        round.measure();
+        round
+    }
+
+    /// How many calls were open where another began, at which keys two writers met, and which changes may still come.
+    fn measure(&mut self) {
+        let mut open: BTreeMap<usize, &Call> = BTreeMap::new();
+        for (process, what) in &self.events {
+            let What::Invoke(call) = what else {
+                open.remove(process);
+                continue;
+            };
+            self.calls += 1;
+            self.overlap += open.len() as u64;
+            if call.writes() && open.values().any(|other| other.writes() && other.1[0] == call.1[0]) {
+                self.met.insert(call.1[0]);
+            }
+            open.insert(*process, call);
+        }
+        self.pending = open.into_values().filter(|call| !self.tells(call)).cloned().collect();
+    }
+
+    /// Whether an answer tells what a call puts: then it was done.
+    fn tells(&self, call: &Call) -> bool {
+        let value = call.1.last().map_or(String::new(), u64::to_string);
+        let in_pair = format!(",{value}]");
+        call.0 != "remove"
+            && self.events.iter().any(|(_, what)| matches!(what, What::Answer(answer) if *answer == value || answer.contains(&in_pair)))
+    }
+
+    fn text(&self) -> String {
+        let mut version = if self.start.is_empty() { 1 } else { 2 };
+        let mut texts = vec![];
+        for (process, what) in &self.events {
+            texts.push(match what {
+                What::Invoke(call) => {
+                    version = version.max(if call.0 == "replace" { 2 } else { 1 });
+                    format!("{{\"invoke\":{},\"process\":{process}}}", call.text())
+                }
+                What::Answer(answer) => {
+                    let tells_less = matches!(answer.as_str(), "\"done\"" | "\"found\"" | "\"other\"");
+                    version = if tells_less { 3 } else { version };
+                    format!("{{\"answer\":{answer},\"process\":{process}}}")
+                }
+            });
+        }
+        let pairs: Vec<(u64, u64)> = self.start.iter().map(|(key, value)| (*key, *value)).collect();
+        let start = if version > 1 { format!(",\"start\":{}", pairs_text(&pairs)) } else { String::new() };
+        format!("{{\"events\":[{}]{start},\"version\":{version}}}\n", texts.join(","))
+    }
+}
+
+/// The program `bench`.
+struct Program {
+    path: String,
+    budget: u64,
+}
+
+impl Program {
+    fn new(options: &Options) -> Result<Program, Stop> {
+        let beside = std::path::Path::new("bench").is_file();
+        let named = options.bench.clone().or_else(|| std::env::var("POTZENDAI_BENCH").ok());
+        let path = named.unwrap_or_else(|| if beside { "./bench" } else { "bench" }.to_string());
+        let mut program = Program { path, budget: options.budget };
+        program.ask("explain", "{\"events\":[],\"version\":1}\n", options.budget)?;
+        let built = std::path::Path::new(&program.path).with_file_name("crates/bench/out/bench");
+        if built.is_file() {
+            program.path = built.display().to_string(); // by the repository's own `bench`
+        }
+        Ok(program)
+    }
+
+    /// The verdict: once more at ten times the budget where it is undecided.
+    fn judge(&self, text: &str) -> Result<i32, Stop> {
+        let (status, _) = self.ask("judge", text, self.budget)?;
+        if status == UNDECIDED { Ok(self.ask("judge", text, (self.budget * 10).min(1_000_000))?.0) } else { Ok(status) }
+    }
+
+    fn ask(&self, command: &str, text: &str, budget: u64) -> Result<(i32, String), Stop> {
+        let told = |error: std::io::Error| Stop(BAD_FILE, format!("{}: {error}", self.path));
+        let mut asked = Command::new(&self.path);
+        asked.args([command, "--budget", &budget.to_string()]).stdin(Stdio::piped()).stdout(Stdio::piped());
+        let mut child = asked.spawn().map_err(told)?;
+        if let Some(mut input) = child.stdin.take() {
+            let _ = input.write_all(text.as_bytes()); // where it has ended before it read all, its status says why
+        }
+        let mut answer = String::new();
+        if let Some(mut output) = child.stdout.take() {
+            output.read_to_string(&mut answer).map_err(told)?;
+        }
+        match child.wait().map_err(told)?.code() {
+            Some(status) if status <= UNDECIDED => {
+                let verdict = format!("\"verdict\":\"{}\"}}", VERDICTS[status as usize]);
+                if command == "draw" || answer.lines().next().unwrap_or("").ends_with(&verdict) {
+                    return Ok((status, answer));
+                }
+                fail(BAD_FILE, format!("{} {command}: status {status} without its verdict", self.path))
+            }
+            Some(status) => fail(status.min(BAD_FILE), format!("{} {command}: status {status}", self.path)),
+            None => fail(BAD_FILE, format!("{} {command}: was killed", self.path)),
+        }
+    }
+}
+
+// A run
+
+/// Rounds at a new map, each of which begins with what the one before has left: the pairs, and calls without an answer that may still come.
+struct Run {
+    options: Options,
+    sayings: [u64; 8],
+    met: HashSet<u64>,
+    began: Instant,
+    rounds: u64,
+    calls: u64,
+    overlap: u64,
+    undecided: u64,
+    cut: Vec<String>,
+    failed: Option<Round>,
+}
+
+impl Run {
+    /// Rounds from this number on, until one has no order, or the time is over.
+    fn new<M: Map>(options: &Options, make: &dyn Fn() -> M, program: Option<&Program>, number: u64) -> Result<Run, Stop> {
+        let (map, options) = (make(), options.clone());
+        let locks = if options.void == "lock" { (0..options.keys).map(|_| Mutex::new(false)).collect() } else { vec![] };
+        let shared = Shared { stamps: AtomicU64::new(0), locks };
+        let mut run = Run {
+            options: options.clone(), sayings: [0; 8], met: HashSet::new(), began: Instant::now(), rounds: 0, calls: 0, overlap: 0,
+            undecided: 0, cut: vec![], failed: None,
+        };
+        std::thread::scope(|scope| {
+            let mut threads = vec![];
+            for number in 0..options.threads {
+                let ((tasks, inbox), (out, outbox)) = (channel(), channel());
+                let (map, options, shared) = (&map, &options, &shared);
+                scope.spawn(move || serve(number, options, shared, map, &inbox, &out));
+                threads.push((tasks, outbox));
+            }
+            run.rounds_of(&map, &shared, &threads, program, number)
+        })?;
+        Ok(run)
+    }
+
+    fn rounds_of(
+        &mut self, map: &dyn Map, shared: &Shared, threads: &[(Sender<Task>, Receiver<Outcome>)], program: Option<&Program>, number: u64,
+    ) -> Result<(), Stop> {
+        let named = |stop: Stop| Stop(stop.0, format!("{}: {}", self.options.name, stop.1));
+        let taken = || -> Vec<Outcome> {
+            threads.iter().map(|(_, outbox)| outbox.recv().unwrap_or_else(|_| fail(BAD_WORDS, "a thread has ended"))).collect()
+        };
+        for one in taken() {
+            one.map_err(named)?;
+        }
+        let (mut session, options) = (map.open(), self.options.clone());
+        let (_, contents) = rest(&mut *session, &options, shared).map_err(named)?;
+        let (mut start, mut pending) = (Arc::new(contents), vec![]);
+        while self.failed.is_none() && !self.is_over() {
+            let named = |stop: Stop| Stop(stop.0, format!("{}: {}", options.name, stop.1));
+            let lives = (PROCESSES - 1 - pending.len()) / threads.len();
+            if lives == 0 {
+                let (name, count) = (&options.name, pending.len());
+                self.cut.push(format!("{name}: {count} calls are without an answer, which leaves no room for others"));
+                break;
+            }
+            let doubtful = Arc::new(pending.iter().map(|call: &Call| call.1[0]).collect());
+            let missing = Arc::new(AtomicUsize::new(threads.len()));
+            let task = Task { round: number + self.rounds, lives, start: start.clone(), doubtful, missing };
+            for (tasks, _) in threads {
+                let _ = tasks.send(task.clone());
+            }
+            let (mut events, mut sayings) = (vec![], [0; 8]);
+            for one in taken() {
+                let (log, said) = one.map_err(named)?;
+                events.extend(log);
+                (0..8).for_each(|word| sayings[word] += said[word]);
+            }
+            let (gets, left) = rest(&mut *session, &options, shared).map_err(named)?;
+            events.extend(gets);
+            let round = Round::new(events, start, &pending);
+            (start, pending, self.sayings) = (Arc::new(left), round.pending.clone(), sayings);
+            self.take(round, program)?;
+        }
+        Ok(())
+    }
+
+    fn take(&mut self, round: Round, program: Option<&Program>) -> Result<(), Stop> {
+        self.rounds += 1;
+        self.calls += round.calls;
+        self.overlap += round.overlap;
+        self.met.extend(&round.met);
+        let Some(program) = program else {
+            let written = std::io::stdout().write_all(round.text().as_bytes());
+            return written.or_else(|_| fail(BAD_FILE, "standard output: a history was not written"));
+        };
+        match program.judge(&round.text())? {
+            NO => self.failed = Some(round),
+            UNDECIDED => self.undecided += 1,
+            _ => (),
+        }
+        Ok(())
+    }
+
+    /// At least one round is made. Each second a line on a terminal says how far this is.
+    fn is_over(&mut self) -> bool {
+        let seconds = self.began.elapsed().as_secs_f64();
+        if self.options.shows && self.options.shown.elapsed() > Duration::from_secs(1) && self.calls > 0 {
+            self.options.shown = Instant::now();
+            let (calls, all) = (self.calls as f64, self.sayings.iter().sum::<u64>().max(1) as f64);
+            eprintln!(
+                "{} calls, {:.0} a second, overlap {:.1} a call, {:.1}% refused, two writers met on {} of {} keys",
+                self.calls, calls / seconds, self.overlap as f64 / calls, 100.0 * self.sayings[5] as f64 / all, self.met.len(), self.options.keys
+            );
+        }
+        self.rounds > 0 && (self.options.rounds > 0 && self.rounds >= self.options.rounds || seconds >= self.options.seconds as f64)
+    }
+
+    /// The verdict, and what it rests on.
+    fn summary(&self, verdict: &str) -> String {
+        let said: Vec<String> =
+            self.sayings.iter().zip(SAYINGS).filter(|(count, _)| **count > 0).map(|(count, word)| format!("{count} {word}")).collect();
+        let undecided = if self.undecided > 0 { format!("; {} undecided", self.undecided) } else { String::new() };
+        format!(
+            "{verdict}: {} rounds, {} calls in {:.1} seconds, overlap {:.2} a call: {}{undecided}",
+            self.rounds, self.calls, self.began.elapsed().as_secs_f64(),
+            self.overlap as f64 / self.calls.max(1) as f64, said.join(", ")
+        )
+    }
+}
+
+/// The smallest run that failed, of some tries with half of the calls or keys, or a thread less. Threads interleave as they will. Where calls
+/// have no answer none is tried, since they may still come.
+fn smaller<M: Map>(run: &Run, make: &dyn Fn() -> M, program: &Program) -> Result<Option<Run>, Stop> {
+    let (mut best, began, mut tries, mut how) = (None, Instant::now(), 0, 0);
+    let mut options = run.options.clone();
+    while how < 3 && run.sayings[Said::Unknown.word()] == 0 {
+        let less = options.less(how);
+        how += 1;
+        for _ in 0..if less.is_some() { 6 } else { 0 } {
+            tries += 1;
+            if tries > 60 || began.elapsed() > Duration::from_secs(5) {
+                break;
+            }
+            let again = Run::new(less.as_ref().unwrap_or(&options), make, Some(program), run.rounds - 1)?;
+            if again.failed.is_some() {
+                options = again.options.clone();
+                (best, how) = (Some(again), 0);
+                break;
+            }
+        }
+    }
+    Ok(best)
+}
+
+// A no in words
+
+/// A JSON value of a report.
+#[derive(Debug, PartialEq)]
+enum Json {
+    Null,
+    Number(u64),
+    Text(String),
+    List(Vec<Json>),
+    Object(Vec<(String, Json)>),
+}
+
+impl Json {
+    /// Reads a value from the front of a compact text that the program wrote, and leaves what stands behind it.
+    fn read(text: &mut &str) -> Json {
+        let first = text.as_bytes().first().copied().unwrap_or(b'n');
+        match first {
+            b'{' | b'[' => {
+                let (mut members, mut items) = (vec![], vec![]);
+                *text = &text[1..];
+                while !text.is_empty() && !text.starts_with(['}', ']']) {
+                    let value = Json::read(text);
+                    match value {
+                        Json::Text(name) if first == b'{' => {
+                            *text = &text[1..];
+                            members.push((name, Json::read(text)));
+                        }
+                        other => items.push(other),
+                    }
+                    *text = text.strip_prefix(',').unwrap_or(text);
+                }
+                *text = text.get(1..).unwrap_or("");
+                if first == b'{' { Json::Object(members) } else { Json::List(items) }
+            }
+            b'"' => {
+                let end = text[1..].find('"').map_or(text.len(), |at| at + 1);
+                let read = text[1..end].to_string();
+                *text = text.get(end + 1..).unwrap_or("");
+                Json::Text(read)
+            }
+            b'0'..=b'9' => {
+                let end = text.find(|c: char| !c.is_ascii_digit()).unwrap_or(text.len());
+                let read = text[..end].parse().unwrap_or(0);
+                *text = &text[end..];
+                Json::Number(read)
+            }
+            _ => {
+                *text = text.get(4..).unwrap_or("");
+                Json::Null
+            }
+        }
+    }
+
+    fn member(&self, name: &str) -> &Json {
+        match self {
+            Json::Object(members) => members.iter().find(|(own, _)| own == name).map_or(&Json::Null, |(_, value)| value),
+            _ => &Json::Null,
+        }
+    }
+
+    fn items(&self) -> &[Json] {
+        if let Json::List(items) = self { items } else { &[] }
+    }
+
+    fn number(&self) -> u64 {
+        if let Json::Number(number) = self { *number } else { 0 }
+    }
+
+    fn word(&self, at: usize) -> u64 {
+        self.items().get(at).map_or(0, Json::number)
+    }
+}
+
+fn said_answer(answer: &Json) -> String {
+    match answer {
+        Json::List(pairs) if pairs.is_empty() => "nothing".to_string(),
+        Json::List(pairs) => pairs.iter().map(|pair| format!("{}: {}", pair.word(0), pair.word(1))).collect::<Vec<_>>().join(", "),
+        Json::Number(value) => value.to_string(),
+        Json::Text(word) => match word.as_str() {
+            "done" => "that it was done",
+            "found" => "that there was a value",
+            "other" => "another value",
+            "refused" => "that it was refused",
+            _ => "nothing that counts",
+        }
+        .to_string(),
+        _ => "none".to_string(),
+    }
+}
+
+fn said_call(call: &Json) -> String {
+    let name = if let Some(Json::Text(name)) = call.items().first() { name } else { "" };
+    match name {
+        "insert" => format!("put {} at {}", call.word(2), call.word(1)),
+        "replace" => format!("replace {} at {} by {}", call.word(2), call.word(1), call.word(3)),
+        "scan" => format!("scan from {} to {}", call.word(1), call.word(2)),
+        _ => format!("{name} {}", call.word(1)),
+    }
+}
+
+/// Who put a value.
+fn said_writer(round: &Round, answer: &Json) -> String {
+    let Json::Number(value) = answer else { return String::new() };
+    for (number, (process, what)) in round.events.iter().enumerate() {
+        match what {
+            What::Invoke(call) if matches!(call.0, "insert" | "replace") && call.1.last() == Some(value) => {
+                return format!("; {value} is what process {process} put (event {number})");
+            }
+            _ => (),
+        }
+    }
+    let was_there = round.start.values().any(|held| held == value);
+    format!("; {value} {}", if was_there { "was there at the start" } else { "is what nobody put" })
+}
+
+/// A report of `explain` in words, and the line that is the few calls' history, if it is there.
+fn said_report(report: &str, round: &Round) -> (Vec<String>, Option<String>) {
+    let mut lines = report.lines();
+    let (mut said, mut few) = (vec![lines.next().unwrap_or("").to_string()], None);
+    for (number, text) in lines.enumerate() {
+        if number == 0 {
+            said.push("these calls have no order, whatever else was done:".to_string());
+        }
+        let line = Json::read(&mut &*text);
+        if text.starts_with("{\"events\"") {
+            few = Some(format!("{text}\n"));
+        } else if *line.member("reason") != Json::Null {
+            let (event, process) = (line.member("event").number(), line.member("process").number());
+            let (call, writer) = (said_call(line.member("call")), said_writer(round, line.member("answer")));
+            let answer = said_answer(line.member("answer"));
+            said.push(format!("  event {event:<6} process {process:<3} {call}, answered {answer}{writer}"));
+        } else if *line.member("front") != Json::Null {
+            let front: Vec<String> = line.member("front").items().iter().map(|event| event.number().to_string()).collect();
+            let holds = said_answer(line.member("holds"));
+            said.push(format!("  an order of them gets as far as the events [{}]; the map then holds {holds}", front.join(",")));
+            for call in line.member("next").items() {
+                let (event, answer, would) = (call.member("event").number(), call.member("answer"), call.member("would"));
+                let writer = said_writer(round, answer);
+                let (answer, would) = (said_answer(answer), said_answer(would));
+                said.push(format!("  the call of event {event} was answered {answer}, and would be answered {would}{writer}"));
+            }
+        }
+    }
+    (said, few)
+}
+
+/// Writes a file of a round, and says how it is called.
+fn keep(run: &Run, ending: &str, text: &str) -> String {
+    let name = format!("{}-{}-{}{ending}", run.options.name, run.options.seed, run.rounds - 1);
+    let path = std::path::Path::new(&run.options.out).join(name);
+    match std::fs::write(&path, text) {
+        Ok(()) => format!("  file: {}", path.display()),
+        Err(_) => format!("file: not written: {}", path.display()),
+    }
+}
+
+/// A round that has no order: what shows it, and how to repeat it.
+fn refuted<M: Map>(run: &Run, make: &dyn Fn() -> M, program: &Program) -> Result<Vec<String>, Stop> {
+    let less = smaller(run, make, program)?;
+    let least = less.as_ref().unwrap_or(run);
+    let Some(round) = &least.failed else { return Ok(vec![]) };
+    let (threads, keys, calls) = (least.options.threads, least.options.keys, least.options.calls);
+    let mut said = vec![format!("round {} has no order", run.rounds - 1)];
+    said.push(format!("the smallest of some tries that failed: threads {threads}, keys {keys}, calls {calls}"));
+    let text = round.text();
+    let (lines, few) = said_report(&program.ask("explain", &text, run.options.budget)?.1, round);
+    said.extend(lines);
+    said.push(keep(run, ".json", &text));
+    said.extend(few.as_ref().map(|few| keep(run, "-few.json", few)));
+    let picture = program.ask("draw", few.as_ref().unwrap_or(&text), run.options.budget)?.1;
+    said.push(keep(run, ".svg", &picture));
+    said.push(format!("  again: {}", run.options.again(run.rounds)));
+    Ok(said)
+}
+
+// Words
+
+const USAGE: &str = "  --seconds N       how long (10, or as long as --rounds take)
+  --rounds N        at most so many rounds
+  --threads N       threads that call the map (4)
+  --keys N          keys, from 0 (16)
+  --hot N           so many of the keys are those of nine calls in ten
+  --calls N         calls of a thread in a round (200)
+  --seed N          what the calls are drawn from (of the clock)
+  --mix LIST        shares, as get=50,put=30,del=10,scan=10; also replace, put_if_absent, floor, ceiling, pop_first
+  --void HOW        a put that tells nothing is recorded as done; has to be told; own: one writer a key remembers what it put;
+                    lock: a lock a key around a get and the put (done)
+  --scan HOW        snapshot: a scan is of one moment; steps: steps of ceiling (snapshot)
+  --yield N         of a thousand points between and in calls, so many give way to other threads (0)
+  --break HOW       makes the map wrong now and then: drop, race, replay, stale, zombie, torn or cas; all: in each of these ways
+  --out FOLDER      where files are put (.), or - for standard output: all histories, which nobody judges then
+  --budget N        the judge's (100000)
+  --bench PATH      the program (./bench, or on the PATH)";
+
+#[derive(Clone)]
+struct Options {
+    name: String,
+    void: String,
+    scan: String,
+    out: String,
+    broken: Option<String>,
+    bench: Option<String>,
+    seconds: u64,
+    rounds: u64,
+    threads: u64,
+    keys: u64,
+    hot: u64,
+    calls: u64,
+    seed: u64,
+    yields: u64,
+    budget: u64,
+    has_mix: bool,
+    shares: [u64; 9],
+    shows: bool,
+    shown: Instant,
+}
+
+impl Options {
+    fn new(name: &str, words: &[String]) -> Result<Options, Stop> {
+        let seed = SystemTime::now().duration_since(SystemTime::UNIX_EPOCH).map_or(1, |time| time.as_nanos() as u64 % 1_000_000_007);
+        let mut options = Options {
+            name: name.to_string(), void: "done".to_string(), scan: "snapshot".to_string(), out: ".".to_string(), broken: None, bench: None,
+            seconds: 0, rounds: 0, threads: 4, keys: 16, hot: 0, calls: 0, seed, yields: 0, budget: 100_000, has_mix: false, shares: [0; 9],
+            shows: std::io::stderr().is_terminal(), shown: Instant::now(),
+        };
+        if words.iter().any(|word| word == "--help") {
+            return fail(BAD_WORDS, format!("usage: {name} [WORDS]\n{USAGE}"));
+        }
+        for pair in words.chunks(2) {
+            options.read(&pair[0], pair.get(1).map_or("", |text| text))?;
+        }
+        Ok(options)
+    }
+
+    fn read(&mut self, word: &str, text: &str) -> Result<(), Stop> {
+        let (least, most, to) = match word {
+            "--seconds" => (1, 1_000_000_000, &mut self.seconds),
+            "--rounds" => (1, u64::MAX, &mut self.rounds),
+            "--threads" => (1, PROCESSES as u64 - 2, &mut self.threads),
+            "--keys" => (1, CALLS, &mut self.keys),
+            "--hot" => (1, CALLS, &mut self.hot),
+            "--calls" => (1, CALLS, &mut self.calls),
+            "--seed" => (0, u64::MAX, &mut self.seed),
+            "--yield" => (0, 1000, &mut self.yields),
+            "--budget" => (1, 1_000_000, &mut self.budget),
+            _ => return self.read_named(word, text),
+        };
+        match text.parse() {
+            Ok(number) if least <= number && number <= most => *to = number,
+            _ => return fail(BAD_WORDS, format!("{word}: a number from {least} to {most}")),
+        }
+        Ok(())
+    }
+
+    fn read_named(&mut self, word: &str, text: &str) -> Result<(), Stop> {
+        let is_named = match word {
+            "--void" => matches!(text, "done" | "told" | "own" | "lock"),
+            "--scan" => matches!(text, "snapshot" | "steps"),
+            "--break" => text == "all" || BREAKS.iter().any(|(how, _)| *how == text),
+            _ => true,
+        };
+        if !is_named {
+            return fail(BAD_WORDS, format!("{word}: none of its names; --help has them"));
+        }
+        match word {
+            "--void" => self.void = text.to_string(),
+            "--scan" => self.scan = text.to_string(),
+            "--break" => self.broken = Some(text.to_string()),
+            "--out" => self.out = text.to_string(),
+            "--bench" => self.bench = Some(text.to_string()),
+            "--mix" => return self.read_mix(text),
+            "--stream" => return fail(BAD_WORDS, "--stream: rounds alone here; the drivers in C and C++ have it"),
+            _ => return fail(BAD_WORDS, format!("{word}: no such word; --help has them")),
+        }
+        Ok(())
+    }
+
+    fn read_mix(&mut self, text: &str) -> Result<(), Stop> {
+        (self.has_mix, self.shares) = (true, [0; 9]);
+        for part in text.split(',') {
+            let (name, share) = part.split_once('=').unwrap_or((part, ""));
+            match (NAMES.iter().position(|own| *own == name), share.parse()) {
+                (Some(at), Ok(share)) if share < 1_000_000 => self.shares[at] = share,
+                _ => return fail(BAD_WORDS, "--mix: shares, as get=50,put=30,del=10,scan=10"),
+            }
+        }
+        Ok(())
+    }
+
+    /// Whether what a broken map makes wrong is called.
+    fn is_called(&self, how: &str) -> bool {
+        let is_steps = how == "torn" && self.scan == "steps";
+        !is_steps && BREAKS.iter().any(|(name, kind)| *name == how && self.shares[*kind as usize] > 0)
+    }
+
+    /// The words together, and with what the map has.
+    fn fit(&mut self, has: [bool; 9]) -> Result<(), Stop> {
+        let is_apart = self.void == "own" || self.void == "lock";
+        for kind in KINDS {
+            let is_steps = kind == Scan && self.scan == "steps";
+            let is_there = has[if is_steps { Ceiling } else { kind } as usize];
+            if !self.has_mix && is_there && !(kind == PopFirst && is_apart) {
+                self.shares[kind as usize] = SHARES[kind as usize];
+            }
+            if self.shares[kind as usize] > 0 && !is_there {
+                let why = if is_steps { "steps need the function ceiling" } else { "no such function of the map" };
+                return fail(BAD_WORDS, format!("{}: {why}", kind.name()));
+            }
+        }
+        self.calls = if self.calls > 0 { self.calls } else { 200.min(CALLS / (self.threads + 2)) };
+        self.seconds = if self.seconds > 0 { self.seconds } else if self.rounds > 0 { 1_000_000_000 } else { 10 };
+        let is_unbroken = self.broken.as_ref().map_or(true, |how| how == "all" || self.is_called(how));
+        let rows = [
+            (self.shares.iter().sum::<u64>() == 0, "--mix: no share"),
+            (self.shares[PopFirst as usize] > 0 && is_apart, "pop_first: takes keys of others, so not with --void own or lock"),
+            (!is_unbroken, "--break: what it makes wrong is not called"),
+            (self.hot > self.keys, "--hot: more than there are keys"),
+            (self.void == "own" && self.keys < self.threads, "--void: own: each thread needs a key"),
+            (
+                (self.threads + 1) * self.calls.max(self.keys) > CALLS,
+                "--calls: a round has at most 4096 calls: those of each thread, or as many as there are keys, for the threads and one more",
+            ),
+        ];
+        rows.iter().find(|(is_wrong, _)| *is_wrong).map_or(Ok(()), |(_, line)| fail(BAD_WORDS, *line))
+    }
+
+    /// Half of the calls or the keys, or a thread less; none where there are none.
+    fn less(&self, how: usize) -> Option<Options> {
+        let mut less = self.clone();
+        (less.rounds, less.shows) = (1, false);
+        match how {
+            0 => less.calls /= 2,
+            1 => less.keys /= 2,
+            _ => less.threads -= 1,
+        }
+        let least_keys = if self.void == "own" { less.threads } else { 1 };
+        (less.calls > 0 && less.threads > 0 && less.keys >= least_keys).then_some(less)
+    }
+
+    /// The words that repeat the draws of a run of so many rounds.
+    fn again(&self, rounds: u64) -> String {
+        let shares = KINDS.iter().filter(|kind| self.shares[**kind as usize] > 0);
+        let mix: Vec<String> = shares.map(|kind| format!("{}={}", kind.name(), self.shares[*kind as usize])).collect();
+        let mut text = format!("{} --seed {} --threads {} --keys {}", self.name, self.seed, self.threads, self.keys);
+        if self.hot > 0 {
+            let _ = write!(text, " --hot {}", self.hot);
+        }
+        let _ = write!(text, " --calls {} --mix {} --void {} --scan {}", self.calls, mix.join(","), self.void, self.scan);
+        if self.yields > 0 {
+            let _ = write!(text, " --yield {}", self.yields);
+        }
+        if let Some(how) = &self.broken {
+            let _ = write!(text, " --break {how}");
+        }
+        format!("{text} --rounds {rounds}")
+    }
+}
+
+/// How a run went: its status, what is to be told before the last line, and that.
+fn tested<M: Map>(name: &str, make: &dyn Fn() -> M, words: &[String]) -> Result<(i32, Vec<String>, String), Stop> {
+    let mut options = Options::new(name, words)?;
+    options.fit(functions(make()))?;
+    let program = if options.out == "-" { None } else { Some(Program::new(&options)?) };
+    if let (Some("all"), Some(program)) = (options.broken.as_deref(), &program) {
+        return all_broken(options, make, program);
+    }
+    let run = Run::new(&options, make, program.as_ref(), 0)?;
+    let is_undecided = run.undecided > 0 || !run.cut.is_empty();
+    let status = if run.failed.is_some() { NO } else if is_undecided { UNDECIDED } else { YES };
+    let mut said = run.cut.clone();
+    let Some(program) = program else {
+        said.push(run.summary("not judged"));
+        return Ok((status, said, String::new()));
+    };
+    if run.failed.is_some() {
+        said = refuted(&run, make, &program)?;
+    }
+    Ok((status, said, run.summary(VERDICTS[status as usize])))
+}
+
+/// Each way to go wrong that the drawn calls can show has to be refuted: then the status is that of a no.
+fn all_broken<M: Map>(mut options: Options, make: &dyn Fn() -> M, program: &Program) -> Result<(i32, Vec<String>, String), Stop> {
+    let (mut said, mut missed) = (vec![], 0);
+    for (how, _) in BREAKS {
+        if !options.is_called(how) {
+            said.push(format!("{how}: what it makes wrong is not called"));
+            continue;
+        }
+        options.broken = Some(how.to_string());
+        let run = Run::new(&options, make, Some(program), 0)?;
+        missed += usize::from(run.failed.is_none());
+        said.push(format!("{how}: {}", run.summary(if run.failed.is_some() { "no" } else { "yes" })));
+    }
+    Ok(match missed {
+        0 => (NO, said, "no: each broken map was refuted".to_string()),
+        _ => (YES, said, format!("yes: {missed} of the broken maps were not refuted")),
+    })
+}
+
+/// A whole program: says how it went, and answers the status. `make` makes a new and empty map: one for each run.
+pub fn run<M: Map>(name: &str, make: impl Fn() -> M, words: impl Iterator<Item = String>) -> i32 {
+    match tested(name, &make, &words.collect::<Vec<_>>()) {
+        Ok((status, said, last)) => {
+            said.iter().for_each(|line| eprintln!("{line}"));
+            let written = if last.is_empty() { Ok(()) } else { writeln!(std::io::stdout(), "{last}") };
+            if written.is_err() && status == YES { BAD_FILE } else { status }
+        }
+        Err(Stop(status, line)) => {
+            eprintln!("{line}");
+            status
+        }
+    }
+}
+
+/// To be called from a test: panics with the explanation where the verdict is no yes.
+pub fn check<M: Map>(name: &str, make: impl Fn() -> M, words: &[&str]) {
+    let words: Vec<String> = words.iter().map(|word| word.to_string()).collect();
+    match tested(name, &make, &words) {
+        Ok((YES, ..)) => (),
+        Ok((_, said, last)) => panic!("{}\n{last}", said.join("\n")),
+        Err(Stop(_, line)) => panic!("{line}"),
+    }
+}
