@@ -35,7 +35,7 @@ def called(event):
 
 def answered(answer):
     """The words of an answer in a picture."""
-    return "none" if answer is None else answer if answer == "refused" else json.dumps(answer, separators=(",", ":"))
+    return "none" if answer is None else answer if isinstance(answer, str) else json.dumps(answer, separators=(",", ":"))
 
 
 def titles(history):
