@@ -4,7 +4,8 @@ use Rattle.std.proofs.Common.{refl, sym, ap, ◌∙◌, subst, ⊎_elim, inl, in
 use Rattle.std.specs.Prelude.{◌⊎◌, ◌↔◌, slice_get, slice_set, All, AllPairs, Contains}
 use Rattle.std.proofs.lemmas.Bool.{cases_order}
 use Rattle.std.proofs.lemmas.List.{length-set, length-replicate}
-use Rattle.std.proofs.lemmas.List.Elements.{Contains-append_left, Contains-append_right, Contains-append_cases, Contains-push, Contains-push_cases}
+use Rattle.std.proofs.lemmas.List.Elements.{Contains-append_left, Contains-append_right, Contains-append_cases, Contains-push}
+use Rattle.std.proofs.lemmas.List.Elements.{Contains-push_cases}
 use Rattle.std.proofs.lemmas.Option.{same_Some, slice_get_within}
 use Rattle.events.specs.declared.operation.Operation.{Operation}
 use Rattle.events.specs.declared.operation.Response.{Response}
@@ -53,7 +54,8 @@ same_found a b h = ap (found_of a) h
 -- ---- what is found in a list of calls
 
 -- what calls find is found by one of them
-pub found_by : (key : ℕ) (m : Contents) (order : List Operation) (place : ℕ) (value : Option ℕ) → Contains (found_in key m order) (place, value)
+pub found_by : (key : ℕ) (m : Contents) (order : List Operation) (place : ℕ) (value : Option ℕ)
+    → Contains (found_in key m order) (place, value)
     → (x : Operation) × Contains order x × (x.inv ≡ place)
 found_by key m [] place value h = absurd (Contains-nil (place, value) h)
 found_by key m (x ∷ order) place value h =
@@ -269,7 +271,8 @@ push_at key first calls path p n a of_key rising at here is_left = record {
       ),
       λ h. let is_a = same_Some h.0 a (sym h.1 ∙ ap (slice_get calls) same ∙ here) in
           let there = subst (λ (l : List (ℕ × Option ℕ)). Contains l (a.inv, value)) found_is
-          (subst (λ (x : Operation). Contains (found_in key (one_key key first) (calls_at calls (path ++ n ∷ []))) (x.inv, value)) is_a h.2) in
+          (subst (λ (x : Operation). Contains (found_in key (one_key key first) (calls_at calls (path ++ n ∷ []))) (x.inv, value)) is_a
+          h.2) in
           ap (slice_get (slice_set p.marks n mark)) same ∙ set_here p.marks n mark within
           ∙ ap (λ (x : Mark). Some x) (⊎_elim (λ old. absurd (not_before value old)) (λ now. ((more_is a.inv value).0 now).1)
           (Contains-append_cases (found_in key (one_key key first) order) more (a.inv, value) there)),

@@ -93,7 +93,8 @@ earliest_take calls marks size earliest a here left h = by_response earliest a.r
     }
 
     bound : (r : Response) (place least : ℕ) → a.response ≡ Some r → least ≤ r.res
-        → ((place : ℕ) → IsLeftAnswered calls marks size place → least ≤ place) → IsLeftAnswered calls marks (size + 1) place → least ≤ place
+        → ((place : ℕ) → IsLeftAnswered calls marks size place → least ≤ place) → IsLeftAnswered calls marks (size + 1) place
+        → least ≤ place
     bound r place least answered low each l = ⊎_elim (λ before. each place before)
         (λ now. let same = same_Some a now.0 (sym here ∙ now.2) in
         let one = ap (λ (x : Response). x.res)

@@ -53,7 +53,8 @@ abbrev pub ChosenBelow : List Bool → List Mark → ℕ → List ℕ → Type 0
 ChosenBelow ended marks size chosen = Gathers (IsChosenAt ended marks) size chosen × AllPairs (λ m n. m < n) chosen
 
 pub chosen_push : (ended : List Bool) (marks : List Mark) (n : ℕ) (chosen more : List ℕ) → more ≡ chosen ++ n ∷ []
-    → slice_get ended n ≡ Some false → slice_get marks n ≢ Some Left → ChosenBelow ended marks n chosen → ChosenBelow ended marks (n + 1) more
+    → slice_get ended n ≡ Some false → slice_get marks n ≢ Some Left → ChosenBelow ended marks n chosen
+    → ChosenBelow ended marks (n + 1) more
 chosen_push ended marks n chosen more is had_not done h = (
   gather_push (IsChosenAt ended marks) n chosen more n is h.0 (refl, had_not, done) (λ m item. item.0),
   pairs_push (λ a b. a < b) (IsChosenAt ended marks) n chosen more n is h.0 h.1 (λ k m below item. omega (arith, below, item.0)),

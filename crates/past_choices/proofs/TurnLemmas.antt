@@ -234,7 +234,8 @@ choice_at key first calls ended visited c past reached choice = (
   p,
   leads.1,
   record {
-    whole = λ n had is_left. ((at.left n).0 is_left).1 (done_to_path n (below n had) (in_done calls ended c.chosen n (below n had) (inl had)));
+    whole = λ n had is_left. ((at.left n).0 is_left).1
+        (done_to_path n (below n had) (in_done calls ended c.chosen n (below n had) (inl had)));
     chosen = record {
       rising = choice.rising;
       each = λ n. (
@@ -292,7 +293,8 @@ choice_at key first calls ended visited c past reached choice = (
 
     done_to_path : (n : ℕ) → n < length calls → Contains (done_numbers calls ended c.chosen) n → Contains numbered.0 n
     done_to_path n within h = numbers_from_calls calls (done_numbers calls ended c.chosen) numbered.0 past.rising
-        (λ a in_done. (turn.all a).1 (subst (λ (l : List Operation). Contains l a) (sym (done_are calls ended c.chosen)) in_done)) n within h
+        (λ a in_done. (turn.all a).1 (subst (λ (l : List Operation). Contains l a) (sym (done_are calls ended c.chosen)) in_done))
+        n within h
 
     path_to_done : (n : ℕ) → n < length calls → Contains numbered.0 n → Contains (done_numbers calls ended c.chosen) n
     path_to_done n within h = numbers_from_calls calls numbered.0 (done_numbers calls ended c.chosen) past.rising

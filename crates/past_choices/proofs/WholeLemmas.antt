@@ -1,5 +1,6 @@
 -- The worklist comes to all positions: the first one, and with each all that follow it.
-use Rattle.std.proofs.Common.{◌≡◌, ℕ, ◌<◌, ◌≤◌, List, [], ◌∷◌, ◌++◌, length, Option, Some, refl, sym, ap, ◌∙◌, subst, ⊎_elim, inl, inr, arith, append-nil, append_assoc}
+use Rattle.std.proofs.Common.{◌≡◌, ℕ, ◌<◌, ◌≤◌, List, [], ◌∷◌, ◌++◌, length, Option, Some}
+use Rattle.std.proofs.Common.{refl, sym, ap, ◌∙◌, subst, ⊎_elim, inl, inr, arith, append-nil, append_assoc}
 use Rattle.std.specs.Prelude.{◌≢◌, ◌+◌, ◌⊎◌, slice_get, All, AllPairs, Contains}
 use Rattle.std.proofs.lemmas.Bool.{cases_lt}
 use Rattle.std.proofs.lemmas.List.Elements.{All-contains}
@@ -86,7 +87,8 @@ whole key first calls visited at of_key rising all explored path front =
     go_on before [] front p visits is_at =
         (p, visits, subst (λ (l : List ℕ). IsAt key first calls l p) (sym (append-nil before)) is_at)
     go_on before (n ∷ rest) front p visits is_at =
-        let next = next_of_front key first calls before p n of_key is_at (IsNext-from_front (one_key key first) calls before n rest front) in
+        let next = next_of_front key first calls before p n of_key is_at
+        (IsNext-from_front (one_key key first) calls before n rest front) in
         let q = next_position p n next.call in
         let (i, here) = place_of-Contains visited p visits in
         let visits_q = explored.closed i p q (omega (arith, all, slice_get_within visited i p here)) here

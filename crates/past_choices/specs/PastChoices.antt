@@ -12,7 +12,7 @@ use Rattle.following.specs.keys.Settling.{AreInTurn}
 use Rattle.past_choices.specs.Positions.{FindsAt}
 use Rattle.past_choices.specs.Values.{IsCallOf}
 
--- the numbers of the calls that had not ended and were done, the value behind all that were done, and what those found that are not answered
+-- the numbers of the calls that had not ended and were done, the value behind all that were done, and what those found that have no answer
 pub record PastChoice : Type 0 where
   pub chosen : List ℕ
   pub value : Option ℕ

@@ -17,3 +17,6 @@ mod worklist;
 
 pub use answer::{Answer, PastChoice};
 pub use worklist::past_choices;
+
+#[cfg(test)]
+mod tests;

@@ -23,7 +23,8 @@ loop-place-preserved c =
           c.at.ensures (rw w.in-Some.is at c.in_ok-choice.ensures) c.loop-place.invariant
       | in_default w ↦ choices_skip ended visited n old new (ap (λ v. v.items) w.choices-is)
           (λ q d here choice.
-          no_choice (EndedAreDone ended p.marks → ⊥) (IsChoiceOf ended p) c.in_ok-choice.field-0 c.in_ok-choice.ensures w.in_default.not-Some
+          no_choice (EndedAreDone ended p.marks → ⊥) (IsChoiceOf ended p) c.in_ok-choice.field-0 c.in_ok-choice.ensures
+          w.in_default.not-Some
           (subst (λ q. EndedAreDone ended q.marks) (same_Some q p (sym here ∙ c.at.ensures)) choice.whole))
           c.loop-place.invariant
     ]

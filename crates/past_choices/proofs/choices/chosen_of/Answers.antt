@@ -3,7 +3,9 @@ use Rattle.std.proofs.lemmas.Bool.{both_ways}
 use Rattle.std.proofs.lemmas.Option.{get_or_from_slice_get}
 use Rattle.past_choices.proofs.ItemLemmas.{word_at, left_at, not_left_at, chosen_push, chosen_skip, chosen_all}
 use Rattle.past_choices.proofs.choices.chosen_of.Goals as goal
-use Rattle.past_choices.proofs.choices.chosen_of.Goals.{then-not-ended-place+then-not-is_left+in_ok-push, else-not-ended-place, else-not-ended-place-via-then-not-ended-place+else-not-is_left, else-not-ended-place-via-else-not-ended-place}
+use Rattle.past_choices.proofs.choices.chosen_of.Goals.{then-not-ended-place+then-not-is_left+in_ok-push, else-not-ended-place}
+use Rattle.past_choices.proofs.choices.chosen_of.Goals.{else-not-ended-place-via-then-not-ended-place+else-not-is_left}
+use Rattle.past_choices.proofs.choices.chosen_of.Goals.{else-not-ended-place-via-else-not-ended-place}
 
 pub loop-place-preserved : goal.loop-place-preserved
 loop-place-preserved c =
