@@ -1,0 +1,11 @@
+mod AnswerLemmas
+mod AtLemmas
+mod ChoiceLemmas
+mod EarliestLemmas
+mod GatherLemmas
+mod ItemLemmas
+mod PlaceLemmas
+mod TurnLemmas
+mod ValueLemmas
+mod VisitLemmas
+mod WholeLemmas

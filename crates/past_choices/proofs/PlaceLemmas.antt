@@ -1,0 +1,88 @@
+-- Lists by place, and lists that rise.
+use Rattle.std.proofs.Common.{◌≡◌, ◌≢◌, ℕ, zero, suc, ◌<◌, List, [], ◌∷◌, length, Some, replicate}
+use Rattle.std.proofs.Common.{refl, sym, ap, ◌∙◌, ⊎_elim, inl, inr, arith}
+use Rattle.std.specs.Prelude.{◌⊎◌, slice_get, slice_set, All, AllPairs, Contains}
+use Rattle.std.proofs.lemmas.Bool.{both_ways, cases_Bool}
+use Rattle.std.proofs.lemmas.List.Elements.{All-contains}
+use Rattle.std.proofs.lemmas.Option.{none-some, same_Some}
+use Rattle.list_laws.specs.Lists.{has_number}
+use Rattle.list_laws.proofs.Lists.{AllPairs-head, AllPairs-tail, Contains-first, Contains-later, Contains-nil, Contains-cases}
+use Rattle.list_laws.proofs.NumberLemmas.{has_number-Contains, has_number-from_Contains}
+
+-- what was put at a place, and what stands at the others
+pub set_here : {X : Type 0} (xs : List X) (n : ℕ) (x : X) → n < length xs → slice_get (slice_set xs n x) n ≡ Some x
+set_here [] n x within = absurd (omega (arith, within))
+set_here (y ∷ xs) zero x within = refl
+set_here (y ∷ xs) (suc n) x within = set_here xs n x (omega (arith, within))
+
+pub set_elsewhere : {X : Type 0} (xs : List X) (n m : ℕ) (x : X) → m ≢ n → slice_get (slice_set xs n x) m ≡ slice_get xs m
+set_elsewhere [] n m x apart = refl
+set_elsewhere (y ∷ xs) zero zero x apart = absurd (apart refl)
+set_elsewhere (y ∷ xs) zero (suc m) x apart = refl
+set_elsewhere (y ∷ xs) (suc n) zero x apart = refl
+set_elsewhere (y ∷ xs) (suc n) (suc m) x apart = set_elsewhere xs n m x (λ e. apart (omega (arith, e)))
+
+-- the places of many the same
+pub replicate_at : {X : Type 0} (n : ℕ) (x : X) (m : ℕ) → m < n → slice_get (replicate n x) m ≡ Some x
+replicate_at zero x m within = absurd (omega (arith, within))
+replicate_at (suc n) x zero within = refl
+replicate_at (suc n) x (suc m) within = replicate_at n x m (omega (arith, within))
+
+pub replicate_only : {X : Type 0} (n : ℕ) (x : X) (m : ℕ) (y : X) → slice_get (replicate n x) m ≡ Some y → (m < n) × (x ≡ y)
+replicate_only zero x m y h = absurd (none-some y h)
+replicate_only (suc n) x zero y h = (omega arith, same_Some x y h)
+replicate_only (suc n) x (suc m) y h = let rest = replicate_only n x m y h in (omega (arith, rest.0), rest.1)
+
+-- a number is in a list or not
+pub is_in_or_not : (numbers : List ℕ) (n : ℕ) → Contains numbers n ⊎ (Contains numbers n → ⊥)
+is_in_or_not numbers n = ⊎_elim
+    (λ yes. inl (has_number-Contains numbers n yes))
+    (λ no. inr (λ h. both_ways (has_number numbers n) no (has_number-from_Contains numbers n h)))
+    (cases_Bool (has_number numbers n))
+
+-- the first of two lists that rise by a number and have the same members is the same
+same_first : {X : Type 0} (number : X → ℕ) (x : X) (xs : List X) (y : X) (ys : List X) → All (λ b. number x < number b) xs
+    → All (λ b. number y < number b) ys → Contains (y ∷ ys) x → Contains (x ∷ xs) y → x ≡ y
+same_first number x xs y ys low_x low_y in_ys in_xs = ⊎_elim (λ is. sym is)
+    (λ later. ⊎_elim (λ is. is)
+    (λ back. absurd (omega (
+      arith,
+      All-contains (λ b. number y < number b) ys x low_y later,
+      All-contains (λ b. number x < number b) xs y low_x back,
+    )))
+    (Contains-cases x xs y in_xs))
+    (Contains-cases y ys x in_ys)
+
+-- the members of a rising list after its first are those of another with the same first
+members_after : {X : Type 0} (number : X → ℕ) (x y : X) (xs ys : List X) → x ≡ y → All (λ b. number x < number b) xs
+    → ((z : X) → Contains (x ∷ xs) z → Contains (y ∷ ys) z) → (z : X) → Contains xs z → Contains ys z
+members_after number x y xs ys one low to z h = ⊎_elim
+    (λ is. let e : number x ≡ number z = ap number (one ∙ is) in
+    absurd (omega (arith, e, All-contains (λ b. number x < number b) xs z low h)))
+    (λ later. later) (Contains-cases y ys z (to z (Contains-later x xs z h)))
+
+-- lists that rise by a number, each member of the one a member of the other, are the same
+pub rising_same : {X : Type 0} (number : X → ℕ) (xs ys : List X) → AllPairs (λ a b. number a < number b) xs
+    → AllPairs (λ a b. number a < number b) ys → ((x : X) → Contains xs x → Contains ys x)
+    → ((x : X) → Contains ys x → Contains xs x) → xs ≡ ys
+rising_same number [] [] up_x up_y to from = refl
+rising_same number [] (y ∷ ys) up_x up_y to from = absurd (Contains-nil y (from y (Contains-first y ys)))
+rising_same number (x ∷ xs) [] up_x up_y to from = absurd (Contains-nil x (to x (Contains-first x xs)))
+rising_same {X} number (x ∷ xs) (y ∷ ys) up_x up_y to from =
+    let low_x = AllPairs-head (λ a b. number a < number b) x xs up_x in
+    let low_y = AllPairs-head (λ a b. number a < number b) y ys up_y in
+    let one = same_first number x xs y ys low_x low_y (to x (Contains-first x xs)) (from y (Contains-first y ys)) in
+    let rest = rising_same number xs ys (AllPairs-tail (λ a b. number a < number b) x xs up_x)
+    (AllPairs-tail (λ a b. number a < number b) y ys up_y)
+    (members_after number x y xs ys one low_x to) (members_after number y x ys xs (sym one) low_y from) in
+    ap (λ (z : X). z ∷ xs) one ∙ ap (λ (zs : List X). y ∷ zs) rest
+
+-- lists that are the same at each place are the same
+pub same_by_place : {X : Type 0} (xs ys : List X) → length xs ≡ length ys
+    → ((n : ℕ) (x y : X) → slice_get xs n ≡ Some x → slice_get ys n ≡ Some y → x ≡ y) → xs ≡ ys
+same_by_place [] [] size same = refl
+same_by_place [] (y ∷ ys) size same = absurd (omega (arith, size))
+same_by_place (x ∷ xs) [] size same = absurd (omega (arith, size))
+same_by_place {X} (x ∷ xs) (y ∷ ys) size same =
+    ap (λ (z : X). z ∷ xs) (same 0 x y refl refl)
+    ∙ ap (λ (zs : List X). y ∷ zs) (same_by_place xs ys (omega (arith, size)) (λ n a b here there. same (suc n) a b here there))

@@ -1,0 +1,7 @@
+use Rattle.std.proofs.Common.{refl}
+use Rattle.past_choices.specs.Marks.{with_mark}
+use Rattle.past_choices.proofs.mark.with_mark.Goals as goal
+
+pub returns : goal.returns
+unfolding with_mark
+returns c = rw (c.told.ensures, c.kind.ensures) refl

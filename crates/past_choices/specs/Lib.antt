@@ -1,0 +1,7 @@
+pub mod Answers
+pub mod Equality
+pub mod Marks
+pub mod PastChoices
+pub mod Positions
+pub mod Steps
+pub mod Values

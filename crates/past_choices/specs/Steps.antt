@@ -1,0 +1,128 @@
+-- Steps from position to position, and what the worklist has come to.
+use Rattle.std.specs.Prelude.{◌≡◌, ◌≢◌, ◌↔◌, ◌⊎◌, ℕ, ◌<◌, ◌≤◌, min, Bool, true, false, List, [], ◌∷◌, length, replicate, Option, Some, None}
+use Rattle.std.specs.Prelude.{slice_get, slice_set, All, AllPairs, Contains}
+use Rattle.events.specs.declared.operation.Operation.{Operation}
+use Rattle.events.specs.declared.operation.Response.{Response}
+use Rattle.configurations.specs.Fronts.{PrecedesAt, IsFront}
+use Rattle.following.specs.keys.KeyStates.{one_key}
+use Rattle.past_choices.specs.declared.mark.Mark.{Mark}
+use Rattle.past_choices.specs.declared.mark.Mark.TheVariants.{Left, Taken, Found}
+use Rattle.past_choices.specs.PastChoices.{PastChoice}
+use Rattle.past_choices.specs.Positions.{Position, IsAt, IsReached}
+use Rattle.past_choices.specs.Values.{value_behind_call, MayBeAnswered}
+
+-- the mark of a call that is done at a value
+abbrev pub mark_of : Option Response → Option ℕ → Mark
+mark_of None value = Found value
+mark_of (Some response) value = Taken
+
+-- no call is done
+abbrev pub start_position : ℕ → Option ℕ → Position
+start_position count first = record { marks = replicate count Left; value = first }
+
+-- one more call is done
+abbrev pub next_position : Position → ℕ → Operation → Position
+next_position p n a = record {
+  marks = slice_set p.marks n (mark_of a.response p.value);
+  value = value_behind_call p.value a.call a.response;
+}
+
+-- no call that is left precedes call n
+abbrev pub NoneLeftPrecedes : List Operation → Position → ℕ → Type 0
+NoneLeftPrecedes calls p n = (m : ℕ) → PrecedesAt calls m n → slice_get p.marks m ≢ Some Left
+
+-- call n may come next
+pub record MayCome (calls : List Operation) (p : Position) (n : ℕ) : Type 0 where
+  pub call : Operation
+  pub here : slice_get calls n ≡ Some call
+  pub left : slice_get p.marks n ≡ Some Left
+  pub preceded : NoneLeftPrecedes calls p n
+  pub legal : MayBeAnswered p.value call.call call.response
+
+-- a call that may come next leads to a position
+pub record IsNextOf (calls : List Operation) (p next : Position) : Type 0 where
+  pub place : ℕ
+  pub may_come : MayCome calls p place
+  pub leads : next ≡ next_position p place may_come.call
+
+-- the earlier of an answer's place and a response's, where there are any
+abbrev pub earlier_of : Option ℕ → Option Response → Option ℕ
+earlier_of earliest None = earliest
+earlier_of None (Some response) = Some response.res
+earlier_of (Some answered) (Some response) = Some (min answered response.res)
+
+-- a call that is left, of the first ones, is answered at a place
+pub record IsLeftAnswered (calls : List Operation) (marks : List Mark) (size place : ℕ) : Type 0 where
+  pub number : ℕ
+  pub within : number < size
+  pub call : Operation
+  pub here : slice_get calls number ≡ Some call
+  pub left : slice_get marks number ≡ Some Left
+  pub response : Response
+  pub answered : call.response ≡ Some response
+  pub at : response.res ≡ place
+
+-- the earliest answer of a call that is left, of the first ones
+abbrev pub IsEarliest : List Operation → List Mark → ℕ → Option ℕ → Type 0
+IsEarliest calls marks size None = (place : ℕ) → IsLeftAnswered calls marks size place → ⊥
+IsEarliest calls marks size (Some answered) =
+    IsLeftAnswered calls marks size answered × ((place : ℕ) → IsLeftAnswered calls marks size place → answered ≤ place)
+
+-- the positions visited, with those of a list that were not among them
+pub record AreVisited (positions old new : List Position) : Type 0 where
+  pub places : (i : ℕ) (q : Position) → slice_get old i ≡ Some q → slice_get new i ≡ Some q
+  pub from : (q : Position) → Contains new q → Contains old q ⊎ Contains positions q
+  pub to : (q : Position) → Contains positions q → Contains new q
+
+-- the positions visited, with one, if it was not among them
+abbrev pub IsVisited : Position → List Position → List Position → Type 0
+IsVisited position old new = AreVisited (position ∷ []) old new
+
+-- the positions visited, with all that a call leads to from one of them
+pub record IsExpanded (calls : List Operation) (p : Position) (old new : List Position) : Type 0 where
+  pub places : (i : ℕ) (q : Position) → slice_get old i ≡ Some q → slice_get new i ≡ Some q
+  pub from : (q : Position) → Contains new q → Contains old q ⊎ IsNextOf calls p q
+  pub to : (q : Position) → IsNextOf calls p q → Contains new q
+
+-- with all that a call leads to from the one at a place
+abbrev pub IsExpandedAt : List Operation → ℕ → List Position → List Position → Type 0
+IsExpandedAt calls at old new = (p : Position) × (slice_get old at ≡ Some p) × IsExpanded calls p old new
+
+-- positions visited, of which those before a place have been gone on from
+pub record AreExplored (key : ℕ) (first : Option ℕ) (calls : List Operation) (visited : List Position) (at : ℕ)
+    : Type 0 where
+  pub start : Contains visited (start_position (length calls) first)
+  pub reached : All (IsReached key first calls) visited
+  pub closed : (i : ℕ) (p q : Position) → i < at → slice_get visited i ≡ Some p → IsNextOf calls p q → Contains visited q
+
+-- the positions are those that are reachable
+pub record AreReached (key : ℕ) (first : Option ℕ) (calls : List Operation) (visited : List Position) : Type 0 where
+  pub distinct : AllPairs (λ p q. p ≢ q) visited
+  pub reached : All (IsReached key first calls) visited
+  pub whole : (path : List ℕ) → IsFront (one_key key first) calls path → (p : Position) × Contains visited p × IsAt key first calls path p
+
+-- all calls that ended are done
+abbrev pub EndedAreDone : List Bool → List Mark → Type 0
+EndedAreDone ended marks = (n : ℕ) → slice_get ended n ≡ Some true → slice_get marks n ≢ Some Left
+
+-- the calls done that had not ended
+pub record AreChosen (ended : List Bool) (marks : List Mark) (chosen : List ℕ) : Type 0 where
+  pub rising : AllPairs (λ m n. m < n) chosen
+  pub each : (n : ℕ) → Contains chosen n ↔ ((slice_get ended n ≡ Some false) × (n < length marks) × (slice_get marks n ≢ Some Left))
+
+-- what calls found
+pub record AreFound (marks : List Mark) (found : List (ℕ × Option ℕ)) : Type 0 where
+  pub rising : AllPairs (λ a b. a.0 < b.0) found
+  pub each : (n : ℕ) (value : Option ℕ) → Contains found (n, value) ↔ (slice_get marks n ≡ Some (Found value))
+
+-- a position at which all calls that ended are done, as a choice
+pub record IsChoiceOf (ended : List Bool) (p : Position) (c : PastChoice) : Type 0 where
+  pub whole : EndedAreDone ended p.marks
+  pub chosen : AreChosen ended p.marks c.chosen
+  pub value : c.value ≡ p.value
+  pub found : AreFound p.marks c.found
+
+-- the choices of positions, each once
+pub record AreChoicesOf (ended : List Bool) (visited : List Position) (choices : List PastChoice) : Type 0 where
+  pub each : (c : PastChoice) → Contains choices c ↔ ((p : Position) × Contains visited p × IsChoiceOf ended p c)
+  pub distinct : AllPairs (λ c d. c ≢ d) choices

@@ -1,0 +1,22 @@
+//! What calls of one key may leave that were done by a past moment: all calls that ended before it, and some of those that were
+//! open then, in any order that keeps precedence and is legal. A follower that keeps a key by itself takes these choices in place
+//! of the calls.
+//!
+//! The worklist goes from position to position, each once: which calls are done, the value behind them, and what those found that
+//! are not answered (Lowe 2017, whose memo it is, here for all that is reachable and not for one order).
+#![tactic(auto)]
+
+mod answer;
+mod choices;
+mod mark;
+mod position;
+mod steps;
+mod values;
+mod visited;
+mod worklist;
+
+pub use answer::{Answer, PastChoice};
+pub use worklist::past_choices;
+
+#[cfg(test)]
+mod tests;

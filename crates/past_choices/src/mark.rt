@@ -1,0 +1,92 @@
+// What became of a call at a position.
+ghost use Rattle.std.specs.Prelude.{◌≡◌, ◌↔◌, IsTrue};
+ghost use Rattle.past_choices.specs.declared.mark.Mark.TheVariants as marks;
+ghost use Rattle.past_choices.specs.Marks.{kind_of, told_of, with_mark};
+ghost use Rattle.past_choices.specs.Steps.{mark_of};
+
+use events::Response;
+
+/// What became of a call at a position.
+#[derive(Clone, Copy, Debug)]
+pub enum Mark {
+    /// It is not done.
+    Left,
+    /// It is done, and its answer says all that is to be known of it.
+    Taken,
+    /// It is done and has no answer: the value that it found, or none.
+    Found(Option<u64>),
+}
+
+impl PartialEq for Mark {
+    ghost use Rattle.std.specs.Cmp.{partial_equiv_from_equiv};
+    ghost use Rattle.past_choices.specs.Equality.{is_same_mark};
+    ghost use Rattle.past_choices.specs.Equality.{is_same_mark-equivalence};
+
+    ghost eq = { is_same_mark };
+
+    ghost laws = { partial_equiv_from_equiv is_same_mark-equivalence };
+
+    fn eq(&self, other: &Mark) -> bool {
+        self.kind() == other.kind() && self.told() == other.told()
+    }
+}
+
+impl Eq for Mark {
+    ghost use Rattle.past_choices.specs.Equality.{is_same_mark-equivalence};
+
+    ghost laws = { is_same_mark-equivalence };
+}
+
+impl Mark {
+    /// Which kind of mark it is.
+    fn kind(&self) -> u64
+        ensures { result ≡ kind_of self.now }
+    {
+        match self {
+            Mark::Left => 0,
+            Mark::Taken => 1,
+            Mark::Found(None) => 2,
+            Mark::Found(Some(_)) => 3,
+        }
+    }
+
+    /// The value in it, or 0.
+    fn told(&self) -> u64
+        ensures { result ≡ told_of self.now }
+    {
+        match self {
+            Mark::Left | Mark::Taken | Mark::Found(None) => 0,
+            Mark::Found(Some(value)) => *value,
+        }
+    }
+
+    /// Whether its call is not done.
+    pub(crate) fn is_left(&self) -> bool
+        ensures { IsTrue result ↔ (self.now ≡ marks.Left) }
+    {
+        matches!(self, Mark::Left)
+    }
+}
+
+/// The mark of a call that is done where its key has this value, or none.
+pub(crate) fn mark_of(response: &Option<Response>, value: Option<u64>) -> Mark
+    ensures { result ≡ mark_of response.now value }
+{
+    match response {
+        Some(_) => Mark::Taken,
+        None => Mark::Found(value),
+    }
+}
+
+/// An odd number near 2^64 divided by the golden ratio: Knuth's multiplicative hashing.
+const MULTIPLIER: u64 = 11400714819323198485;
+
+/// A digest with one more mark.
+pub(crate) fn with_mark(digest: u64, mark: Mark) -> u64
+    ensures { result ≡ with_mark digest mark }
+{
+    digest
+        .wrapping_mul(MULTIPLIER)
+        .wrapping_add(mark.told())
+        .wrapping_add(mark.kind())
+}

@@ -1,0 +1,104 @@
+// Choices of calls of one key, by hand.
+ghost use Rattle.std.specs.Prelude.{◌≡◌, None, Some};
+ghost use Rattle.events.specs.declared.event.Reply.TheVariants as replies;
+
+use crate::answer::{Answer, PastChoice};
+use crate::worklist::past_choices;
+use events::{Call, Operation, Reply, Response};
+use std::test::Fail;
+
+/// A call that is answered at a place.
+fn answered(call: Call, inv: usize, res: usize, reply: Reply) -> Operation
+    ensures { result ≡ record { call = call; inv = inv; response = Some (record { res = res; reply = reply }) } }
+{
+    Operation {
+        call,
+        inv,
+        response: Some(Response { res, reply }),
+    }
+}
+
+/// A call that is not answered.
+fn open(call: Call, inv: usize) -> Operation
+    ensures { result ≡ record { call = call; inv = inv; response = None } }
+{
+    Operation {
+        call,
+        inv,
+        response: None,
+    }
+}
+
+/// Whether one of the choices is of these calls, with this value behind them, and these values found.
+fn has_choice(
+    choices: &[PastChoice],
+    chosen: &[usize],
+    value: Option<u64>,
+    found: &[(usize, Option<u64>)],
+) -> bool {
+    choices.iter().any(|choice| choice.chosen() == chosen
+        && choice.value() == value
+        && choice.found() == found)
+}
+
+// An insert of 1 had ended; a get and a replace of 1 by 2 are open. Each may have come before the insert, or behind it.
+#[test]
+fn open_calls_come_at_each_place_or_not_at_all(rt: HostRuntime) -> Result<(), Fail> {
+    let alloc = rt.alloc();
+    let insert = answered(Call::Insert(7, 1), 0, 3, Reply::Done);
+    let get = open(Call::Get(7), 1);
+    let replace = open(Call::Replace(7, 1, 2), 2);
+    let calls = vec![in alloc; insert, get, replace]?;
+    let ended = vec![in alloc; true, false, false]?;
+    let Answer::All(choices) = past_choices(alloc, 7, None, &calls, &ended, 1000)? else {
+        panic!(rt; "more positions than there are");
+    };
+    assert!(rt; choices.len() == 10);
+    assert!(rt; has_choice(&choices, &[], Some(1), &[]));
+    for found in [None, Some(1)] {
+        assert!(rt; has_choice(&choices, &[1], Some(1), &[(1, found)]));
+    }
+    assert!(rt; has_choice(&choices, &[2], Some(1), &[(2, None)]));
+    assert!(rt; has_choice(&choices, &[2], Some(2), &[(2, Some(1))]));
+    for found in [None, Some(1)] {
+        assert!(rt; has_choice(&choices, &[1, 2], Some(1), &[(1, found), (2, None)]));
+    }
+    for found in [None, Some(1), Some(2)] {
+        assert!(rt; has_choice(&choices, &[1, 2], Some(2), &[(1, found), (2, Some(1))]));
+    }
+    Ok(())
+}
+
+// An insert of 1 had ended before a remove began that is open, and a get that is answered 1 behind the moment: so the get did not come
+// behind the remove, and what it found is not noted.
+#[test]
+fn answers_and_precedence_are_kept(rt: HostRuntime) -> Result<(), Fail> {
+    let alloc = rt.alloc();
+    let insert = answered(Call::Insert(7, 1), 0, 1, Reply::Done);
+    let remove = open(Call::Remove(7), 2);
+    let get = answered(Call::Get(7), 3, 9, Reply::Some(1));
+    let calls = vec![in alloc; insert, remove, get]?;
+    let ended = vec![in alloc; true, false, false]?;
+    let Answer::All(choices) = past_choices(alloc, 7, Some(4), &calls, &ended, 1000)? else {
+        panic!(rt; "more positions than there are");
+    };
+    assert!(rt; choices.len() == 4);
+    assert!(rt; has_choice(&choices, &[], Some(1), &[]));
+    assert!(rt; has_choice(&choices, &[1], None, &[(1, Some(1))]));
+    assert!(rt; has_choice(&choices, &[2], Some(1), &[]));
+    assert!(rt; has_choice(&choices, &[1, 2], None, &[(1, Some(1))]));
+    // No call, the insert, the remove behind it, and the get behind the insert with the remove or not.
+    assert!(rt;
+        matches!(
+            past_choices(alloc, 7, Some(4), &calls, &ended, 4)?,
+            Answer::Spent
+        )
+    );
+    assert!(rt;
+        matches!(
+            past_choices(alloc, 7, Some(4), &calls, &ended, 5)?,
+            Answer::All(_)
+        )
+    );
+    Ok(())
+}

@@ -1,0 +1,86 @@
+// What a call does at its key.
+ghost use Rattle.std.specs.Prelude.{◌≡◌, ◌↔◌, ◌⊎◌, IsTrue, Some, if◌then◌else◌};
+ghost use Rattle.events.specs.declared.event.Reply.TheVariants as replies;
+ghost use Rattle.map_object.specs.MapObject as object;
+ghost use Rattle.map_object.specs.MapObject.{is_just, value_reply, TellsOf};
+ghost use Rattle.past_choices.specs.Values as spec;
+ghost use Rattle.past_choices.specs.Values.{value_behind_call, MayBeAnswered};
+
+use events::{Call, Operation, Reply};
+
+/// The value behind a call of a key, or none, where the key had `value`.
+pub(crate) fn value_behind(value: Option<u64>, call: &Operation) -> Option<u64>
+    ensures { result ≡ value_behind_call value call.now.call call.now.response }
+{
+    match &call.response {
+        Some(response) => value_behind_reply(value, &call.call, &response.reply),
+        None => value_behind_done(value, &call.call),
+    }
+}
+
+/// The value behind a call that was answered so: a refused call changes nothing.
+fn value_behind_reply(value: Option<u64>, call: &Call, reply: &Reply) -> Option<u64>
+    ensures { result ≡ spec.value_behind_reply value call.now reply.now }
+{
+    match reply {
+        Reply::Refused => value,
+        _ => value_behind_done(value, call),
+    }
+}
+
+/// The value behind a call that was not refused.
+fn value_behind_done(value: Option<u64>, call: &Call) -> Option<u64>
+    ensures { result ≡ spec.value_behind value call.now }
+{
+    match call {
+        Call::Get(_) | Call::Scan(_, _) => value,
+        Call::Insert(_, new) => Some(*new),
+        Call::Remove(_) => None,
+        Call::Replace(_, expected, new) => replaced(value, *expected, *new),
+    }
+}
+
+/// The value behind a replace.
+fn replaced(value: Option<u64>, expected: u64, new: u64) -> Option<u64>
+    ensures { result ≡ (if is_just value expected then Some new else value) }
+{
+    match value {
+        Some(found) if found == expected => Some(new),
+        _ => value,
+    }
+}
+
+/// Whether a call may be answered as it is, if it is, where its key has this value, or none.
+pub(crate) fn may_be_answered(value: Option<u64>, call: &Operation) -> bool
+    ensures { IsTrue result ↔ MayBeAnswered value call.now.call call.now.response }
+{
+    match &call.response {
+        Some(response) => may_be_answered_so(value, &call.call, &response.reply),
+        None => true,
+    }
+}
+
+/// Whether a reply is a refusal, or tells of a value, or none, that a call finds.
+fn may_be_answered_so(value: Option<u64>, call: &Call, reply: &Reply) -> bool
+    ensures { IsTrue result ↔ ((reply.now ≡ replies.Refused) ⊎ TellsOf call.now (value_reply value) reply.now) }
+{
+    match reply {
+        Reply::Refused | Reply::Done => true,
+        Reply::Found => value.is_some(),
+        Reply::Other => misses(value, call),
+        Reply::None => value.is_none(),
+        Reply::Some(told) => value == Some(*told),
+        Reply::Pairs(_) => false,
+    }
+}
+
+/// Whether a call is a replace that does not find the value that it expects.
+fn misses(value: Option<u64>, call: &Call) -> bool
+    ensures { result ≡ object.misses call.now (value_reply value) }
+{
+    match (call, value) {
+        (Call::Replace(_, expected, _), Some(found)) => found != *expected,
+        (Call::Replace(_, _, _), None) => true,
+        _ => false,
+    }
+}

@@ -1,0 +1,76 @@
+// The worklist.
+ghost use Rattle.std.specs.Prelude.{◌≡◌, ◌<◌, ◌≤◌, length, All, AllPairs, MatchOption, IfOk, OnOk};
+ghost use Rattle.past_choices.specs.Answers.{IsAnswer};
+ghost use Rattle.past_choices.specs.PastChoices.{ArePast};
+ghost use Rattle.past_choices.specs.Positions.{ReachesMoreThan};
+ghost use Rattle.past_choices.specs.Steps.{AreReached, IsExpandedAt};
+ghost use Rattle.past_choices.specs.Values.{IsCallOf};
+
+use crate::answer::Answer;
+use crate::choices::choices_of;
+use crate::steps::next_positions;
+use crate::visited::Visited;
+use events::{Memory, Operation};
+use std::alloc::Global;
+
+/// What calls of a key may leave that were done by a past moment, from one value of the key, or none: each choice of calls that had
+/// not ended, of the value behind all that were done, and of what calls found that have no answer, once. `Spent` where more than
+/// `budget` positions were met, `Memory` where a growth was refused.
+/// The calls are those of the key that began before the moment, by rising invocation, and `ended` says of each whether it ended
+/// before the moment. Each position costs as much as the calls, and each of the calls that may come next there as much again.
+pub fn past_choices(
+    alloc: Global,
+    key: u64,
+    value: Option<u64>,
+    calls: &[Operation],
+    ended: &[bool],
+    budget: u32,
+) -> Result<Answer, Memory>
+    requires { ArePast key calls.now ended.now }
+    ensures { IfOk result (IsAnswer key value calls.now ended.now budget) }
+{
+    match positions_of(alloc, key, value, calls, budget)? {
+        Some(visited) => Ok(Answer::All(choices_of(alloc, &visited, ended)?)),
+        None => Ok(Answer::Spent),
+    }
+}
+
+/// The positions that are reachable, or none where there are more than the budget.
+fn positions_of(
+    alloc: Global,
+    key: u64,
+    value: Option<u64>,
+    calls: &[Operation],
+    budget: u32,
+) -> Result<Option<Visited>, Memory>
+    requires of_key { All (λ a. IsCallOf key a.call) calls.now }
+    requires rising { AllPairs (λ a b. a.inv < b.inv) calls.now }
+    ensures { IfOk result (λ found. MatchOption found (ReachesMoreThan key value calls.now budget)
+        (AreReached key value calls.now)) }
+{
+    let mut visited = Visited::at_start(alloc, calls.len(), value)?;
+    let mut at = 0;
+    while at < visited.len() {
+        if visited.len() > budget as usize {
+            return Ok(None);
+        }
+        go_on_from(alloc, calls, &mut visited, at)?;
+        at += 1;
+    }
+    Ok(Some(visited))
+}
+
+/// Visits the positions that follow the one at a place.
+fn go_on_from(
+    alloc: Global,
+    calls: &[Operation],
+    visited: &mut Visited,
+    at: usize,
+) -> Result<(), Memory>
+    requires known { at < length visited.old }
+    requires each { All (λ p. length p.marks ≡ length calls.now) visited.old }
+    ensures { OnOk result (IsExpandedAt calls.now at visited.old visited.new) }
+{
+    let next = next_positions(alloc, calls, visited.at(at))?;
+    visited.visit_all(next)
+}
