@@ -61,9 +61,6 @@ found_by key m [] place value h = absurd (Contains-nil (place, value) h)
 found_by key m (x ∷ order) place value h =
     by_response x.response h (found_by key (after_call m x.call x.response) order place value)
   where
-    Result : Type 0
-    Result = (y : Operation) × Contains (x ∷ order) y × (y.inv ≡ place)
-
     rest_of : ((y : Operation) × Contains order y × (y.inv ≡ place)) → (y : Operation) × Contains (x ∷ order) y × (y.inv ≡ place)
     rest_of found = (found.0, Contains-later x order found.0 found.1, found.2)
 

@@ -4,7 +4,6 @@ use Rattle.std.specs.Prelude.{◌⊎◌, ◌↔◌, AllPairs, Contains, get_or}
 use Rattle.std.proofs.lemmas.Bool.{cases_lt}
 use Rattle.std.proofs.lemmas.List.Elements.{Contains-append_left, Contains-push, Contains-push_cases, Contains-get_or}
 use Rattle.std.proofs.lemmas.List.Quantifiers.{all_pairs_push}
-use Rattle.list_laws.proofs.Lists.{Contains-nil}
 
 -- an item of some number below
 pub record IsItem {X : Type 0} (Is : ℕ → X → Type 0) (size : ℕ) (x : X) : Type 0 where
@@ -15,9 +14,6 @@ pub record IsItem {X : Type 0} (Is : ℕ → X → Type 0) (size : ℕ) (x : X) 
 -- the list has the items of the numbers below
 abbrev pub Gathers : {X : Type 0} → (ℕ → X → Type 0) → ℕ → List X → Type 0
 Gathers {X} Is size xs = (x : X) → Contains xs x ↔ IsItem Is size x
-
-pub gather_none : {X : Type 0} (Is : ℕ → X → Type 0) → Gathers Is 0 []
-gather_none Is x = (λ h. absurd (Contains-nil x h), λ h. absurd (omega (arith, h.below)))
 
 pub last_or_before : (n size : ℕ) → n < size + 1 → (n < size) ⊎ (n ≡ size)
 last_or_before n size h = ⊎_elim (λ lt. inl lt) (λ ge. inr (omega (arith, h, ge))) (cases_lt n size)
