@@ -65,7 +65,7 @@ found_by key m (x ∷ order) place value h =
     rest_of found = (found.0, Contains-later x order found.0 found.1, found.2)
 
     by_response : (response : Option Response)
-        → Contains (found_at key x.inv response (value_at m key) (found_in key (after_call m x.call x.response) order)) (place, value)
+        → Contains (found_at x.inv response (value_at m key) (found_in key (after_call m x.call x.response) order)) (place, value)
         → (Contains (found_in key (after_call m x.call x.response) order) (place, value)
         → (y : Operation) × Contains order y × (y.inv ≡ place))
         → (y : Operation) × Contains (x ∷ order) y × (y.inv ≡ place)
@@ -76,22 +76,22 @@ found_by key m (x ∷ order) place value h =
     by_response (Some r) h rest = rest_of (rest h)
 
 found_more : (key place : ℕ) (response : Option Response) (value : Option ℕ) (xs ys : List (ℕ × Option ℕ))
-    → found_at key place response value (xs ++ ys) ≡ found_at key place response value xs ++ ys
+    → found_at place response value (xs ++ ys) ≡ found_at place response value xs ++ ys
 found_more key place None value xs ys = refl
 found_more key place (Some r) value xs ys = refl
 
 -- one more call finds what is there, if it has no answer
 pub found_push : (key : ℕ) (m : Contents) (order : List Operation) (x : Operation) → found_in key m (order ++ x ∷ [])
-    ≡ found_in key m order ++ found_at key x.inv x.response (value_at (after_calls m order) key) []
+    ≡ found_in key m order ++ found_at x.inv x.response (value_at (after_calls m order) key) []
 found_push key m [] x = refl
 found_push key m (y ∷ order) x =
-    ap (found_at key y.inv y.response (value_at m key)) (found_push key (after_call m y.call y.response) order x)
+    ap (found_at y.inv y.response (value_at m key)) (found_push key (after_call m y.call y.response) order x)
     ∙ found_more key y.inv y.response (value_at m key) (found_in key (after_call m y.call y.response) order)
-    (found_at key x.inv x.response (value_at (after_calls m (y ∷ order)) key) [])
+    (found_at x.inv x.response (value_at (after_calls m (y ∷ order)) key) [])
 
 -- what one call notes
 noted : (key place : ℕ) (response : Option Response) (value : Option ℕ) (other : ℕ) (found : Option ℕ)
-    → Contains (found_at key place response value []) (other, found)
+    → Contains (found_at place response value []) (other, found)
     ↔ ((other ≡ place) × (mark_of response value ≡ Found found))
 noted key place None value other found = (
   λ h. ⊎_elim
@@ -236,7 +236,7 @@ push_at key first calls path p n a of_key rising at here is_left = record {
     )
 
     more : List (ℕ × Option ℕ)
-    more = found_at key a.inv a.response (value_at (after_calls (one_key key first) order) key) []
+    more = found_at a.inv a.response (value_at (after_calls (one_key key first) order) key) []
 
     found_is : found_in key (one_key key first) (calls_at calls (path ++ n ∷ [])) ≡ found_in key (one_key key first) order ++ more
     found_is = ap (found_in key (one_key key first)) (calls_at-push calls path n a here) ∙ found_push key (one_key key first) order a
@@ -246,7 +246,7 @@ push_at key first calls path p n a of_key rising at here is_left = record {
 
     more_is : (place : ℕ) (value : Option ℕ) → Contains more (place, value) ↔ ((place ≡ a.inv) × (mark ≡ Found value))
     more_is place value =
-        subst (λ (v : Option ℕ). Contains (found_at key a.inv a.response v []) (place, value)
+        subst (λ (v : Option ℕ). Contains (found_at a.inv a.response v []) (place, value)
         ↔ ((place ≡ a.inv) × (mark ≡ Found value)))
         (sym value_there) (noted key a.inv a.response p.value place value)
 
