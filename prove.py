@@ -7,18 +7,29 @@ Each is proved once, by rt's own scheduler: first those with the longest chain a
 and memory. One with a much shorter chain waits for them. As rt ci does, it builds libraries of statements: what stands above loads what
 was proved of them, and not the proofs. What an earlier run has built of the same files is kept, and rt's commands find it built: so a
 run that was interrupted goes on where it was.
+
+It ends with 0; with 70 where a crate is not proved; and with another status where it does not fit the toolchain, whose own commands do the same
+crate by crate.
 """
 import copy
 import importlib.machinery
 import os
 import shutil
 import signal
+import subprocess
 import sys
 import tempfile
 import threading
 import time
 
 sys.dont_write_bytecode = True
+# It stands on the inside of this toolchain's `rt`, of which another one promises nothing.
+KNOWN = "rattle-kit-13f logic dac8208d650f15bf"
+NOT_PROVED, UNKNOWN = 70, 75
+found = subprocess.run(["rt", "version"], stdout=subprocess.PIPE, text=True).stdout.strip()
+if found != KNOWN:
+    sys.stderr.write(f"prove: it knows the toolchain {KNOWN}, and this is {found}\n")
+    sys.exit(UNKNOWN)
 TOP = os.path.dirname(os.path.realpath(__file__))
 rt = importlib.machinery.SourceFileLoader("rt", os.path.realpath(shutil.which("rt"))).load_module()
 
@@ -158,7 +169,7 @@ def main(name):
         first = [name for name in lines if behind[name] > behind[it.name] + longest / 2]
         waits = [(name, "proof") for name in {*first, *[lower.name for lower in it.below() if lower.name in lines]}]
         tasks[it.name, "proof"] = waits, lines[it.name], rt.need(it), lambda given, jobs, it=it, waits=waits: work(it, waits, given, jobs)
-    return 0 if all(rt.in_lanes(tasks).values()) and held else 1
+    return 0 if all(rt.in_lanes(tasks).values()) and held else NOT_PROVED
 
 
 rt.rtlib.Crate = Crate

@@ -19,6 +19,7 @@ import itertools
 import json
 import os
 import random
+import resource
 import subprocess
 import sys
 import tempfile
@@ -124,14 +125,19 @@ def run(words, text, statuses=(0, 1, 2), program=PROGRAM):
     return seconds, peak, answer
 
 
-def run_on(words, path, statuses=(0, 1, 2), program=PROGRAM):
-    """The same of a run on a file, with the seconds of a processor behind those on the clock."""
+def run_on(words, path, statuses=(0, 1, 2), program=PROGRAM, limit=None):
+    """The same of a run on a file, with the seconds of a processor behind those on the clock. None where it takes more of these than a limit."""
+    def limited():
+        resource.setrlimit(resource.RLIMIT_CPU, (limit or resource.RLIM_INFINITY,) * 2)
+
     with open(path, "rb") as source:
         began = time.monotonic()
-        process = subprocess.Popen([program, *words], stdin=source, stdout=subprocess.PIPE, stderr=subprocess.DEVNULL)
+        process = subprocess.Popen([program, *words], stdin=source, stdout=subprocess.PIPE, stderr=subprocess.DEVNULL, preexec_fn=limited)
         answer = process.stdout.read()
         _, status, usage = os.wait4(process.pid, 0)
         seconds = time.monotonic() - began
+    if limit and os.WIFSIGNALED(status):
+        return None
     assert os.WIFEXITED(status) and os.WEXITSTATUS(status) in statuses, status
     return seconds, usage.ru_utime + usage.ru_stime, usage.ru_maxrss / 1024, answer
 
@@ -204,6 +210,16 @@ def three_on_each(keys):
         yield ["remove", key], 1
 
 
+def without_order_at(pairs, opened):
+    """The compact text of a history of one segment: these pairs at the start, calls with their answers that all overlap, and a
+    scan of all keys that is answered by what nobody put."""
+    events = [{"invoke": call, "process": process} for process, (call, _) in enumerate(opened)]
+    events += [{"answer": answer, "process": process} for process, (_, answer) in enumerate(opened)]
+    events.append({"invoke": ["scan", 0, 2 ** 64 - 1], "process": 0})
+    events.append({"answer": [[0, 99]], "process": 0})
+    return json.dumps({"events": events, "start": pairs, "version": 2}, separators=(",", ":"), sort_keys=True).encode()
+
+
 def search():
     for held, most in ((0, 20), (200, 17)):
         for number in (10, 13, 17, 20):
@@ -214,6 +230,16 @@ def search():
     for budget in (1000, 10_000, 100_000, MAX_BUDGET):
         text = without_order(0, list(three_on_each(10)))
         show(f"judge, 30 overlapping calls on 10 keys, {budget}", ["judge", "--budget", str(budget)], text, b'{"calls":')
+    pairs = [[10 ** 19 + number * 7919, number] for number in range(4096)]
+    for kind, opened in (
+        ("inserts that replace", [(["insert", key, 1], value) for key, value in pairs[::69]]),
+        ("inserts of new keys", [(["insert", key + 1, 1], None) for key, _ in pairs[::69]]),
+        ("removes", [(["remove", key], value) for key, value in pairs[::69]]),
+    ):
+        text = without_order_at(pairs, opened)
+        show(f"judge, 60 overlapping {kind}, 4096 pairs", ["judge"], text, b'{"calls":')
+    text = without_order_at(pairs[:1000], [(["scan", 0, 2 ** 64 - 1], pairs[:1000])] * 60)
+    show("judge, 60 overlapping scans of 1000 pairs", ["judge"], text, b'{"calls":')
     text = history([("get", 0)] * 4096)
     show("judge, 4096 gets of one key", ["judge"], text, b'{"order":')
     text = history(("insert", number, 1) for number in range(4096))
@@ -256,12 +282,35 @@ def workers():
         show(f"judge, 8 equal segments, {number} workers", words, text, b'{"calls":')
 
 
-def stream_calls(count, keys, choose, scans):
+# Streams: how many calls a second are wanted, and how the stream is drawn.
+STREAMS = {
+    "8 processes on 1,000 keys": (350_000, {}),
+    "the same, puts and removes done": (300_000, {"is_told": False}),
+    "the same, told, each 1,000th a scan of all": (250_000, {"scans": 1000}),
+    "done, each 1,000th a scan of all": (250_000, {"is_told": False, "scans": 1000}),
+    "told, each 100th a scan of all": (150_000, {"scans": 100}),
+    "done, each 100th a scan of all": (150_000, {"is_told": False, "scans": 100}),
+    "60 processes on 64 keys": (200_000, {"processes": 60, "keys": 64}),
+    "the same, puts and removes done ": (200_000, {"processes": 60, "keys": 64, "is_told": False}),
+    "the same, told, each 1,000th a scan": (100_000, {"processes": 60, "keys": 64, "scans": 1000}),
+    "8 processes on one key": (30_000, {"keys": 1}),
+    "the same, puts and removes done  ": (30_000, {"keys": 1, "is_told": False}),
+    "5 processes dead in puts, 1,000 keys": (250_000, {"opened": [["insert", key, 0] for key in range(5)]}),
+    "a scan of all keys that stays open": (100_000, {"opened": [["scan", 0, 999]]}),
+    "a get that stays open on a hot key": (100_000, {"keys": 8, "opened": [["get", 0]]}),
+    "16,384 processes open at once": (100_000, {"processes": 16_384, "keys": 65_536}),
+    "each call puts a new key": (100_000, {"are_new": True}),
+}
+
+
+def stream_calls(count, keys, choose, scans, are_new):
     """Calls on some keys, half of them gets; where `scans` is not 0 each call of that number is a scan over all keys."""
     for number in range(1, count + 1):
         key = int(choose.random() * keys)
         kind = choose.random()
-        if scans and number % scans == 0:
+        if are_new:
+            yield ("insert", number, number)
+        elif scans and number % scans == 0:
             yield ("scan", 0, keys - 1)
         elif kind < 0.5:
             yield ("get", key)
@@ -271,45 +320,52 @@ def stream_calls(count, keys, choose, scans):
             yield ("remove", key)
 
 
-def write_stream(file, count, processes, keys, scans=0):
-    """Writes a stream line by line. In a random turn a process has the effect of its call, or is answered and begins its next."""
+def write_stream(file, count, processes=8, keys=1000, scans=0, is_told=True, opened=(), are_new=False):
+    """Writes a stream line by line. In a random turn a process has the effect of its call, or is answered and begins its next. Some
+    calls are open from the first event on, and stay so."""
     choose = random.Random(count + processes)
-    calls = stream_calls(count, keys, choose, scans)
+    calls = stream_calls(count, keys, choose, scans, are_new)
     held = {}
-    opened = dict(enumerate(itertools.islice(calls, processes)))
+    begun = dict(enumerate(itertools.islice(calls, processes)))
     answers = {}
-    for process, call in opened.items():
+    file.write('{"start":[],"version":3}\n')
+    for process, call in [*begun.items(), *enumerate(opened, processes)]:
         file.write(f'{{"invoke":{compact(call)},"process":{process}}}\n')
-    turns = list(opened)
+    turns = list(begun)
     while turns:
         place = int(choose.random() * len(turns))
         process = turns[place]
         if process not in answers:
-            name, *numbers = opened[process]
-            answers[process] = compact(answer_of(held, name, numbers))
+            name, *numbers = begun[process]
+            found = answer_of(held, name, numbers)
+            answers[process] = compact(found if is_told or name in ("get", "scan") else "done")
             continue
         file.write(f'{{"answer":{answers.pop(process)},"process":{process}}}\n')
         call = next(calls, None)
         if call is None:
             turns.pop(place)
         else:
-            opened[process] = call
+            begun[process] = call
             file.write(f'{{"invoke":{compact(call)},"process":{process}}}\n')
 
 
 def follow():
+    """Follows each stream, of so many calls and of twice as many: the seconds of both tell whether it takes linear time."""
     # The peak of a program's memory is at least what the one that starts it holds, so that nothing is held of a stream here.
-    for count, processes, keys, scans in (
-        (1_000_000, 8, 1000, 0), (2_000_000, 8, 1000, 0), (1_000_000, 8, 1000, 1000), (1_000_000, 60, 64, 0)
-    ):
-        with tempfile.NamedTemporaryFile("w+", encoding="utf-8") as file:
-            write_stream(file, count, processes, keys, scans)
-            file.flush()
-            runs = [run_on(["follow"], file.name) for _ in range(3)]
-        _, seconds, peak, answer = min(runs, key=lambda run: run[1])
-        assert answer.startswith(f'{{"calls":{count},'.encode()), answer
-        name = f"follow, {count} calls of {processes} on {keys} keys" + (f", {count // scans} scans" if scans else "")
-        print(f"{name:<56} {count / seconds:>10,.0f} calls/s {seconds:8.3f} s {peak:8.1f} MiB")
+    for name, (wanted, drawn) in STREAMS.items():
+        told = f"follow, {name.strip():<42}"
+        for count in (100_000, 200_000):
+            with tempfile.NamedTemporaryFile("w+", encoding="utf-8") as file:
+                write_stream(file, count, **drawn)
+                file.flush()
+                done = run_on(["follow"], file.name, limit=30)
+            if done is None:
+                told += " not done in 30 s"
+                break
+            _, seconds, peak, answer = done
+            is_yes = answer.startswith(f'{{"calls":{count + len(drawn.get("opened", ()))},'.encode())
+            told += f" {count / seconds:>9,.0f} calls/s {peak:6.1f} MiB" + " undecided" * (not is_yes)
+        print(f"{told}, wanted {wanted:,}", flush=True)
 
 
 def generated(processes, calls, seed, most):

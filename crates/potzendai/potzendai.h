@@ -7,12 +7,13 @@
  *     uint32_t verdict = potzendai_judge(text, strlen(text), POTZENDAI_BUDGET, report, sizeof report, &length);
  *     assert(verdict == POTZENDAI_YES);
  *
- * A call reads the history text of docs/FORMATS.md, or potzendai_follow a stream of any length, in `text_length` bytes, which end as
- * they will, and searches at most `budget` configurations of each segment, or group. It writes what the program writes, a line with
- * its line feed, or the two that a terminal shows of a refused text, into the room, and a zero byte behind it; where the room is too
- * small, as much of it as leaves place for the zero byte. `*length` is how many bytes it has without the zero byte, so that all of it
- * is there where `*length < room_length`, and else a call with room for `*length + 1` bytes gives all of it. The call answers the
- * status. A follower takes the lines of a stream as they come.
+ * A call reads the history text of docs/FORMATS.md, or potzendai_follow a stream of any length, in `text_length` bytes, which end
+ * as they will, and searches at most `budget` configurations of each segment, or positions of a key from each value that it may
+ * have had. It writes what the program writes, a line with its line feed, or the two that a terminal shows of a refused text,
+ * into the room, and a zero byte behind it; where the room is too small, as much of it as leaves place for the zero byte.
+ * `*length` is how many bytes it has without the zero byte, so that all of it is there where `*length < room_length`, and else a
+ * call with room for `*length + 1` bytes gives all of it. The call answers the status. A follower takes the lines of a stream as
+ * they come.
  *
  * No pointer may be null, also for no bytes, and the text, the room and `*length` lie apart. The room's bytes were set before,
  * by `= ""`, calloc or a call. A call keeps nothing but what a follower holds, starts no thread, takes no lock, and does not end the
@@ -42,7 +43,7 @@ enum {
 /* The budget of `bench judge` where none is given. */
 #define POTZENDAI_BUDGET 100000u
 
-/* Room that is enough for whatever judge and locate write. A picture is longer, and what shows a no of explain or follow may be. */
+/* Room that is enough for whatever judge and locate write. A picture is longer, and what explain and follow write may be. */
 #define POTZENDAI_REPORT 32768
 
 uint32_t potzendai_judge(const char *text, size_t text_length, uint32_t budget, char *room, size_t room_length, size_t *length);

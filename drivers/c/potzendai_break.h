@@ -48,12 +48,13 @@ static inline void *potzendai_wrong_open(void *map, unsigned thread)
     struct potzendai_broken *broken = (struct potzendai_broken *)map;
     struct potzendai_wrong *w = (struct potzendai_wrong *)calloc(1, sizeof *w);
     struct potzendai_once *once = (struct potzendai_once *)calloc((size_t)broken->keys, sizeof *once);
-    void *session = broken->truly->open ? broken->truly->open(broken->truly->map, thread) : broken->truly->map;
-    if (!w || !once || (broken->truly->open && !session)) {
-        if (session && broken->truly->close)
-            broken->truly->close(session);
+    bool has_room = w && once;
+    void *session = has_room && broken->truly->open ? broken->truly->open(broken->truly->map, thread) : broken->truly->map;
+    if (!has_room || (broken->truly->open && !session)) {
+        int why = has_room ? errno : ENOMEM;
         free(w);
         free(once);
+        errno = why;
         return NULL;
     }
     w->broken = broken;

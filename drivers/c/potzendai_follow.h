@@ -4,8 +4,8 @@
 
 #include "potzendai_rounds.h"
 
-/* Slots of the stream, and processes for threads that go on as others. */
-enum { POTZENDAI_SLOTS = 8192, POTZENDAI_OTHERS = 4096 };
+/* Slots of the stream, processes for threads that go on as others, and characters of the report of one without order. */
+enum { POTZENDAI_SLOTS = 8192, POTZENDAI_OTHERS = 4096, POTZENDAI_SHOWN = 1000 };
 
 /* A stream, who takes its lines, and how far it is. */
 struct potzendai_following {
@@ -33,15 +33,6 @@ static inline void potzendai_count_calls(struct potzendai_following *f)
 }
 
 #ifndef POTZENDAI_NO_LIBRARY
-
-/* Whether the library follows streams whose answers tell less than the value: it refuses their first line where it does not. */
-static inline bool potzendai_follows_less(void)
-{
-    static const char line[] = "{\"start\":[],\"version\":3}\n";
-    char report[256] = "";
-    size_t length;
-    return potzendai_follow(line, sizeof line - 1, POTZENDAI_BUDGET, report, sizeof report, &length) == POTZENDAI_YES;
-}
 
 /* What the follower says so far has the overlap of all calls that it has. */
 static inline void potzendai_follow_progress(struct potzendai_following *f)
@@ -80,21 +71,24 @@ static inline enum potzendai_status potzendai_stream_verdict(struct potzendai_fo
     return status;
 }
 
-/* A stream without order: its group is a history, if it fits one, which is explained. */
+/* A stream without order: the calls left at a key are a history, where that says it all, which is explained. Where scans overlap much, not all
+ * keys of the report are shown. */
 static inline void potzendai_tell_stream(struct potzendai_following *f)
 {
     const char *few = potzendai_next_line(f->told.report);
-    struct potzendai_told group;
-    memset(&group, 0, sizeof group);
-    fprintf(stderr, "%.*s\n", (int)strcspn(f->told.report, "\n"), f->told.report);
+    struct potzendai_told small;
+    memset(&small, 0, sizeof small);
+    size_t length = strcspn(f->told.report, "\n");
+    bool is_long = length > (size_t)POTZENDAI_SHOWN;
+    fprintf(stderr, "%.*s%s\n", (int)(is_long ? (size_t)POTZENDAI_SHOWN : length), f->told.report, is_long ? ".." : "");
     if (few) {
-        group.length = strlen(few);
-        group.text = (char *)calloc(1, group.length + 1);
-        if (group.text)
-            memcpy(group.text, few, group.length);
-        if (group.text && potzendai_explained(&group) == POTZENDAI_IS_NO)
-            potzendai_tell_no(f->tester, &group);
-        potzendai_forget(&group);
+        small.length = strlen(few);
+        small.text = (char *)calloc(1, small.length + 1);
+        if (small.text)
+            memcpy(small.text, few, small.length);
+        if (small.text && potzendai_explained(&small) == POTZENDAI_IS_NO)
+            potzendai_tell_no(f->tester, &small);
+        potzendai_forget(&small);
     }
     fputs("  again: ", stderr);
     potzendai_write_words(stderr, f->tester->options, f->tester->program, 0);
@@ -110,6 +104,8 @@ static inline int potzendai_end_stream(struct potzendai_following *f)
         return -1;
     if (status == POTZENDAI_IS_YES && f->written)
         return potzendai_fail(run, POTZENDAI_BAD_FILE, "the stream was cut off");
+    if (status == POTZENDAI_IS_YES && atomic_load(&run->next_process) > atomic_load(&run->processes))
+        return potzendai_fail(run, POTZENDAI_IS_UNDECIDED, "calls without an answer leave no room for others");
     if (status == POTZENDAI_NO_MEMORY)
         return potzendai_fail(run, POTZENDAI_NO_MEMORY, "memory: the stream was not followed to its end");
     if (status > POTZENDAI_NO_MEMORY || status == POTZENDAI_IS_REFUSED)
@@ -162,13 +158,11 @@ static inline void potzendai_wait(struct potzendai_following *f)
         nanosleep(&some_time, NULL);
 }
 
-/* Where nobody follows, the stream goes to standard output or to a file, and may tell less than the value where that is asked for. */
+/* Where nobody follows, the stream goes to standard output or to a file. */
 static inline int potzendai_open_unjudged(struct potzendai_following *f)
 {
     const struct potzendai_options *o = f->tester->options;
     char path[POTZENDAI_PATH];
-    if (o->has_void && o->void_puts == POTZENDAI_VOID_DONE)
-        streaming_tell_less(&f->stream);
     if (strcmp(o->out, "-") == 0)
         return 0;
     f->file = potzendai_path(f->tester, path, ".jsonl") ? NULL : fopen(path, "w");
@@ -204,14 +198,9 @@ static inline int potzendai_open_stream(struct potzendai_following *f)
     if (streaming_open(&f->stream, (unsigned)processes, POTZENDAI_SLOTS, pairs, 1)
         || streaming_start(&f->stream, f->tester->start, f->tester->pairs_at_start))
         return potzendai_fail(run, POTZENDAI_NO_MEMORY, "memory: a stream has no room");
+    streaming_tell_less(&f->stream);
     run->stream = &f->stream;
-    if (potzendai_is_unjudged(run->options))
-        return potzendai_open_unjudged(f);
-#ifndef POTZENDAI_NO_LIBRARY
-    if (potzendai_follows_less())
-        streaming_tell_less(&f->stream);
-#endif
-    return 0;
+    return potzendai_is_unjudged(run->options) ? potzendai_open_unjudged(f) : 0;
 }
 
 /* Lets the threads run and waits for all of them. */

@@ -61,6 +61,9 @@ static inline int potzendai_finish(const struct potzendai_tester *tester, int st
         potzendai_tell_all(stderr, tester, "not judged");
         return status;
     }
+    if (status == POTZENDAI_IS_YES && tester->options->broken != POTZENDAI_UNBROKEN)
+        fprintf(stderr, "--break %s: the map was wrong now and then, and these calls did not show it\n",
+                potzendai_breaks[tester->options->broken]);
     potzendai_tell_all(stdout, tester, potzendai_verdicts[status]);
     if (fflush(stdout) == 0)
         return status;
@@ -103,9 +106,9 @@ static inline int potzendai_open_tester(struct potzendai_tester *tester, const s
 static inline int potzendai_run_all(struct potzendai_tester *tester, const struct potzendai_map *map)
 {
     struct potzendai_run *run = tester->run;
-    tester->session = map->open ? map->open(map->map, (unsigned)run->threads) : map->map;
+    tester->session = potzendai_open_session(run, map, (unsigned)run->threads);
     if (map->open && !tester->session)
-        return potzendai_fail(run, POTZENDAI_BAD_WORDS, "open: no session for thread %" PRIu64, run->threads);
+        return -1;
     int status = tester->options->is_stream ? potzendai_stream(tester) : potzendai_rounds(tester);
     if (map->close)
         map->close(tester->session);
@@ -121,7 +124,7 @@ static inline int potzendai_test_main(int argc, char **argv, const struct potzen
     struct potzendai_tester tester;
     int status = potzendai_read_words(&options, argc, argv, map);
     if (status)
-        return status < 0 ? 0 : status;
+        return status;
     memset(&tester, 0, sizeof tester);
     memset(&broken, 0, sizeof broken);
     if (potzendai_open_tester(&tester, &options)) {

@@ -70,6 +70,20 @@ static inline int potzendai_fail(struct potzendai_run *run, enum potzendai_statu
     return -1;
 }
 
+/* The session of a thread: none, and the run ends, where it cannot be opened. */
+static inline void *potzendai_open_session(struct potzendai_run *run, const struct potzendai_map *map, unsigned thread)
+{
+    if (!map->open)
+        return map->map;
+    errno = 0;
+    void *session = map->open(map->map, thread);
+    if (!session && errno == ENOMEM)
+        potzendai_fail(run, POTZENDAI_NO_MEMORY, "memory: no session for thread %u", thread);
+    else if (!session)
+        potzendai_fail(run, POTZENDAI_BAD_WORDS, "open: no session for thread %u", thread);
+    return session;
+}
+
 static inline int potzendai_note_hold(struct potzendai_run *run, unsigned p)
 {
     return run->stream ? streaming_hold(run->stream, p) : recording_hold(run->recording, p);
@@ -120,9 +134,6 @@ static inline const struct potzendai_row *potzendai_row_of(struct potzendai_run 
         potzendai_fail(run, POTZENDAI_BAD_WORDS, "%s said %s, which does not fit it", name, said);
     else if (request->function == POTZENDAI_SCAN && answer->said == MAP_TOLD && answer->count > answer->room)
         potzendai_fail(run, POTZENDAI_BAD_WORDS, "scan said %zu pairs, and there was room for %zu", answer->count, answer->room);
-    else if (tells_less && run->stream && run->stream->version < 3)
-        potzendai_fail(run, POTZENDAI_BAD_WORDS, "%s said %s, and a stream whose answers tell less than the value is not followed as yet",
-                       name, said);
     else if (tells_less && is_write && run->options->void_puts == POTZENDAI_VOID_TOLD)
         potzendai_fail(run, POTZENDAI_BAD_WORDS, "%s said %s, and --void told wants the value before", name, said);
     else
@@ -363,9 +374,7 @@ static inline void *potzendai_thread_body(void *own)
     t->state = potzendai_mix(&seed) ^ potzendai_mix(&round) ^ potzendai_mix(&number);
     potzendai_yield_state = t->state + 1;
     potzendai_yields = (unsigned)run->options->yields;
-    t->session = run->map->open ? run->map->open(run->map->map, t->number) : run->map->map;
-    if (!t->session && run->map->open)
-        potzendai_fail(run, POTZENDAI_BAD_WORDS, "open: no session for thread %u", t->number);
+    t->session = potzendai_open_session(run, run->map, t->number);
     atomic_fetch_add(&run->arrived, (uint64_t)1);
     while (!atomic_load(&run->has_begun))
         sched_yield();

@@ -34,7 +34,7 @@ struct potzendai_options {
 };
 
 /* Of a range of a scan, the most keys. Where no number is given: the calls of a thread in a round, and the keys. Of a stream they are
- * more, since its follower keeps a call until all have ended that overlap it on its keys, directly or through others. */
+ * more, since its follower searches what is left of a key, and that is the less the fewer calls overlap there. */
 enum { POTZENDAI_SPAN = 16, POTZENDAI_CALLS = 200, POTZENDAI_KEYS = 16, POTZENDAI_STREAM_KEYS = 1000 };
 
 static const char potzendai_usage[] =
@@ -52,8 +52,7 @@ static const char potzendai_usage[] =
     "  --yield N         of a thousand points between and in calls, so many give way to other threads (0)\n"
     "  --break HOW       makes the map wrong now and then: drop, race, replay, stale, zombie, torn or cas\n"
     "  --stream          one stream that is followed, in the place of rounds\n"
-    "  --out FOLDER      where files are put (.), or - for standard output: all histories or the stream, which nobody judges then;\n"
-    "                    a stream with answers that tell less than the value is written where --void done asks for it\n";
+    "  --out FOLDER      where files are put (.), or - for standard output: all histories or the stream, which nobody judges then\n";
 
 static inline int potzendai_complain(const char *word, const char *what)
 {
@@ -229,7 +228,7 @@ static inline int potzendai_check_sizes(struct potzendai_options *o)
     if (o->void_puts == POTZENDAI_VOID_OWN && o->keys < o->threads)
         return potzendai_complain("--void", "own: each thread needs a key");
     if (o->is_stream)
-        return 0;
+        return o->rounds > 0 ? potzendai_complain("--rounds", "a stream has none; --seconds, or --calls of each thread") : 0;
     if (o->calls == 0)
         o->calls = potzendai_calls_where_none(o);
     if (o->threads >= RECORDING_PROCESSES || o->calls > RECORDING_CALLS || (o->threads + 1) * potzendai_calls_each(o) > RECORDING_CALLS)
@@ -238,7 +237,7 @@ static inline int potzendai_check_sizes(struct potzendai_options *o)
     return 0;
 }
 
-/* Reads all words. 0, or the status of what is wrong with them; -1 where they ask for help, which is printed. */
+/* Reads all words. 0, or the status of what is wrong with them, or of help, which is printed. */
 static inline int potzendai_read_words(struct potzendai_options *o, int argc, char **argv, const struct potzendai_map *map)
 {
     struct timespec now;
@@ -250,8 +249,8 @@ static inline int potzendai_read_words(struct potzendai_options *o, int argc, ch
     o->out = ".";
     for (int at = 1; at < argc; at++) {
         if (strcmp(argv[at], "--help") == 0) {
-            printf("usage: %s [WORDS]\n%s", argv[0], potzendai_usage);
-            return -1;
+            fprintf(stderr, "usage: %s [WORDS]\n%s", argv[0], potzendai_usage);
+            return POTZENDAI_BAD_WORDS;
         }
         int status = potzendai_read_word(o, argv, &at);
         if (status)
@@ -261,8 +260,8 @@ static inline int potzendai_read_words(struct potzendai_options *o, int argc, ch
         o->keys = o->is_stream ? POTZENDAI_STREAM_KEYS : POTZENDAI_KEYS;
     if (o->seconds == 0)
         o->seconds = o->rounds > 0 ? 1000000000 : 10;
-    if (!map->get || !map->put)
-        return potzendai_complain(map->name, "a map needs the functions get and put");
+    if (!map->get || (!map->put && !map->put_if_absent))
+        return potzendai_complain(map->name, "a map needs the functions get, and put or put_if_absent");
     if (!o->has_mix)
         potzendai_take_shares(o, map);
     int status = potzendai_check_shares(o, map);
@@ -285,7 +284,9 @@ static inline void potzendai_write_words(FILE *out, const struct potzendai_optio
             fprintf(out, "%s%s=%" PRIu64, comma, potzendai_functions[f], o->shares[f]);
             comma = ",";
         }
-    fprintf(out, " --void %s --scan %s", potzendai_voids[o->void_puts], potzendai_scans[o->is_steps]);
+    if (o->has_void || !o->is_stream)
+        fprintf(out, " --void %s", potzendai_voids[o->void_puts]);
+    fprintf(out, " --scan %s", potzendai_scans[o->is_steps]);
     if (o->yields)
         fprintf(out, " --yield %" PRIu64, o->yields);
     if (o->broken != POTZENDAI_UNBROKEN)

@@ -28,6 +28,7 @@
 #define POTZENDAI_TEST_HPP
 
 #include "../c/potzendai_test.h"
+#include <new>
 #include <utility>
 #include <vector>
 
@@ -101,6 +102,9 @@ template <class Map> void *open_session(void *map, unsigned thread)
 {
     try {
         return new typename Map::session(*static_cast<Map *>(map), thread);
+    } catch (const std::bad_alloc &) {
+        errno = ENOMEM;
+        return nullptr;
     } catch (...) {
         return nullptr;
     }

@@ -1,6 +1,6 @@
 // Tests an ordered map of one's own: threads (goroutines) call its methods, what they do is recorded, and the program bench judges each
-// recording. Copy this file: Go 1.19 and the program are all that it needs. In a package of its own its first line is `package potzendai`,
-// and a whole program is
+// recording, or follows one stream of it. Copy this file: Go 1.19 and the program are all that it needs. In a package of its own its first
+// line is `package potzendai`, and a whole program is
 //
 //	func main() { os.Exit(potzendai.Run("mine", func() potzendai.Map { return newMap() }, os.Args[1:]...)) }
 //
@@ -12,9 +12,11 @@ import (
 	"encoding/json"
 	"errors"
 	"fmt"
+	"io"
 	"math"
 	"os"
 	"os/exec"
+	"os/signal"
 	"path/filepath"
 	"runtime"
 	"sort"
@@ -22,6 +24,7 @@ import (
 	"strings"
 	"sync"
 	"sync/atomic"
+	"syscall"
 	"time"
 )
 
@@ -88,6 +91,10 @@ func (s Said) tells() bool { return s.word == "told" || s.word == "none" }
 const (
 	yes, no, undecided, badWords, badFile = 0, 1, 2, 5, 6
 	processes, mostCalls, span, seldom    = 64, 4096, 16, 20
+	// Limits of a stream and of its keys; how many stamps a thread may be in front of what is handed over; how many bytes are at once.
+	streamProcesses, streamKeys, ahead, batch = 65536, 16384, 8192, 65536
+	running, over, failed                     = 0, 1, 2
+	reportShown                               = 1000 // bytes of the report of a stream without order
 )
 
 var (
@@ -192,6 +199,11 @@ func pairsText(pairs [][2]uint64) string {
 		texts[i] = fmt.Sprintf("[%d,%d]", pair[0], pair[1])
 	}
 	return "[" + strings.Join(texts, ",") + "]"
+}
+
+// Whether the answer tells which call of a history it was.
+func isHeld(kind string) bool {
+	return isOneOf(kind, "put_if_absent", "floor", "ceiling", "pop_first")
 }
 
 // The words that a function may answer beside what it tells.
@@ -487,6 +499,9 @@ type worker struct {
 	from    uint64 // each put has a value of its own, which was not in the map before
 	made    uint64
 	life    int
+	lives   int
+	stream  *stream
+	process int
 }
 
 func (w *worker) open(m Map) {
@@ -514,10 +529,18 @@ func (w *worker) run(t task) {
 			}
 		}
 	}
-	w.draws = newDraws(w.options.seed, t.round, w.number)
-	for w.made < w.options.calls && w.life < t.lives {
+	w.draws, w.lives = newDraws(w.options.seed, t.round, w.number), t.lives
+	for w.goesOn() {
 		w.draw()
 	}
+}
+
+// Whether it may make one call more.
+func (w *worker) goesOn() bool {
+	if w.stream != nil && (w.stream.state.Load() != running || w.process >= streamProcesses) {
+		return false
+	}
+	return w.life < w.lives && (w.made < w.options.calls || w.options.calls == 0)
 }
 
 func (w *worker) draw() {
@@ -573,7 +596,7 @@ func (w *worker) drawKey(isWrite bool) uint64 {
 }
 
 func (w *worker) steps(low, high uint64) {
-	for low <= high && w.made < w.options.calls {
+	for low <= high && w.goesOn() {
 		said := w.make("ceiling", low)
 		if said.word != "told" || said.key < low || said.key == math.MaxUint64 {
 			break
@@ -594,6 +617,9 @@ func (w *worker) write(kind string, words ...uint64) {
 func (w *worker) make(kind string, words ...uint64) Said {
 	isVoid, got := kind == "put" || kind == "del", Done
 	begin := w.stamps.Add(1)
+	if w.stream != nil && !isHeld(kind) {
+		w.stream.put(begin, happening{call: &call{histories[kind], words}, process: w.process})
+	}
 	if w.locks != nil && isVoid {
 		got = w.has.ask("get", words[0])
 	}
@@ -619,7 +645,11 @@ func (w *worker) make(kind string, words ...uint64) Said {
 	} else if said.word == "told" && isOneOf(kind, "get", "del", "replace", "put_if_absent") {
 		w.seen[words[0]] = said.value
 	}
-	w.note(begin, end, kind, words, known)
+	if w.stream != nil {
+		w.handOver(begin, end, kind, words, said, known)
+	} else {
+		w.note(begin, end, kind, words, known)
+	}
 	return said
 }
 
@@ -661,6 +691,190 @@ func (w *worker) note(begin, end uint64, kind string, words []uint64, said Said)
 	} else {
 		w.log = append(w.log, event{stamp: end, thread: int(w.number), life: w.life, answer: answer})
 	}
+}
+
+// The events of a call that is over, for the stream. One that tells nothing is left out; or refused, where it stands there already. One whose
+// answer is unknown stays open, and its thread goes on as another process.
+func (w *worker) handOver(begin, end uint64, kind string, words []uint64, said, known Said) {
+	call, answer := noted(kind, words, known)
+	if call == nil && !isHeld(kind) {
+		answer = `"refused"`
+	}
+	if isHeld(kind) {
+		w.stream.put(begin, happening{call: call, process: w.process})
+	}
+	w.stream.put(end, happening{process: w.process, answer: answer, said: said.word})
+	if call != nil && answer == "" {
+		w.process = w.stream.nextProcess()
+	}
+}
+
+// What stands at a stamp of a stream: a call, an answer, or nothing; and what the map said, where that ends a call.
+type happening struct {
+	call         *call
+	process      int
+	answer, said string
+}
+
+// A stream of events, which a goroutine of its own hands on while others record. Stamps are numbers without a gap, and each has its slot;
+// who is too far in front of what is handed over waits, so that memory does not grow. Nobody waits between its two stamps but for those of
+// lower ones, so the event of the least stamp always comes.
+type stream struct {
+	run           *run
+	stamps        *atomic.Uint64
+	slots         [ahead]atomic.Pointer[happening]
+	taken, others atomic.Uint64
+	state         atomic.Int32
+	isEnded       atomic.Bool
+	done          chan bool
+	open          map[int]*call
+	writers       map[uint64]int
+	text          []byte
+	out           io.Writer
+	asked         *exec.Cmd
+	answer        bytes.Buffer
+	wrong         interface{}
+	status        int
+}
+
+func (s *stream) nextProcess() int { return int(s.run.options.threads + s.others.Add(1) - 1) }
+
+func (s *stream) put(stamp uint64, what happening) {
+	for times := 1; stamp >= s.taken.Load()+ahead && s.state.Load() != failed; times++ {
+		rest(times)
+	}
+	s.slots[stamp%ahead].Store(&what)
+}
+
+// Lets others go on: most times at once, sometimes for some time.
+func rest(times int) {
+	if times%64 != 0 {
+		runtime.Gosched()
+	} else {
+		time.Sleep(100 * time.Microsecond)
+	}
+}
+
+func newStream(r *run, stamps *atomic.Uint64, start map[uint64]uint64) *stream {
+	s := &stream{run: r, stamps: stamps, done: make(chan bool), open: map[int]*call{}, writers: map[uint64]int{}}
+	s.taken.Store(stamps.Load() + 1)
+	s.text = []byte(fmt.Sprintf("{\"start\":%s,\"version\":3}\n", pairsText(sorted(start))))
+	go s.write()
+	return s
+}
+
+// Hands over each event in its turn, and asks for the verdict at the end.
+func (s *stream) write() {
+	defer close(s.done)
+	defer func() {
+		if s.wrong = recover(); s.wrong != nil {
+			s.state.Store(failed)
+		}
+	}()
+	ended := make(chan bool)
+	s.out = os.Stdout
+	if s.run.program != nil {
+		s.ask(ended)
+	} else {
+		close(ended)
+	}
+	if s.handAll() != nil {
+		s.state.Store(failed) // whoever follows has ended: the verdict says why
+	}
+	if s.asked == nil {
+		return
+	}
+	if to, is := s.out.(io.Closer); is {
+		to.Close()
+	}
+	<-ended
+	s.status = s.run.program.checked("follow", s.asked.Wait(), s.asked, s.answer.String())
+}
+
+// Starts the program. It writes once it has a verdict, and may do so while the stream goes on: then the run is over.
+func (s *stream) ask(ended chan bool) {
+	p := s.run.program
+	s.asked = exec.Command(p.path, "follow", "--budget", strconv.FormatUint(p.budget, 10))
+	s.asked.Stderr = os.Stderr
+	to, err := s.asked.StdinPipe()
+	from, errFrom := s.asked.StdoutPipe()
+	if err == nil {
+		err = errFrom
+	}
+	if err == nil {
+		err = s.asked.Start()
+	}
+	if err != nil {
+		fail(badFile, "%s: %s", p.path, err)
+	}
+	s.out = to
+	go func() {
+		_, _ = s.answer.ReadFrom(from)
+		s.state.CompareAndSwap(running, over)
+		close(ended)
+	}()
+}
+
+func (s *stream) handAll() error {
+	for times := 1; ; times++ {
+		isEnded, next := s.isEnded.Load(), s.taken.Load()
+		if what := s.slots[next%ahead].Load(); what != nil {
+			s.slots[next%ahead].Store(nil)
+			s.taken.Store(next + 1)
+			s.take(what)
+			times = 0
+		} else if isEnded && next != s.stamps.Load()+1 {
+			return io.ErrUnexpectedEOF
+		}
+		if len(s.text) >= batch || times > 0 {
+			if _, err := s.out.Write(s.text); err != nil {
+				return err
+			}
+			s.text = s.text[:0]
+			s.run.progress()
+		}
+		if times > 0 && isEnded {
+			return nil
+		} else if times > 0 {
+			rest(times)
+		}
+	}
+}
+
+// The line of an event, and what is counted: as of a round, but that nothing is kept of calls that are over.
+func (s *stream) take(what *happening) {
+	if what.call != nil {
+		s.run.calls++
+		s.run.overlap += uint64(len(s.open))
+		s.open[what.process] = what.call
+		if key := what.call.words[0]; what.call.writes() {
+			if s.writers[key] > 0 {
+				s.run.met[key] = true
+			}
+			s.writers[key]++
+		}
+		s.text = append(append(append(s.text, `{"invoke":`...), what.call.text()...), `,"process":`...)
+	} else if what.answer != "" {
+		if one := s.open[what.process]; one.writes() {
+			if s.writers[one.words[0]]--; s.writers[one.words[0]] == 0 {
+				delete(s.writers, one.words[0])
+			}
+		}
+		delete(s.open, what.process)
+		s.text = append(append(append(s.text, `{"answer":`...), what.answer...), `,"process":`...)
+	}
+	if what.call != nil || what.answer != "" {
+		s.text = append(strconv.AppendInt(s.text, int64(what.process), 10), "}\n"...)
+	}
+	if what.said != "" {
+		s.run.sayings[what.said]++
+	}
+}
+
+// No more is put.
+func (s *stream) end() {
+	s.isEnded.Store(true)
+	<-s.done
 }
 
 // A crew is the threads of a run, and a session of the driver's own. Behind a round, `contents` is what the map holds.
@@ -832,14 +1046,52 @@ func (r *round) tells(one *call) bool {
 	return false
 }
 
-func (r *round) text() string {
-	version, texts := 1, make([]string, len(r.events))
-	var pairs [][2]uint64
-	for key, value := range r.start {
+// The pairs by rising keys.
+func sorted(start map[uint64]uint64) (pairs [][2]uint64) {
+	for key, value := range start {
 		pairs = append(pairs, [2]uint64{key, value})
-		version = 2
 	}
 	sort.Slice(pairs, func(i, j int) bool { return pairs[i][0] < pairs[j][0] })
+	return pairs
+}
+
+// A history as a round, as far as what is said of it needs that.
+func roundOf(text string) *round {
+	var whole struct {
+		Events []struct {
+			Invoke  []interface{}
+			Process int
+		}
+		Start [][2]uint64
+	}
+	decoder := json.NewDecoder(strings.NewReader(text))
+	decoder.UseNumber()
+	if err := decoder.Decode(&whole); err != nil {
+		fail(badFile, "follow: %s", err)
+	}
+	r := &round{start: map[uint64]uint64{}}
+	for _, one := range whole.Events {
+		read := event{process: one.Process}
+		if len(one.Invoke) > 0 {
+			read.call = &call{name: fmt.Sprint(one.Invoke[0])}
+			for _, each := range one.Invoke[1:] {
+				word, _ := strconv.ParseUint(fmt.Sprint(each), 10, 64)
+				read.call.words = append(read.call.words, word)
+			}
+		}
+		r.events = append(r.events, read)
+	}
+	for _, pair := range whole.Start {
+		r.start[pair[0]] = pair[1]
+	}
+	return r
+}
+
+func (r *round) text() string {
+	version, texts := 1, make([]string, len(r.events))
+	if len(r.start) > 0 {
+		version = 2
+	}
 	for i, one := range r.events {
 		if one.call != nil {
 			texts[i] = fmt.Sprintf(`{"invoke":%s,"process":%d}`, one.call.text(), one.process)
@@ -854,7 +1106,7 @@ func (r *round) text() string {
 	}
 	begin := `{"events":[` + strings.Join(texts, ",") + `]`
 	if version > 1 {
-		begin += `,"start":` + pairsText(pairs)
+		begin += `,"start":` + pairsText(sorted(r.start))
 	}
 	return fmt.Sprintf("%s,\"version\":%d}\n", begin, version)
 }
@@ -886,18 +1138,27 @@ func newProgram(o *options) *program {
 
 // The verdict: once more at ten times the budget where it is undecided.
 func (p *program) judge(text string) int {
-	status, _ := p.ask("judge", text, p.budget)
-	if more := p.budget * 10; status == undecided && more <= 1000000 {
-		status, _ = p.ask("judge", text, more)
-	}
+	status, _ := p.askTwice("judge", text)
 	return status
+}
+
+func (p *program) askTwice(command, text string) (int, string) {
+	status, report := p.ask(command, text, p.budget)
+	if more := p.budget * 10; status == undecided && more <= 1000000 {
+		return p.ask(command, text, more)
+	}
+	return status, report
 }
 
 func (p *program) ask(command, text string, budget uint64) (int, string) {
 	asked := exec.Command(p.path, command, "--budget", strconv.FormatUint(budget, 10))
 	var out bytes.Buffer
 	asked.Stdin, asked.Stdout, asked.Stderr = strings.NewReader(text), &out, os.Stderr
-	err := asked.Run()
+	return p.checked(command, asked.Run(), asked, out.String()), out.String()
+}
+
+// The status, where the program has ended with a report.
+func (p *program) checked(command string, err error, asked *exec.Cmd, answer string) int {
 	var ended *exec.ExitError
 	if err != nil && !errors.As(err, &ended) {
 		fail(badFile, "%s: %s", p.path, err)
@@ -909,11 +1170,11 @@ func (p *program) ask(command, text string, budget uint64) (int, string) {
 	if status > undecided {
 		fail(status, "%s %s: status %d", p.path, command, status)
 	}
-	report, _, _ := strings.Cut(out.String(), "\n")
+	report, _, _ := strings.Cut(answer, "\n")
 	if command != "draw" && !strings.HasSuffix(report, `"verdict":"`+verdicts[status]+`"}`) {
 		fail(badFile, "%s %s: status %d without its verdict", p.path, command, status)
 	}
-	return status, out.String()
+	return status
 }
 
 // A run
@@ -930,15 +1191,20 @@ type run struct {
 	rounds, calls, overlap, undecideds uint64
 	failed                             *round
 	cut                                []string
+	report                             string
 }
 
-// Rounds from this number on, until one has no order, or the time is over.
+// Rounds from this number on, until one has no order, or the time is over; or one stream.
 func newRun(o *options, make func() Map, p *program, number uint64) *run {
-	r := &run{options: o, make: make, program: p, met: map[uint64]bool{}, began: time.Now()}
+	r := &run{options: o, make: make, program: p, met: map[uint64]bool{}, began: time.Now(), sayings: map[string]uint64{}}
 	atomic.StoreUint64(&yields, o.yields)
 	c := newCrew(o, make())
 	defer c.closeAll()
 	c.rest()
+	if o.isStream {
+		r.follow(c)
+		return r
+	}
 	var pending []*call
 	for r.failed == nil && !r.isOver() {
 		lives := (processes - 1 - len(pending)) / int(o.threads)
@@ -956,6 +1222,50 @@ func newRun(o *options, make func() Map, p *program, number uint64) *run {
 		pending = one.pending
 	}
 	return r
+}
+
+// One stream, until it has no order, or the time is over.
+func (r *run) follow(c *crew) {
+	s := newStream(r, &c.stamps, c.contents)
+	timer := time.AfterFunc(time.Duration(r.options.seconds)*time.Second, func() { s.state.CompareAndSwap(running, over) })
+	defer timer.Stop()
+	func() {
+		defer s.end()
+		c.each(func(w *worker) {
+			defer func() {
+				if wrong := recover(); wrong != nil {
+					s.state.Store(failed)
+					panic(wrong)
+				}
+			}()
+			w.stream, w.process = s, int(w.number)
+			w.run(task{0, streamProcesses, c.contents, nil})
+		})
+	}()
+	if s.wrong != nil {
+		panic(s.wrong)
+	}
+	r.conclude(s)
+}
+
+// What the verdict on a stream says. One that was cut off has no yes.
+func (r *run) conclude(s *stream) {
+	r.report = s.answer.String()
+	isCut := s.state.Load() == failed
+	if s.status == yes && r.program != nil {
+		isCut = isCut || !strings.HasPrefix(r.report, fmt.Sprintf(`{"calls":%d,`, r.calls))
+	}
+	switch {
+	case s.status == yes && isCut:
+		fail(badFile, "%s: the stream was cut off", r.options.name)
+	case s.status == no:
+		r.failed = &round{}
+	case s.status == undecided:
+		r.undecideds++
+	}
+	if s.nextProcess() >= streamProcesses {
+		r.cut = append(r.cut, fmt.Sprintf("%s: calls without an answer leave no room for others", r.options.name))
+	}
 }
 
 func (r *run) take(one *round, workers []*worker) {
@@ -985,8 +1295,15 @@ func (r *run) take(one *round, workers []*worker) {
 	}
 }
 
-// At least one round is made. Each second a line on a terminal says how far this is.
+// At least one round is made.
 func (r *run) isOver() bool {
+	r.progress()
+	o := r.options
+	return r.rounds > 0 && (o.rounds > 0 && r.rounds >= o.rounds || time.Since(r.began).Seconds() >= float64(o.seconds))
+}
+
+// Each second a line on a terminal says how far this is.
+func (r *run) progress() {
 	o, seconds := r.options, time.Since(r.began).Seconds()
 	if o.shows && time.Since(o.shown) > time.Second && r.calls > 0 {
 		all := uint64(0)
@@ -998,7 +1315,6 @@ func (r *run) isOver() bool {
 			float64(r.calls)/seconds, float64(r.overlap)/float64(r.calls), 100*float64(r.sayings["refused"])/math.Max(float64(all), 1),
 			len(r.met), o.keys)
 	}
-	return r.rounds > 0 && (o.rounds > 0 && r.rounds >= o.rounds || seconds >= float64(o.seconds))
 }
 
 // The verdict, and what it rests on.
@@ -1009,12 +1325,15 @@ func (r *run) summary(verdict string) string {
 			said = append(said, fmt.Sprintf("%d %s", r.sayings[word], word))
 		}
 	}
-	undecideds := ""
+	undecideds, rounds := "", fmt.Sprintf("%d rounds, ", r.rounds)
+	if r.options.isStream {
+		rounds = ""
+	}
 	if r.undecideds > 0 {
 		undecideds = fmt.Sprintf("; %d undecided", r.undecideds)
 	}
-	return fmt.Sprintf("%s: %d rounds, %d calls in %.1f seconds, overlap %.2f a call: %s%s", verdict, r.rounds,
-		r.calls, time.Since(r.began).Seconds(), float64(r.overlap)/math.Max(float64(r.calls), 1), strings.Join(said, ", "), undecideds)
+	return fmt.Sprintf("%s: %s%d calls in %.1f seconds, overlap %.2f a call: %s%s", verdict, rounds, r.calls,
+		time.Since(r.began).Seconds(), float64(r.overlap)/math.Max(float64(r.calls), 1), strings.Join(said, ", "), undecideds)
 }
 
 // The smallest run that failed, of some tries with half of the calls or keys, or a thread less. Threads interleave as they will. Where calls
@@ -1138,15 +1457,49 @@ func saidReport(report string, r *round) (said []string, few string) {
 
 // Writes a file of a round, and says how it is called.
 func (r *run) keep(ending, text string) string {
-	path := filepath.Join(r.options.out, fmt.Sprintf("%s-%d-%d%s", r.options.name, r.options.seed, r.rounds-1, ending))
+	number := r.rounds
+	if number > 0 {
+		number--
+	}
+	path := filepath.Join(r.options.out, fmt.Sprintf("%s-%d-%d%s", r.options.name, r.options.seed, number, ending))
 	if err := os.WriteFile(path, []byte(text), 0o644); err != nil {
 		return "file: not written: " + path
 	}
 	return "  file: " + path
 }
 
+// A stream that has no order: the calls left at a key are a history, where that says it all, which is explained. Where scans overlap much, not all
+// keys of the report are shown.
+func (r *run) refutedStream() []string {
+	report, small, _ := strings.Cut(r.report, "\n")
+	if len(report) > reportShown {
+		report = report[:reportShown] + ".."
+	}
+	said := []string{report}
+	if small != "" {
+		if status, explained := r.program.askTwice("explain", small); status == no {
+			said = append(said, r.shown(small, explained, roundOf(small))...)
+		}
+	}
+	return append(said, "  again: "+r.options.again(0))
+}
+
+// What a report of explain says of a history, and the files that show it.
+func (r *run) shown(text, report string, one *round) []string {
+	lines, few := saidReport(report, one)
+	said, drawn := append(lines, r.keep(".json", text)), text
+	if few != "" {
+		said, drawn = append(said, r.keep("-few.json", few)), few
+	}
+	_, picture := r.program.ask("draw", drawn, r.options.budget)
+	return append(said, r.keep(".svg", picture))
+}
+
 // A round that has no order: what shows it, and how to repeat it.
 func (r *run) refuted() []string {
+	if r.options.isStream {
+		return r.refutedStream()
+	}
 	least := r.smaller()
 	said := []string{
 		fmt.Sprintf("round %d has no order", r.rounds-1),
@@ -1154,16 +1507,8 @@ func (r *run) refuted() []string {
 			least.options.calls),
 	}
 	text := least.failed.text()
-	_, report := r.program.ask("explain", text, r.options.budget)
-	lines, few := saidReport(report, least.failed)
-	said = append(append(said, lines...), r.keep(".json", text))
-	drawn := text
-	if few != "" {
-		said = append(said, r.keep("-few.json", few))
-		drawn = few
-	}
-	_, picture := r.program.ask("draw", drawn, r.options.budget)
-	return append(said, r.keep(".svg", picture), "  again: "+r.options.again(r.rounds))
+	_, report := r.program.askTwice("explain", text)
+	return append(append(said, r.shown(text, report, least.failed)...), "  again: "+r.options.again(r.rounds))
 }
 
 // Words
@@ -1171,9 +1516,9 @@ func (r *run) refuted() []string {
 const usage = `  --seconds N       how long (10, or as long as --rounds take)
   --rounds N        at most so many rounds
   --threads N       threads that call the map (4)
-  --keys N          keys, from 0 (16)
+  --keys N          keys, from 0 (16; of a stream 1000)
   --hot N           so many of the keys are those of nine calls in ten
-  --calls N         calls of a thread in a round (200)
+  --calls N         calls of a thread in a round, or in a stream (200; no end)
   --seed N          what the calls are drawn from (of the clock)
   --mix LIST        shares, as get=50,put=30,del=10,scan=10; also replace, put_if_absent, floor, ceiling, pop_first
   --void HOW        a put that tells nothing is recorded as done; has to be told; own: one writer a key remembers what it put;
@@ -1181,7 +1526,8 @@ const usage = `  --seconds N       how long (10, or as long as --rounds take)
   --scan HOW        snapshot: a scan is of one moment; steps: steps of ceiling (snapshot)
   --yield N         of a thousand points between and in calls, so many give way to other threads (0)
   --break HOW       makes the map wrong now and then: drop, race, replay, stale, zombie, torn or cas; all: in each of these ways
-  --out FOLDER      where files are put (.), or - for standard output: all histories, which nobody judges then
+  --stream          one stream that is followed while it is recorded, in the place of rounds
+  --out FOLDER      where files are put (.), or - for standard output: all histories or the stream, which nobody judges then
   --budget N        the judge's (100000)
   --bench PATH      the program (./bench, or on the PATH)`
 
@@ -1189,7 +1535,7 @@ type options struct {
 	name, void, scan, broken, out, bench                             string
 	seconds, rounds, threads, keys, hot, calls, seed, yields, budget uint64
 	shares                                                           map[string]uint64
-	shows                                                            bool
+	shows, isStream, hasVoid                                         bool
 	shown                                                            time.Time
 }
 
@@ -1230,18 +1576,28 @@ func (o *options) again(rounds uint64) string {
 	if o.hot > 0 {
 		text += fmt.Sprintf(" --hot %d", o.hot)
 	}
-	text += fmt.Sprintf(" --calls %d --mix %s --void %s --scan %s", o.calls, strings.Join(mix, ","), o.void, o.scan)
+	if o.calls > 0 {
+		text += fmt.Sprintf(" --calls %d", o.calls)
+	}
+	text += " --mix " + strings.Join(mix, ",")
+	if o.hasVoid || !o.isStream {
+		text += " --void " + o.void
+	}
+	text += " --scan " + o.scan
 	if o.yields > 0 {
 		text += fmt.Sprintf(" --yield %d", o.yields)
 	}
 	if o.broken != "" {
 		text += " --break " + o.broken
 	}
+	if o.isStream {
+		return text + fmt.Sprintf(" --stream --seconds %d", o.seconds)
+	}
 	return text + fmt.Sprintf(" --rounds %d", rounds)
 }
 
 func readWords(name string, words []string) *options {
-	o := &options{name: name, void: "done", scan: "snapshot", out: ".", threads: 4, keys: 16, budget: 100000, shown: time.Now(),
+	o := &options{name: name, void: "done", scan: "snapshot", out: ".", threads: 4, budget: 100000, shown: time.Now(),
 		seed: uint64(time.Now().UnixNano()) % 1000000007}
 	info, err := os.Stderr.Stat()
 	o.shows = err == nil && info.Mode()&os.ModeCharDevice != 0
@@ -1249,7 +1605,12 @@ func readWords(name string, words []string) *options {
 		fail(badWords, "usage: %s [WORDS]\n%s", name, usage)
 	}
 	for i := 0; i < len(words); i += 2 {
-		o.read(words[i], append(words, "")[i+1])
+		if words[i] == "--stream" {
+			o.isStream = true
+			i--
+		} else {
+			o.read(words[i], append(words, "")[i+1])
+		}
 	}
 	return o
 }
@@ -1260,8 +1621,8 @@ func (o *options) read(word, text string) {
 		least, most uint64
 		to          *uint64
 	}{
-		{"--seconds", 1, 1000000000, &o.seconds}, {"--rounds", 1, math.MaxUint64, &o.rounds}, {"--threads", 1, processes - 2, &o.threads},
-		{"--keys", 1, mostCalls, &o.keys}, {"--hot", 1, mostCalls, &o.hot}, {"--calls", 1, mostCalls, &o.calls},
+		{"--seconds", 1, 1000000000, &o.seconds}, {"--rounds", 1, math.MaxUint64, &o.rounds}, {"--threads", 1, 1024, &o.threads},
+		{"--keys", 1, streamKeys, &o.keys}, {"--hot", 1, streamKeys, &o.hot}, {"--calls", 1, math.MaxUint64, &o.calls},
 		{"--seed", 0, math.MaxUint64, &o.seed}, {"--yield", 0, 1000, &o.yields}, {"--budget", 1, 1000000, &o.budget},
 	} {
 		if one.name == word {
@@ -1283,10 +1644,9 @@ func (o *options) read(word, text string) {
 	switch {
 	case to != nil:
 		*to = text
+		o.hasVoid = o.hasVoid || word == "--void"
 	case word == "--mix":
 		o.shares = readMix(text)
-	case word == "--stream":
-		fail(badWords, "--stream: rounds alone here; the drivers in C and C++ have it")
 	default:
 		fail(badWords, "%s: no such word; --help has them", word)
 	}
@@ -1328,7 +1688,12 @@ func (o *options) fit(has functions) {
 			fail(badWords, "%s: %s", kind, why)
 		}
 	}
-	if o.calls == 0 {
+	if o.keys == 0 {
+		if o.keys = 16; o.isStream {
+			o.keys = 1000
+		}
+	}
+	if o.calls == 0 && !o.isStream {
 		if o.calls = mostCalls / (o.threads + 2); o.calls > 200 {
 			o.calls = 200
 		}
@@ -1349,8 +1714,11 @@ func (o *options) fit(has functions) {
 		fail(badWords, "--hot: more than there are keys")
 	case o.void == "own" && o.keys < o.threads:
 		fail(badWords, "--void: own: each thread needs a key")
-	case (o.threads+1)*o.calls > mostCalls || (o.threads+1)*o.keys > mostCalls:
-		fail(badWords, "--calls: a round has at most 4096 calls: those of each thread, or as many as there are keys, for the threads and one more")
+	case o.isStream && o.rounds > 0:
+		fail(badWords, "--rounds: a stream has none; --seconds, or --calls of each thread")
+	case !o.isStream && (o.threads > processes-2 || o.calls > mostCalls || (o.threads+1)*o.calls > mostCalls || (o.threads+1)*o.keys > mostCalls):
+		fail(badWords, "--calls: a round has at most 62 threads, and 4096 calls: those of each thread, or as many as there are keys, for the "+
+			"threads and one more; --stream has no such end")
 	}
 }
 
@@ -1372,6 +1740,8 @@ func tested(name string, make func() Map, words []string) (status int, said []st
 	var p *program
 	if o.out != "-" {
 		p = newProgram(o)
+	} else {
+		signal.Ignore(syscall.SIGPIPE) // a reader that has gone is told by a write that fails
 	}
 	if o.broken == "all" {
 		status, said, last = allBroken(o, make, p)
@@ -1386,6 +1756,9 @@ func tested(name string, make func() Map, words []string) (status int, said []st
 	}
 	if p == nil {
 		return status, append(r.cut, r.summary("not judged")), "", nil
+	}
+	if o.broken != "" && status == yes {
+		r.cut = append(r.cut, fmt.Sprintf("--break %s: the map was wrong now and then, and these calls did not show it", o.broken))
 	}
 	return status, r.cut, r.summary(verdicts[status]), nil
 }
@@ -1424,8 +1797,11 @@ func Run(name string, make func() Map, words ...string) int {
 	if last == "" {
 		return status
 	}
-	if _, err := fmt.Println(last); err != nil && status == yes {
-		return badFile
+	if _, err := fmt.Println(last); err != nil {
+		fmt.Fprintln(os.Stderr, "standard output: not written")
+		if status == yes {
+			return badFile
+		}
 	}
 	return status
 }

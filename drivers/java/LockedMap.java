@@ -14,7 +14,9 @@ public final class LockedMap implements Potzendai.Index {
     }
 
     @Override public synchronized Potzendai.Said replace(long key, long old, long value) {
-        return pairs.replace(key, old, value) ? Potzendai.Said.DONE : Potzendai.Said.OTHER;
+        Long before = pairs.get(key);
+        pairs.replace(key, old, value);
+        return Potzendai.Said.told(before);
     }
 
     public static void main(String[] words) {

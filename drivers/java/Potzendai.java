@@ -1,4 +1,5 @@
 import java.io.IOException;
+import java.io.OutputStream;
 import java.io.UncheckedIOException;
 import java.nio.charset.StandardCharsets;
 import java.nio.file.Files;
@@ -13,6 +14,8 @@ import java.util.LinkedHashMap;
 import java.util.List;
 import java.util.Map;
 import java.util.Set;
+import java.util.Timer;
+import java.util.TimerTask;
 import java.util.TreeMap;
 import java.util.concurrent.ConcurrentMap;
 import java.util.concurrent.ConcurrentNavigableMap;
@@ -24,6 +27,7 @@ import java.util.concurrent.Future;
 import java.util.concurrent.TimeoutException;
 import java.util.concurrent.atomic.AtomicInteger;
 import java.util.concurrent.atomic.AtomicLong;
+import java.util.concurrent.atomic.AtomicReferenceArray;
 import java.util.concurrent.locks.LockSupport;
 import java.util.concurrent.locks.ReentrantLock;
 import java.util.function.Supplier;
@@ -31,7 +35,7 @@ import java.util.stream.Collectors;
 
 /**
  * Tests an ordered map of one's own: threads call its functions, what they do is recorded, and the program {@code bench} judges each
- * recording. Copy this file: Java 17 and the program are all that it needs.
+ * recording, or follows one stream of it. Copy this file: Java 17 and the program are all that it needs.
  *
  * <pre>
  * public static void main(String[] words) {
@@ -133,6 +137,8 @@ public final class Potzendai {
         final long share;
         Kind(String name, long share, String call) { this.name = name; this.share = share; this.call = call; }
         boolean writes() { return this == PUT || this == DEL || this == REPLACE || this == PUT_IF_ABSENT || this == POP_FIRST; }
+        /** Whether the answer tells which call of a history it was. */
+        boolean isHeld() { return this == PUT_IF_ABSENT || this == FLOOR || this == CEILING || this == POP_FIRST; }
         static Kind named(String name) {
             return Arrays.stream(values()).filter(kind -> kind.name.equals(name)).findFirst().orElse(null);
         }
@@ -141,6 +147,11 @@ public final class Potzendai {
     private static final int YES = 0, NO = 1, UNDECIDED = 2, MEMORY = 4, WORDS = 5, FILE = 6;
     private static final List<String> VERDICTS = List.of("yes", "no", "undecided");
     private static final int PROCESSES = 64, CALLS = 4096, SPAN = 16, SELDOM = 20;
+    /** Limits of a stream and of its keys; how many stamps a thread may be in front of what is handed over; how many characters are at once. */
+    private static final int STREAM_PROCESSES = 65536, STREAM_KEYS = 16384, AHEAD = 8192, BATCH = 65536;
+    private static final int RUNNING = 0, OVER = 1, FAILED = 2;
+    private static final int REPORT_SHOWN = 1000;
+    private static final Set<String> LESS = Set.of("\"done\"", "\"found\"", "\"other\"");
     private static final Map<String, Kind> BREAKS = new LinkedHashMap<>();
     static {
         String[] names = {"drop", "race", "replay", "stale", "zombie", "torn", "cas"};
@@ -199,7 +210,10 @@ public final class Potzendai {
     /** A call of a history: its name and its words. */
     private record Call(String name, long... words) {
         String text() {
-            return Arrays.stream(words).mapToObj(word -> "," + Long.toUnsignedString(word)).collect(Collectors.joining("", "[\"" + name + "\"", "]"));
+            StringBuilder text = new StringBuilder("[\"").append(name).append('"');
+            for (long word : words)
+                text.append(',').append(Long.toUnsignedString(word));
+            return text.append(']').toString();
         }
         boolean writes() { return name.equals("insert") || name.equals("remove") || name.equals("replace"); }
 
@@ -444,11 +458,12 @@ public final class Potzendai {
         Draws draws;
         long puts, made;
         Long valuesFrom; // each put has a value of its own, which was not in the map before
-        int life;
+        int life, lives, process;
         boolean closes;
+        Stream stream;
 
         Worker(int number, Options options, AtomicLong stamps, KeyLock[] locks) {
-            this.number = number;
+            this.number = process = number;
             this.options = options;
             this.stamps = stamps;
             this.locks = locks;
@@ -474,9 +489,16 @@ public final class Potzendai {
                     memory.put(key, Said.told(task.start.get(key)));
             draws = new Draws(options.seed, task.round, number);
             DRAWS.set(new Draws(options.seed + 1, task.round, number));
-            while (made < options.calls && life < task.lives)
+            lives = task.lives;
+            while (goesOn())
                 draw();
             return log;
+        }
+
+        /** Whether it may make one call more. */
+        private boolean goesOn() {
+            boolean isRunning = stream == null || stream.state.get() == RUNNING && process < STREAM_PROCESSES;
+            return isRunning && life < lives && (made < options.calls || options.calls == 0);
         }
 
         private void draw() {
@@ -511,7 +533,7 @@ public final class Potzendai {
         }
 
         private void steps(long low, long high) {
-            while (low <= high && made < options.calls) {
+            while (low <= high && goesOn()) {
                 Said said = make(Kind.CEILING, low);
                 if (said.word != Word.TOLD || said.key < low)
                     break;
@@ -534,6 +556,8 @@ public final class Potzendai {
         private Said make(Kind kind, long... words) {
             boolean isVoid = kind == Kind.PUT || kind == Kind.DEL;
             long begin = stamps.getAndIncrement();
+            if (stream != null && !kind.isHeld())
+                stream.put(begin, new Happening(new Call(kind.call, words), process, null, null));
             Said got = locks != null && isVoid ? ask(session, Kind.GET, words[0]) : Said.DONE;
             Said said = ask(session, kind, words);
             long end = stamps.getAndIncrement();
@@ -550,7 +574,10 @@ public final class Potzendai {
                 seen.put(words[0], words[words.length - 1]);
             else if (said.word == Word.TOLD && (kind == Kind.GET || kind == Kind.DEL || kind == Kind.REPLACE || kind == Kind.PUT_IF_ABSENT))
                 seen.put(words[0], said.value);
-            note(begin, end, noted(kind, words, known));
+            if (stream != null)
+                handOver(begin, end, kind, said, noted(kind, words, known));
+            else
+                note(begin, end, noted(kind, words, known));
             return said;
         }
 
@@ -571,6 +598,17 @@ public final class Potzendai {
             return before != null ? before : got.tells() ? got : said;
         }
 
+        /** The events of a call that is over, for the stream. One that tells nothing is left out; or refused, where it stands there already.
+         * One whose answer is unknown stays open, and its thread goes on as another process. */
+        private void handOver(long begin, long end, Kind kind, Said said, Noted noted) {
+            String answer = noted != null ? noted.answer : kind.isHeld() ? null : "\"refused\"";
+            if (kind.isHeld())
+                stream.put(begin, new Happening(noted == null ? null : noted.call, process, null, null));
+            stream.put(end, new Happening(null, process, answer, said.word));
+            if (noted != null && answer == null)
+                process = stream.processes.getAndIncrement();
+        }
+
         private void note(long begin, long end, Noted noted) {
             if (noted == null)
                 return;
@@ -579,6 +617,164 @@ public final class Potzendai {
                 life++;
             else
                 log.add(new Event(end, number, life, null, noted.answer));
+        }
+    }
+
+    /** What stands at a stamp of a stream: a call, an answer, or nothing; and what the map said, where that ends a call. */
+    private record Happening(Call call, int process, String answer, Word said) { }
+
+    /**
+     * A stream of events, which a thread of its own hands on while others record. Stamps are numbers without a gap, and each has its slot; who
+     * is too far in front of what is handed over waits, so that memory does not grow. Nobody waits between its two stamps but for those of
+     * lower ones, so the event of the least stamp always comes.
+     */
+    private static final class Stream implements Runnable, AutoCloseable {
+        final AtomicReferenceArray<Happening> slots = new AtomicReferenceArray<>(AHEAD);
+        final AtomicInteger processes, state = new AtomicInteger(RUNNING);
+        final AtomicLong stamps, taken;
+        private final Run run;
+        private final Map<Integer, Call> open = new HashMap<>();
+        private final Map<Long, Integer> writers = new HashMap<>();
+        private final StringBuilder text = new StringBuilder();
+        private final Thread writer = new Thread(this), reader = new Thread(this::read);
+        private final Timer timer = new Timer(true);
+        private volatile boolean isEnded;
+        private Process process;
+        private volatile byte[] report = {};
+        int status = YES;
+        String answer = "";
+        Throwable wrong;
+
+        Stream(Run run, AtomicLong stamps, Map<Long, Long> start) {
+            this.run = run;
+            this.stamps = stamps;
+            taken = new AtomicLong(stamps.get());
+            processes = new AtomicInteger((int) run.options.threads);
+            text.append("{\"start\":[").append(start.entrySet().stream().map(pair -> pairText(pair.getKey(), pair.getValue()))
+                .collect(Collectors.joining(","))).append("],\"version\":3}\n");
+            timer.schedule(new TimerTask() {
+                @Override public void run() { endCalls(); }
+            }, run.options.seconds * 1000);
+            writer.setDaemon(true);
+            reader.setDaemon(true);
+            writer.start();
+        }
+
+        void endCalls() { state.compareAndSet(RUNNING, OVER); }
+
+        void put(long stamp, Happening what) {
+            for (int times = 1; stamp >= taken.get() + AHEAD && state.get() != FAILED; times++)
+                rest(times);
+            slots.set((int) (stamp % AHEAD), what);
+        }
+
+        /** Lets others go on: most times at once, sometimes for some time. */
+        private static void rest(int times) {
+            if (times % 64 != 0)
+                Thread.yield();
+            else
+                LockSupport.parkNanos(100000);
+        }
+
+        /** Hands over each event in its turn, and asks for the verdict at the end. */
+        @Override public void run() {
+            try {
+                if (run.program == null) {
+                    handAll(System.out);
+                    return;
+                }
+                process = new ProcessBuilder(run.program.path, "follow", "--budget", "" + run.program.budget)
+                    .redirectError(ProcessBuilder.Redirect.INHERIT).start();
+                reader.start();
+                try (OutputStream out = process.getOutputStream()) {
+                    handAll(out);
+                } catch (IOException ended) {
+                    state.set(FAILED); // whoever follows has ended: the verdict says why
+                }
+                reader.join();
+                Program.Answer told = run.program.checked("follow", process.waitFor(), new String(report, StandardCharsets.UTF_8));
+                status = told.status;
+                answer = told.text;
+            } catch (IOException | InterruptedException error) {
+                wrong = new Stop(FILE, (run.program == null ? "standard output" : run.program.path) + ": " + error.getMessage());
+            } catch (RuntimeException | Error error) {
+                wrong = error;
+            } finally {
+                if (!isEnded)
+                    state.set(FAILED);
+            }
+        }
+
+        /** The program writes once it has a verdict, and may do so while the stream goes on: then the run is over. */
+        private void read() {
+            try {
+                report = process.getInputStream().readAllBytes();
+            } catch (IOException ended) {
+                // Then it has no verdict.
+            }
+            endCalls();
+        }
+
+        private void handAll(OutputStream out) throws IOException {
+            for (int times = 0;;) {
+                boolean ended = isEnded;
+                long next = taken.get();
+                Happening what = slots.getAndSet((int) (next % AHEAD), null);
+                times = what == null ? times + 1 : 0;
+                if (what != null) {
+                    taken.set(next + 1);
+                    take(what);
+                }
+                if (what == null && ended && next != stamps.get())
+                    throw new IOException("an event is missing");
+                if (text.length() >= BATCH || what == null)
+                    flush(out);
+                if (what == null && ended)
+                    return;
+                if (what == null)
+                    rest(times);
+            }
+        }
+
+        private void flush(OutputStream out) throws IOException {
+            out.write(text.toString().getBytes(StandardCharsets.UTF_8));
+            out.flush();
+            if (out == System.out && System.out.checkError())
+                throw new IOException("not written");
+            text.setLength(0);
+            run.progress();
+        }
+
+        /** The line of an event, and what is counted: as of a round, but that nothing is kept of calls that are over. */
+        private void take(Happening what) {
+            if (what.call != null) {
+                run.calls++;
+                run.overlap += open.size();
+                if (what.call.writes() && writers.merge(what.call.words[0], 1, Integer::sum) > 1)
+                    run.met.add(what.call.words[0]);
+                open.put(what.process, what.call);
+                text.append("{\"invoke\":").append(what.call.text());
+            } else if (what.answer != null) {
+                Call call = open.remove(what.process);
+                if (call.writes())
+                    writers.computeIfPresent(call.words[0], (key, count) -> count > 1 ? count - 1 : null);
+                text.append("{\"answer\":").append(what.answer);
+            }
+            if (what.call != null || what.answer != null)
+                text.append(",\"process\":").append(what.process).append("}\n");
+            if (what.said != null)
+                run.sayings.merge(what.said, 1L, Long::sum);
+        }
+
+        /** No more is put. What comes of it is the status and the report, or what went wrong. */
+        @Override public void close() {
+            timer.cancel();
+            isEnded = true;
+            try {
+                writer.join();
+            } catch (InterruptedException error) {
+                wrong = new Stop(FILE, run.options.name + ": interrupted");
+            }
         }
     }
 
@@ -697,6 +893,21 @@ public final class Potzendai {
         final Set<Long> met = new HashSet<>();
         long calls, overlap;
 
+        /** A history, as far as what is said of it needs that. */
+        Round(String history) {
+            Map<?, ?> whole = (Map<?, ?>) Json.of(history);
+            start = new TreeMap<>();
+            pending = List.of();
+            for (Object pair : whole.get("start") instanceof List<?> pairs ? pairs : List.of())
+                start.put((Long) ((List<?>) pair).get(0), (Long) ((List<?>) pair).get(1));
+            for (Object each : (List<?>) whole.get("events")) {
+                Map<?, ?> event = (Map<?, ?>) each;
+                List<?> call = (List<?>) event.get("invoke");
+                Call read = call == null ? null : new Call((String) call.get(0), call.stream().skip(1).mapToLong(word -> (Long) word).toArray());
+                events.add(new Event(0, ((Long) event.get("process")).intValue(), 0, read, null));
+            }
+        }
+
         /** Each thread, and each of its lives, becomes a process; calls that have no answer from before are the first. */
         Round(List<Event> noted, Map<Long, Long> start, List<Call> before) {
             this.start = start;
@@ -729,7 +940,7 @@ public final class Potzendai {
         }
 
         String text() {
-            boolean tellsLess = events.stream().anyMatch(event -> Set.of("\"done\"", "\"found\"", "\"other\"").contains("" + event.answer));
+            boolean tellsLess = events.stream().anyMatch(event -> LESS.contains("" + event.answer));
             boolean replaces = events.stream().anyMatch(event -> event.call != null && event.call.name.equals("replace"));
             int version = tellsLess ? 3 : replaces || !start.isEmpty() ? 2 : 1;
             String pairs = start.entrySet().stream().map(pair -> pairText(pair.getKey(), pair.getValue())).collect(Collectors.joining(","));
@@ -751,10 +962,10 @@ public final class Potzendai {
 
         record Answer(int status, String text) { }
 
-        /** The verdict: once more at ten times the budget where it is undecided. */
-        int judge(String text) {
-            int status = ask("judge", text, budget).status;
-            return status == UNDECIDED ? ask("judge", text, Math.min(10 * budget, 1000000)).status : status;
+        /** Asks once more at ten times the budget where the verdict is undecided. */
+        Answer askTwice(String command, String text) {
+            Answer answer = ask(command, text, budget);
+            return answer.status == UNDECIDED ? ask(command, text, Math.min(10 * budget, 1000000)) : answer;
         }
 
         Answer ask(String command, String text, long budget) {
@@ -766,16 +977,20 @@ public final class Potzendai {
                     // It has ended before it read all: its status says why.
                 }
                 String answer = new String(process.getInputStream().readAllBytes(), StandardCharsets.UTF_8);
-                int status = process.waitFor();
-                if (status > UNDECIDED)
-                    throw new Stop(status <= FILE ? status : FILE, path + " " + command + ": status " + status);
-                String report = answer.lines().findFirst().orElse("");
-                if (!command.equals("draw") && !report.endsWith("\"verdict\":\"" + VERDICTS.get(status) + "\"}"))
-                    throw new Stop(FILE, path + " " + command + ": status " + status + " without its verdict");
-                return new Answer(status, answer);
+                return checked(command, process.waitFor(), answer);
             } catch (IOException | InterruptedException error) {
                 throw new Stop(FILE, path + ": " + error.getMessage());
             }
+        }
+
+        /** The status with its report, where the program has given one. */
+        Answer checked(String command, int status, String answer) {
+            if (status > UNDECIDED)
+                throw new Stop(status <= FILE ? status : FILE, path + " " + command + ": status " + status);
+            String report = answer.lines().findFirst().orElse("");
+            if (!command.equals("draw") && !report.endsWith("\"verdict\":\"" + VERDICTS.get(status) + "\"}"))
+                throw new Stop(FILE, path + " " + command + ": status " + status + " without its verdict");
+            return new Answer(status, answer);
         }
     }
 
@@ -793,6 +1008,7 @@ public final class Potzendai {
         final List<String> cut = new ArrayList<>();
         long rounds, calls, overlap, undecided;
         Round failed;
+        String report;
 
         Run(Options options, Supplier<? extends Index> make, Program program) {
             this.options = options;
@@ -800,11 +1016,15 @@ public final class Potzendai {
             this.program = program;
         }
 
-        /** Rounds from this number on, until one has no order, or the time is over. */
+        /** Rounds from this number on, until one has no order, or the time is over; or one stream. */
         Run go(long number) {
             yields = options.yields;
             try (Crew crew = new Crew(options, make.get())) {
                 crew.rest();
+                if (options.isStream) {
+                    follow(crew);
+                    return this;
+                }
                 List<Call> pending = List.of();
                 while (!isOver() && failed == null) {
                     int lives = (PROCESSES - 1 - pending.size()) / (int) options.threads;
@@ -825,6 +1045,39 @@ public final class Potzendai {
             return this;
         }
 
+        /** One stream, until it has no order, or the time is over. */
+        private void follow(Crew crew) {
+            Stream stream = new Stream(this, crew.stamps, crew.contents);
+            try (stream) {
+                crew.each(worker -> {
+                    worker.stream = stream;
+                    try {
+                        return worker.run(new Task(0, STREAM_PROCESSES, crew.contents, Set.of()));
+                    } catch (RuntimeException | Error error) {
+                        stream.state.set(FAILED);
+                        throw error;
+                    }
+                });
+            }
+            if (stream.wrong instanceof Error error)
+                throw error;
+            if (stream.wrong != null)
+                throw (RuntimeException) stream.wrong;
+            conclude(stream);
+        }
+
+        /** What the verdict on a stream says. One that was cut off has no yes. */
+        private void conclude(Stream stream) {
+            boolean isCut = stream.state.get() == FAILED || program != null && !stream.answer.startsWith("{\"calls\":" + calls + ",");
+            if (stream.status == YES && isCut)
+                throw new Stop(FILE, options.name + ": the stream was cut off");
+            undecided += stream.status == UNDECIDED ? 1 : 0;
+            failed = stream.status == NO ? new Round("{\"events\":[]}") : null;
+            report = stream.answer;
+            if (stream.processes.get() >= STREAM_PROCESSES)
+                cut.add(options.name + ": calls without an answer leave no room for others");
+        }
+
         private void take(Round round) {
             rounds++;
             calls += round.calls;
@@ -833,16 +1086,24 @@ public final class Potzendai {
             int status = YES;
             if (program == null)
                 System.out.print(round.text());
-            else
-                status = program.judge(round.text());
+            if (program == null && System.out.checkError())
+                throw new Stop(FILE, "standard output: a history was not written");
+            if (program != null)
+                status = program.askTwice("judge", round.text()).status;
             undecided += status == UNDECIDED ? 1 : 0;
             failed = status == NO ? round : null;
         }
 
         double seconds() { return (System.nanoTime() - began) / 1e9; }
 
-        /** At least one round is made. Each second a line on a terminal says how far this is. */
+        /** At least one round is made. */
         private boolean isOver() {
+            progress();
+            return rounds > 0 && (options.rounds > 0 && rounds >= options.rounds || seconds() >= options.seconds);
+        }
+
+        /** Each second a line on a terminal says how far this is. */
+        void progress() {
             if (options.shows && System.nanoTime() - options.shown > 1000000000L && calls > 0) {
                 options.shown = System.nanoTime();
                 long all = sayings.values().stream().mapToLong(Long::longValue).sum();
@@ -850,15 +1111,15 @@ public final class Potzendai {
                     calls / seconds(), (double) overlap / calls, 100.0 * sayings.getOrDefault(Word.REFUSED, 0L) / Math.max(all, 1), met.size(),
                     options.keys);
             }
-            return rounds > 0 && (options.rounds > 0 && rounds >= options.rounds || seconds() >= options.seconds);
         }
 
         /** The verdict, and what it rests on. */
         String summary(String verdict) {
             String said = sayings.entrySet().stream().map(one -> one.getValue() + " " + one.getKey().name().toLowerCase())
                 .collect(Collectors.joining(", "));
-            return String.format("%s: %d rounds, %d calls in %.1f seconds, overlap %.2f a call: %s%s", verdict,
-                rounds, calls, seconds(), (double) overlap / Math.max(calls, 1), said, undecided > 0 ? "; " + undecided + " undecided" : "");
+            return String.format("%s: %s%d calls in %.1f seconds, overlap %.2f a call: %s%s", verdict,
+                options.isStream ? "" : rounds + " rounds, ", calls, seconds(), (double) overlap / Math.max(calls, 1), said,
+                undecided > 0 ? "; " + undecided + " undecided" : "");
         }
 
         /** The smallest run that failed, of some tries with half of the calls or keys, or a thread less. Threads interleave as they will. Where
@@ -994,7 +1255,8 @@ public final class Potzendai {
 
     /** Writes a file of a round, and says how it is called. */
     private static String keep(Run run, String ending, String text) {
-        Path path = Path.of(run.options.out, run.options.name + "-" + Long.toUnsignedString(run.options.seed) + "-" + (run.rounds - 1) + ending);
+        long round = Math.max(run.rounds - 1, 0);
+        Path path = Path.of(run.options.out, run.options.name + "-" + Long.toUnsignedString(run.options.seed) + "-" + round + ending);
         try {
             Files.writeString(path, text);
             return "  file: " + path;
@@ -1003,21 +1265,42 @@ public final class Potzendai {
         }
     }
 
+    /** A stream that has no order: the calls left at a key are a history, where that says it all, which is explained. Where scans overlap much,
+     * not all keys of the report are shown. */
+    private static List<String> refutedStream(Run run) {
+        List<String> lines = run.report.lines().toList(), said = new ArrayList<>();
+        String report = lines.get(0);
+        said.add(report.length() > REPORT_SHOWN ? report.substring(0, REPORT_SHOWN) + ".." : report);
+        String small = lines.size() > 1 ? lines.get(1) + "\n" : null;
+        Program.Answer explained = small == null ? null : run.program.askTwice("explain", small);
+        if (explained != null && explained.status == NO)
+            said.addAll(shown(run, small, explained.text, new Round(small)));
+        said.add("  again: " + run.options.again(0));
+        return said;
+    }
+
+    /** What a report of `explain` says of a history, and the files that show it. */
+    private static List<String> shown(Run run, String text, String explained, Round round) {
+        List<String> report = explained.lines().toList(), said = saidReport(report, round);
+        String few = report.stream().filter(line -> line.startsWith("{\"events\"")).findFirst().map(line -> line + "\n").orElse(null);
+        said.add(keep(run, ".json", text));
+        if (few != null)
+            said.add(keep(run, "-few.json", few));
+        said.add(keep(run, ".svg", run.program.ask("draw", few != null ? few : text, run.options.budget).text));
+        return said;
+    }
+
     /** A round that has no order: what shows it, and how to repeat it. */
     private static List<String> refuted(Run run) {
+        if (run.options.isStream)
+            return refutedStream(run);
         Run least = run.smaller();
         List<String> said = new ArrayList<>();
         said.add("round " + (run.rounds - 1) + " has no order");
         said.add("the smallest of some tries that failed: threads " + least.options.threads + ", keys " + least.options.keys + ", calls "
             + least.options.calls);
         String text = least.failed.text();
-        List<String> report = run.program.ask("explain", text, run.options.budget).text.lines().toList();
-        String few = report.stream().filter(line -> line.startsWith("{\"events\"")).findFirst().map(line -> line + "\n").orElse(null);
-        said.addAll(saidReport(report, least.failed));
-        said.add(keep(run, ".json", text));
-        if (few != null)
-            said.add(keep(run, "-few.json", few));
-        said.add(keep(run, ".svg", run.program.ask("draw", few != null ? few : text, run.options.budget).text));
+        said.addAll(shown(run, text, run.program.askTwice("explain", text).text, least.failed));
         said.add("  again: " + run.options.again(run.rounds));
         return said;
     }
@@ -1028,9 +1311,9 @@ public final class Potzendai {
         --seconds N       how long (10, or as long as --rounds take)
         --rounds N        at most so many rounds
         --threads N       threads that call the map (4)
-        --keys N          keys, from 0 (16)
+        --keys N          keys, from 0 (16; of a stream 1000)
         --hot N           so many of the keys are those of nine calls in ten
-        --calls N         calls of a thread in a round (200)
+        --calls N         calls of a thread in a round, or in a stream (200; no end)
         --seed N          what the calls are drawn from (of the clock)
         --mix LIST        shares, as get=50,put=30,del=10,scan=10; also replace, put_if_absent, floor, ceiling, pop_first
         --void HOW        a put that tells nothing is recorded as done; has to be told; own: one writer a key remembers what it put;
@@ -1038,16 +1321,17 @@ public final class Potzendai {
         --scan HOW        snapshot: a scan is of one moment; steps: steps of ceiling (snapshot)
         --yield N         of a thousand points between and in calls, so many give way to other threads (0)
         --break HOW       makes the map wrong now and then: drop, race, replay, stale, zombie, torn or cas; all: in each of these ways
-        --out FOLDER      where files are put (.), or - for standard output: all histories, which nobody judges then
+        --stream          one stream that is followed while it is recorded, in the place of rounds
+        --out FOLDER      where files are put (.), or - for standard output: all histories or the stream, which nobody judges then
         --budget N        the judge's (100000)
         --bench PATH      the program (./bench, or on the PATH)
         """;
 
     private static final class Options implements Cloneable {
         String name, voids = "done", broken, out = ".", bench;
-        long seconds, rounds, threads = 4, keys = 16, hot, calls, yields, budget = 100000, shown = System.nanoTime();
+        long seconds, rounds, threads = 4, keys, hot, calls, yields, budget = 100000, shown = System.nanoTime();
         long seed = Math.floorMod(System.nanoTime() * 31 + System.currentTimeMillis(), 1000000007L);
-        boolean isSteps, shows = System.console() != null;
+        boolean isSteps, isStream, hasVoid, shows = System.console() != null;
         EnumMap<Kind, Long> shares;
 
         boolean isVoid(String how) { return voids.equals(how); }
@@ -1074,36 +1358,42 @@ public final class Potzendai {
             String mix = shares.entrySet().stream().filter(one -> one.getValue() > 0).map(one -> one.getKey().name + "=" + one.getValue())
                 .collect(Collectors.joining(","));
             return name + " --seed " + Long.toUnsignedString(seed) + " --threads " + threads + " --keys " + keys + (hot > 0 ? " --hot " + hot : "")
-                + " --calls " + calls + " --mix " + mix + " --void " + voids + " --scan " + (isSteps ? "steps" : "snapshot")
-                + (yields > 0 ? " --yield " + yields : "") + (broken != null ? " --break " + broken : "") + " --rounds " + rounds;
+                + (calls > 0 ? " --calls " + calls : "") + " --mix " + mix + (hasVoid || !isStream ? " --void " + voids : "")
+                + " --scan " + (isSteps ? "steps" : "snapshot") + (yields > 0 ? " --yield " + yields : "")
+                + (broken != null ? " --break " + broken : "") + (isStream ? " --stream --seconds " + seconds : " --rounds " + rounds);
         }
 
         Options(String name, String[] words) {
             this.name = name;
             if (List.of(words).contains("--help"))
                 throw new Stop(WORDS, "usage: " + name + " [WORDS]\n" + USAGE.stripTrailing());
-            for (int i = 0; i < words.length; i += 2)
-                read(words[i], i + 1 < words.length ? words[i + 1] : "");
+            for (int i = 0; i < words.length; i++)
+                if (words[i].equals("--stream"))
+                    isStream = true;
+                else
+                    read(words[i], ++i < words.length ? words[i] : "");
         }
 
         private void read(String word, String text) {
             switch (word) {
                 case "--seconds" -> seconds = number(word, text, 1, 1000000000);
                 case "--rounds" -> rounds = number(word, text, 1, Long.MAX_VALUE);
-                case "--threads" -> threads = number(word, text, 1, PROCESSES - 2);
-                case "--keys" -> keys = number(word, text, 1, CALLS);
-                case "--hot" -> hot = number(word, text, 1, CALLS);
-                case "--calls" -> calls = number(word, text, 1, CALLS);
+                case "--threads" -> threads = number(word, text, 1, 1024);
+                case "--keys" -> keys = number(word, text, 1, STREAM_KEYS);
+                case "--hot" -> hot = number(word, text, 1, STREAM_KEYS);
+                case "--calls" -> calls = number(word, text, 1, Long.MAX_VALUE);
                 case "--seed" -> seed = number(word, text, 0, GREATEST);
                 case "--yield" -> yields = number(word, text, 0, 1000);
                 case "--budget" -> budget = number(word, text, 1, 1000000);
-                case "--void" -> voids = named(word, text, List.of("done", "told", "own", "lock"));
+                case "--void" -> {
+                    voids = named(word, text, List.of("done", "told", "own", "lock"));
+                    hasVoid = true;
+                }
                 case "--scan" -> isSteps = named(word, text, List.of("snapshot", "steps")).equals("steps");
                 case "--break" -> broken = text.equals("all") ? text : named(word, text, List.copyOf(BREAKS.keySet()));
                 case "--mix" -> shares = mix(text);
                 case "--out" -> out = text;
                 case "--bench" -> bench = text;
-                case "--stream" -> throw new Stop(WORDS, "--stream: rounds alone here; the drivers in C and C++ have it");
                 default -> throw new Stop(WORDS, word + ": no such word; --help has them");
             }
         }
@@ -1150,6 +1440,7 @@ public final class Potzendai {
         /** The words together, and with what the map has. */
         void fit(Set<Kind> has) {
             boolean isApart = isVoid("own") || isVoid("lock"), isUsual = shares == null;
+            keys = keys > 0 ? keys : isStream ? 1000 : 16;
             shares = isUsual ? new EnumMap<>(Kind.class) : shares;
             for (Kind kind : Kind.values()) {
                 boolean isThere = has.contains(kind == Kind.SCAN && isSteps ? Kind.CEILING : kind);
@@ -1163,10 +1454,12 @@ public final class Potzendai {
             wrong(BREAKS.containsKey(broken) && !isCalled(broken), "--break: what it makes wrong is not called");
             wrong(hot > keys, "--hot: more than there are keys");
             wrong(isVoid("own") && keys < threads, "--void: own: each thread needs a key");
-            calls = calls > 0 ? calls : Math.min(CALLS / (threads + 2), 200);
+            calls = calls > 0 || isStream ? calls : Math.min(CALLS / (threads + 2), 200);
             seconds = seconds > 0 ? seconds : rounds > 0 ? 1000000000 : 10;
-            wrong((threads + 1) * Math.max(calls, keys) > CALLS, "--calls: a round has at most 4096 calls: those of each thread, or as many "
-                + "as there are keys, for the threads and one more");
+            wrong(isStream && rounds > 0, "--rounds: a stream has none; --seconds, or --calls of each thread");
+            wrong(!isStream && (threads > PROCESSES - 2 || Math.max(calls, keys) > CALLS / (threads + 1)), "--calls: a round has at most 62 "
+                + "threads, and 4096 calls: those of each thread, or as many as there are keys, for the threads and one more; --stream has no "
+                + "such end");
         }
     }
 
@@ -1197,6 +1490,8 @@ public final class Potzendai {
         if (run.failed != null)
             return new Outcome(NO, refuted(run), run.summary("no"));
         int status = run.undecided > 0 || !run.cut.isEmpty() ? UNDECIDED : YES;
+        if (program != null && options.broken != null && status == YES)
+            run.cut.add("--break " + options.broken + ": the map was wrong now and then, and these calls did not show it");
         if (program != null)
             return new Outcome(status, run.cut, run.summary(VERDICTS.get(status)));
         run.cut.add(run.summary("not judged"));
@@ -1224,7 +1519,10 @@ public final class Potzendai {
             outcome.said.forEach(System.err::println);
             if (!outcome.last.isEmpty())
                 System.out.println(outcome.last);
-            return System.out.checkError() && outcome.status == YES ? FILE : outcome.status;
+            if (!System.out.checkError())
+                return outcome.status;
+            System.err.println("standard output: not written");
+            return outcome.status == YES ? FILE : outcome.status;
         } catch (Stop stop) {
             System.err.println(stop.getMessage());
             return stop.status;

@@ -1,5 +1,5 @@
 """Tests an ordered map of one's own: threads (or processes) call its functions, what they do is recorded, and the program `bench` judges
-each recording. Copy this file: Python 3.8 and the program are all that it needs.
+each recording, or follows one stream of it. Copy this file: Python 3.8 and the program are all that it needs; or the library by ctypes.
 
     import potzendai
 
@@ -26,6 +26,7 @@ connection: nobody knows whether it was done. `told(value)` is NONE for None. Ke
 """
 import argparse
 import copy
+import ctypes
 import itertools
 import json
 import multiprocessing
@@ -37,10 +38,13 @@ import sys
 import threading
 import time
 import traceback
+import types
 
 NONE, DONE, FOUND, OTHER, REFUSED, UNKNOWN = SAYINGS = ("none", "done", "found", "other", "refused", "unknown")
 GREATEST = 2 ** 64 - 1
 PROCESSES, CALLS, SPAN = 64, 4096, 16  # limits of a history; the most keys of a scan
+STREAM_PROCESSES, STREAM_KEYS = 65536, 16384  # limits of a stream, and of its keys
+AHEAD, BATCH = 8192, 4096  # how many stamps a thread may be in front of what is handed over; how many lines are handed over at once
 SELDOM = 20  # one call in so many goes wrong in a map that is broken
 YES, NO, UNDECIDED, FAULTY, MEMORY, WORDS, FILE = range(7)  # statuses, as the program's
 VERDICTS = ("yes", "no", "undecided")
@@ -151,6 +155,9 @@ def edge(kind, key, pair):
     return ["scan", low, high], [list(pair)]
 
 
+HELD = ("put_if_absent", "floor", "ceiling", "pop_first")  # the answer tells which call of a history it was
+
+
 def noted(kind, words, answer):
     """The invocation and the answer that a history has of a call; None where it is left out, since it tells nothing."""
     changes = kind in ("put", "delete", "replace")
@@ -240,7 +247,7 @@ class Broken:
         first = self.session.scan(low, (low + high) // 2)
         if low == high or not is_pairs(first):
             return None
-        self.pause()
+        time.sleep(self.draws.below(2000) / 1e6)  # long enough for others to change keys of both halves
         second = self.session.scan((low + high) // 2 + 1, high)
         return list(first) + list(second) if is_pairs(second) else second
 
@@ -257,9 +264,9 @@ WRITING = ("put", "delete", "replace", "put_if_absent")
 class Worker:
     """One thread or process: draws calls, makes them, and notes them with the stamps of their beginning and their end."""
 
-    def __init__(self, number, options, stamp, locks, doubts):
-        self.number, self.options, self.stamp, self.locks, self.doubts = number, options, stamp, locks, doubts
-        self.puts, self.values_from = 0, None
+    def __init__(self, number, options, stamp, locks, doubts, stream):
+        self.number, self.options, self.stamp, self.locks, self.doubts, self.stream = number, options, stamp, locks, doubts, stream
+        self.puts, self.values_from, self.process = 0, None, number
         self.total = sum(options.shares.values())
 
     def open(self, made):
@@ -276,9 +283,16 @@ class Worker:
         self.sayings = dict.fromkeys(("told",) + SAYINGS, 0)
         self.memory = {key: start.get(key, NONE) for key in range(options.keys) if key not in doubtful} if options.void == "own" else {}
         _of_thread.often, _of_thread.draws = options.yields, copy.copy(self.draws)
-        while self.made < options.calls and self.life < lives:
+        self.lives = lives
+        while self.goes_on():
             self.draw()
         return self.log, self.sayings
+
+    def goes_on(self):
+        """Whether it may make one call more."""
+        if self.stream and (self.stream.state.value != RUNNING or self.process >= STREAM_PROCESSES):
+            return False
+        return self.life < self.lives and (self.made < self.options.calls or self.options.calls == 0)
 
     def draw(self):
         options, place = self.options, self.draws.below(self.total)
@@ -314,7 +328,7 @@ class Worker:
         return key if key < options.keys else self.number
 
     def steps(self, low, high):
-        while low <= high and self.made < self.options.calls:
+        while low <= high and self.goes_on():
             pair = self.make("ceiling", low)
             if not is_pair(pair) or pair[0] < low:
                 break
@@ -329,6 +343,8 @@ class Worker:
     def make(self, kind, *words):
         """Makes a call between two stamps, and notes it."""
         begin, got = self.stamp(), DONE
+        if self.stream and kind not in HELD:
+            self.stream.put(begin, self.process, [ANSWERS[kind][0], *words])
         if self.locks and kind in ("put", "delete"):
             got = self.ask("get", words[0])
         answer = self.ask(kind, *words)
@@ -344,7 +360,10 @@ class Worker:
             self.seen[words[0]] = words[-1]
         elif kind in ("get", "delete", "replace", "put_if_absent") and is_value(answer):
             self.seen[words[0]] = answer
-        self.note(begin, end, noted(kind, words, says))
+        if self.stream:
+            self.hand_over(begin, end, kind, answer, noted(kind, words, says))
+        else:
+            self.note(begin, end, noted(kind, words, says))
         return answer
 
     def known(self, kind, words, answer, got):
@@ -371,6 +390,17 @@ class Worker:
         else:
             self.log.append((end, self.number, self.life, "answer", events[1]))
 
+    def hand_over(self, begin, end, kind, answer, events):
+        """Puts the events of a call that is over into the stream. One that tells nothing is left out; or refused, where it stands there
+        already. One whose answer is unknown stays open, and its thread goes on as another process."""
+        call, told_of = events or (None, OPEN if kind in HELD else REFUSED)
+        if kind in HELD:
+            self.stream.put(begin, self.process, call)
+        text = None if told_of is OPEN else json.dumps(told_of, separators=(",", ":"))
+        self.stream.put(end, self.process, None, text, answer if isinstance(answer, str) else "told")
+        if events and told_of is OPEN:
+            self.process = self.stream.next_process()
+
 
 def serve(worker, made, inbox, outbox, barrier):
     """What a thread or a process does from its first round to its last."""
@@ -384,7 +414,10 @@ def serve(worker, made, inbox, outbox, barrier):
             worker.session.close()
     except BaseException as error:
         barrier.abort()
-        outbox.put((None, error.line if isinstance(error, Stop) else traceback.format_exc()))
+        if worker.stream:
+            worker.stream.state.value = FAILED
+        status = error.status if isinstance(error, Stop) else MEMORY if isinstance(error, MemoryError) else WORDS
+        outbox.put((status, error.line if isinstance(error, Stop) else traceback.format_exc()))
 
 
 def stamps(processes):
@@ -407,6 +440,105 @@ def stamps(processes):
     return of_threads
 
 
+RUNNING, OVER, FAILED = range(3)
+REPORT_SHOWN = 1000  # characters of the report of a stream without order
+
+
+class Stream:
+    """One stream of events, which a thread of its own hands on while others record. Stamps are numbers without a gap, so it holds back what
+    comes early; who is too far in front of it waits, so that memory does not grow. Nobody waits between its two stamps but for those of
+    lower ones, so the event of the least stamp always comes."""
+
+    def __init__(self, options, pipe, stamp):
+        shared = multiprocessing.get_context("fork").RawValue if options.processes else lambda kind: types.SimpleNamespace(value=0)
+        self.inbox, self.stamp, self.others = pipe(), stamp, stamps(options.processes)
+        self.threads = options.threads
+        self.taken, self.state = shared("Q"), shared("B")
+
+    def next_process(self):
+        return self.threads + self.others()
+
+    def put(self, stamp, process, call, text=None, saying=None):
+        """What stands at a stamp: a call, an answer as a text, or nothing; and what the map said, where that ends a call."""
+        while stamp >= self.taken.value + AHEAD and self.state.value != FAILED:
+            time.sleep(0.0005)
+        self.inbox.put((stamp, process, call, text, saying))
+
+    def begin(self, run, start, follower):
+        self.run, self.follower, self.wrong, self.outcome = run, follower, None, None
+        self.opened, self.writers = {}, {}
+        self.lines = ['{"start":%s,"version":3}\n' % json.dumps(sorted(map(list, start.items())), separators=(",", ":"))]
+        self.taken.value = self.stamp() + 1
+        self.writer = threading.Thread(target=self.write, daemon=True)
+        self.writer.start()
+
+    def write(self):
+        """Hands over each event in its turn, and asks for the verdict at the end. Where it cannot, what still comes is dropped."""
+        events = iter(self.inbox.get, None)
+        try:
+            self.follower.open(self)
+            self.hand_all(events)
+        except OSError:
+            self.drop(events)  # whoever follows has ended: the verdict says why
+        except BaseException as error:
+            self.wrong = error
+            self.drop(events)
+        try:
+            self.outcome = self.follower.end()
+        except BaseException as error:
+            self.wrong = self.wrong or error
+
+    def hand_all(self, events):
+        early = {}
+        for event in events:
+            early[event[0]] = event
+            while self.taken.value in early:
+                self.take(*early.pop(self.taken.value)[1:])
+                self.taken.value += 1
+            if len(self.lines) >= BATCH or self.inbox.empty():
+                self.flush()
+        self.flush()
+        if early:
+            self.state.value = FAILED
+
+    def drop(self, events):
+        self.state.value = FAILED
+        for _ in events:
+            pass
+
+    def take(self, process, call, text, saying):
+        """The line of an event, and what is counted: as of a round, but that nothing is kept of calls that are over."""
+        run, opened, writers = self.run, self.opened, self.writers
+        if call:
+            run.calls += 1
+            run.overlap += len(opened)
+            opened[process] = call
+            if call[0] in WRITES:
+                run.met.update([call[1]] if call[1] in writers else [])
+                writers[call[1]] = writers.get(call[1], 0) + 1
+            self.lines.append('{"invoke":["%s",%s],"process":%d}\n' % (call[0], ",".join(map(str, call[1:])), process))
+        if text:
+            self.lines.append('{"answer":%s,"process":%d}\n' % (text, process))
+            call = opened.pop(process)
+            if call[0] in WRITES:
+                writers[call[1]] -= 1
+                if not writers[call[1]]:
+                    del writers[call[1]]
+        if saying:
+            run.sayings[saying] += 1
+
+    def flush(self):
+        lines, self.lines = "".join(self.lines), []
+        if lines:
+            self.follower.hand(lines.encode())
+        self.run.progress()
+
+    def end(self):
+        """No more is put. What comes of it is the status of the verdict and its report, or what went wrong."""
+        self.inbox.put(None)
+        self.writer.join()
+
+
 class Crew:
     """The threads or processes of a run, and a session of the driver's own."""
 
@@ -417,9 +549,10 @@ class Crew:
         locks = [kit.Lock() for _ in range(options.keys)] if options.void == "lock" else []
         doubts = multiprocessing.get_context("fork").RawArray("b", options.keys) if options.processes else bytearray(options.keys)
         barrier = kit.Barrier(options.threads)
+        self.stream = Stream(options, pipe, self.stamp) if options.stream else None
         self.pipes = [(pipe(), pipe()) for _ in range(options.threads)]
         self.members = [
-            member(target=serve, args=(Worker(number, options, self.stamp, locks, doubts), made, *pipes, barrier), daemon=True)
+            member(target=serve, args=(Worker(number, options, self.stamp, locks, doubts, self.stream), made, *pipes, barrier), daemon=True)
             for number, pipes in enumerate(self.pipes)]
         for one in self.members:
             one.start()
@@ -434,16 +567,23 @@ class Crew:
                     raise Stop(WORDS, "%s: a process has ended" % self.options.name)
                 time.sleep(0.0002)
         taken = [outbox.get() for _, outbox in self.pipes]
-        errors = [one[1] for one in taken if one and isinstance(one[1], str)]
+        errors = [one for one in taken if one and isinstance(one[1], str)]
         if errors:
-            first = next((error for error in errors if "BrokenBarrierError" not in error), errors[0])
-            raise Stop(WORDS, "%s: %s" % (self.options.name, first.rstrip()))
+            first = next((error for error in errors if "BrokenBarrierError" not in error[1]), errors[0])
+            raise Stop(first[0], "%s: %s" % (self.options.name, first[1].rstrip()))
         return taken
 
     def run(self, *task):
+        self.start(*task)
+        return self.taken()
+
+    def start(self, *task):
         for inbox, _ in self.pipes:
             inbox.put(task)
-        return self.taken()
+
+    def is_done(self):
+        """Whether all have put out what they had to, or one has ended."""
+        return all(not outbox.empty() for _, outbox in self.pipes) or not all(one.is_alive() for one in self.members)
 
     def contents(self):
         """Gets of all keys, and what they told: the last calls of a round."""
@@ -522,7 +662,19 @@ class Round:
 WRITES = ("insert", "remove", "replace")
 
 
-class Program:
+class Judge:
+    """Whoever judges."""
+
+    def judge(self, text):
+        """The verdict: once more at ten times the budget where it is undecided."""
+        return self.asked("judge", text)[0]
+
+    def asked(self, command, text):
+        answer = self.ask(command, text, self.budget)
+        return self.ask(command, text, min(10 * self.budget, 10 ** 6)) if answer[0] == UNDECIDED else answer
+
+
+class Program(Judge):
     """The program `bench`."""
 
     def __init__(self, options):
@@ -539,22 +691,122 @@ class Program:
             raise Stop(WORDS, "--bench: no program `bench` here or on the PATH")
         return found
 
-    def judge(self, text):
-        """The verdict: once more at ten times the budget where it is undecided."""
-        status = self.ask("judge", text, self.budget)[0]
-        return self.ask("judge", text, min(10 * self.budget, 10 ** 6))[0] if status == UNDECIDED else status
-
     def ask(self, command, text, budget):
         try:
             done = subprocess.run([self.path, command, "--budget", str(budget)], input=text.encode(), stdout=subprocess.PIPE)
         except OSError as error:
             raise Stop(FILE, "%s: %s" % (self.path, error.strerror))
-        if done.returncode not in (YES, NO, UNDECIDED):
-            raise Stop(done.returncode if FAULTY <= done.returncode <= FILE else FILE, "%s %s: status %d" % (self.path, command, done.returncode))
-        answer = done.stdout.decode("utf-8", "replace")
-        if command != "draw" and not answer.partition("\n")[0].endswith('"verdict":"%s"}' % VERDICTS[done.returncode]):
-            raise Stop(FILE, "%s %s: status %d without its verdict" % (self.path, command, done.returncode))
-        return done.returncode, answer
+        return self.checked(command, done.returncode, done.stdout)
+
+    def checked(self, command, status, answer):
+        """The status with its report, where the program has given one."""
+        if status not in (YES, NO, UNDECIDED):
+            raise Stop(status if FAULTY <= status <= FILE else FILE, "%s %s: status %d" % (self.path, command, status))
+        answer = answer.decode("utf-8", "replace")
+        if command != "draw" and not answer.partition("\n")[0].endswith('"verdict":"%s"}' % VERDICTS[status]):
+            raise Stop(FILE, "%s %s: status %d without its verdict" % (self.path, command, status))
+        return status, answer
+
+    def follower(self):
+        return Pipe(self)
+
+
+class Pipe:
+    """A stream that `bench follow` reads. It writes once it has a verdict, and may do so while the stream goes on: a thread waits for that."""
+
+    def __init__(self, program):
+        self.program = program
+
+    def open(self, stream):
+        self.process = subprocess.Popen([self.program.path, "follow", "--budget", str(self.program.budget)], stdin=subprocess.PIPE,
+                                        stdout=subprocess.PIPE)
+        self.reader = threading.Thread(target=self.read, args=(stream,), daemon=True)
+        self.reader.start()
+
+    def read(self, stream):
+        self.answer = self.process.stdout.read()
+        stream.state.value = max(stream.state.value, OVER)
+
+    def hand(self, lines):
+        self.process.stdin.write(lines)
+        self.process.stdin.flush()
+
+    def end(self):
+        try:
+            self.process.stdin.close()
+        except OSError:
+            pass  # it has ended
+        self.reader.join()
+        return self.program.checked("follow", self.process.wait(), self.answer)
+
+
+class Library(Judge):
+    """The library as a shared object, in the place of the program."""
+
+    def __init__(self, options):
+        self.budget = options.budget
+        try:
+            self.calls = ctypes.CDLL(os.path.abspath(options.library))
+        except OSError as error:
+            raise Stop(FILE, "--library: %s" % error)
+
+    def ask(self, command, text, budget):
+        status, answer = self.told("potzendai_" + command, ctypes.c_char_p(text.encode()), ctypes.c_size_t(len(text.encode())),
+                                   ctypes.c_uint32(budget))
+        if status > UNDECIDED:
+            raise Stop(status, "%s: %s" % (command, answer.rstrip()))
+        return status, answer
+
+    def told(self, name, *words):
+        """What a call answers, and its text: again with more room, where that needs more."""
+        length = ctypes.c_size_t(32767)
+        while True:
+            room = ctypes.create_string_buffer(length.value + 1)
+            status = getattr(self.calls, name)(*words, room, ctypes.c_size_t(len(room)), ctypes.byref(length))
+            if length.value < len(room):
+                return status, room.value.decode()
+
+    def follower(self):
+        return Handle(self)
+
+
+class Handle:
+    """A stream that the library follows: opened, used and closed by one thread."""
+
+    class Follower(ctypes.Structure):
+        _fields_ = [("at", ctypes.c_void_p), ("is_open", ctypes.c_bool)]
+
+    def __init__(self, library):
+        self.library, self.follower = library, self.Follower()
+
+    def open(self, _):
+        if self.library.calls.potzendai_follow_open(ctypes.byref(self.follower), ctypes.c_uint32(self.library.budget)) != YES:
+            raise MemoryError
+
+    def hand(self, lines):
+        if self.library.calls.potzendai_follow_event(ctypes.byref(self.follower), ctypes.c_char_p(lines), ctypes.c_size_t(len(lines))):
+            raise OSError("the stream has its verdict")
+
+    def end(self):
+        status, answer = self.library.told("potzendai_follow_verdict", ctypes.byref(self.follower))
+        self.library.calls.potzendai_follow_close(ctypes.byref(self.follower))
+        if status > UNDECIDED:
+            raise Stop(status, "follow: %s" % answer.rstrip())
+        return status, answer
+
+
+class Out:
+    """A stream that is written to standard output, and that nobody follows."""
+
+    def open(self, _):
+        pass
+
+    def hand(self, lines):
+        sys.stdout.buffer.write(lines)
+        sys.stdout.buffer.flush()
+
+    def end(self):
+        return YES, None
 
 
 # A run
@@ -570,7 +822,9 @@ class Run:
         self.sayings, self.met, self.failed, self.began = dict.fromkeys(("told",) + SAYINGS, 0), set(), None, time.monotonic()
 
     def go(self, number=0):
-        """Rounds from this number on, until one has no order, or the time is over."""
+        """Rounds from this number on, until one has no order, or the time is over; or one stream."""
+        if self.options.stream:
+            return self.follow()
         crew = Crew(self.options, self.make())
         try:
             start, pending = crew.contents()[1], []
@@ -590,6 +844,43 @@ class Run:
             crew.close()
         return self
 
+    def follow(self):
+        """One stream, until it has no order, or the time is over."""
+        crew, options = Crew(self.options, self.make()), self.options
+        stream = crew.stream
+        try:
+            start = crew.contents()[1]
+            stream.begin(self, start, self.program.follower() if self.program else Out())
+            try:
+                crew.start(0, STREAM_PROCESSES, start, set())
+                while stream.state.value == RUNNING and time.monotonic() - self.began < options.seconds and not crew.is_done():
+                    time.sleep(0.01)
+                stream.state.value = max(stream.state.value, OVER)
+                crew.taken()
+            except BaseException:
+                stream.state.value = FAILED
+                raise
+            finally:
+                stream.end()
+        finally:
+            crew.close()
+        if stream.wrong:
+            raise stream.wrong
+        self.conclude(stream, *stream.outcome)
+        return self
+
+    def conclude(self, stream, status, report):
+        """What the verdict on a stream says. One that was cut off has no yes."""
+        is_cut = stream.state.value == FAILED
+        if report and status == YES:
+            is_cut = is_cut or json.loads(report)["calls"] != self.calls
+        if is_cut and status == YES:
+            raise Stop(FILE, "%s: the stream was cut off" % self.options.name)
+        self.undecided += status == UNDECIDED
+        self.failed = report if status == NO else None
+        if stream.next_process() >= STREAM_PROCESSES:
+            self.cut = ["%s: calls without an answer leave no room for others" % self.options.name]
+
     def take(self, one, sayings):
         self.rounds += 1
         self.calls += one.calls
@@ -598,27 +889,36 @@ class Run:
         for said in self.sayings:
             self.sayings[said] += sum(each[said] for each in sayings)
         if self.program is None:
-            print(one.text(), end="", flush=True)
+            try:
+                print(one.text(), end="", flush=True)
+            except OSError:
+                raise Stop(FILE, "standard output: a history was not written")
             return
         status = self.program.judge(one.text())
         self.undecided += status == UNDECIDED
         self.failed = one if status == NO else None
 
     def is_over(self):
-        """At least one round is made. Each second a line on a terminal says how far this is."""
+        """At least one round is made."""
+        self.progress()
+        options = self.options
+        return self.rounds > 0 and (0 < options.rounds <= self.rounds or time.monotonic() - self.began >= options.seconds)
+
+    def progress(self):
+        """Each second a line on a terminal says how far this is."""
         now, options = time.monotonic(), self.options
         if options.shows and now - options.shown >= 1 and self.calls:
             options.shown = now
             refused = 100 * self.sayings[REFUSED] / max(sum(self.sayings.values()), 1)
             print("%d calls, %.0f a second, overlap %.1f a call, %.1f%% refused, two writers met on %d of %d keys" % (
                 self.calls, self.calls / (now - self.began), self.overlap / self.calls, refused, len(self.met), options.keys), file=sys.stderr)
-        return self.rounds > 0 and (0 < options.rounds <= self.rounds or now - self.began >= options.seconds)
 
     def summary(self, verdict):
         """The verdict, and what it rests on."""
         said = ", ".join("%d %s" % (count, said) for said, count in self.sayings.items() if count)
-        return "%s: %d rounds, %d calls in %.1f seconds, overlap %.2f a call: %s%s" % (
-            verdict, self.rounds, self.calls, time.monotonic() - self.began, self.overlap / max(self.calls, 1), said,
+        rounds = "" if self.options.stream else "%d rounds, " % self.rounds
+        return "%s: %s%d calls in %.1f seconds, overlap %.2f a call: %s%s" % (
+            verdict, rounds, self.calls, time.monotonic() - self.began, self.overlap / max(self.calls, 1), said,
             "; %d undecided" % self.undecided if self.undecided else "")
 
 
@@ -740,38 +1040,39 @@ def words_of(argv):
     for name, kind, usual, what in (
             ("--seconds", number(1, 10 ** 9), 0, "how long (10, or as long as --rounds take)"),
             ("--rounds", number(1, GREATEST), 0, "at most so many rounds"),
-            ("--threads", number(1, 62), 4, "threads that call the map (4)"),
-            ("--keys", number(1, CALLS), 16, "keys, from 0 (16)"),
-            ("--hot", number(1, CALLS), 0, "so many of the keys are those of nine calls in ten"),
-            ("--calls", number(1, CALLS), 0, "calls of a thread in a round (200)"),
+            ("--threads", number(1, 1024), 4, "threads that call the map (4)"),
+            ("--keys", number(1, STREAM_KEYS), 0, "keys, from 0 (16; of a stream 1000)"),
+            ("--hot", number(1, STREAM_KEYS), 0, "so many of the keys are those of nine calls in ten"),
+            ("--calls", number(1, GREATEST), 0, "calls of a thread in a round, or in a stream (200; no end)"),
             ("--seed", number(0, GREATEST), time.time_ns() % 1000000007, "what the calls are drawn from (of the clock)"),
             ("--mix", mix, None, "shares, as get=50,put=30,del=10,scan=10; also replace, put_if_absent, floor, ceiling, pop_first"),
             ("--yield", number(0, 1000), 0, "of a thousand points between and in calls, so many give way to other threads (0)"),
-            ("--out", str, ".", "the folder where files are put (.), or - for standard output: all histories, which nobody judges then"),
+            ("--out", str, ".", "the folder where files are put (.), or - for standard output: all histories or the stream, which nobody judges "
+             "then"),
             ("--budget", number(1, 10 ** 6), 100000, "the judge's (100000)"),
-            ("--bench", str, None, "the program (./bench, or on the PATH)")):
+            ("--bench", str, None, "the program (./bench, or on the PATH)"),
+            ("--library", str, None, "the library as a shared object, in the place of the program")):
         words.add_argument(name, type=kind, default=usual, help=what, metavar="N" if isinstance(usual, int) else "WORD",
                            dest=name[2:] + "s" * (name == "--yield"))
-    words.add_argument("--void", choices=("done", "told", "own", "lock"), default="done", help="a put that tells nothing is recorded as "
+    words.add_argument("--void", choices=("done", "told", "own", "lock"), help="a put that tells nothing is recorded as "
                        "done; has to be told; own: one writer a key remembers what it put; lock: a lock a key around a get and the put (done)")
     words.add_argument("--scan", choices=("snapshot", "steps"), default="snapshot", help="a scan is of one moment; or steps of ceiling")
     words.add_argument("--break", dest="broken", choices=tuple(BREAKS) + ("all",), help="makes the map wrong now and then; all: in each way")
     words.add_argument("--processes", action="store_true", help="processes in the place of threads, as for clients of servers")
-    words.add_argument("--stream", action="store_true", help="a run without end, as one stream: the drivers in C and C++ have it")
-    given = words.parse_args(argv)
-    if given.stream:
-        raise Stop(WORDS, "--stream: rounds alone here; the drivers in C and C++ have it")
-    return given
+    words.add_argument("--stream", action="store_true", help="one stream that is followed while it is recorded, in the place of rounds")
+    return words.parse_args(argv)
 
 
 def fit(options, has):
     """The words together, and with what the map has."""
     def wrong(name, what):
         raise Stop(WORDS, "%s: %s" % (name, what))
+    options.has_void, options.void = options.void is not None, options.void or "done"
+    options.keys = options.keys or (1000 if options.stream else 16)
     able = {kind: kind in has for kind in SHARES}
     able["scan"] = "ceiling" in has if options.scan == "steps" else able["scan"]
-    if not able["get"] or not able["put"]:
-        wrong("the map", "a map needs the functions get and put")
+    if not able["get"] or not (able["put"] or able["put_if_absent"]):
+        wrong("the map", "a map needs the functions get, and put or put_if_absent")
     apart = options.void in ("own", "lock")
     options.has_mix = options.mix is not None
     options.shares = options.mix or {kind: 0 if not able[kind] or kind == "pop_first" and apart else SHARES[kind] for kind in SHARES}
@@ -785,14 +1086,17 @@ def fit(options, has):
     options.shown_by = {how: options.shares[kind] > 0 and not (how == "torn" and options.scan == "steps") for how, kind in BREAKS.items()}
     if not options.shown_by.get(options.broken, True):
         wrong("--break", "what it makes wrong is not called")
+    if options.stream and options.rounds:
+        wrong("--rounds", "a stream has none; --seconds, or --calls of each thread")
     if options.hot > options.keys:
         wrong("--hot", "more than there are keys")
     if options.void == "own" and options.keys < options.threads:
         wrong("--void", "own: each thread needs a key")
-    options.calls = options.calls or min(CALLS // (options.threads + 2), 200)
     options.seconds = options.seconds or (10 ** 9 if options.rounds else 10)
-    if (options.threads + 1) * max(options.calls, options.keys) > CALLS:
-        wrong("--calls", "a round has at most 4096 calls: those of each thread, or as many as there are keys, for the threads and one more")
+    options.calls = options.calls or (0 if options.stream else min(CALLS // (options.threads + 2), 200))
+    if not options.stream and (options.threads > PROCESSES - 2 or (options.threads + 1) * max(options.calls, options.keys) > CALLS):
+        wrong("--calls", "a round has at most 62 threads, and 4096 calls: those of each thread, or as many as there are keys, for the threads "
+              "and one more; --stream has no such end")
     options.shows, options.shown = sys.stderr.isatty(), time.monotonic()
     return options
 
@@ -802,10 +1106,12 @@ def words_again(options, rounds):
     said = [os.path.basename(sys.argv[0]), *itertools.takewhile(lambda word: not word.startswith("--"), sys.argv[1:])]
     said += ["--seed", options.seed, "--threads", options.threads, "--keys", options.keys]
     said += ["--hot", options.hot] if options.hot else []
-    said += ["--calls", options.calls, "--mix", ",".join("%s=%d" % (word(kind), share) for kind, share in options.shares.items() if share)]
-    said += ["--void", options.void, "--scan", options.scan] + (["--yield", options.yields] if options.yields else [])
+    said += ["--calls", options.calls] if options.calls else []
+    said += ["--mix", ",".join("%s=%d" % (word(kind), share) for kind, share in options.shares.items() if share)]
+    said += ["--void", options.void] if options.has_void or not options.stream else []
+    said += ["--scan", options.scan] + (["--yield", options.yields] if options.yields else [])
     said += (["--break", options.broken] if options.broken else []) + (["--processes"] if options.processes else [])
-    return " ".join(map(str, said + ["--rounds", rounds]))
+    return " ".join(map(str, said + (["--stream", "--seconds", options.seconds] if options.stream else ["--rounds", rounds])))
 
 
 def functions(make):
@@ -822,7 +1128,7 @@ def tested(make, options):
     """A run by these words: its status, what is to be told before the last line, and the last line."""
     fit(options, functions(make))
     options.name = getattr(make, "__name__", "map")
-    program = None if options.out == "-" else Program(options)
+    program = None if options.out == "-" else Library(options) if options.library else Program(options)
     interval = sys.getswitchinterval()
     sys.setswitchinterval(1e-5)  # else a thread of Python goes on for 5 ms, and hardly a call overlaps another
     try:
@@ -834,20 +1140,41 @@ def tested(make, options):
     finally:
         sys.setswitchinterval(interval)
     status = UNDECIDED if run.undecided or run.cut else YES
+    if program and options.broken and status == YES:
+        run.cut = ["--break %s: the map was wrong now and then, and these calls did not show it" % options.broken]
     return (status, run.cut, run.summary(VERDICTS[status])) if program else (status, run.cut + [run.summary("not judged")], None)
+
+
+def refuted_stream(run):
+    """A stream that has no order: the calls left at a key are a history, where that says it all, which is explained. Where scans overlap much, not
+    all keys of the report are shown."""
+    report, _, small = run.failed.partition("\n")
+    run.options.round, said = 0, [report[:REPORT_SHOWN] + ".." * (len(report) > REPORT_SHOWN)]
+    status, told_of = run.program.asked("explain", small) if small else (UNDECIDED, "")
+    if status == NO:
+        whole = json.loads(small)
+        said += shown(run, small, told_of, types.SimpleNamespace(events=whole["events"], start=dict(whole.get("start", []))))
+    return said + ["  again: " + words_again(run.options, 0)]
+
+
+def shown(run, text, report, one):
+    """What a report of `explain` says of a history, and the files that show it."""
+    said, few = said_report(report, one)
+    said += [keep(run.options, ".json", text)] + ([keep(run.options, "-few.json", few + "\n")] if few else [])
+    return said + [keep(run.options, ".svg", run.program.ask("draw", few + "\n" if few else text, run.options.budget)[1])]
 
 
 def refuted(run):
     """A round that has no order: what shows it, and how to repeat it."""
     options = run.options
+    if options.stream:
+        return refuted_stream(run)
     options.round = run.rounds - 1
     least = smaller(run)
     said = ["round %d has no order" % options.round, "the smallest of some tries that failed: threads %d, keys %d, calls %d" % (
         least.options.threads, least.options.keys, least.options.calls)]
     text = least.failed.text()
-    told_of, few = said_report(run.program.ask("explain", text, 10 * options.budget if run.undecided else options.budget)[1], least.failed)
-    said += told_of + [keep(options, ".json", text)] + ([keep(options, "-few.json", few + "\n")] if few else [])
-    said.append(keep(options, ".svg", run.program.ask("draw", few + "\n" if few else text, options.budget)[1]))
+    said += shown(run, text, run.program.asked("explain", text)[1], least.failed)
     return said + ["  again: " + words_again(options, run.rounds)]
 
 
@@ -874,7 +1201,11 @@ def main(make, argv=None):
     try:
         status, said, last = tested(make, words_of(argv))
         print("".join(line + "\n" for line in said), end="", file=sys.stderr)
-        print(last if last else "", end="\n" if last else "", flush=True)
+        try:
+            print(last if last else "", end="\n" if last else "", flush=True)
+        except OSError:
+            print("standard output: not written", file=sys.stderr)
+            status = FILE if status == YES else status
     except Stop as stop:
         print(stop.line, file=sys.stderr)
         status = stop.status
@@ -887,4 +1218,8 @@ def main(make, argv=None):
     except Exception:
         traceback.print_exc()
         status = FILE
+    try:
+        sys.stdout.flush()
+    except OSError:
+        os.dup2(os.open(os.devnull, os.O_WRONLY), 1)  # it has been told; else the interpreter tells it again as it ends
     sys.exit(status)

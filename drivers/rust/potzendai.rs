@@ -1,21 +1,23 @@
-//! Tests an ordered map of one's own: threads call its functions, what they do is recorded, and the program `bench` judges each recording.
-//! Copy this file beside a source that says `mod potzendai;`: Rust 1.70 and the program are all that it needs.
+//! Tests an ordered map of one's own: threads call its functions, what they do is recorded, and the program `bench` judges each recording, or
+//! follows one stream of it. Copy this file beside a source that says `mod potzendai;`: Rust 1.70 and the program are all that it needs.
 //!
 //!     fn main() {
 //!         std::process::exit(potzendai::run("mine", || Mine::new(), std::env::args().skip(1)));
 //!     }
 //!
 //! From any test, `potzendai::check("mine", || Mine::new(), &["--seconds", "5"])` panics with the explanation.
-#![allow(dead_code)]
+//!
+//! With `--cfg potzendai_library` it calls the library in the place of the program: `-L FOLDER -l static=potzendai` links it.
+#![allow(dead_code, unused_imports, unknown_lints, unexpected_cfgs)]
 
 use std::cell::RefCell;
 use std::collections::{BTreeMap, HashMap, HashSet};
 use std::fmt::Write as _;
 use std::io::{IsTerminal, Read, Write};
 use std::panic::{catch_unwind, AssertUnwindSafe};
-use std::process::{Command, Stdio};
-use std::sync::atomic::{AtomicU64, AtomicUsize, Ordering};
-use std::sync::mpsc::{channel, Receiver, Sender};
+use std::process::{Command, ExitStatus, Stdio};
+use std::sync::atomic::{AtomicBool, AtomicU64, AtomicUsize, Ordering::SeqCst};
+use std::sync::mpsc::{channel, Receiver, Sender, TryRecvError};
 use std::sync::{Arc, Mutex};
 use std::time::{Duration, Instant, SystemTime};
 
@@ -113,12 +115,19 @@ const VERDICTS: [&str; 3] = ["yes", "no", "undecided"];
 const YES: i32 = 0;
 const NO: i32 = 1;
 const UNDECIDED: i32 = 2;
+const MEMORY: i32 = 4;
 const BAD_WORDS: i32 = 5;
 const BAD_FILE: i32 = 6;
 const PROCESSES: usize = 64;
 const CALLS: u64 = 4096;
 const SPAN: u64 = 16;
 const SELDOM: u64 = 20;
+/// Limits of a stream and of its keys; how many stamps a thread may be in front of what is handed over; how many bytes are at once.
+const STREAM_PROCESSES: usize = 65536;
+const STREAM_KEYS: u64 = 16384;
+const REPORT_SHOWN: usize = 1000;
+const AHEAD: u64 = 8192;
+const BATCH: usize = 65536;
 
 #[derive(Clone, Copy, Debug, PartialEq, Eq)]
 enum Kind {
@@ -152,6 +161,16 @@ impl Kind {
 
     fn reads(self) -> bool {
         matches!(self, Get | Scan | Floor | Ceiling)
+    }
+
+    /// Whether the answer tells which call of a history it was.
+    fn is_held(self) -> bool {
+        matches!(self, PutIfAbsent | Floor | Ceiling | PopFirst)
+    }
+
+    /// Its call in a history, as far as that is known before the answer.
+    fn call(self) -> &'static str {
+        ["get", "insert", "remove", "scan", "replace", "insert", "scan", "scan", "remove"][self as usize]
     }
 
     fn fits(self, said: &Said) -> bool {
@@ -279,7 +298,6 @@ fn noted(kind: Kind, words: &[u64], said: &Said) -> Option<(Call, Option<String>
     if tells_nothing || *said == Said::Refused && !matches!(kind, Put | Del | Replace) {
         return None;
     }
-    let name = ["get", "insert", "remove", "scan", "replace", "insert", "scan", "scan", "remove"][kind as usize];
     Some(match (kind, said) {
         (Floor | Ceiling, _) => edge(kind, words[0], said),
         (PopFirst, Said::Pair(key, _) | Said::FoundKey(key)) => (Call("remove", vec![*key]), answer_text(said)),
@@ -288,7 +306,7 @@ fn noted(kind: Kind, words: &[u64], said: &Said) -> Option<(Call, Option<String>
         (Scan, Said::Pairs(pairs)) => (Call("scan", words.to_vec()), Some(pairs_text(pairs))),
         (PutIfAbsent, Said::Told(_) | Said::Found) => (Call("get", vec![words[0]]), answer_text(said)),
         (Replace, Said::Done) => (Call("replace", words.to_vec()), Some(words[1].to_string())),
-        _ => (Call(name, words.to_vec()), answer_text(said)),
+        _ => (Call(kind.call(), words.to_vec()), answer_text(said)),
     })
 }
 
@@ -490,16 +508,81 @@ struct Task {
     missing: Arc<AtomicUsize>,
 }
 
-/// What all threads share: the word of stamps; and the locks of keys, with whether a call that writes the key has no answer, and so may
-/// still come between a get and the put behind it.
+/// What all threads share: the word of stamps; the locks of keys, with whether a call that writes the key has no answer, and so may still
+/// come between a get and the put behind it; and the stream, if it is one.
 struct Shared {
     stamps: AtomicU64,
     locks: Vec<Mutex<bool>>,
+    stream: Option<Stream>,
+}
+
+/// What stands at a stamp of a stream: a call, an answer, or nothing; and what the map said, where that ends a call.
+struct Happening {
+    process: usize,
+    call: Option<Call>,
+    answer: Option<String>,
+    said: Option<usize>,
+}
+
+/// Of a stream whether it goes on, is over, or has failed.
+const RUNNING: usize = 0;
+const OVER: usize = 1;
+const FAILED: usize = 2;
+
+/// A stream of events, which a thread of its own hands on while others record. Stamps are numbers without a gap, and each has its slot; who
+/// is too far in front of what is handed over waits, so that memory does not grow. Nobody waits between its two stamps but for those of
+/// lower ones, so the event of the least stamp always comes.
+struct Stream {
+    slots: Vec<Mutex<Option<Happening>>>,
+    taken: AtomicU64,
+    processes: AtomicUsize,
+    state: AtomicUsize,
+    is_ended: AtomicBool,
+}
+
+/// Lets others go on: most times at once, sometimes for some time.
+fn rest_some(times: u64) {
+    if times % 64 != 0 {
+        std::thread::yield_now();
+    } else {
+        std::thread::sleep(Duration::from_micros(100));
+    }
+}
+
+impl Stream {
+    fn new(threads: u64) -> Stream {
+        let slots = (0..AHEAD).map(|_| Mutex::new(None)).collect();
+        let (taken, processes, state) = (AtomicU64::new(0), AtomicUsize::new(threads as usize), AtomicUsize::new(RUNNING));
+        Stream { slots, taken, processes, state, is_ended: AtomicBool::new(false) }
+    }
+
+    /// The slot of a stamp.
+    fn slot(&self, stamp: u64) -> std::sync::MutexGuard<'_, Option<Happening>> {
+        self.slots[(stamp % AHEAD) as usize].lock().unwrap_or_else(|poisoned| poisoned.into_inner())
+    }
+
+    fn put(&self, stamp: u64, what: Happening) {
+        for times in 1.. {
+            if stamp < self.taken.load(SeqCst) + AHEAD || self.state.load(SeqCst) == FAILED {
+                break;
+            }
+            rest_some(times);
+        }
+        *self.slot(stamp) = Some(what);
+    }
+
+    fn next_process(&self) -> usize {
+        self.processes.fetch_add(1, SeqCst)
+    }
+
+    fn end_calls(&self) {
+        let _ = self.state.compare_exchange(RUNNING, OVER, SeqCst, SeqCst);
+    }
 }
 
 impl Shared {
     fn stamp(&self) -> u64 {
-        self.stamps.fetch_add(1, Ordering::SeqCst)
+        self.stamps.fetch_add(1, SeqCst)
     }
 }
 
@@ -519,6 +602,8 @@ struct Worker<'a> {
     values_from: Option<u64>,
     made: u64,
     life: usize,
+    lives: usize,
+    process: usize,
 }
 
 impl<'a> Worker<'a> {
@@ -529,8 +614,10 @@ impl<'a> Worker<'a> {
             session = Box::new(Broken { truly: session, how, draws, keys: options.keys, once: HashMap::new(), late: None, style: None });
         }
         let (seen, memory) = (HashMap::new(), HashMap::new());
-        let (draws, values_from) = (Draws(0), None);
-        Worker { number, options, shared, session, draws, sayings: [0; 8], seen, memory, log: vec![], puts: 0, values_from, made: 0, life: 0 }
+        let (draws, values_from, log, sayings, process) = (Draws(0), None, vec![], [0; 8], number as usize);
+        Worker {
+            number, options, shared, session, draws, sayings, seen, memory, log, puts: 0, values_from, made: 0, life: 0, lives: 0, process,
+        }
     }
 
     /// The calls of a round. A process whose answer is unknown makes no further call.
@@ -544,9 +631,9 @@ impl<'a> Worker<'a> {
         }
         self.draws = Draws::new(self.options.seed, task.round, self.number);
         POINTS.with(|points| *points.borrow_mut() = (self.options.yields, Draws(self.draws.0.wrapping_add(1))));
-        task.missing.fetch_sub(1, Ordering::SeqCst);
+        task.missing.fetch_sub(1, SeqCst);
         for times in 0u64.. {
-            if task.missing.load(Ordering::SeqCst) == 0 {
+            if task.missing.load(SeqCst) == 0 {
                 break;
             }
             if times % 1024 == 1023 {
@@ -554,10 +641,18 @@ impl<'a> Worker<'a> {
             }
             std::hint::spin_loop();
         }
-        while self.made < self.options.calls && self.life < task.lives {
+        self.lives = task.lives;
+        while self.goes_on() {
             self.draw()?;
         }
         Ok((std::mem::take(&mut self.log), self.sayings))
+    }
+
+    /// Whether it may make one call more.
+    fn goes_on(&self) -> bool {
+        let is_running = |stream: &Stream| stream.state.load(SeqCst) == RUNNING && self.process < STREAM_PROCESSES;
+        let has_calls = self.options.calls == 0 || self.made < self.options.calls;
+        has_calls && self.life < self.lives && self.shared.stream.as_ref().map_or(true, is_running)
     }
 
     fn draw(&mut self) -> Result<(), Stop> {
@@ -598,7 +693,7 @@ impl<'a> Worker<'a> {
     }
 
     fn steps(&mut self, mut low: u64, high: u64) -> Result<(), Stop> {
-        while low <= high && self.made < self.options.calls {
+        while low <= high && self.goes_on() {
             match self.make(Ceiling, &[low])? {
                 Said::Pair(key, _) if key >= low && key < u64::MAX => low = key + 1,
                 _ => break,
@@ -617,7 +712,7 @@ impl<'a> Worker<'a> {
 
     /// A get and a call that writes its key, as one.
     fn make_locked(&mut self, kind: Kind, words: &[u64], is_doubtful: &mut bool) -> Result<(), Stop> {
-        let begin = self.shared.stamp();
+        let begin = self.begin(kind, words);
         let got = if matches!(kind, Put | Del) { ask(&mut *self.session, Get, &words[..1])? } else { Said::Done };
         let said = ask(&mut *self.session, kind, words)?;
         let end = self.shared.stamp();
@@ -627,10 +722,20 @@ impl<'a> Worker<'a> {
 
     /// Makes a call between two stamps, and notes it.
     fn make(&mut self, kind: Kind, words: &[u64]) -> Result<Said, Stop> {
-        let begin = self.shared.stamp();
+        let begin = self.begin(kind, words);
         let said = ask(&mut *self.session, kind, words)?;
         let end = self.shared.stamp();
         self.made_one(kind, words, said, Said::Done, begin, end)
+    }
+
+    /// The stamp in front of a call, which stands in a stream from here on, where it is known.
+    fn begin(&self, kind: Kind, words: &[u64]) -> u64 {
+        let begin = self.shared.stamp();
+        if let (Some(stream), false) = (&self.shared.stream, kind.is_held()) {
+            let call = Some(Call(kind.call(), words.to_vec()));
+            stream.put(begin, Happening { process: self.process, call, answer: None, said: None });
+        }
+        begin
     }
 
     fn made_one(&mut self, kind: Kind, words: &[u64], said: Said, got: Said, begin: u64, end: u64) -> Result<Said, Stop> {
@@ -648,7 +753,10 @@ impl<'a> Worker<'a> {
             Said::Told(value) => self.seen.insert(words[0], value),
             _ => None,
         };
-        if let Some((call, answer)) = noted(kind, words, &known) {
+        let recorded = noted(kind, words, &known);
+        if let Some(stream) = &self.shared.stream {
+            self.hand_over(stream, kind, said.word(), recorded, [begin, end]);
+        } else if let Some((call, answer)) = recorded {
             self.note(begin, What::Invoke(call));
             match answer {
                 Some(answer) => self.note(end, What::Answer(answer)),
@@ -682,6 +790,24 @@ impl<'a> Worker<'a> {
         }
     }
 
+    /// The events of a call that is over, for the stream. One that tells nothing is left out; or refused, where it stands there already.
+    /// One whose answer is unknown stays open, and its thread goes on as another process.
+    fn hand_over(&mut self, stream: &Stream, kind: Kind, word: usize, recorded: Option<(Call, Option<String>)>, stamps: [u64; 2]) {
+        let is_recorded = recorded.is_some();
+        let (call, answer) = match recorded {
+            Some((call, answer)) => (Some(call), answer),
+            None => (None, (!kind.is_held()).then(|| "\"refused\"".to_string())),
+        };
+        if kind.is_held() {
+            stream.put(stamps[0], Happening { process: self.process, call, answer: None, said: None });
+        }
+        let is_open = is_recorded && answer.is_none();
+        stream.put(stamps[1], Happening { process: self.process, call: None, answer, said: Some(word) });
+        if is_open {
+            self.process = stream.next_process();
+        }
+    }
+
     fn note(&mut self, stamp: u64, what: What) {
         self.log.push(Event { stamp, thread: self.number as usize, life: self.life, what });
     }
@@ -696,12 +822,19 @@ fn serve(number: u64, options: &Options, shared: &Shared, map: &dyn Map, tasks: 
         let mut worker = Worker::new(number, options, shared, map);
         let _ = out.send(Ok((vec![], [0; 8])));
         for task in tasks {
-            if out.send(worker.run(&task)).is_err() {
+            let made = worker.run(&task);
+            if let (Err(_), Some(stream)) = (&made, &shared.stream) {
+                stream.state.store(FAILED, SeqCst);
+            }
+            if out.send(made).is_err() {
                 break;
             }
         }
     }));
     if done.is_err() {
+        if let Some(stream) = &shared.stream {
+            stream.state.store(FAILED, SeqCst);
+        }
         let _ = out.send(fail(BAD_WORDS, "a thread has panicked"));
     }
 }
@@ -786,6 +919,23 @@ impl Round {
             && self.events.iter().any(|(_, what)| matches!(what, What::Answer(answer) if *answer == value || answer.contains(&in_pair)))
     }
 
+    /// A history as a round, as far as what is said of it needs that.
+    fn read(text: &str) -> Round {
+        let whole = Json::read(&mut &*text);
+        let mut events = vec![];
+        for event in whole.member("events").items() {
+            let words: Vec<u64> = event.member("invoke").items().iter().skip(1).map(Json::number).collect();
+            let what = match event.member("invoke").items().first() {
+                Some(Json::Text(name)) if name == "replace" => What::Invoke(Call("replace", words)),
+                Some(Json::Text(name)) if name == "insert" => What::Invoke(Call("insert", words)),
+                _ => What::Answer(String::new()),
+            };
+            events.push((event.member("process").number() as usize, what));
+        }
+        let start = whole.member("start").items().iter().map(|pair| (pair.word(0), pair.word(1))).collect();
+        Round { start: Arc::new(start), events, pending: vec![], met: HashSet::new(), calls: 0, overlap: 0 }
+    }
+
     fn text(&self) -> String {
         let mut version = if self.start.is_empty() { 1 } else { 2 };
         let mut texts = vec![];
@@ -808,12 +958,22 @@ impl Round {
     }
 }
 
+impl Program {
+    /// The verdict: once more at ten times the budget where it is undecided.
+    fn ask_twice(&self, command: &str, text: &str) -> Result<(i32, String), Stop> {
+        let asked = self.ask(command, text, self.budget)?;
+        if asked.0 == UNDECIDED { self.ask(command, text, (self.budget * 10).min(1_000_000)) } else { Ok(asked) }
+    }
+}
+
 /// The program `bench`.
+#[cfg(not(potzendai_library))]
 struct Program {
     path: String,
     budget: u64,
 }
 
+#[cfg(not(potzendai_library))]
 impl Program {
     fn new(options: &Options) -> Result<Program, Stop> {
         let beside = std::path::Path::new("bench").is_file();
@@ -828,14 +988,36 @@ impl Program {
         Ok(program)
     }
 
-    /// The verdict: once more at ten times the budget where it is undecided.
-    fn judge(&self, text: &str) -> Result<i32, Stop> {
-        let (status, _) = self.ask("judge", text, self.budget)?;
-        if status == UNDECIDED { Ok(self.ask("judge", text, (self.budget * 10).min(1_000_000))?.0) } else { Ok(status) }
+    /// Has a stream followed that is handed over. The program writes once it has a verdict, and may do so while the stream goes on: then the
+    /// run is over.
+    fn follow(&self, stream: &Stream, hand: impl FnOnce(&mut dyn Write)) -> Result<(i32, String), Stop> {
+        let told = |error: std::io::Error| self.told(&error);
+        let mut asked = Command::new(&self.path);
+        asked.args(["follow", "--budget", &self.budget.to_string()]).stdin(Stdio::piped()).stdout(Stdio::piped());
+        let mut child = asked.spawn().map_err(told)?;
+        let (input, output) = (child.stdin.take(), child.stdout.take());
+        let answer = std::thread::scope(|scope| {
+            let reader = scope.spawn(move || {
+                let mut answer = String::new();
+                let read = output.map_or(Ok(0), |mut output| output.read_to_string(&mut answer));
+                stream.end_calls();
+                read.map(|_| answer)
+            });
+            if let Some(mut input) = input {
+                hand(&mut input);
+            }
+            reader.join()
+        });
+        let answer = answer.unwrap_or(Ok(String::new())).map_err(told)?;
+        self.checked("follow", child.wait().map_err(told)?, answer)
+    }
+
+    fn told(&self, error: &std::io::Error) -> Stop {
+        Stop(BAD_FILE, format!("{}: {error}", self.path))
     }
 
     fn ask(&self, command: &str, text: &str, budget: u64) -> Result<(i32, String), Stop> {
-        let told = |error: std::io::Error| Stop(BAD_FILE, format!("{}: {error}", self.path));
+        let told = |error: std::io::Error| self.told(&error);
         let mut asked = Command::new(&self.path);
         asked.args([command, "--budget", &budget.to_string()]).stdin(Stdio::piped()).stdout(Stdio::piped());
         let mut child = asked.spawn().map_err(told)?;
@@ -846,7 +1028,12 @@ impl Program {
         if let Some(mut output) = child.stdout.take() {
             output.read_to_string(&mut answer).map_err(told)?;
         }
-        match child.wait().map_err(told)?.code() {
+        self.checked(command, child.wait().map_err(told)?, answer)
+    }
+
+    /// The status with its report, where the program has given one.
+    fn checked(&self, command: &str, ended: ExitStatus, answer: String) -> Result<(i32, String), Stop> {
+        match ended.code() {
             Some(status) if status <= UNDECIDED => {
                 let verdict = format!("\"verdict\":\"{}\"}}", VERDICTS[status as usize]);
                 if command == "draw" || answer.lines().next().unwrap_or("").ends_with(&verdict) {
@@ -857,6 +1044,91 @@ impl Program {
             Some(status) => fail(status.min(BAD_FILE), format!("{} {command}: status {status}", self.path)),
             None => fail(BAD_FILE, format!("{} {command}: was killed", self.path)),
         }
+    }
+}
+
+/// The library.
+#[cfg(potzendai_library)]
+struct Program {
+    budget: u64,
+}
+
+/// A stream that the library follows: opened, used and closed by one thread.
+#[cfg(potzendai_library)]
+#[repr(C)]
+struct Follower {
+    at: *mut std::ffi::c_void,
+    is_open: bool,
+}
+
+#[cfg(potzendai_library)]
+extern "C" {
+    fn potzendai_judge(text: *const u8, size: usize, budget: u32, room: *mut u8, room_size: usize, length: *mut usize) -> u32;
+    fn potzendai_explain(text: *const u8, size: usize, budget: u32, room: *mut u8, room_size: usize, length: *mut usize) -> u32;
+    fn potzendai_draw(text: *const u8, size: usize, budget: u32, room: *mut u8, room_size: usize, length: *mut usize) -> u32;
+    fn potzendai_follow(text: *const u8, size: usize, budget: u32, room: *mut u8, room_size: usize, length: *mut usize) -> u32;
+    fn potzendai_follow_open(follower: *mut Follower, budget: u32) -> u32;
+    fn potzendai_follow_event(follower: *mut Follower, lines: *const u8, size: usize) -> u32;
+    fn potzendai_follow_verdict(follower: *mut Follower, room: *mut u8, room_size: usize, length: *mut usize) -> u32;
+    fn potzendai_follow_close(follower: *mut Follower);
+}
+
+#[cfg(potzendai_library)]
+impl Write for Follower {
+    fn write(&mut self, lines: &[u8]) -> std::io::Result<usize> {
+        match unsafe { potzendai_follow_event(self, lines.as_ptr(), lines.len()) } {
+            0 => Ok(lines.len()),
+            _ => Err(std::io::ErrorKind::BrokenPipe.into()), // it has its verdict
+        }
+    }
+
+    fn flush(&mut self) -> std::io::Result<()> {
+        Ok(())
+    }
+}
+
+#[cfg(potzendai_library)]
+impl Program {
+    fn new(options: &Options) -> Result<Program, Stop> {
+        Ok(Program { budget: options.budget })
+    }
+
+    /// What a call answers, and its text: again with more room, where that needs more.
+    fn answered(command: &str, call: impl Fn(*mut u8, usize, *mut usize) -> u32) -> Result<(i32, String), Stop> {
+        let mut length = 32767;
+        loop {
+            let mut room = vec![0; length + 1];
+            let status = call(room.as_mut_ptr(), room.len(), &mut length) as i32;
+            if length >= room.len() {
+                continue;
+            }
+            let answer = String::from_utf8_lossy(&room[..length]).into_owned();
+            return if status > UNDECIDED { fail(status, format!("{command}: {}", answer.trim_end())) } else { Ok((status, answer)) };
+        }
+    }
+
+    fn ask(&self, command: &str, text: &str, budget: u64) -> Result<(i32, String), Stop> {
+        let question = match command {
+            "judge" => potzendai_judge,
+            "explain" => potzendai_explain,
+            _ => potzendai_draw,
+        };
+        let (text, budget) = (text.as_bytes(), budget as u32);
+        Program::answered(command, |room, size, length| unsafe { question(text.as_ptr(), text.len(), budget, room, size, length) })
+    }
+
+    /// Has a stream followed that is handed over.
+    fn follow(&self, stream: &Stream, hand: impl FnOnce(&mut dyn Write)) -> Result<(i32, String), Stop> {
+        let mut follower = Follower { at: std::ptr::null_mut(), is_open: false };
+        if unsafe { potzendai_follow_open(&mut follower, self.budget as u32) } != 0 {
+            return fail(MEMORY, "memory: no follower");
+        }
+        hand(&mut follower);
+        stream.end_calls();
+        let at: *mut Follower = &mut follower;
+        let answer = Program::answered("follow", |room, size, length| unsafe { potzendai_follow_verdict(at, room, size, length) });
+        unsafe { potzendai_follow_close(at) };
+        answer
     }
 }
 
@@ -874,17 +1146,18 @@ struct Run {
     undecided: u64,
     cut: Vec<String>,
     failed: Option<Round>,
+    report: String,
 }
 
 impl Run {
-    /// Rounds from this number on, until one has no order, or the time is over.
+    /// Rounds from this number on, until one has no order, or the time is over; or one stream.
     fn new<M: Map>(options: &Options, make: &dyn Fn() -> M, program: Option<&Program>, number: u64) -> Result<Run, Stop> {
         let (map, options) = (make(), options.clone());
         let locks = if options.void == "lock" { (0..options.keys).map(|_| Mutex::new(false)).collect() } else { vec![] };
-        let shared = Shared { stamps: AtomicU64::new(0), locks };
+        let shared = Shared { stamps: AtomicU64::new(0), locks, stream: options.is_stream.then(|| Stream::new(options.threads)) };
         let mut run = Run {
             options: options.clone(), sayings: [0; 8], met: HashSet::new(), began: Instant::now(), rounds: 0, calls: 0, overlap: 0,
-            undecided: 0, cut: vec![], failed: None,
+            undecided: 0, cut: vec![], failed: None, report: String::new(),
         };
         std::thread::scope(|scope| {
             let mut threads = vec![];
@@ -894,9 +1167,152 @@ impl Run {
                 scope.spawn(move || serve(number, options, shared, map, &inbox, &out));
                 threads.push((tasks, outbox));
             }
-            run.rounds_of(&map, &shared, &threads, program, number)
+            match &shared.stream {
+                Some(stream) => run.follow(&map, &shared, stream, &threads, program),
+                None => run.rounds_of(&map, &shared, &threads, program, number),
+            }
         })?;
         Ok(run)
+    }
+
+    /// One stream, until it has no order, or the time is over.
+    fn follow(
+        &mut self, map: &dyn Map, shared: &Shared, stream: &Stream, threads: &[(Sender<Task>, Receiver<Outcome>)], program: Option<&Program>,
+    ) -> Result<(), Stop> {
+        let (options, began) = (self.options.clone(), self.began);
+        let named = |stop: Stop| Stop(stop.0, format!("{}: {}", options.name, stop.1));
+        for (_, outbox) in threads {
+            outbox.recv().unwrap_or_else(|_| fail(BAD_WORDS, "a thread has ended")).map_err(named)?;
+        }
+        let (_, contents) = rest(&mut *map.open(), &options, shared).map_err(named)?;
+        let (start, missing) = (Arc::new(contents), Arc::new(AtomicUsize::new(threads.len())));
+        let task = Task { round: 0, lives: STREAM_PROCESSES, start: start.clone(), doubtful: Arc::new(HashSet::new()), missing };
+        stream.taken.store(shared.stamps.load(SeqCst), SeqCst);
+        let (ended, written) = std::thread::scope(|scope| {
+            let run = &mut *self;
+            let writer = scope.spawn(move || {
+                let written = run.write(shared, stream, &start, program);
+                if written.is_err() {
+                    stream.state.store(FAILED, SeqCst);
+                }
+                written
+            });
+            for (tasks, _) in threads {
+                let _ = tasks.send(task.clone());
+            }
+            let mut ended: Vec<Option<Outcome>> = threads.iter().map(|_| None).collect();
+            while stream.state.load(SeqCst) == RUNNING && began.elapsed().as_secs() < options.seconds && ended.iter().any(Option::is_none) {
+                std::thread::sleep(Duration::from_millis(10));
+                for (one, (_, outbox)) in ended.iter_mut().zip(threads).filter(|(one, _)| one.is_none()) {
+                    *one = match outbox.try_recv() {
+                        Err(TryRecvError::Empty) => None,
+                        other => Some(other.unwrap_or_else(|_| fail(BAD_WORDS, "a thread has ended"))),
+                    };
+                }
+            }
+            stream.end_calls();
+            for (one, (_, outbox)) in ended.iter_mut().zip(threads).filter(|(one, _)| one.is_none()) {
+                *one = Some(outbox.recv().unwrap_or_else(|_| fail(BAD_WORDS, "a thread has ended")));
+            }
+            stream.is_ended.store(true, SeqCst);
+            (ended, writer.join().unwrap_or_else(|_| fail(BAD_FILE, "a thread has panicked")))
+        });
+        for one in ended.into_iter().flatten() {
+            one.map_err(named)?;
+        }
+        let (status, report) = written?;
+        self.conclude(stream, status, report)
+    }
+
+    /// What the verdict on a stream says. One that was cut off has no yes.
+    fn conclude(&mut self, stream: &Stream, status: i32, report: String) -> Result<(), Stop> {
+        let counts_all = self.options.out == "-" || report.starts_with(&format!("{{\"calls\":{},", self.calls));
+        match status {
+            YES if stream.state.load(SeqCst) == FAILED || !counts_all => {
+                return fail(BAD_FILE, format!("{}: the stream was cut off", self.options.name));
+            }
+            NO => self.failed = Some(Round::read("")),
+            UNDECIDED => self.undecided += 1,
+            _ => (),
+        }
+        self.report = report;
+        if stream.next_process() >= STREAM_PROCESSES {
+            self.cut.push(format!("{}: calls without an answer leave no room for others", self.options.name));
+        }
+        Ok(())
+    }
+
+    /// Hands over each event in its turn, and asks for the verdict at the end.
+    fn write(
+        &mut self, shared: &Shared, stream: &Stream, start: &BTreeMap<u64, u64>, program: Option<&Program>,
+    ) -> Result<(i32, String), Stop> {
+        let pairs: Vec<(u64, u64)> = start.iter().map(|(key, value)| (*key, *value)).collect();
+        let first = format!("{{\"start\":{},\"version\":3}}\n", pairs_text(&pairs));
+        let hand = |out: &mut dyn Write| self.hand_all(shared, stream, first, out);
+        match program {
+            Some(program) => program.follow(stream, hand),
+            None => {
+                hand(&mut std::io::stdout());
+                Ok((YES, String::new()))
+            }
+        }
+    }
+
+    /// Where a write fails, the stream has failed: whoever follows has ended, and the verdict says why.
+    fn hand_all(&mut self, shared: &Shared, stream: &Stream, mut text: String, out: &mut dyn Write) {
+        let (mut open, mut writers, mut times) = (HashMap::new(), HashMap::new(), 0);
+        loop {
+            let (is_ended, next) = (stream.is_ended.load(SeqCst), stream.taken.load(SeqCst));
+            let what = stream.slot(next).take();
+            times = if what.is_some() { 0 } else { times + 1 };
+            let is_cut = times > 0 && is_ended && next != shared.stamps.load(SeqCst);
+            if let Some(what) = what {
+                stream.taken.store(next + 1, SeqCst);
+                self.take_happening(what, &mut open, &mut writers, &mut text);
+            }
+            if is_cut || (text.len() >= BATCH || times > 0) && out.write_all(text.as_bytes()).and_then(|()| out.flush()).is_err() {
+                return stream.state.store(FAILED, SeqCst);
+            }
+            if text.len() >= BATCH || times > 0 {
+                text.clear();
+                self.progress();
+            }
+            if times > 0 && is_ended {
+                return;
+            } else if times > 0 {
+                rest_some(times);
+            }
+        }
+    }
+
+    /// The line of an event, and what is counted: as of a round, but that nothing is kept of calls that are over.
+    fn take_happening(
+        &mut self, what: Happening, open: &mut HashMap<usize, Call>, writers: &mut HashMap<u64, u64>, text: &mut String,
+    ) {
+        let process = what.process;
+        if let Some(call) = what.call {
+            self.calls += 1;
+            self.overlap += open.len() as u64;
+            let _ = writeln!(text, "{{\"invoke\":{},\"process\":{process}}}", call.text());
+            if call.writes() {
+                let count = writers.entry(call.1[0]).or_insert(0);
+                *count += 1;
+                self.met.extend((*count > 1).then_some(call.1[0]));
+            }
+            open.insert(process, call);
+        } else if let Some(answer) = what.answer {
+            let _ = writeln!(text, "{{\"answer\":{answer},\"process\":{process}}}");
+            if let Some(call) = open.remove(&process).filter(Call::writes) {
+                let count = writers.entry(call.1[0]).or_insert(1);
+                *count -= 1;
+                if *count == 0 {
+                    writers.remove(&call.1[0]);
+                }
+            }
+        }
+        if let Some(word) = what.said {
+            self.sayings[word] += 1;
+        }
     }
 
     fn rounds_of(
@@ -950,7 +1366,7 @@ impl Run {
             let written = std::io::stdout().write_all(round.text().as_bytes());
             return written.or_else(|_| fail(BAD_FILE, "standard output: a history was not written"));
         };
-        match program.judge(&round.text())? {
+        match program.ask_twice("judge", &round.text())?.0 {
             NO => self.failed = Some(round),
             UNDECIDED => self.undecided += 1,
             _ => (),
@@ -958,8 +1374,15 @@ impl Run {
         Ok(())
     }
 
-    /// At least one round is made. Each second a line on a terminal says how far this is.
+    /// At least one round is made.
     fn is_over(&mut self) -> bool {
+        self.progress();
+        let is_late = self.began.elapsed().as_secs_f64() >= self.options.seconds as f64;
+        self.rounds > 0 && (self.options.rounds > 0 && self.rounds >= self.options.rounds || is_late)
+    }
+
+    /// Each second a line on a terminal says how far this is.
+    fn progress(&mut self) {
         let seconds = self.began.elapsed().as_secs_f64();
         if self.options.shows && self.options.shown.elapsed() > Duration::from_secs(1) && self.calls > 0 {
             self.options.shown = Instant::now();
@@ -969,7 +1392,6 @@ impl Run {
                 self.calls, calls / seconds, self.overlap as f64 / calls, 100.0 * self.sayings[5] as f64 / all, self.met.len(), self.options.keys
             );
         }
-        self.rounds > 0 && (self.options.rounds > 0 && self.rounds >= self.options.rounds || seconds >= self.options.seconds as f64)
     }
 
     /// The verdict, and what it rests on.
@@ -977,10 +1399,10 @@ impl Run {
         let said: Vec<String> =
             self.sayings.iter().zip(SAYINGS).filter(|(count, _)| **count > 0).map(|(count, word)| format!("{count} {word}")).collect();
         let undecided = if self.undecided > 0 { format!("; {} undecided", self.undecided) } else { String::new() };
+        let rounds = if self.options.is_stream { String::new() } else { format!("{} rounds, ", self.rounds) };
         format!(
-            "{verdict}: {} rounds, {} calls in {:.1} seconds, overlap {:.2} a call: {}{undecided}",
-            self.rounds, self.calls, self.began.elapsed().as_secs_f64(),
-            self.overlap as f64 / self.calls.max(1) as f64, said.join(", ")
+            "{verdict}: {rounds}{} calls in {:.1} seconds, overlap {:.2} a call: {}{undecided}",
+            self.calls, self.began.elapsed().as_secs_f64(), self.overlap as f64 / self.calls.max(1) as f64, said.join(", ")
         )
     }
 }
@@ -1157,7 +1579,7 @@ fn said_report(report: &str, round: &Round) -> (Vec<String>, Option<String>) {
 
 /// Writes a file of a round, and says how it is called.
 fn keep(run: &Run, ending: &str, text: &str) -> String {
-    let name = format!("{}-{}-{}{ending}", run.options.name, run.options.seed, run.rounds - 1);
+    let name = format!("{}-{}-{}{ending}", run.options.name, run.options.seed, run.rounds.saturating_sub(1));
     let path = std::path::Path::new(&run.options.out).join(name);
     match std::fs::write(&path, text) {
         Ok(()) => format!("  file: {}", path.display()),
@@ -1165,8 +1587,34 @@ fn keep(run: &Run, ending: &str, text: &str) -> String {
     }
 }
 
+/// A stream that has no order: the calls left at a key are a history, where that says it all, which is explained. Where scans overlap much, not
+/// all keys of the report are shown.
+fn refuted_stream(run: &Run, program: &Program) -> Result<Vec<String>, Stop> {
+    let (report, small) = run.report.split_once('\n').unwrap_or((&run.report, ""));
+    let mut said = vec![if report.len() > REPORT_SHOWN { format!("{}..", &report[..REPORT_SHOWN]) } else { report.to_string() }];
+    let (status, explained) = if small.is_empty() { (UNDECIDED, String::new()) } else { program.ask_twice("explain", small)? };
+    if status == NO {
+        said.extend(shown(run, small, &explained, &Round::read(small), program)?);
+    }
+    said.push(format!("  again: {}", run.options.again(0)));
+    Ok(said)
+}
+
+/// What a report of `explain` says of a history, and the files that show it.
+fn shown(run: &Run, text: &str, report: &str, round: &Round, program: &Program) -> Result<Vec<String>, Stop> {
+    let (mut said, few) = said_report(report, round);
+    said.push(keep(run, ".json", text));
+    said.extend(few.as_ref().map(|few| keep(run, "-few.json", few)));
+    let picture = program.ask("draw", few.as_deref().unwrap_or(text), run.options.budget)?.1;
+    said.push(keep(run, ".svg", &picture));
+    Ok(said)
+}
+
 /// A round that has no order: what shows it, and how to repeat it.
 fn refuted<M: Map>(run: &Run, make: &dyn Fn() -> M, program: &Program) -> Result<Vec<String>, Stop> {
+    if run.options.is_stream {
+        return refuted_stream(run, program);
+    }
     let less = smaller(run, make, program)?;
     let least = less.as_ref().unwrap_or(run);
     let Some(round) = &least.failed else { return Ok(vec![]) };
@@ -1174,12 +1622,7 @@ fn refuted<M: Map>(run: &Run, make: &dyn Fn() -> M, program: &Program) -> Result
     let mut said = vec![format!("round {} has no order", run.rounds - 1)];
     said.push(format!("the smallest of some tries that failed: threads {threads}, keys {keys}, calls {calls}"));
     let text = round.text();
-    let (lines, few) = said_report(&program.ask("explain", &text, run.options.budget)?.1, round);
-    said.extend(lines);
-    said.push(keep(run, ".json", &text));
-    said.extend(few.as_ref().map(|few| keep(run, "-few.json", few)));
-    let picture = program.ask("draw", few.as_ref().unwrap_or(&text), run.options.budget)?.1;
-    said.push(keep(run, ".svg", &picture));
+    said.extend(shown(run, &text, &program.ask_twice("explain", &text)?.1, round, program)?);
     said.push(format!("  again: {}", run.options.again(run.rounds)));
     Ok(said)
 }
@@ -1189,9 +1632,9 @@ fn refuted<M: Map>(run: &Run, make: &dyn Fn() -> M, program: &Program) -> Result
 const USAGE: &str = "  --seconds N       how long (10, or as long as --rounds take)
   --rounds N        at most so many rounds
   --threads N       threads that call the map (4)
-  --keys N          keys, from 0 (16)
+  --keys N          keys, from 0 (16; of a stream 1000)
   --hot N           so many of the keys are those of nine calls in ten
-  --calls N         calls of a thread in a round (200)
+  --calls N         calls of a thread in a round, or in a stream (200; no end)
   --seed N          what the calls are drawn from (of the clock)
   --mix LIST        shares, as get=50,put=30,del=10,scan=10; also replace, put_if_absent, floor, ceiling, pop_first
   --void HOW        a put that tells nothing is recorded as done; has to be told; own: one writer a key remembers what it put;
@@ -1199,7 +1642,8 @@ const USAGE: &str = "  --seconds N       how long (10, or as long as --rounds ta
   --scan HOW        snapshot: a scan is of one moment; steps: steps of ceiling (snapshot)
   --yield N         of a thousand points between and in calls, so many give way to other threads (0)
   --break HOW       makes the map wrong now and then: drop, race, replay, stale, zombie, torn or cas; all: in each of these ways
-  --out FOLDER      where files are put (.), or - for standard output: all histories, which nobody judges then
+  --stream          one stream that is followed while it is recorded, in the place of rounds
+  --out FOLDER      where files are put (.), or - for standard output: all histories or the stream, which nobody judges then
   --budget N        the judge's (100000)
   --bench PATH      the program (./bench, or on the PATH)";
 
@@ -1220,6 +1664,8 @@ struct Options {
     seed: u64,
     yields: u64,
     budget: u64,
+    is_stream: bool,
+    has_void: bool,
     has_mix: bool,
     shares: [u64; 9],
     shows: bool,
@@ -1231,14 +1677,19 @@ impl Options {
         let seed = SystemTime::now().duration_since(SystemTime::UNIX_EPOCH).map_or(1, |time| time.as_nanos() as u64 % 1_000_000_007);
         let mut options = Options {
             name: name.to_string(), void: "done".to_string(), scan: "snapshot".to_string(), out: ".".to_string(), broken: None, bench: None,
-            seconds: 0, rounds: 0, threads: 4, keys: 16, hot: 0, calls: 0, seed, yields: 0, budget: 100_000, has_mix: false, shares: [0; 9],
-            shows: std::io::stderr().is_terminal(), shown: Instant::now(),
+            seconds: 0, rounds: 0, threads: 4, keys: 0, hot: 0, calls: 0, seed, yields: 0, budget: 100_000,
+            is_stream: false, has_void: false, has_mix: false, shares: [0; 9], shows: std::io::stderr().is_terminal(), shown: Instant::now(),
         };
         if words.iter().any(|word| word == "--help") {
             return fail(BAD_WORDS, format!("usage: {name} [WORDS]\n{USAGE}"));
         }
-        for pair in words.chunks(2) {
-            options.read(&pair[0], pair.get(1).map_or("", |text| text))?;
+        let mut words = words.iter();
+        while let Some(word) = words.next() {
+            if word == "--stream" {
+                options.is_stream = true;
+            } else {
+                options.read(word, words.next().map_or("", |text| text))?;
+            }
         }
         Ok(options)
     }
@@ -1247,10 +1698,10 @@ impl Options {
         let (least, most, to) = match word {
             "--seconds" => (1, 1_000_000_000, &mut self.seconds),
             "--rounds" => (1, u64::MAX, &mut self.rounds),
-            "--threads" => (1, PROCESSES as u64 - 2, &mut self.threads),
-            "--keys" => (1, CALLS, &mut self.keys),
-            "--hot" => (1, CALLS, &mut self.hot),
-            "--calls" => (1, CALLS, &mut self.calls),
+            "--threads" => (1, 1024, &mut self.threads),
+            "--keys" => (1, STREAM_KEYS, &mut self.keys),
+            "--hot" => (1, STREAM_KEYS, &mut self.hot),
+            "--calls" => (1, u64::MAX, &mut self.calls),
             "--seed" => (0, u64::MAX, &mut self.seed),
             "--yield" => (0, 1000, &mut self.yields),
             "--budget" => (1, 1_000_000, &mut self.budget),
@@ -1274,13 +1725,12 @@ impl Options {
             return fail(BAD_WORDS, format!("{word}: none of its names; --help has them"));
         }
         match word {
-            "--void" => self.void = text.to_string(),
+            "--void" => (self.void, self.has_void) = (text.to_string(), true),
             "--scan" => self.scan = text.to_string(),
             "--break" => self.broken = Some(text.to_string()),
             "--out" => self.out = text.to_string(),
             "--bench" => self.bench = Some(text.to_string()),
             "--mix" => return self.read_mix(text),
-            "--stream" => return fail(BAD_WORDS, "--stream: rounds alone here; the drivers in C and C++ have it"),
             _ => return fail(BAD_WORDS, format!("{word}: no such word; --help has them")),
         }
         Ok(())
@@ -1318,7 +1768,8 @@ impl Options {
                 return fail(BAD_WORDS, format!("{}: {why}", kind.name()));
             }
         }
-        self.calls = if self.calls > 0 { self.calls } else { 200.min(CALLS / (self.threads + 2)) };
+        self.keys = if self.keys > 0 { self.keys } else if self.is_stream { 1000 } else { 16 };
+        self.calls = if self.calls > 0 || self.is_stream { self.calls } else { 200.min(CALLS / (self.threads + 2)) };
         self.seconds = if self.seconds > 0 { self.seconds } else if self.rounds > 0 { 1_000_000_000 } else { 10 };
         let is_unbroken = self.broken.as_ref().map_or(true, |how| how == "all" || self.is_called(how));
         let rows = [
@@ -1327,9 +1778,11 @@ impl Options {
             (!is_unbroken, "--break: what it makes wrong is not called"),
             (self.hot > self.keys, "--hot: more than there are keys"),
             (self.void == "own" && self.keys < self.threads, "--void: own: each thread needs a key"),
+            (self.is_stream && self.rounds > 0, "--rounds: a stream has none; --seconds, or --calls of each thread"),
             (
-                (self.threads + 1) * self.calls.max(self.keys) > CALLS,
-                "--calls: a round has at most 4096 calls: those of each thread, or as many as there are keys, for the threads and one more",
+                !self.is_stream && (self.threads > PROCESSES as u64 - 2 || self.calls.max(self.keys) > CALLS / (self.threads + 1)),
+                "--calls: a round has at most 62 threads, and 4096 calls: those of each thread, or as many as there are keys, for the threads \
+                 and one more; --stream has no such end",
             ),
         ];
         rows.iter().find(|(is_wrong, _)| *is_wrong).map_or(Ok(()), |(_, line)| fail(BAD_WORDS, *line))
@@ -1356,14 +1809,21 @@ impl Options {
         if self.hot > 0 {
             let _ = write!(text, " --hot {}", self.hot);
         }
-        let _ = write!(text, " --calls {} --mix {} --void {} --scan {}", self.calls, mix.join(","), self.void, self.scan);
+        if self.calls > 0 {
+            let _ = write!(text, " --calls {}", self.calls);
+        }
+        let _ = write!(text, " --mix {}", mix.join(","));
+        if self.has_void || !self.is_stream {
+            let _ = write!(text, " --void {}", self.void);
+        }
+        let _ = write!(text, " --scan {}", self.scan);
         if self.yields > 0 {
             let _ = write!(text, " --yield {}", self.yields);
         }
         if let Some(how) = &self.broken {
             let _ = write!(text, " --break {how}");
         }
-        format!("{text} --rounds {rounds}")
+        if self.is_stream { format!("{text} --stream --seconds {}", self.seconds) } else { format!("{text} --rounds {rounds}") }
     }
 }
 
@@ -1385,6 +1845,9 @@ fn tested<M: Map>(name: &str, make: &dyn Fn() -> M, words: &[String]) -> Result<
     };
     if run.failed.is_some() {
         said = refuted(&run, make, &program)?;
+    }
+    if let (Some(how), YES) = (&options.broken, status) {
+        said.push(format!("--break {how}: the map was wrong now and then, and these calls did not show it"));
     }
     Ok((status, said, run.summary(VERDICTS[status as usize])))
 }
@@ -1414,6 +1877,9 @@ pub fn run<M: Map>(name: &str, make: impl Fn() -> M, words: impl Iterator<Item =
         Ok((status, said, last)) => {
             said.iter().for_each(|line| eprintln!("{line}"));
             let written = if last.is_empty() { Ok(()) } else { writeln!(std::io::stdout(), "{last}") };
+            if written.is_err() {
+                eprintln!("standard output: not written");
+            }
             if written.is_err() && status == YES { BAD_FILE } else { status }
         }
         Err(Stop(status, line)) => {

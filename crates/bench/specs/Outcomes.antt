@@ -11,7 +11,7 @@ use Rattle.locked_map.specs.Answers.{IsAnswerOf}
 use Rattle.outcomes.specs.declared.outcome.Outcome.{Outcome}
 use Rattle.outcomes.specs.Ends.{Change, IsUnused}
 use Rattle.history_engines.specs.Outcomes.{IsCheckOutcome, IsJudgeOutcome}
-use Rattle.history_engines.specs.LocateOutcomes.{IsLocateOutcome}
+use Rattle.location_engines.specs.Outcomes.{IsLocateOutcome}
 use Rattle.explain_engines.specs.Outcomes.{IsExplainOutcome}
 use Rattle.picture_engines.specs.Outcomes.{IsDrawOutcome}
 use Rattle.stream_engines.specs.Outcomes.{IsFollowOutcome}
@@ -37,7 +37,7 @@ IsDrivenOutcome None shape limit source outcome = IsDriveOutcome IsAnswerOf sour
 abbrev pub IsLineOutcome : Line → Change → Outcome → Type 0
 IsLineOutcome (Check order) source outcome = IsCheckOutcome order.items source outcome
 IsLineOutcome (Judge budget workers) source outcome = IsJudgeOutcome budget source outcome
-IsLineOutcome (Locate budget workers) source outcome = IsLocateOutcome budget source outcome
+IsLineOutcome (Locate budget) source outcome = IsLocateOutcome budget source outcome
 IsLineOutcome (Explain budget) source outcome = IsExplainOutcome budget source outcome
 IsLineOutcome (Draw budget workers around calls) source outcome =
     IsDrawOutcome budget (record { around = around; calls = calls }) source outcome

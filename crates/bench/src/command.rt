@@ -10,8 +10,9 @@ ghost use Rattle.bench.specs.Outcomes.{IsLineOutcome, variant_of};
 use art::{Shape, Variant};
 use command_line::{Line, Tree};
 use explain_engines::run_explain;
-use history_engines::{run_check, run_judge, run_locate};
+use history_engines::{run_check, run_judge};
 use line_outcomes::asked_line;
+use location_engines::run_locate;
 use locked_map::LockedMap;
 use outcomes::write_outcome;
 use picture_engines::{View, run_draw};
@@ -63,11 +64,7 @@ pub fn run<R: Threads + Wait + Sync, S: Source, O: Sink, F: Sink, H: Sink, P: Pr
                 rt, alloc, source, output, faults, hints, budget, workers, &OpenGate,
             )
         }
-        Line::Locate { budget, workers } => {
-            run_locate(
-                rt, alloc, source, output, faults, hints, budget, workers, &OpenGate,
-            )
-        }
+        Line::Locate { budget } => run_locate(alloc, source, output, faults, hints, budget),
         Line::Explain { budget } => run_explain(alloc, source, output, faults, hints, budget),
         Line::Draw {
             budget,

@@ -4,8 +4,7 @@ use std::io::{IsTerminal, Stderr, Write};
 use std::time::{Clock, Instant};
 use stream_engines::Progress;
 
-/// Tells on standard error, where that is a terminal, each second how many calls were taken, how many a second since it last told so,
-/// and how many of them the follower keeps.
+/// Tells on standard error, where that is a terminal, each second how many calls were taken, and how many a second since it last told so.
 #[derive(Drop)]
 pub struct TerminalProgress<'a, R> {
     rt: &'a R,
@@ -30,7 +29,7 @@ impl<'a, R: Clock> TerminalProgress<'a, R> {
 }
 
 impl<R: Clock> Progress for TerminalProgress<'_, R> {
-    fn show(&mut self, calls: usize, left: usize) {
+    fn show(&mut self, calls: usize) {
         if !self.is_shown {
             return;
         }
@@ -46,7 +45,7 @@ impl<R: Clock> Progress for TerminalProgress<'_, R> {
             return;
         }
         let rate = (calls.saturating_sub(self.calls) as u128) * 1000 / passed;
-        let _ = writeln!(self.terminal, "{calls} calls, {rate} a second, {left} left");
+        let _ = writeln!(self.terminal, "{calls} calls, {rate} a second");
         self.last = Some(now);
         self.calls = calls;
     }

@@ -8,7 +8,7 @@ ghost use Rattle.call_search.specs.Standing.{places, Stands, StandsBare, IsNextO
 use crate::choices::choices;
 use events::{Call, Memory, Operation};
 use map_object::SortedMap;
-use memo::{Memo, visit, visited_at_start};
+use memo::{Memo, visited_at_start};
 use search::{take_call, undo_call};
 use std::alloc::Global;
 use std::mem;
@@ -118,12 +118,11 @@ fn take(
     requires next { IsNextOf start calls.now (places standing.old.levels.items) place standing.old.rest.items }
     ensures { IfOk result (IsTaken start calls.now place standing.old standing.new) }
 {
-    let undo = take_call(alloc, &mut standing.map, &calls[place as usize])?;
-    let config = standing
+    let call = &calls[place as usize];
+    let undo = take_call(alloc, &mut standing.map, call)?;
+    let new = standing
         .memo
-        .at(standing.at)
-        .with(alloc, place, &standing.map)?;
-    let new = visit(&mut standing.memo, config)?;
+        .visit_next(alloc, standing.at, place, call, &standing.map)?;
     if new {
         push(alloc, standing, place, undo)?;
         return Ok(true);

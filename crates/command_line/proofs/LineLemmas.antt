@@ -12,14 +12,14 @@ use Rattle.command_line.specs.Limits.{around_limit, shown_default, shown_limit}
 use Rattle.command_line.specs.Limits.{budget_default, budget_limit, rows16_default, rows16_limit, rows256_default, rows256_limit}
 use Rattle.command_line.specs.Limits.{rows4_default, rows4_limit}
 use Rattle.command_line.specs.Limits.{rows48_default, rows48_limit, steps_limit, workers_default, workers_limit}
-use Rattle.command_line.specs.Lines.{ChecksNumbers, Draws, Drives, NamesTree, IsCheck, IsDraw, IsDrive, IsJudge, IsLocate, IsSearch}
+use Rattle.command_line.specs.Lines.{ChecksNumbers, Draws, Drives, NamesTree, IsCheck, IsDraw, IsDrive, IsJudge, IsLocate}
 use Rattle.command_line.specs.Lines.{asked_by}
 use Rattle.command_line.specs.Lines.{option_words as words_of}
 use Rattle.command_line.specs.Numbers.{IsNumberWithin, number_of}
 use Rattle.command_line.specs.Program.{bench_table, check_usage, draw_usage, drive_usage, judge_usage, locate_usage, number_flag}
-use Rattle.command_line.specs.Program.{search_usage, tree_flag}
+use Rattle.command_line.specs.Program.{tree_flag}
 use Rattle.command_line.specs.Requests.{IsReadFrom}
-use Rattle.command_line.specs.Tables.{Flag, Usage, usage_named}
+use Rattle.command_line.specs.Tables.{Flag}
 use Rattle.command_line.specs.Trees.{name_of, place_of, trees}
 use Rattle.command_line.specs.Words.{AreOptionsOf, Given, Gives, IsUse, option_words, value_given}
 use Rattle.command_line.specs.declared.line.Line.{Line}
@@ -134,7 +134,7 @@ draws given (Draw budget workers around calls) gives =
     )
 draws given other gives = absurd (other_name _ _ gives.name refl)
 
--- ---- judge and locate
+-- ---- judge
 
 -- an option that may be given
 abbrev given_as : Text → Option Text → List Given
@@ -186,10 +186,10 @@ workers_options None (Some x) b w = (w, refl, tt)
 workers_options (Some x) None b w = (b, refl, tt)
 workers_options (Some x) (Some y) b w = (w, refl, (b, refl, tt))
 
--- options of a subcommand that give these values
-record Gets (usage : Usage) (words : List Text) (budget workers : Option Text) : Type 0 where
+-- options of `judge` that give these values
+record Gets (words : List Text) (budget workers : Option Text) : Type 0 where
   given : List Given
-  is_use : IsUse bench_table words usage given []
+  is_use : IsUse bench_table words judge_usage given []
   budget_is : value_given given (codes "budget") ≡ budget
   workers_is : value_given given (codes "workers") ≡ workers
 
@@ -208,16 +208,14 @@ workers_value None (Some w) = (refl, refl)
 workers_value (Some b) None = (refl, refl)
 workers_value (Some b) (Some w) = (refl, refl)
 
-search_gets : (subcommand : Text) → usage_named subcommand bench_table ≡ Some (search_usage subcommand)
-    → (words : List Text) (budget workers : Option Text)
-    → IsSearch subcommand words budget workers → Gets (search_usage subcommand) words budget workers
-search_gets subcommand is_named words budget workers is = elim is.in_an_order [
+judge_gets : (words : List Text) (budget workers : Option Text) → IsJudge words budget workers → Gets words budget workers
+judge_gets words budget workers is = elim is.in_an_order [
   | inl options_are ↦ record {
     given = budget_first budget workers;
     is_use = record {
       program = is.name;
-      words_are = is.words_are ∙ ap (λ (ws : List Text). is.name ∷ subcommand ∷ ws) (options_are ∙ budget_words budget workers);
-      named = is_named;
+      words_are = is.words_are ∙ ap (λ (ws : List Text). is.name ∷ codes "judge" ∷ ws) (options_are ∙ budget_words budget workers);
+      named = refl;
       options = budget_options budget workers is.budget_within is.workers_within;
       required = refl;
       numbers = λ k d lt. absurd (omega arith);
@@ -230,8 +228,8 @@ search_gets subcommand is_named words budget workers is = elim is.in_an_order [
     given = workers_first budget workers;
     is_use = record {
       program = is.name;
-      words_are = is.words_are ∙ ap (λ (ws : List Text). is.name ∷ subcommand ∷ ws) (options_are ∙ workers_words budget workers);
-      named = is_named;
+      words_are = is.words_are ∙ ap (λ (ws : List Text). is.name ∷ codes "judge" ∷ ws) (options_are ∙ workers_words budget workers);
+      named = refl;
       options = workers_options budget workers is.budget_within is.workers_within;
       required = refl;
       numbers = λ k d lt. absurd (omega arith);
@@ -257,12 +255,12 @@ numbers_read given budget workers x y b w read_budget read_workers = record {
 
 -- a use of `judge`, for each of these words
 pub judge_given : (words : List Text) (budget workers : Option Text) → IsJudge words budget workers → List Given
-judge_given words budget workers is = (search_gets (codes "judge") refl words budget workers is).given
+judge_given words budget workers is = (judge_gets words budget workers is).given
 
 pub judge_use : (words : List Text) (budget workers : Option Text) (is : IsJudge words budget workers)
     → IsUse bench_table words judge_usage (judge_given words budget workers is) []
 unfolding judge_given
-judge_use words budget workers is = (search_gets (codes "judge") refl words budget workers is).is_use
+judge_use words budget workers is = (judge_gets words budget workers is).is_use
 
 judges_numbers : (given : List Given) (budget workers : Option Text) (line : Line) → value_given given (codes "budget") ≡ budget
     → value_given given (codes "workers") ≡ workers
@@ -278,31 +276,46 @@ pub judges : (words : List Text) (budget workers : Option Text) (line : Line) (i
     → line ≡ Judge (option_map_or number_of budget budget_default) (option_map_or number_of workers workers_default)
 unfolding judge_given
 judges words budget workers line is gives =
-    let gets = search_gets (codes "judge") refl words budget workers is in
+    let gets = judge_gets words budget workers is in
     judges_numbers gets.given budget workers line gets.budget_is gets.workers_is gives
 
+-- ---- locate
+
+budget_word : (budget : Option Text) → words_of (codes "--budget") budget ≡ option_words (given_as (codes "budget") budget) ++ []
+budget_word None = refl
+budget_word (Some b) = refl
+
+budget_option : (budget : Option Text) → IfSome budget (IsNumberWithin budget_limit)
+    → AreOptionsOf locate_usage.flags (given_as (codes "budget") budget)
+budget_option None b = tt
+budget_option (Some x) b = (b, refl, tt)
+
+value_of_budget : (budget : Option Text) → value_given (given_as (codes "budget") budget) (codes "budget") ≡ budget
+value_of_budget None = refl
+value_of_budget (Some b) = refl
+
 -- a use of `locate`, for each of these words
-pub locate_given : (words : List Text) (budget workers : Option Text) → IsLocate words budget workers → List Given
-locate_given words budget workers is = (search_gets (codes "locate") refl words budget workers is).given
+pub locate_given : Option Text → List Given
+locate_given budget = given_as (codes "budget") budget
 
-pub locate_use : (words : List Text) (budget workers : Option Text) (is : IsLocate words budget workers)
-    → IsUse bench_table words locate_usage (locate_given words budget workers is) []
+pub locate_use : (words : List Text) (budget : Option Text) → IsLocate words budget
+    → IsUse bench_table words locate_usage (locate_given budget) []
 unfolding locate_given
-locate_use words budget workers is = (search_gets (codes "locate") refl words budget workers is).is_use
+locate_use words budget is = record {
+  program = is.name;
+  words_are = is.words_are ∙ ap (λ (ws : List Text). is.name ∷ codes "locate" ∷ ws) (budget_word budget);
+  named = refl;
+  options = budget_option budget is.budget_within;
+  required = refl;
+  numbers = λ k d lt. absurd (omega arith);
+  no_calls = λ _. refl;
+}
 
-locates_numbers : (given : List Given) (budget workers : Option Text) (line : Line) → value_given given (codes "budget") ≡ budget
-    → value_given given (codes "workers") ≡ workers
-    → Gives locate_usage given [] (asked_by line)
-    → line ≡ Locate (option_map_or number_of budget budget_default) (option_map_or number_of workers workers_default)
-locates_numbers given budget workers (Locate x y) b w gives =
-    let read = numbers_read given budget workers x y b w gives.numbers.0.read gives.numbers.1.0.read in
-    ap₂ Locate read.budget_is read.workers_is
-locates_numbers given budget workers other b w gives = absurd (other_name _ _ gives.name refl)
-
-pub locates : (words : List Text) (budget workers : Option Text) (line : Line) (is : IsLocate words budget workers)
-    → Gives locate_usage (locate_given words budget workers is) [] (asked_by line)
-    → line ≡ Locate (option_map_or number_of budget budget_default) (option_map_or number_of workers workers_default)
+pub locates : (budget : Option Text) (line : Line) → Gives locate_usage (locate_given budget) [] (asked_by line)
+    → line ≡ Locate (option_map_or number_of budget budget_default)
 unfolding locate_given
-locates words budget workers line is gives =
-    let gets = search_gets (codes "locate") refl words budget workers is in
-    locates_numbers gets.given budget workers line gets.budget_is gets.workers_is gives
+locates budget (Locate x) gives =
+    ap Locate
+    (read_number (codes "budget") 1 budget_limit budget_default _ x gives.numbers.0.read
+    ∙ ap (λ (o : Option Text). option_map_or number_of o budget_default) (value_of_budget budget))
+locates budget other gives = absurd (other_name _ _ gives.name refl)

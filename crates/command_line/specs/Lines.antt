@@ -23,8 +23,7 @@ abbrev pub asked_by : Line → Asked
 asked_by (Check order) = record { name = codes "check"; numbers = []; calls = order.items }
 asked_by (Judge budget workers) =
     record { name = codes "judge"; numbers = budget ∷ workers ∷ []; calls = [] }
-asked_by (Locate budget workers) =
-    record { name = codes "locate"; numbers = budget ∷ workers ∷ []; calls = [] }
+asked_by (Locate budget) = record { name = codes "locate"; numbers = budget ∷ []; calls = [] }
 asked_by (Explain budget) = record { name = codes "explain"; numbers = budget ∷ []; calls = [] }
 asked_by (Draw budget workers around calls) =
     record { name = codes "draw"; numbers = budget ∷ workers ∷ around ∷ calls ∷ []; calls = [] }
@@ -50,8 +49,7 @@ abbrev pub IsWithinLimits : Line → Type 0
 IsWithinLimits (Check order) = ⊤
 IsWithinLimits (Judge budget workers) =
     (1 ≤ budget) × (budget ≤ budget_limit) × (1 ≤ workers) × (workers ≤ workers_limit)
-IsWithinLimits (Locate budget workers) =
-    (1 ≤ budget) × (budget ≤ budget_limit) × (1 ≤ workers) × (workers ≤ workers_limit)
+IsWithinLimits (Locate budget) = (1 ≤ budget) × (budget ≤ budget_limit)
 IsWithinLimits (Explain budget) = (1 ≤ budget) × (budget ≤ budget_limit)
 IsWithinLimits (Draw budget workers around calls) = (1 ≤ budget) × (budget ≤ budget_limit) × (1 ≤ workers)
     × (workers ≤ workers_limit) × (around ≤ around_limit) × (calls ≤ shown_limit)
@@ -75,12 +73,11 @@ ChecksNumbers calls other = ⊥
 abbrev pub option_words : Text → Option Text → List Text
 option_words flag value = option_map_or (λ text. flag ∷ text ∷ []) value []
 
--- the words are a name, this subcommand and these options of a search, in either order, where the
--- value of each spells a number within its limits
-pub record IsSearch (subcommand : Text) (words : List Text) (budget workers : Option Text) : Type 0 where
+-- the words are a name, `judge` and these options of it, in either order, where the value of each spells a number within its limits
+pub record IsJudge (words : List Text) (budget workers : Option Text) : Type 0 where
   pub name : Text
   pub options : List Text
-  pub words_are : words ≡ name ∷ subcommand ∷ options
+  pub words_are : words ≡ name ∷ codes "judge" ∷ options
   pub in_an_order :
       (options ≡ option_words (codes "--budget") budget ++ option_words (codes "--workers") workers)
       ⊎ (options
@@ -88,12 +85,11 @@ pub record IsSearch (subcommand : Text) (words : List Text) (budget workers : Op
   pub budget_within : IfSome budget (IsNumberWithin budget_limit)
   pub workers_within : IfSome workers (IsNumberWithin workers_limit)
 
--- so are those of `judge` and of `locate`
-abbrev pub IsJudge : List Text → Option Text → Option Text → Type 0
-IsJudge words budget workers = IsSearch (codes "judge") words budget workers
-
-abbrev pub IsLocate : List Text → Option Text → Option Text → Type 0
-IsLocate words budget workers = IsSearch (codes "locate") words budget workers
+-- the words are a name, `locate` and its option, whose value spells a number within its limits
+pub record IsLocate (words : List Text) (budget : Option Text) : Type 0 where
+  pub name : Text
+  pub words_are : words ≡ name ∷ codes "locate" ∷ option_words (codes "--budget") budget
+  pub budget_within : IfSome budget (IsNumberWithin budget_limit)
 
 -- the words are a name, `draw` and these options of it
 pub record IsDraw (words : List Text) (given : List Given) : Type 0 where

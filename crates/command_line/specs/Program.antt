@@ -19,26 +19,22 @@ abbrev pub number_flag : Text → ℕ → ℕ → ℕ → Flag
 number_flag name least greatest default =
     record { name = name; values = within least greatest; default = Some default }
 
--- a subcommand of this name, with the options of a search: `NAME [--budget N] [--workers N]`
-abbrev pub search_usage : Text → Usage
-search_usage name = record {
-  name = name;
+-- `judge [--budget N] [--workers N]`
+abbrev pub judge_usage : Usage
+judge_usage = record {
+  name = codes "judge";
   flags = number_flag (codes "budget") 1 budget_limit budget_default
       ∷ number_flag (codes "workers") 1 workers_limit workers_default ∷ [];
   takes_calls = false;
 }
 
--- `judge [--budget N] [--workers N]`
-abbrev pub judge_usage : Usage
-judge_usage = search_usage (codes "judge")
-
--- `locate [--budget N] [--workers N]`
-abbrev pub locate_usage : Usage
-locate_usage = search_usage (codes "locate")
-
 -- a subcommand of this name with a budget: `NAME [--budget N]`
 abbrev pub budget_usage : Text → Usage
 budget_usage name = record { name = name; flags = number_flag (codes "budget") 1 budget_limit budget_default ∷ []; takes_calls = false }
+
+-- `locate [--budget N]`
+abbrev pub locate_usage : Usage
+locate_usage = budget_usage (codes "locate")
 
 -- `explain [--budget N]`
 abbrev pub explain_usage : Usage

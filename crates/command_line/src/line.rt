@@ -14,11 +14,10 @@ pub enum Line {
         budget: u32,
         workers: u32,
     },
-    /// At which event the history on standard input stops being linearizable, found by verdicts on its
-    /// first events. Each is as `Judge` asks for one, within the same limits.
+    /// At which event the history on standard input stops being linearizable, where a search at one key reaches at most `budget`
+    /// positions, within the limits of `Judge`.
     Locate {
         budget: u32,
-        workers: u32,
     },
     /// Few calls of the history on standard input that are not linearizable, where one thread judges it and searches at most
     /// `budget` configurations of each segment, and of some of its calls, within the limits of `Judge`.

@@ -74,7 +74,7 @@ pub(crate) static SUBCOMMANDS: [Subcommand<'static>; 9] = [
     Subcommand {
         name: "locate",
         about: "Tells at which event the history on standard input stops being linearizable",
-        options: search_options!(),
+        options: &[budget_option!("How many positions each search at one key reaches at most")],
         takes_calls: false,
     },
     Subcommand {
@@ -108,7 +108,7 @@ pub(crate) static SUBCOMMANDS: [Subcommand<'static>; 9] = [
         name: "follow",
         about: "Tells as they come whether the events on standard input, one a line, are linearizable",
         options: &[budget_option!(
-            "How many configurations of each group of calls are searched at most"
+            "How many positions a search at one key may reach, from one value of it"
         )],
         takes_calls: false,
     },

@@ -50,12 +50,9 @@ pub fn read_line<'a>(alloc: Global, words: &'a [&'a str]) -> Result<Line, LineFa
         (λ line. line ≡ Line.Judge (option_map_or number_of budget budget_default)
         (option_map_or number_of workers workers_default))
         (λ e. e ≡ LineFault.Memory) }
-    // And `locate` is, with the same options.
-    ensures locate { (budget workers : Option (List ℕ))
-        → IsLocate (texts words.entry.now) budget workers
-        → MatchResult result
-        (λ line. line ≡ Line.Locate (option_map_or number_of budget budget_default)
-        (option_map_or number_of workers workers_default))
+    // And `locate` is, with or without its option.
+    ensures locate { (budget : Option (List ℕ)) → IsLocate (texts words.entry.now) budget
+        → MatchResult result (λ line. line ≡ Line.Locate (option_map_or number_of budget budget_default))
         (λ e. e ≡ LineFault.Memory) }
     // And `draw` is, with any of its options in any order.
     ensures draw { (given : List Given) → IsDraw (texts words.entry.now) given
@@ -113,7 +110,6 @@ fn locate_line(request: &Request<'_>) -> Line
 {
     Line::Locate {
         budget: request.number("budget"),
-        workers: request.number("workers"),
     }
 }
 

@@ -6,7 +6,6 @@ use Rattle.events.specs.declared.event.Event.{Event}
 use Rattle.events.specs.declared.operation.Operation.{Operation}
 use Rattle.map_object.specs.MapObject.{Contents}
 use Rattle.segments.specs.SegmentView.{SegmentView}
-use Rattle.follow.specs.declared.answered.Loss.{Loss}
 use Rattle.outcomes.specs.Lines.{line}
 use Rattle.stream_engines.specs.Answers.{IsSmallHistory, IsSmallLine}
 use Rattle.explaining.specs.declared.explanation.Explanation.{Explanation}
@@ -15,12 +14,12 @@ use Rattle.explain_engines.specs.Fronts.{front_data}
 use Rattle.explain_engines.specs.Reports.{rows}
 use Rattle.explain_engines.specs.Answers.{IsHistoryWith, IsFrontOfText, IsToldFront, AreHistoryLines, AreDetailsOf}
 
-history_from : (loss : Loss) (text : List ℕ) → IsSmallHistory loss text → IsHistoryWith loss.start.items loss.calls.items text
-history_from loss text h = record {
+history_from : (start : Contents) (calls : List Operation) (text : List ℕ) → IsSmallHistory start calls text → IsHistoryWith start calls text
+history_from start calls text h = record {
   history = h.history;
   spelled = h.spelled;
   is_history = h.is_history;
-  start_is = h.start;
+  start_is = h.start_is;
   alike = h.alike;
   refuted = h.refuted;
 }
@@ -39,14 +38,14 @@ told_from budget start calls bytes front m named numbers told m_is named_is numb
       ∙ ap (λ (l : List ℕ). line (compact_text (front_data start calls l))) numbers_is)),
 )
 
--- the line of a history with the calls of a loss, and behind it that of a front of these
-pub two_lines : (budget : ℕ) (loss : Loss) (bytes told all : List ℕ) → 1 ≤ length bytes → IsSmallLine loss bytes
-    → IsToldFront budget loss.start.items loss.calls.items bytes told → all ≡ bytes ++ told
-    → AreHistoryLines budget loss.start.items loss.calls.items all
-two_lines budget loss bytes told all some small (front, fronts, told_is) all_is = ⊎_elim
+-- the line of a history with some calls, and behind it that of a front of these
+pub two_lines : (budget : ℕ) (start : Contents) (calls : List Operation) (bytes told all : List ℕ) → 1 ≤ length bytes
+    → IsSmallLine start calls bytes → IsToldFront budget start calls bytes told → all ≡ bytes ++ told
+    → AreHistoryLines budget start calls all
+two_lines budget start calls bytes told all some small (front, fronts, told_is) all_is = ⊎_elim
     (λ none. absurd (omega (arith, ap length none)))
     (λ shown.
-    let history = history_from loss shown.0 shown.2 in
+    let history = history_from start calls shown.0 shown.2 in
     inr (record {
       text = shown.0;
       front = front;

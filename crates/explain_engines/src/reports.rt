@@ -15,10 +15,8 @@ ghost use Rattle.explain_engines.specs.Answers.{AreDetailsOf, AreHistoryLines, I
 ghost use Rattle.explain_engines.specs.Reports.{answer_data, process_at, reason_word, row_data, rows};
 
 use crate::fronts::front_line;
-use calls_left::KeyRange;
 use events::{Event, Memory, Operation, Response};
 use explaining::{Explanation, Reason};
-use follow::Loss;
 use history_text::{call_value, one_history, read_history, reply_value};
 use outcomes::line_of;
 use search::longest_front;
@@ -40,75 +38,64 @@ pub(crate) fn few_lines(
         → IfOk result (λ text. AreDetailsOf budget events.now segment.now (string_bytes text)) }
 {
     let mut text = row_lines(alloc, events, &few)?;
-    let small = history_lines(alloc, segment, few.calls, budget)?;
+    let small = history_lines(alloc, segment.start(), &few.calls, budget)?;
     text.push_str(small.as_str())?;
     Ok(text)
 }
 
-/// The line of a history with some calls from the pairs of a segment, and that of a front of these.
+/// The line of a history with some calls from some pairs, and that of a front of these; nothing where they fit no history.
 fn history_lines(
     alloc: Global,
-    segment: &Segment,
-    calls: Vec<Operation>,
+    start: &[(u64, u64)],
+    calls: &[Operation],
     budget: u32,
 ) -> Result<String, Memory>
-    requires { (1 ≤ budget) × (budget ≤ budget_limit) }
-    ensures { (IsLinearizable segment.now.start calls.items → ⊥)
-        → IfOk result (λ text. AreHistoryLines budget segment.now.start calls.items (string_bytes text)) }
-{
-    let start = Vec::from_slice(alloc, segment.start())?;
-    let range = KeyRange {
-        low: segment.lo(),
-        high: segment.hi(),
-    };
-    let loss = Loss {
-        event: 0,
-        number: 0,
-        numbers: Vec::new(alloc),
-        range,
-        start,
-        calls,
-    };
-    loss_lines(alloc, &loss, budget)
-}
-
-/// The line of a history with the calls of a loss, and that of a front of these; nothing where they fit no history.
-fn loss_lines(alloc: Global, loss: &Loss, budget: u32) -> Result<String, Memory>
-    requires rising { IsRising loss.now.start.items }
+    requires rising { IsRising start.now }
     requires budget { (1 ≤ budget) × (budget ≤ budget_limit) }
-    ensures { (IsLinearizable loss.now.start.items loss.now.calls.items → ⊥)
-        → IfOk result (λ text. AreHistoryLines budget loss.now.start.items loss.now.calls.items (string_bytes text)) }
+    ensures { (IsLinearizable start.now calls.now → ⊥) → IfOk result (λ text. AreHistoryLines budget start.now calls.now (string_bytes text)) }
 {
-    let small = small_line(alloc, loss)?;
+    let small = small_line(alloc, start, calls)?;
     if small.is_empty() {
         return Ok(small);
     }
-    with_front_line(alloc, small, loss, budget)
+    with_front_line(alloc, small, start, calls, budget)
 }
 
-/// The line of a history with the calls of a loss, and behind it that of a front of these.
-fn with_front_line(alloc: Global, small: String, loss: &Loss, budget: u32) -> Result<String, Memory>
+/// The line of a history with some calls, and behind it that of a front of these.
+fn with_front_line(
+    alloc: Global,
+    small: String,
+    start: &[(u64, u64)],
+    calls: &[Operation],
+    budget: u32,
+) -> Result<String, Memory>
     requires some { 1 ≤ length (string_bytes small) }
-    requires rising { IsRising loss.now.start.items }
+    requires rising { IsRising start.now }
     requires budget { (1 ≤ budget) × (budget ≤ budget_limit) }
-    ensures { IsSmallLine loss.now (string_bytes small)
-        → IfOk result (λ text. AreHistoryLines budget loss.now.start.items loss.now.calls.items (string_bytes text)) }
+    ensures { IsSmallLine start.now calls.now (string_bytes small)
+        → IfOk result (λ text. AreHistoryLines budget start.now calls.now (string_bytes text)) }
 {
     let mut lines = small;
-    let told = told_front(alloc, lines.as_bytes(), loss, budget)?;
+    let told = told_front(alloc, lines.as_bytes(), start, calls, budget)?;
     lines.push_str(told.as_str())?;
     Ok(lines)
 }
 
-/// The line of the longest front that a search of the history on a line meets, which is one with the calls of a loss.
-fn told_front(alloc: Global, bytes: &[u8], loss: &Loss, budget: u32) -> Result<String, Memory>
+/// The line of the longest front that a search of the history on a line meets, which is one with some calls from some pairs.
+fn told_front(
+    alloc: Global,
+    bytes: &[u8],
+    start: &[(u64, u64)],
+    calls: &[Operation],
+    budget: u32,
+) -> Result<String, Memory>
     requires some { 1 ≤ length bytes.now }
-    requires rising { IsRising loss.now.start.items }
+    requires rising { IsRising start.now }
     requires budget { (1 ≤ budget) × (budget ≤ budget_limit) }
-    ensures { IfOk result (λ told. IsToldFront budget loss.now.start.items loss.now.calls.items bytes.now (string_bytes told)) }
+    ensures { IfOk result (λ told. IsToldFront budget start.now calls.now bytes.now (string_bytes told)) }
 {
     let front = front_of(alloc, bytes, budget)?;
-    front_line(alloc, &loss.start, &loss.calls, &front)
+    front_line(alloc, start, calls, &front)
 }
 
 /// The longest front that a search of all calls of the history on a line meets.

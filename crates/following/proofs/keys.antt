@@ -17,6 +17,8 @@ pub mod SettleLemmas
 pub mod SettleOnLemmas
 pub mod SilenceLemmas
 pub mod SilentLemmas
+pub mod StillLemmas
+pub mod StillPartLemmas
 pub mod TurnLemmas
 pub mod WiderAnswerLemmas
 pub mod WiderChoiceLemmas

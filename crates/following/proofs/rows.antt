@@ -1,6 +1,8 @@
 -- What is kept of a stream, in rows.
 pub mod AlikeLemmas
 pub mod BlockLemmas
+pub mod CircleLemmas
+pub mod ClassLemmas
 pub mod ComparisonLemmas
 pub mod CutLemmas
 pub mod EndLemmas
@@ -12,7 +14,11 @@ pub mod ImpliedLemmas
 pub mod InTurnAlikeLemmas
 pub mod MixedLemmas
 pub mod MovedLemmas
+pub mod PartedLemmas
 pub mod RowLemmas
 pub mod StepLemmas
+pub mod TwinLemmas
+pub mod TwinOrderLemmas
+pub mod TwinSettleLemmas
 pub mod UntouchedLemmas
 pub mod WiderBlockLemmas

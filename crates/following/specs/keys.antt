@@ -5,5 +5,6 @@ pub mod KeyStates
 pub mod Laws
 pub mod PlaceCuts
 pub mod Settling
+pub mod Still
 pub mod WiderAnswers
 pub mod WiderChoices

@@ -7,6 +7,9 @@ pub mod Fixed
 pub mod Laws
 pub mod Rows
 pub mod Steps
+pub mod Twins
 pub mod Untouched
+pub mod WayLaws
+pub mod Ways
 pub mod WiderBlocks
 pub mod ExactMoments

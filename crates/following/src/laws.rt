@@ -3,3 +3,4 @@ pub mod cuts;
 pub mod keys;
 pub mod moments;
 pub mod rows;
+pub mod ways;

@@ -2,7 +2,7 @@
 use Rattle.std.specs.Prelude.{◌≡◌, ⊤, ◌⊎◌, ℕ, List, codes, string_bytes}
 use Rattle.clap.specs.Words.{Text}
 use Rattle.command_line.specs.declared.line.Line.{Line}
-use Rattle.command_line.specs.declared.line.Line.TheVariants.{Check, Judge, Locate}
+use Rattle.command_line.specs.declared.line.Line.TheVariants.{Check, Judge}
 use Rattle.command_line.specs.Lines.{IsLineOf}
 use Rattle.command_line.specs.LineFaults.{IsAccepted}
 use Rattle.outcomes.specs.declared.outcome.Outcome.{Outcome}
@@ -10,26 +10,23 @@ use Rattle.outcomes.specs.declared.outcome.Outcome.TheVariants.{Memory, Words}
 use Rattle.outcomes.specs.Ends.{Change, IsUnused}
 use Rattle.outcomes.specs.Lines.{line}
 use Rattle.history_engines.specs.Outcomes.{IsCheckOutcome, IsJudgeOutcome}
-use Rattle.history_engines.specs.LocateOutcomes.{IsLocateOutcome}
 use Rattle.line_outcomes.specs.Outcomes.{IsWordsOutcome}
 
 -- the outcome of what a line asks of a history; of another line none
 abbrev pub IsHistoryLineOutcome : Line → Change → Outcome → Type 0
 IsHistoryLineOutcome (Check order) source outcome = IsCheckOutcome order.items source outcome
 IsHistoryLineOutcome (Judge budget workers) source outcome = IsJudgeOutcome budget source outcome
-IsHistoryLineOutcome (Locate budget workers) source outcome = IsLocateOutcome budget source outcome
 IsHistoryLineOutcome other source outcome = ⊥
 
 -- a line that asks nothing of a history
 abbrev pub IsElsewhere : Line → Type 0
 IsElsewhere (Check order) = ⊥
 IsElsewhere (Judge budget workers) = ⊥
-IsElsewhere (Locate budget workers) = ⊥
 IsElsewhere other = ⊤
 
 -- what is told for such a line
 abbrev pub elsewhere_line : List ℕ
-elsewhere_line = line (codes "error: this program checks, judges and locates alone")
+elsewhere_line = line (codes "error: this program checks and judges alone")
 
 -- the outcome of such a line, or want of memory
 abbrev pub IsElsewhereOutcome : Outcome → Type 0

@@ -7,7 +7,7 @@ ghost use Rattle.outcomes.specs.Statuses.{words_status};
 ghost use Rattle.history_bench.specs.Outcomes.{IsElsewhereOutcome, IsHistoryWordsOutcome};
 
 use command_line::Line;
-use history_engines::{run_check, run_judge, run_locate};
+use history_engines::{run_check, run_judge};
 use line_outcomes::asked_line;
 use outcomes::{Outcome, write_outcome};
 use pool::OpenGate;
@@ -52,11 +52,6 @@ pub fn run<R: Threads + Sync, S: Source, O: Sink, F: Sink, H: Sink>(
                 rt, alloc, source, output, faults, hints, budget, workers, &OpenGate,
             )
         }
-        Line::Locate { budget, workers } => {
-            run_locate(
-                rt, alloc, source, output, faults, hints, budget, workers, &OpenGate,
-            )
-        }
         _ => write_outcome(output, faults, hints, &elsewhere(alloc)),
     }
 }
@@ -65,10 +60,7 @@ pub fn run<R: Threads + Sync, S: Source, O: Sink, F: Sink, H: Sink>(
 fn elsewhere(alloc: Global) -> Outcome
     ensures { IsElsewhereOutcome result }
 {
-    match String::from_str(
-        alloc,
-        "error: this program checks, judges and locates alone\n",
-    ) {
+    match String::from_str(alloc, "error: this program checks and judges alone\n") {
         Ok(text) => Outcome::Words(text),
         Err(_) => Outcome::Memory,
     }

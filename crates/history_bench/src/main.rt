@@ -1,4 +1,4 @@
-//! The program's part that checks, judges and locates, alone: it stands on no tree, no plan and no picture, so that a first
+//! The program's part that checks and judges, alone: it stands on no tree, no plan and no picture, so that a first
 //! verdict is proved and built in a fraction of the time.
 //!
 //! It takes the words of the whole program, and what it does for them is what the whole program does. Words that ask for

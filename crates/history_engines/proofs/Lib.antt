@@ -1,3 +1,2 @@
 pub mod WholeHistories
-mod WholeLocations
 pub mod PassedTexts

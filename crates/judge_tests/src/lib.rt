@@ -1,7 +1,7 @@
 //! Tests of what judges histories and streams, through public calls: workers that meet and pass gates, verdicts by one thread and by
 //! many, searches turn by turn, and lines of sources that are cut at odd places or fail midway.
 //!
-//! Expected answers were worked out by hand. `tests/refused_allocations.py` runs four of the tests with each allocation refused in turn.
+//! Expected answers were worked out by hand. `tests/program/refused_allocations.py` runs four of the tests with each allocation refused in turn.
 #![tactic(auto)]
 
 #[cfg(test)]

@@ -1,13 +1,12 @@
-// Verdicts and searches by one thread and by many, and how many verdicts it takes to locate where a history goes wrong.
+// Verdicts and searches by one thread and by many.
 ghost use Rattle.std.specs.Prelude.{◌≤◌};
 
 use crate::gates::Visits;
-use crate::worked::{THREE_KEYS, TWO_KEYS, gets, inserts};
+use crate::worked::{THREE_KEYS, TWO_KEYS, inserts};
 use cutter::cut;
 use events::{History, MAX_CALLS, Memory};
 use history_text::read_history;
 use judge::{MAX_BUDGET, judge_alone, report};
-use locating::{MAX_JUDGEMENTS, locate};
 use pool::{MAX_WORKERS, OpenGate, search_all, search_alone};
 use search::Found;
 use segments::Segment;
@@ -105,51 +104,4 @@ fn entered<R: Threads + Sync + Abort>(
     let visits = Visits::at(alloc, 4096)?;
     assert!(rt; search_all(rt, alloc, segments, 1000, workers, &visits)?.len() == MAX_CALLS);
     Ok(visits.fewest_and_most())
-}
-
-/// How many verdicts one worker asks for to locate where gets go wrong, of which this one is wrong: each is one visit, as all gets are
-/// one segment.
-fn judged_to_locate<R: Threads + Sync>(
-    rt: &R,
-    alloc: Global,
-    wrong: usize,
-    budget: u32,
-) -> Result<u64, Fail>
-    requires { (1 ≤ budget) × (budget ≤ MAX_BUDGET) }
-{
-    let history = History::from_events(alloc, gets(alloc, MAX_CALLS, wrong)?)?;
-    visits_to_locate(rt, alloc, &history, budget)
-}
-
-/// The most visits at the first segment, or at another, until one worker has located where a history goes wrong.
-fn visits_to_locate<R: Threads + Sync>(
-    rt: &R,
-    alloc: Global,
-    history: &History,
-    budget: u32,
-) -> Result<u64, Fail>
-    requires { (1 ≤ budget) × (budget ≤ MAX_BUDGET) }
-{
-    let visits = Visits::at(alloc, 1)?;
-    locate(rt, alloc, history, budget, 1, &visits)?;
-    Ok(visits.fewest_and_most().1)
-}
-
-#[test]
-fn at_most_fourteen_verdicts_are_asked_for_where_none_is_undecided(
-    rt: HostRuntime,
-) -> Result<(), Fail> {
-    for wrong in [0, 1, 2047, 2048, 4094, 4095] {
-        let judged = judged_to_locate(&rt, rt.alloc(), wrong, 10_000)?;
-        assert!(rt; 0 < judged && judged <= 14, "{judged} verdicts for {wrong}");
-    }
-    Ok(())
-}
-
-// Each answered get is undecided at this budget, so both halvings go all the way. The last verdict, on one event, searches nothing.
-#[test]
-fn at_most_twenty_nine_verdicts_are_asked_for(rt: HostRuntime) -> Result<(), Fail> {
-    assert_eq!(rt; MAX_JUDGEMENTS, 29);
-    assert_eq!(rt; judged_to_locate(&rt, rt.alloc(), MAX_CALLS, 1)?, 27);
-    Ok(())
 }

@@ -1,4 +1,2 @@
-mod AnswerLemmas
-mod HalvingLemmas
-mod KnownLemmas
-mod TurnLemmas
+mod AgreeLemmas
+mod PassLemmas

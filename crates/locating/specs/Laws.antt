@@ -1,18 +1,22 @@
 -- Laws of locations.
-use Rattle.std.specs.Prelude.{◌≡◌, ℕ}
+use Rattle.std.specs.Prelude.{◌≡◌, ℕ, ◌≤◌, ⊤}
 use Rattle.events.specs.HistoryView.{HistoryView}
 use Rattle.events.specs.Histories.{IsHistory}
 use Rattle.locating.specs.declared.location.Location.{Location}
+use Rattle.locating.specs.declared.location.Location.TheVariants.{Yes, No, Undecided}
 use Rattle.locating.specs.Locations.{IsLocated}
-use Rattle.locating.specs.Halvings.{IsExactLocation}
 
--- one location of a history is exact at a budget
-abbrev pub OneLocation : Type 0
-OneLocation =
-    (budget : ℕ) (history : HistoryView) (a b : Location) → IsHistory history → IsExactLocation budget history a
-    → IsExactLocation budget history b → a ≡ b
+-- two locations do not contradict: of two that say no both say the same event of the same call; none says no where another says yes, and none
+-- is undecided behind the event of a no
+abbrev pub Agree : Location → Location → Type 0
+Agree Yes (No loss) = ⊥
+Agree (No loss) Yes = ⊥
+Agree (No loss) (No other) = (loss.event ≡ other.event) × (loss.number ≡ other.number)
+Agree (No loss) (Undecided event number doubt) = event ≤ loss.event
+Agree (Undecided event number doubt) (No loss) = event ≤ loss.event
+Agree a b = ⊤
 
--- what the exact location says is so
-abbrev pub ExactLocationsAreSo : Type 0
-ExactLocationsAreSo = (budget : ℕ) (history : HistoryView) (location : Location) → IsExactLocation budget history location
-    → IsLocated budget history location
+-- locations of one history agree, whatever the budgets
+abbrev pub LocationsAgree : Type 0
+LocationsAgree = (budget other : ℕ) (history : HistoryView) (a b : Location) → IsHistory history → IsLocated budget history a
+    → IsLocated other history b → Agree a b

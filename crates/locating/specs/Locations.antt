@@ -1,38 +1,42 @@
 -- What each location says of a history.
-use Rattle.judge.specs.declared.verdict.Verdict.TheVariants as verdicts
-use Rattle.std.specs.Prelude.{◌≡◌, ◌⊎◌, ℕ, ◌+◌, ◌<◌, ◌≤◌, length}
+use Rattle.std.specs.Prelude.{◌≡◌, ℕ, Some, slice_get, take}
+use Rattle.events.specs.declared.event.Event.TheVariants.{Answer}
+use Rattle.events.specs.declared.event.Reply.{Reply}
 use Rattle.events.specs.HistoryView.{HistoryView}
-use Rattle.events.specs.Operations.{operations}
 use Rattle.orders.specs.Orders.{IsLinearizableHistory}
-use Rattle.segments.specs.SegmentView.{SegmentView}
-use Rattle.prefixes.specs.Prefixes.{prefix_of, GoesWrongAt}
-use Rattle.judge.specs.Shown.{IsShown}
-use Rattle.judge.specs.Exact.{IsExactVerdict}
+use Rattle.prefixes.specs.Prefixes.{prefix_of, IsAnswerOf, GoesWrongAt}
+use Rattle.follower.specs.FollowerView.{FollowerView}
+use Rattle.follower.specs.Following.{IsFollowing}
+use Rattle.follower.specs.Outcomes.{IsAnswered}
+use Rattle.follower.specs.declared.answered.Answered.{Answered}
+use Rattle.follower.specs.declared.answered.Answered.TheVariants as outcomes
+use Rattle.follower.specs.declared.answered.Doubt.{Doubt}
+use Rattle.follower.specs.declared.answered.Loss.{Loss}
 use Rattle.locating.specs.declared.location.Location.{Location}
 use Rattle.locating.specs.declared.location.Location.TheVariants.{Yes, No, Undecided}
 
--- the verdict on the history at the budget is undecided: one of its segments took more
-abbrev pub IsUndecidedAt : ℕ → HistoryView → Type 0
-IsUndecidedAt budget history =
-    (segment : SegmentView) × IsShown history.start budget (operations history.events) (verdicts.Undecided segment)
-    × IsExactVerdict history.start budget (operations history.events) (verdicts.Undecided segment)
+-- the event at a place is an answer, and this is what it makes of a follower that has taken the events before it
+pub record IsAnswerFollowed (budget : ℕ) (history : HistoryView) (place : ℕ) (answered : Answered) : Type 0 where
+  pub process : ℕ
+  pub reply : Reply
+  pub event_is : slice_get history.events place ≡ Some (Answer process reply)
+  pub follower : FollowerView
+  pub follows : IsFollowing history.start (take place history.events) follower
+  pub answered_is : IsAnswered history.start (take place history.events) follower process reply budget answered
 
--- so many events have no order, or they are one more than there are
-abbrev pub HasNoneOrIsPast : HistoryView → ℕ → Type 0
-HasNoneOrIsPast history count =
-    (count ≡ length history.events + 1) ⊎ ((count ≤ length history.events) × (IsLinearizableHistory (prefix_of history count) → ⊥))
+-- the history goes wrong at this event and call, and there the follower lost so
+pub record IsLostAt (budget : ℕ) (history : HistoryView) (loss : Loss) : Type 0 where
+  pub wrong : GoesWrongAt history loss.number loss.event
+  pub followed : IsAnswerFollowed budget history loss.event (outcomes.Lost loss)
 
--- the first events have an order; more of them have none, or are one more than there are; of one more than the first, which are fewer than
--- the others, the
--- search took more than the budget
-pub record IsUndecidedBetween (budget : ℕ) (history : HistoryView) (first last : ℕ) : Type 0 where
-  pub before : IsLinearizableHistory (prefix_of history first)
-  pub beyond : HasNoneOrIsPast history last
-  pub between : first + 1 < last
-  pub undecided : IsUndecidedAt budget (prefix_of history (first + 1))
+-- the events before this one have an order, it is the answer of this call, and there the follower did not find out, for this reason
+pub record IsUndecidedAt (budget : ℕ) (history : HistoryView) (event number : ℕ) (doubt : Doubt) : Type 0 where
+  pub before : IsLinearizableHistory (prefix_of history event)
+  pub answer : IsAnswerOf history.events number event
+  pub followed : IsAnswerFollowed budget history event (outcomes.Spent event number doubt)
 
 -- what the location says of the history is so
 abbrev pub IsLocated : ℕ → HistoryView → Location → Type 0
 IsLocated budget history Yes = IsLinearizableHistory history
-IsLocated budget history (No number place) = GoesWrongAt history number place
-IsLocated budget history (Undecided first last) = IsUndecidedBetween budget history first last
+IsLocated budget history (No loss) = IsLostAt budget history loss
+IsLocated budget history (Undecided event number doubt) = IsUndecidedAt budget history event number doubt

@@ -1,20 +1,13 @@
-// Laws of locations: each function only carries its clause; one that rests on laws of other crates calls them.
-ghost use Rattle.locating.specs.Laws.{ExactLocationsAreSo, OneLocation};
+// A law of locations, the contract of a function that does nothing.
+ghost use Rattle.locating.specs.Laws.{LocationsAgree};
 
-use judge::one_exact_verdict;
-use prefixes::{answers_have_one_call, prefixes_are_histories};
+use prefixes::{answers_have_one_call, one_event_goes_wrong};
 
-/// One location of a history is exact at a budget, so what `locate` and `locate_alone` answer is the same, whatever the
-/// number of workers and their turns.
-pub fn one_location()
-    ensures { OneLocation }
+/// What `locate` answers of one history at any two budgets never contradicts: where one says that it goes wrong, the other says the same event
+/// of the same call, or is undecided at that event or before it.
+pub fn locations_agree()
+    ensures { LocationsAgree }
 {
-    one_exact_verdict();
-    prefixes_are_histories();
+    one_event_goes_wrong();
     answers_have_one_call();
 }
-
-/// What the exact location says of a history is so.
-pub fn exact_locations_are_so()
-    ensures { ExactLocationsAreSo }
-{}

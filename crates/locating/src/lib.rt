@@ -1,17 +1,14 @@
-//! Where a history goes wrong: the one event at which it loses its orders, found by judging some of its prefixes.
+//! Where a history goes wrong: the one event at which it loses its orders, found by one pass of its events through a follower of streams.
 //!
 //! What it is to go wrong at an event stands in the definitions of `prefixes`, and what a location says in `specs/`.
 #![tactic(auto)]
 
-mod answering;
-mod bracket;
-mod first_events;
-mod halving;
 mod laws;
 mod lines;
 mod location;
+mod passing;
 
-pub use halving::{MAX_JUDGEMENTS, locate, locate_alone};
-pub use laws::{exact_locations_are_so, one_location};
+pub use laws::locations_agree;
 pub use lines::location_line;
 pub use location::Location;
+pub use passing::locate;

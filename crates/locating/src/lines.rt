@@ -4,10 +4,11 @@ ghost use Rattle.serde_json.specs.Data.{string, object, no_members, put as with_
 ghost use Rattle.serde_json.specs.View.{view, members_view};
 ghost use Rattle.serde_json.specs.Written.{compact_text};
 ghost use Rattle.history_text.specs.Texts.{number_data};
-ghost use Rattle.locating.specs.Reports.{location_data};
+ghost use Rattle.locating.specs.Reports.{location_data, reason_word};
 
 use crate::location::Location;
 use events::Memory;
+use follower::Doubt;
 use serde_json::{Map, Value, put};
 use std::alloc::{AllocError, Global};
 
@@ -36,18 +37,33 @@ fn put_location(
     requires { members_view members.old.entries ≡ no_members }
     ensures { OnOk result (object (members_view members.new.entries) ≡ location_data location.now) }
 {
-    match *location {
-        Location::Yes => put_word(members, alloc, "yes"),
-        Location::No { call, event } => {
-            put_number(members, alloc, "call", call)?;
-            put_number(members, alloc, "event", event)?;
-            put_word(members, alloc, "no")
+    match location {
+        Location::Yes => put_word(members, alloc, "verdict", "yes"),
+        Location::No(loss) => {
+            put_number(members, alloc, "call", loss.number)?;
+            put_number(members, alloc, "event", loss.event)?;
+            put_word(members, alloc, "verdict", "no")
         }
-        Location::Undecided { from, to } => {
-            put_number(members, alloc, "from", from)?;
-            put_number(members, alloc, "to", to)?;
-            put_word(members, alloc, "undecided")
+        Location::Undecided {
+            event,
+            number,
+            doubt,
+        } => {
+            put_number(members, alloc, "call", *number)?;
+            put_number(members, alloc, "event", *event)?;
+            put_word(members, alloc, "reason", reason_word(doubt))?;
+            put_word(members, alloc, "verdict", "undecided")
         }
+    }
+}
+
+/// The word for why it is not known where a history goes wrong.
+fn reason_word(doubt: &Doubt) -> &'static str
+    ensures { result.now ≡ reason_word doubt.now }
+{
+    match doubt {
+        Doubt::Budget(_) => "budget",
+        Doubt::Rows => "scans",
     }
 }
 
@@ -56,7 +72,7 @@ fn put_number(
     members: &mut Map<String, Value>,
     alloc: Global,
     name: &str,
-    number: u32,
+    number: usize,
 ) -> Result<(), AllocError>
     ensures { OnOk result (members_view members.new.entries
         ≡ with_member name.now (number_data number) (members_view members.old.entries)) }
@@ -64,11 +80,16 @@ fn put_number(
     put(members, alloc, name, Value::from(number))
 }
 
-/// Puts the member that is the verdict.
-fn put_word(members: &mut Map<String, Value>, alloc: Global, word: &str) -> Result<(), AllocError>
+/// Puts a member that is a word.
+fn put_word(
+    members: &mut Map<String, Value>,
+    alloc: Global,
+    name: &str,
+    word: &str,
+) -> Result<(), AllocError>
     ensures { OnOk result (members_view members.new.entries
-        ≡ with_member (codes "verdict") (string word.now) (members_view members.old.entries)) }
+        ≡ with_member name.now (string word.now) (members_view members.old.entries)) }
 {
     let value = Value::try_from_str(alloc, word)?;
-    put(members, alloc, "verdict", value)
+    put(members, alloc, name, value)
 }

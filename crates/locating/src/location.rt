@@ -1,13 +1,19 @@
 // Locations of the event at which a history goes wrong.
+use follower::{Doubt, Loss};
 
 /// Where a history goes wrong, as far as searches within a budget tell. Events and calls are numbered from 0.
-#[derive(Clone, Copy, Debug, PartialEq, Eq)]
+#[derive(Debug, Drop)]
 pub enum Location {
     /// Nowhere: the history is linearizable.
     Yes,
-    /// The events before this one are linearizable, and with it they are not. It is the answer of this call.
-    No { call: u32, event: u32 },
-    /// The first `from` events are linearizable. The first `to` are not, or `to` is one more than there are events.
-    /// Of the first `from + 1`, which are fewer than `to`, the search met more configurations than the budget.
-    Undecided { from: u32, to: u32 },
+    /// The events before this one are linearizable, and with it they are not. It is the answer of the call of this number, and the keys
+    /// are some at which what was kept has no order with it.
+    No(Loss),
+    /// The events before this one, the answer of the call of this number, are linearizable. Whether they are with it is not known, for
+    /// this reason.
+    Undecided {
+        event: usize,
+        number: usize,
+        doubt: Doubt,
+    },
 }

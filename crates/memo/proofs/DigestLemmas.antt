@@ -1,5 +1,6 @@
 -- Sums of mixed numbers modulo 2^64, and how they change.
-use Rattle.std.proofs.Common.{◌≡◌, ℕ, ◌+◌, ◌-◌, ◌/◌, ◌%◌, ◌^◌, ◌<◌, true, false, List, [], ◌∷◌, refl, sym, ap, ◌∙◌, subst, ⊎_elim, arith}
+use Rattle.std.proofs.Common.{◌≡◌, ℕ, ◌+◌, ◌-◌, ◌/◌, ◌%◌, ◌^◌, ◌<◌, true, false, List, Option, None, Some, [], ◌∷◌, refl, sym, ap, ◌∙◌}
+use Rattle.std.proofs.Common.{subst, ⊎_elim, arith, zero-add}
 use Rattle.std.specs.Prelude.{◌⊎◌, bit_xor, nat_lt, filter, Contains}
 use Rattle.std.specs.List.{sum_by}
 use Rattle.std.proofs.lemmas.Bool.{cases_order}
@@ -7,25 +8,48 @@ use Rattle.std.proofs.lemmas.Bool.Decides.{nat_tests}
 use Rattle.std.proofs.lemmas.List.Sums.{sum_by-append, sum_by-cons}
 use Rattle.std.proofs.lemmas.Nat.{mul-mod_first}
 use Rattle.list_laws.proofs.Lists.{Contains-first, Contains-later}
-use Rattle.memo.specs.Digest.{mix}
+use Rattle.map_object.specs.MapObject.{Contents, IsRising, value_at, below as below_key, above as above_key}
+use Rattle.memo.specs.Differences.{with_value}
+use Rattle.memo.specs.Digest.{mix, mix_pair, mix_value}
 use Rattle.memo.specs.Taking.{with_place}
+use Rattle.memo.proofs.ValueLemmas.{with_value-is}
 
 -- a number mixes as its rest by 2^64
 pub mix-mod : (n : ℕ) → mix (n % 2 ^ 64) ≡ mix n
 unfolding mix
 mix-mod n = ap (λ (m : ℕ). bit_xor m (m / 2 ^ 32)) (mul-mod_first n 11400714819323198485 (2 ^ 64))
 
--- what changes, from the parts before and behind: o and n of the old and the new list
-pub change_is : (change old_front old_back new_front new_back old_rest new_rest : ℕ) → (change + old_front) % 2 ^ 64 ≡ new_front % 2 ^ 64
-    → old_rest ≡ old_back % 2 ^ 64 → new_rest ≡ new_back % 2 ^ 64
-    → (((change + (2 ^ 64 - old_rest)) % 2 ^ 64 + new_rest) % 2 ^ 64 + (old_front + old_back)) % 2 ^ 64 ≡ (new_front + new_back) % 2 ^ 64
-change_is change old_front old_back new_front new_back old_rest new_rest same old new = omega (arith, same, old, new)
+-- the digest after one more call, where pairs lost what one value adds and gained what another does
+pub digest_after : (taken pairs one lost gained after digest : ℕ) → digest ≡ (taken + pairs) % 2 ^ 64 → lost < 2 ^ 64
+    → after + lost ≡ pairs + gained
+    → (((digest + one) % 2 ^ 64 + (2 ^ 64 - lost)) % 2 ^ 64 + gained) % 2 ^ 64 ≡ (taken + one + after) % 2 ^ 64
+digest_after taken pairs one lost gained after digest is small changed = omega (arith, is, small, changed)
 
--- the digest after one more call and other pairs
-pub digest_after : (taken pairs one after change digest : ℕ) → digest ≡ (taken + pairs) % 2 ^ 64
-    → (change + pairs) % 2 ^ 64 ≡ after % 2 ^ 64
-    → ((digest + one) % 2 ^ 64 + change) % 2 ^ 64 ≡ (taken + one + after) % 2 ^ 64
-digest_after taken pairs one after change digest is changed = omega (arith, is, changed)
+-- the digest after one more call that leaves the pairs as they are
+pub digest_as_before : (taken pairs one digest : ℕ) → digest ≡ (taken + pairs) % 2 ^ 64
+    → (digest + one) % 2 ^ 64 ≡ (taken + one + pairs) % 2 ^ 64
+digest_as_before taken pairs one digest is = omega (arith, is)
+
+-- ---- what pairs add, where one key has another value
+
+module _ (key : ℕ) (m : Contents) where
+  sum_with_value : (value : Option ℕ) → sum_by mix_pair (with_value key value m)
+      ≡ sum_by mix_pair (below_key key m) + (mix_value key value + sum_by mix_pair (above_key key m))
+  sum_with_value None = sum_by-append mix_pair (below_key key m) (above_key key m)
+      ∙ ap (λ (n : ℕ). sum_by mix_pair (below_key key m) + n) (sym (zero-add (sum_by mix_pair (above_key key m))))
+  sum_with_value (Some value) = sum_by-append mix_pair (below_key key m) ((key, value) ∷ above_key key m)
+      ∙ ap (λ (n : ℕ). sum_by mix_pair (below_key key m) + n) (sum_by-cons mix_pair (key, value) (above_key key m))
+
+pub sum_changed : (key : ℕ) (old new : Contents) → IsRising old → IsRising new → ((k : ℕ) → (key ≡ k → ⊥) → value_at new k ≡ value_at old k)
+    → sum_by mix_pair new + mix_value key (value_at old key) ≡ sum_by mix_pair old + mix_value key (value_at new key)
+sum_changed key old new old_rises new_rises same =
+    let by_old : sum_by mix_pair old
+    ≡ sum_by mix_pair (below_key key old) + (mix_value key (value_at old key) + sum_by mix_pair (above_key key old)) =
+    ap (sum_by mix_pair) (sym (with_value-is key old old old_rises old_rises (λ k other. refl))) ∙ sum_with_value key old (value_at old key) in
+    let by_new : sum_by mix_pair new
+    ≡ sum_by mix_pair (below_key key old) + (mix_value key (value_at new key) + sum_by mix_pair (above_key key old)) =
+    ap (sum_by mix_pair) (sym (with_value-is key old new old_rises new_rises same)) ∙ sum_with_value key old (value_at new key) in
+    omega (arith, by_old, by_new)
 
 -- those below and those above a number that is not in a list have the sum of all
 module _ (f : ℕ → ℕ) (place : ℕ) where

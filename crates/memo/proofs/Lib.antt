@@ -1,5 +1,10 @@
 mod BitLemmas
+mod DifferenceLemmas
 mod DigestLemmas
+mod KeptLemmas
+mod KeyLemmas
+mod PlaceLemmas
 mod PlacesLemmas
+mod ValueLemmas
 mod WindowLemmas
 pub mod TakingLemmas

@@ -1,5 +1,5 @@
 -- The digest of a configuration: a sum modulo 2^64, so one more call or another pair changes it by what it mixes.
-use Rattle.std.specs.Prelude.{◌≡◌, ℕ, ◌+◌, ◌*◌, ◌/◌, ◌%◌, ◌^◌, bit_xor, List}
+use Rattle.std.specs.Prelude.{◌≡◌, ℕ, ◌+◌, ◌*◌, ◌/◌, ◌%◌, ◌^◌, bit_xor, List, Option, Some, None}
 use Rattle.std.specs.List.{sum_by}
 use Rattle.configurations.specs.Configurations.{Configuration}
 
@@ -14,6 +14,11 @@ mix_place place = mix (place + 1)
 -- what a pair of a key and a value adds
 abbrev pub mix_pair : ℕ × ℕ → ℕ
 mix_pair pair = mix (mix pair.0 + pair.1)
+
+-- what a key with a value or none adds
+abbrev pub mix_value : ℕ → Option ℕ → ℕ
+mix_value key None = 0
+mix_value key (Some value) = mix_pair (key, value)
 
 -- the sum over the places taken and the pairs held
 abbrev pub digest_of : Configuration → ℕ

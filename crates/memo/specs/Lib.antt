@@ -1,4 +1,8 @@
+pub mod Differences
 pub mod Digest
 pub mod Equality
+pub mod Keys
+pub mod Kept
 pub mod Taking
 pub mod Windows
+pub mod Visits

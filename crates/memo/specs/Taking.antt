@@ -1,6 +1,19 @@
 -- One more call taken.
-use Rattle.std.specs.Prelude.{ℕ, List, ◌∷◌, ◌++◌, nat_lt, filter}
+use Rattle.std.specs.Prelude.{◌≡◌, ℕ, List, ◌∷◌, ◌++◌, nat_lt, filter, Contains}
+use Rattle.events.specs.declared.operation.Operation.{Operation}
+use Rattle.map_object.specs.MapObject.{Contents}
+use Rattle.orders.specs.Orders.{after_call}
+use Rattle.configurations.specs.Configurations.{Configuration}
 
 -- a rising list of places with one more: those below it, the place, and those above it
 abbrev pub with_place : List ℕ → ℕ → List ℕ
 with_place taken place = filter (λ n. nat_lt n place) taken ++ place ∷ filter (λ n. nat_lt place n) taken
+
+-- the configuration after one more call, the one at a place, which leaves these pairs
+abbrev pub after_one : Configuration → ℕ → Contents → Configuration
+after_one c place pairs = record { taken = with_place c.taken place; pairs = pairs }
+
+-- a call that is not taken, at a place, and the pairs that it leaves
+pub record IsOneMore (c : Configuration) (place : ℕ) (call : Operation) (pairs : Contents) : Type 0 where
+  pub new : Contains c.taken place → ⊥
+  pub after : pairs ≡ after_call c.pairs call.call call.response

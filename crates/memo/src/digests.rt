@@ -1,7 +1,7 @@
-// Digests, and how they change.
-ghost use Rattle.std.specs.Prelude.{◌≡◌, ◌+◌, ◌-◌, ◌%◌, ◌^◌, ◌≤◌};
+// Digests.
+ghost use Rattle.std.specs.Prelude.{◌≡◌, ◌+◌, ◌%◌, ◌^◌};
 ghost use Rattle.std.specs.List.{sum_by};
-ghost use Rattle.memo.specs.Digest.{mix, mix_pair};
+ghost use Rattle.memo.specs.Digest.{mix, mix_pair, mix_value};
 
 /// An odd number near 2^64 divided by the golden ratio: Knuth's multiplicative hashing.
 const MULTIPLIER: u64 = 11400714819323198485;
@@ -21,6 +21,16 @@ pub(crate) fn mix_pair(pair: (u64, u64)) -> u64
     mix(mix(pair.0).wrapping_add(pair.1))
 }
 
+/// Mixes a key with its value: 0 where it has none.
+pub(crate) fn mix_value(key: u64, value: Option<u64>) -> u64
+    ensures { result ≡ mix_value key value }
+{
+    match value {
+        Some(value) => mix_pair((key, value)),
+        None => 0,
+    }
+}
+
 /// What pairs add to a digest.
 pub(crate) fn sum_of(pairs: &[(u64, u64)]) -> u64
     ensures { result ≡ sum_by mix_pair pairs.now % 2 ^ 64 }
@@ -30,29 +40,4 @@ pub(crate) fn sum_of(pairs: &[(u64, u64)]) -> u64
         sum = sum.wrapping_add(mix_pair(*pair));
     }
     sum
-}
-
-/// What changes in a digest where pairs take the place of others. Where both are sorted by key, only those that
-/// are in one of the lists alone are mixed.
-pub(crate) fn change(old: &[(u64, u64)], new: &[(u64, u64)]) -> u64
-    ensures { (result + sum_by mix_pair old.now) % 2 ^ 64 ≡ sum_by mix_pair new.now % 2 ^ 64 }
-{
-    let mut change = 0u64;
-    let (mut gone, mut come) = (0, 0);
-    while gone < old.len() && come < new.len() {
-        let (before, after) = (old[gone], new[come]);
-        if before == after {
-            gone += 1;
-            come += 1;
-        } else if before.0 <= after.0 {
-            change = change.wrapping_sub(mix_pair(before));
-            gone += 1;
-        } else {
-            change = change.wrapping_add(mix_pair(after));
-            come += 1;
-        }
-    }
-    change
-        .wrapping_sub(sum_of(&old[gone..]))
-        .wrapping_add(sum_of(&new[come..]))
 }

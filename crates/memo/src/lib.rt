@@ -4,10 +4,10 @@
 #![tactic(auto)]
 
 mod config;
+mod differences;
 mod digests;
 mod memo;
 mod places;
 mod windows;
 
-pub use config::Config;
-pub use memo::{Memo, visit, visited_at_start};
+pub use memo::{Memo, visited_at_start};

@@ -3,7 +3,7 @@ ghost use Rattle.std.specs.Prelude.{◌≡◌, ◌↔◌, [], IsTrue, IfOk, Cont
 ghost use Rattle.std.specs.List.Sorted.{IsStrictlyIncreasing};
 ghost use Rattle.memo.specs.Taking.{with_place};
 
-use crate::windows::{has_bit, ones_of, with_bit, without_lowest};
+use crate::windows::{ones_of, with_bit, without_lowest};
 use events::Memory;
 use std::alloc::Global;
 use std::marker::Model;
@@ -36,14 +36,6 @@ impl Places {
             least: 0,
             words: Vec::new(alloc),
         }
-    }
-
-    /// Whether a place is in the set.
-    pub(crate) fn has(&self, place: u32) -> bool
-        ensures { IsTrue result ↔ Contains self.now place }
-    {
-        let place = place as usize;
-        place < self.least || (self.least < place && has_bit(&self.words, place - (self.least + 1)))
     }
 
     /// Whether the same places are in both sets.

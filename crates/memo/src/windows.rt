@@ -17,13 +17,6 @@ fn word_at(words: &[u64], at: usize) -> u64
     }
 }
 
-/// Whether a bit is set.
-pub(crate) fn has_bit(words: &[u64], bit: usize) -> bool
-    ensures { result ≡ (bit_of words.now bit == 1) }
-{
-    word_at(words, bit / 64) >> (bit % 64) & 1 == 1
-}
-
 /// The words with one more bit set.
 pub(crate) fn with_bit(alloc: Global, words: &[u64], bit: usize) -> Result<Vec<u64>, Memory>
     requires { IsTrimmed words.now }

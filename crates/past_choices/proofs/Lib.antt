@@ -6,6 +6,6 @@ mod GatherLemmas
 mod ItemLemmas
 mod PlaceLemmas
 mod TurnLemmas
-mod ValueLemmas
+pub mod ValueLemmas
 mod VisitLemmas
 mod WholeLemmas

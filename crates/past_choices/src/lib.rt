@@ -16,6 +16,7 @@ mod visited;
 mod worklist;
 
 pub use answer::{Answer, PastChoice};
+pub use values::{may_be_answered, value_behind};
 pub use worklist::past_choices;
 
 #[cfg(test)]

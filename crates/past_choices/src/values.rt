@@ -9,7 +9,7 @@ ghost use Rattle.past_choices.specs.Values.{value_behind_call, MayBeAnswered};
 use events::{Call, Operation, Reply};
 
 /// The value behind a call of a key, or none, where the key had `value`.
-pub(crate) fn value_behind(value: Option<u64>, call: &Operation) -> Option<u64>
+pub fn value_behind(value: Option<u64>, call: &Operation) -> Option<u64>
     ensures { result ≡ value_behind_call value call.now.call call.now.response }
 {
     match &call.response {
@@ -51,7 +51,7 @@ fn replaced(value: Option<u64>, expected: u64, new: u64) -> Option<u64>
 }
 
 /// Whether a call may be answered as it is, if it is, where its key has this value, or none.
-pub(crate) fn may_be_answered(value: Option<u64>, call: &Operation) -> bool
+pub fn may_be_answered(value: Option<u64>, call: &Operation) -> bool
     ensures { IsTrue result ↔ MayBeAnswered value call.now.call call.now.response }
 {
     match &call.response {

@@ -8,7 +8,6 @@ use Rattle.judge.specs.Shown.{IsShown}
 use Rattle.judge.specs.Exact.{IsExactVerdict}
 use Rattle.locating.specs.declared.location.Location.{Location}
 use Rattle.locating.specs.declared.location.Location.TheVariants as locations
-use Rattle.locating.specs.Halvings.{IsExactLocation}
 use Rattle.locating.specs.Locations.{IsLocated}
 use Rattle.pictures.specs.declared.pictures_of.Picture.{Picture}
 use Rattle.pictures.specs.declared.windows.View.{View}
@@ -24,14 +23,14 @@ use Rattle.history_engines.specs.Answers.{IsTextOf, answer_of}
 -- the event at which a location says that the history goes wrong
 abbrev pub event_of : Location → Option ℕ
 event_of locations.Yes = None
-event_of (locations.No number place) = Some place
-event_of (locations.Undecided first last) = None
+event_of (locations.No loss) = Some loss.event
+event_of (locations.Undecided event number doubt) = None
 
--- the event that a picture of the verdict marks as wrong: for a no that of the exact location in the history, and else none
+-- the event that a picture of the verdict marks as wrong: for a no that of a location that is so of the history, and else none
 abbrev pub IsWrongEvent : ℕ → HistoryView → Verdict → Option ℕ → Type 0
 IsWrongEvent budget history (verdicts.Yes order) wrong = wrong ≡ None
 IsWrongEvent budget history (verdicts.No segment) wrong =
-    (location : Location) × IsExactLocation budget history location × IsLocated budget history location × (wrong ≡ event_of location)
+    (location : Location) × IsLocated budget history location × (wrong ≡ event_of location)
 IsWrongEvent budget history (verdicts.Undecided segment) wrong = wrong ≡ None
 
 -- the view that shows a whole picture

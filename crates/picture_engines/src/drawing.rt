@@ -24,7 +24,7 @@ use events::{History, Memory};
 use history_engines::{answer_of, refused_text};
 use history_text::{MAX_TEXT, read_history};
 use judge::{Verdict, judge, judge_alone};
-use locating::{Location, locate, locate_alone};
+use locating::{Location, locate};
 use outcomes::{Answer, Outcome, line_of, text_from, write_outcome};
 use picture_text::svg;
 use pictures::{Picture, View, front_of, part_of, picture_of};
@@ -133,27 +133,23 @@ fn drawing_of<R: Threads + Sync, G: Gate + Sync>(
     ensures passed { OnOk result (WasPassedForEach (G.was_passed gate.now) history.now) }
 {
     let verdict = judge(rt, alloc, history, budget, workers, gate)?;
-    drawing_of_verdict(rt, alloc, history, budget, workers, view, gate, &verdict)
+    drawing_of_verdict(alloc, history, budget, view, &verdict)
 }
 
 /// The same of this verdict.
-fn drawing_of_verdict<R: Threads + Sync, G: Gate + Sync>(
-    rt: &R,
+fn drawing_of_verdict(
     alloc: Global,
     history: &History,
     budget: u32,
-    workers: u32,
     view: View,
-    gate: &G,
     verdict: &Verdict,
 ) -> Result<(Answer, String), Memory>
     requires budget { (1 ≤ budget) × (budget ≤ budget_limit) }
-    requires workers { (1 ≤ workers) × (workers ≤ worker_limit) }
     requires shown { IsShown history.now.start budget (operations history.now.events) verdict.now }
     requires exact { IsExactVerdict history.now.start budget (operations history.now.events) verdict.now }
     ensures { IfOk result (λ drawn. IsDrawing budget view history.now drawn.0 (string_bytes drawn.1)) }
 {
-    let wrong = wrong_event(rt, alloc, history, verdict, budget, workers, gate)?;
+    let wrong = wrong_event(alloc, history, verdict, budget)?;
     drawing_with(alloc, history, budget, verdict, wrong, view)
 }
 
@@ -162,28 +158,12 @@ fn drawing_alone(alloc: Global, history: &History, budget: u32) -> Result<(Answe
     requires { (1 ≤ budget) × (budget ≤ budget_limit) }
     ensures { IfOk result (λ drawn. IsDrawing budget whole history.now drawn.0 (string_bytes drawn.1)) }
 {
-    let verdict = judge_alone(alloc, history, budget)?;
-    drawing_of_verdict_alone(alloc, history, budget, &verdict)
-}
-
-/// The same of this verdict.
-fn drawing_of_verdict_alone(
-    alloc: Global,
-    history: &History,
-    budget: u32,
-    verdict: &Verdict,
-) -> Result<(Answer, String), Memory>
-    requires budget { (1 ≤ budget) × (budget ≤ budget_limit) }
-    requires shown { IsShown history.now.start budget (operations history.now.events) verdict.now }
-    requires exact { IsExactVerdict history.now.start budget (operations history.now.events) verdict.now }
-    ensures { IfOk result (λ drawn. IsDrawing budget whole history.now drawn.0 (string_bytes drawn.1)) }
-{
-    let wrong = wrong_event_alone(alloc, history, verdict, budget)?;
     let whole = View {
         around: 0,
         calls: 0,
     };
-    drawing_with(alloc, history, budget, verdict, wrong, whole)
+    let verdict = judge_alone(alloc, history, budget)?;
+    drawing_of_verdict(alloc, history, budget, whole, &verdict)
 }
 
 /// The text of what a view shows of a picture of this verdict on a history, with this event marked as wrong, and the answer that
@@ -242,47 +222,26 @@ fn part_shown(
 }
 
 /// The event at which a history that the verdict refutes goes wrong, where the budget suffices to locate it.
-fn wrong_event<R: Threads + Sync, G: Gate + Sync>(
-    rt: &R,
-    alloc: Global,
-    history: &History,
-    verdict: &Verdict,
-    budget: u32,
-    workers: u32,
-    gate: &G,
-) -> Result<Option<usize>, Memory>
-    requires budget { (1 ≤ budget) × (budget ≤ budget_limit) }
-    requires workers { (1 ≤ workers) × (workers ≤ worker_limit) }
-    ensures { IfOk result (IsWrongEvent budget history.now verdict.now) }
-{
-    match verdict {
-        Verdict::No(_) => Ok(event_of(locate(rt, alloc, history, budget, workers, gate)?)),
-        Verdict::Yes(_) | Verdict::Undecided(_) => Ok(None),
-    }
-}
-
-/// The same, where one thread judges.
-fn wrong_event_alone(
+fn wrong_event(
     alloc: Global,
     history: &History,
     verdict: &Verdict,
     budget: u32,
 ) -> Result<Option<usize>, Memory>
-    requires { (1 ≤ budget) × (budget ≤ budget_limit) }
     ensures { IfOk result (IsWrongEvent budget history.now verdict.now) }
 {
     match verdict {
-        Verdict::No(_) => Ok(event_of(locate_alone(alloc, history, budget)?)),
+        Verdict::No(_) => Ok(event_of(&locate(alloc, history, budget)?)),
         Verdict::Yes(_) | Verdict::Undecided(_) => Ok(None),
     }
 }
 
 /// The event at which a location says that the history goes wrong.
-fn event_of(location: Location) -> Option<usize>
-    ensures { result ≡ event_of location }
+fn event_of(location: &Location) -> Option<usize>
+    ensures { result ≡ event_of location.now }
 {
     match location {
-        Location::No { event, .. } => Some(event as usize),
+        Location::No(loss) => Some(loss.event),
         Location::Yes | Location::Undecided { .. } => None,
     }
 }

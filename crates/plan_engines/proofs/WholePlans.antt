@@ -51,7 +51,13 @@ module _ (IsHistoryOf : List (List Call) → HistoryView → Type 0) where
       → IsDrivenAnswer IsHistoryOf (take (text_limit + 1) text) answer bytes
       → IsDrivenAnswer IsHistoryOf text answer bytes
   IsDrivenAnswer-whole text answer bytes h =
-      record { history = h.history; driven = IsDriven-whole text h.history h.driven; answer_is = h.answer_is; bytes_are = h.bytes_are }
+      record {
+        history = h.history;
+        driven = IsDriven-whole text h.history h.driven;
+        answer_is = h.answer_is;
+        bytes_are = h.bytes_are;
+        spelled = h.spelled;
+      }
 
 pub IsDriveRefusal-whole : (text bytes hint : List ℕ) → IsDriveRefusal (take (text_limit + 1) text) bytes hint
     → IsDriveRefusal text bytes hint

@@ -47,6 +47,7 @@ IsReplayAnswer-whole text answer bytes h = record {
   played = (h.played.0, SpellsReplay-whole text h.played.0 h.played.1, h.played.2);
   answer_is = h.answer_is;
   bytes_are = h.bytes_are;
+  spelled = h.spelled;
 }
 
 pub IsReplayRefusal-whole : (text bytes hint : List ℕ) → IsReplayRefusal (take (text_limit + 1) text) bytes hint

@@ -1,7 +1,8 @@
 -- What the program answers to what a plan is drawn from, and to the text of a replay.
-use Rattle.std.specs.Prelude.{◌≡◌, ◌≢◌, ℕ, List}
+use Rattle.std.specs.Prelude.{◌≡◌, ◌≢◌, ℕ, ◌≤◌, List, length}
 use Rattle.events.specs.HistoryView.{HistoryView}
-use Rattle.history_text.specs.Texts.{history_data}
+use Rattle.history_text.specs.Limits.{text_limit}
+use Rattle.history_text.specs.Texts.{history_data, Spells}
 use Rattle.serde_json.specs.Written.{compact_text}
 use Rattle.plans.specs.declared.fault.PlanFault.{PlanFault}
 use Rattle.plans.specs.declared.fault.PlanFault.TheVariants as plans
@@ -35,12 +36,14 @@ pub record IsGenerateRefusal (mix : Mix) (processes calls : ℕ) (bytes hint : L
   pub bytes_are : bytes ≡ plan_fault_line fault
   pub hint_is : hint ≡ wanted_hint (plan_wanted fault)
 
--- `replay` answers the text so: yes, with the text of the history that its run records
+-- `replay` answers the text so: yes, with the text of the history that its run records. With the line feed behind it the text spells this
+-- history, where it is no longer than a text may be.
 pub record IsReplayAnswer (text : List ℕ) (answer : Answer) (bytes : List ℕ) : Type 0 where
   pub history : HistoryView
   pub played : IsPlayed text history
   pub answer_is : answer ≡ Yes
   pub bytes_are : bytes ≡ line (compact_text (history_data history))
+  pub spelled : length bytes ≤ text_limit → Spells bytes history
 
 -- a text that gives no history of a replay is refused with this line and this hint
 pub record IsReplayRefusal (text bytes hint : List ℕ) : Type 0 where

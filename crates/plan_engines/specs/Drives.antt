@@ -1,10 +1,11 @@
 -- What the program answers to the text of a plan that is to be done.
-use Rattle.std.specs.Prelude.{◌≡◌, ◌≢◌, ◌⊎◌, ℕ, List, EachIndex}
+use Rattle.std.specs.Prelude.{◌≡◌, ◌≢◌, ◌⊎◌, ℕ, ◌≤◌, List, length, EachIndex}
 use Rattle.serde_json.specs.Written.{compact_text}
 use Rattle.events.specs.declared.event.Call.{Call}
 use Rattle.events.specs.declared.event.Reply.{Reply}
 use Rattle.events.specs.HistoryView.{HistoryView}
-use Rattle.history_text.specs.Texts.{history_data}
+use Rattle.history_text.specs.Limits.{text_limit}
+use Rattle.history_text.specs.Texts.{history_data, Spells}
 use Rattle.plans.specs.declared.fault.PlanFault.{PlanFault}
 use Rattle.plans.specs.declared.fault.PlanFault.TheVariants as plans
 use Rattle.plans.specs.Plans.{AreScripts}
@@ -47,13 +48,15 @@ SpellsUndrivable text = (scripts : List (List Call)) × SpellsPlan text scripts 
 abbrev pub IsUndriven : List ℕ → PlanFault → Type 0
 IsUndriven text fault = IsPlanTextFault text fault ⊎ ((fault ≡ plans.TooMany) × SpellsUndrivable text)
 
--- `drive` answers the text so: yes, with the text of a history of the plan
+-- `drive` answers the text so: yes, with the text of a history of the plan. With the line feed behind it the text spells this history, where
+-- it is no longer than a text may be.
 pub record IsDrivenAnswer (IsHistoryOf : List (List Call) → HistoryView → Type 0) (text : List ℕ) (answer : Answer)
     (bytes : List ℕ) : Type 0 where
   pub history : HistoryView
   pub driven : IsDriven IsHistoryOf text history
   pub answer_is : answer ≡ Yes
   pub bytes_are : bytes ≡ line (compact_text (history_data history))
+  pub spelled : length bytes ≤ text_limit → Spells bytes history
 
 -- that history is one at a subject that may answer so, each process with its whole script,
 abbrev pub IsDriveAnswer : (Call → Reply → Type 0) → List ℕ → Answer → List ℕ → Type 0

@@ -1,9 +1,10 @@
 -- How a run comes out that draws a plan, or that reads a plan or a replay.
-use Rattle.std.specs.Prelude.{◌≡◌, ⊤, ℕ, List, string_bytes}
+use Rattle.std.specs.Prelude.{◌≡◌, ⊤, ℕ, ◌≤◌, List, length, string_bytes}
 use Rattle.events.specs.declared.event.Call.{Call}
 use Rattle.events.specs.declared.event.Reply.{Reply}
 use Rattle.events.specs.HistoryView.{HistoryView}
-use Rattle.history_text.specs.Texts.{history_data}
+use Rattle.history_text.specs.Limits.{text_limit}
+use Rattle.history_text.specs.Texts.{history_data, Spells}
 use Rattle.serde_json.specs.Written.{compact_text}
 use Rattle.art_rows.specs.declared.table.Shape.{Shape}
 use Rattle.art_steps.specs.declared.variant.Variant.{Variant}
@@ -46,5 +47,6 @@ IsUndrivenOutcome text outcome = ⊥
 -- how it comes out where there is a history
 abbrev pub IsHistoryOutcome : HistoryView → Outcome → Type 0
 IsHistoryOutcome history (Answered answer bytes) = (answer ≡ Yes) × (string_bytes bytes ≡ line (compact_text (history_data history)))
+    × (length (string_bytes bytes) ≤ text_limit → Spells (string_bytes bytes) history)
 IsHistoryOutcome history Memory = ⊤
 IsHistoryOutcome history outcome = ⊥

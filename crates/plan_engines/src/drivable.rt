@@ -1,16 +1,21 @@
 // The plans that can be driven, and what is answered of the histories.
-ghost use Rattle.std.specs.Prelude.{IfOk, IfErr};
+ghost use Rattle.std.specs.Prelude.{◌≡◌, ◌≤◌, IfOk, IfErr, string_bytes, string_len};
+ghost use Rattle.serde_json.specs.Written.{compact_text};
+ghost use Rattle.history_text.specs.Limits.{text_limit};
+ghost use Rattle.history_text.specs.Texts.{history_data, Spells};
+ghost use Rattle.outcomes.specs.Lines.{line};
 ghost use Rattle.plan_engines.specs.Drives.{SpellsDrivable};
 ghost use Rattle.plan_engines.specs.Outcomes.{IsUndrivenOutcome, IsHistoryOutcome};
 
 use crate::faults::plan_fault_outcome;
 use drives::is_drivable;
-use events::History;
+use events::{History, Memory};
 use history_text::write_history;
 use outcomes::{Answer, Outcome, line_of};
 use plan_text::read_plan;
 use plans::{Plan, PlanFault};
 use std::alloc::Global;
+use white_space::spells_between_white_space;
 
 /// The plan that a text spells, where it can be driven, or how it comes out that there is none.
 pub(crate) fn drivable_plan(alloc: Global, text: &[u8]) -> Result<Plan, Outcome>
@@ -31,8 +36,21 @@ pub(crate) fn drivable_plan(alloc: Global, text: &[u8]) -> Result<Plan, Outcome>
 pub(crate) fn history_outcome(alloc: Global, history: &History) -> Outcome
     ensures { IsHistoryOutcome history.now result }
 {
-    match write_history(alloc, history) {
-        Ok(text) => Outcome::answered(Answer::Yes, line_of(text)),
+    match history_line(alloc, history) {
+        Ok(line) => Outcome::Answered {
+            answer: Answer::Yes,
+            line,
+        },
         Err(_) => Outcome::Memory,
     }
+}
+
+/// The text of a history, and a line feed. The reader passes over the line feed, so what was written is read again.
+fn history_line(alloc: Global, history: &History) -> Result<String, Memory>
+    ensures compact { IfOk result (λ text. string_bytes text ≡ line (compact_text (history_data history.now))) }
+    ensures again { IfOk result (λ text. string_len text ≤ text_limit → Spells (string_bytes text) history.now) }
+{
+    spells_between_white_space();
+    let text = write_history(alloc, history)?;
+    Ok(line_of(text)?)
 }

@@ -8,9 +8,10 @@ ghost use Rattle.outcomes.specs.Outcomes.{IsTextOutcome};
 ghost use Rattle.outcomes.specs.Reads.{IsTextRead};
 ghost use Rattle.outcomes.specs.Runs.{IsRun};
 
+use crate::drivable::history_outcome;
 use crate::faults::replay_fault_outcome;
-use history_text::{MAX_TEXT, write_history};
-use outcomes::{Answer, Outcome, line_of, text_from, write_outcome};
+use history_text::MAX_TEXT;
+use outcomes::{Outcome, text_from, write_outcome};
 use replays::replay_history;
 use std::alloc::Global;
 use streams::{Sink, Source};
@@ -45,12 +46,8 @@ pub fn run_replay<S: Source, O: Sink, F: Sink, H: Sink>(
 pub fn replay_outcome(alloc: Global, text: &[u8]) -> Outcome
     ensures { IsTextOutcome IsReplayAnswer IsReplayRefusal (Some text.now) result }
 {
-    let history = match replay_history(alloc, text) {
-        Ok(history) => history,
-        Err(fault) => return replay_fault_outcome(alloc, &fault),
-    };
-    match write_history(alloc, &history) {
-        Ok(text) => Outcome::answered(Answer::Yes, line_of(text)),
-        Err(_) => Outcome::Memory,
+    match replay_history(alloc, text) {
+        Ok(history) => history_outcome(alloc, &history),
+        Err(fault) => replay_fault_outcome(alloc, &fault),
     }
 }

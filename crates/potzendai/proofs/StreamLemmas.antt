@@ -8,7 +8,7 @@ use Rattle.orders.specs.Orders.{IsLinearizable}
 use Rattle.outcomes.specs.declared.outcome.Answer.TheVariants.{Yes, No, Undecided}
 use Rattle.outcomes.specs.declared.outcome.Outcome.{Outcome}
 use Rattle.outcomes.specs.declared.outcome.Outcome.TheVariants.{Answered, Noted, Refused, Memory, Words, Failed}
-use Rattle.followers.specs.declared.reason.Reason.{Reason}
+use Rattle.follower.specs.declared.answered.Loss.{Loss}
 use Rattle.stream_text.specs.Cuts.{lines_of}
 use Rattle.stream_engines.specs.Answers.{GoesWrongHere}
 use Rattle.stream_engines.specs.Outcomes.{IsStreamOutcome}
@@ -17,8 +17,8 @@ use Rattle.potzendai.specs.Calls.{status_of}
 use Rattle.potzendai.specs.Streams.{SpellLinearizable, BeginUnlinearizable}
 
 -- the events before the wrong answer, with it, have no order
-wrong_lines : (budget : ℕ) (lines : List (List ℕ)) (reason : Reason) → GoesWrongHere budget lines reason → BeginUnlinearizable lines
-wrong_lines budget lines reason at =
+wrong_lines : (lines : List (List ℕ)) (loss : Loss) → GoesWrongHere lines loss → BeginUnlinearizable lines
+wrong_lines lines loss at =
     let answer = events.Answer at.process at.reply in
     record {
       stream = with_event at.stream answer;
@@ -62,10 +62,10 @@ yes_has_order budget text Failed comes is = cc
 pub no_has_none : (budget : ℕ) (text : List ℕ) (outcome : Outcome) → IsStreamOutcome budget (Some text) outcome
     → status_of outcome ≡ 1 → BeginUnlinearizable (lines_of text)
 no_has_none budget text (Answered Yes bytes) comes is = cc
-no_has_none budget text (Answered No bytes) comes is = wrong_lines budget (lines_of text) comes.0 comes.1
+no_has_none budget text (Answered No bytes) comes is = wrong_lines (lines_of text) comes.0 comes.1
 no_has_none budget text (Answered Undecided bytes) comes is = cc
 no_has_none budget text (Noted Yes bytes note) comes is = cc
-no_has_none budget text (Noted No bytes note) comes is = wrong_lines budget (lines_of text) comes.0 comes.1
+no_has_none budget text (Noted No bytes note) comes is = wrong_lines (lines_of text) comes.0 comes.1
 no_has_none budget text (Noted Undecided bytes note) comes is = cc
 no_has_none budget text (Refused bytes hint) comes is = cc
 no_has_none budget text Memory comes is = cc

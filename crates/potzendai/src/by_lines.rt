@@ -12,7 +12,7 @@ use std::alloc::Global;
 use std::mem::replace;
 use stream_engines::LineFollower;
 
-/// Begins to follow a stream, before its first line: each answer is to be judged by searches of at most `budget` configurations.
+/// Begins to follow a stream, before its first line: each answer is to be judged by searches of at most `budget` positions.
 /// What the handle held is closed first. Answers 0; or the status of want of memory, or of a budget that is none, and then the
 /// handle is closed.
 #[unsafe(no_mangle)]

@@ -2,7 +2,7 @@
 ghost use Rattle.std.specs.Prelude.{◌≡◌, Some};
 ghost use Rattle.explain_engines.specs.Answers.{IsExplainAnswer};
 ghost use Rattle.history_engines.specs.Answers.{IsHistoryRefusal, IsJudgeAnswer};
-ghost use Rattle.history_engines.specs.LocateAnswers.{IsLocateAnswer};
+ghost use Rattle.location_engines.specs.Answers.{IsLocateAnswer};
 ghost use Rattle.outcomes.specs.Outcomes.{IsTextOutcome};
 ghost use Rattle.picture_engines.specs.Drawings.{IsDrawAnswer};
 ghost use Rattle.potzendai.specs.Calls.{IsCall};
@@ -10,7 +10,8 @@ ghost use Rattle.potzendai.specs.Verdicts.{SpellsLinearizable, SpellsUnlineariza
 
 use crate::told::{is_budget, tell, tell_budget};
 use explain_engines::explain_outcome;
-use history_engines::{judge_outcome_alone, locate_outcome_alone};
+use history_engines::judge_outcome_alone;
+use location_engines::locate_outcome;
 use picture_engines::draw_outcome_alone;
 use std::alloc::Global;
 
@@ -53,7 +54,7 @@ pub extern "C" fn potzendai_locate(
         budget room.old room.new size.new result }
 {
     if is_budget(budget) {
-        let outcome = locate_outcome_alone(alloc, text, budget);
+        let outcome = locate_outcome(alloc, text, budget);
         tell(&outcome, room, size)
     } else {
         tell_budget(room, size)

@@ -10,7 +10,7 @@ use std::alloc::Global;
 use stream_engines::follow_text;
 
 /// Follows the stream whose events the lines of the text spell, as `bench follow` does: each answer is judged as it comes, by
-/// searches of at most `budget` configurations. A text has as many bytes as it will. Else as `potzendai_judge`.
+/// searches of at most `budget` positions. A text has as many bytes as it will. Else as `potzendai_judge`.
 #[unsafe(no_mangle)]
 pub extern "C" fn potzendai_follow(
     alloc: Global,

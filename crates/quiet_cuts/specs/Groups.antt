@@ -1,39 +1,18 @@
--- Groups of calls with keys apart, and the pairs of their range: each group is judged by itself.
-use Rattle.std.specs.Prelude.{◌≡◌, ◌↔◌, ℕ, Bool, true, false, List, length, Option, Some, None, slice_get, All, Contains}
+-- Calls that have the same orders: within a range of keys from other pairs, and at other places.
+use Rattle.std.specs.Prelude.{◌≡◌, ◌↔◌, ℕ, List, length, Option, Some, None, slice_get, All}
 use Rattle.events.specs.declared.event.Reply.{Reply}
 use Rattle.events.specs.declared.operation.Operation.{Operation}
 use Rattle.events.specs.declared.operation.Response.{Response}
-use Rattle.events.specs.Precedence.{is_completed, precedes, NonePrecedesItself}
-use Rattle.map_object.specs.MapObject.{Contents, IsRising, within}
-use Rattle.orders.specs.Orders.{after_calls, calls_at, IsOrder, IsLinearizable}
+use Rattle.events.specs.Precedence.{precedes}
+use Rattle.map_object.specs.MapObject.{Contents, within}
+use Rattle.orders.specs.Orders.{IsOrder}
 use Rattle.segments.specs.SegmentView.{NamesKeysWithin}
-use Rattle.quiet_cuts.specs.Leaves.{Leaves}
-use Rattle.quiet_cuts.specs.TimeCuts.{InvocationsRise}
-use Rattle.quiet_cuts.specs.RangeCuts.{HaveKeysApart, early_of, late_of}
-
--- a test parts the calls into two groups with keys apart
-abbrev pub PartsKeys : List Operation → (Operation → Bool) → Type 0
-PartsKeys calls is_here = (a b : Operation) → Contains calls a → Contains calls b → is_here a ≡ true → is_here b ≡ false
-    → HaveKeysApart a.call b.call
-
--- calls have an order exactly where each of two groups with keys apart has one
-abbrev pub GroupsJudge : Type 0
-GroupsJudge =
-    (m : Contents) (calls : List Operation) (is_here : Operation → Bool) → IsRising m → InvocationsRise calls → NonePrecedesItself calls
-    → PartsKeys calls is_here → IsLinearizable m calls ↔ (IsLinearizable m (early_of is_here calls) × IsLinearizable m
-    (late_of is_here calls))
 
 -- the orders of calls within a range are those from the pairs of the range
 abbrev pub RangesSuffice : Type 0
 RangesSuffice =
     (low high : ℕ) (m : Contents) (calls : List Operation) (order : List ℕ) → All (λ a. NamesKeysWithin low high a.call) calls
     → IsOrder m calls order ↔ IsOrder (within low high m) calls order
-
--- an order of completed calls leaves the pairs after it
-abbrev pub OrdersLeave : Type 0
-OrdersLeave =
-    (m : Contents) (calls : List Operation) (order : List ℕ) → All (λ a. is_completed a ≡ true) calls → IsOrder m calls order
-    → Leaves m calls (after_calls m (calls_at calls order))
 
 -- the reply of a response, or none
 abbrev pub reply_in : Option Response → Option Reply

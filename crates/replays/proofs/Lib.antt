@@ -1,1 +1,2 @@
+mod LinearizableLemmas
 mod PlayLemmas

@@ -3,16 +3,18 @@ use Rattle.std.proofs.Common.{◌≡◌, ℕ, List, Bool, true, false, if◌then
 use Rattle.events.specs.HistoryView.{HistoryView}
 use Rattle.map_object.specs.MapObject.{Contents}
 use Rattle.art_core.specs.declared.item.Item.{Item}
+use Rattle.art_core.specs.Claims.{CoupledIsLinearizable, OptimisticIsLinearizable}
 use Rattle.art_core.specs.Core.{Plan, State, opened_on}
 use Rattle.art_core.specs.Starts.{StartsOn}
 use Rattle.machine.specs.declared.machines.Machine.{Machine}
 use Rattle.plans.specs.declared.fault.MachineFault.{MachineFault}
 use Rattle.plans.specs.declared.fault.RunFault.{RunFault}
 use Rattle.machine.specs.Running.{HasStoppedAt}
-use Rattle.replay_text.specs.Replays.{ReplayView, plan_in}
+use Rattle.replay_text.specs.Replays.{ReplayView, IsReplay, plan_in}
 use Rattle.replays.specs.declared.fault.ReplayFault.{ReplayFault}
 use Rattle.replays.specs.declared.fault.ReplayFault.TheVariants as faults
 use Rattle.replays.specs.Played.{is_memory, Records, StopsAt, Plays, IsUnrecorded, IsUnplayedFor}
+use Rattle.replays.proofs.LinearizableLemmas.{linearizable}
 
 -- what holds of an answer may be said otherwise
 pub if_ok : {A E : Type 0} {P Q : A → Type 0} (result : Result A E) → ((a : A) → P a → Q a) → IfOk result P → IfOk result Q
@@ -55,17 +57,21 @@ unplayed-run r words (faults.Schedule stop) starts h = (h.0, record { words = wo
 unplayed-run r words faults.Memory starts h = tt
 
 -- the same with the schedule, the turns and the pairs of the machine
-pub plays-as : (r : ReplayView) (words : List ℕ) (items : List Item) (left : ℕ) (start : Contents) (history : HistoryView)
-    → items ≡ r.schedule → left ≡ r.limit
+pub plays-as : CoupledIsLinearizable → OptimisticIsLinearizable → (r : ReplayView) → IsReplay r → (words : List ℕ) (items : List Item) (left : ℕ)
+    (start : Contents) (history : HistoryView) → items ≡ r.schedule → left ≡ r.limit
     → start ≡ r.start → StartsOn r.shape r.variant r.start words
     → Records (plan_in r) items (opened_on (plan_in r) words) left start history → Plays r history
-plays-as r words items left start history same_items same_left same_start starts h = record {
+plays-as coupled optimistic r within words items left start history same_items same_left same_start starts h = record {
   words = words;
   starts = starts;
-  records = subst (λ (p : Contents). Records (plan_in r) r.schedule (opened_on (plan_in r) words) r.limit p history) same_start
-      (subst (λ (n : ℕ). Records (plan_in r) r.schedule (opened_on (plan_in r) words) n start history) same_left
-      (subst (λ (is : List Item). Records (plan_in r) is (opened_on (plan_in r) words) left start history) same_items h));
+  records = recorded;
+  linearizable = linearizable r words history within starts recorded coupled optimistic;
 }
+  where
+    recorded : Records (plan_in r) r.schedule (opened_on (plan_in r) words) r.limit r.start history
+    recorded = subst (λ (p : Contents). Records (plan_in r) r.schedule (opened_on (plan_in r) words) r.limit p history) same_start
+        (subst (λ (n : ℕ). Records (plan_in r) r.schedule (opened_on (plan_in r) words) n start history) same_left
+        (subst (λ (is : List Item). Records (plan_in r) is (opened_on (plan_in r) words) left start history) same_items h))
 
 pub unplayed-as : (r : ReplayView) (words : List ℕ) (items : List Item) (left : ℕ) (fault : ReplayFault)
     → items ≡ r.schedule → left ≡ r.limit

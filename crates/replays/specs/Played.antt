@@ -2,6 +2,8 @@
 use Rattle.std.specs.Prelude.{◌≡◌, ◌⊎◌, ⊤, Bool, true, false, ℕ, ◌+◌, ◌≤◌, List, take, slice_get, Some}
 use Rattle.events.specs.HistoryView.{HistoryView}
 use Rattle.map_object.specs.MapObject.{Contents}
+use Rattle.orders.specs.Orders.{IsLinearizableHistory}
+use Rattle.art_steps.specs.declared.variant.Variant.TheVariants.{Coupled, Optimistic}
 use Rattle.art_core.specs.declared.item.Item.{Item}
 use Rattle.art_core.specs.Core.{Plan, State, opened_on, history_of}
 use Rattle.art_core.specs.NamedTurns.{process_of_item, WantsTurn, AreMade, AreMadeWhole}
@@ -52,11 +54,13 @@ pub record StopsAt (plan : Plan) (items : List Item) (first : State) (left place
 
 -- ---- the run of a replay
 
--- from the words on which its tree has the starting pairs, its schedule records this history
+-- From the words on which its tree has the starting pairs, its schedule records this history. Where the tree is a full one, the history has an
+-- order.
 pub record Plays (r : ReplayView) (history : HistoryView) : Type 0 where
   pub words : List ℕ
   pub starts : StartsOn r.shape r.variant r.start words
   pub records : Records (plan_in r) r.schedule (opened_on (plan_in r) words) r.limit r.start history
+  pub linearizable : (r.variant ≡ Coupled) ⊎ (r.variant ≡ Optimistic) → IsLinearizableHistory history
 
 -- or stops at this item
 pub record Stops (r : ReplayView) (place : ℕ) (fault : MachineFault) : Type 0 where

@@ -8,6 +8,7 @@ ghost use Rattle.replays.specs.declared.fault.ReplayFault.TheVariants as faults;
 
 use crate::fault::ReplayFault;
 use art_core::Item;
+use art_schedules::{coupled_is_linearizable, optimistic_is_linearizable};
 use events::History;
 use machine::Machine;
 use plans::{MachineFault, RunFault};
@@ -15,7 +16,8 @@ use replay_text::{Replay, read_replay};
 use std::alloc::Global;
 
 /// The history that the run of a replay records, whose text this is: the whole schedule is run. Otherwise why there is none.
-/// Calls that are open at the end are pending, and calls that were not begun are not in it.
+/// Calls that are open at the end are pending, and calls that were not begun are not in it. Where the tree is full, the history is
+/// linearizable, whatever the schedule.
 pub fn replay_history(alloc: Global, text: &[u8]) -> Result<History, ReplayFault>
     ensures played { IfOk result (IsPlayed text.now) }
     ensures refused { IfErr result (IsUnplayed text.now) }
@@ -26,11 +28,13 @@ pub fn replay_history(alloc: Global, text: &[u8]) -> Result<History, ReplayFault
     }
 }
 
-/// The history that the run of a replay records.
+/// The history that the run of a replay records. Where the tree is full, it is linearizable.
 fn play(alloc: Global, replay: Replay) -> Result<History, ReplayFault>
     ensures played { IfOk result (Plays (shown replay)) }
     ensures refused { IfErr result (IsUnplayedFor (shown replay)) }
 {
+    coupled_is_linearizable();
+    optimistic_is_linearizable();
     match Machine::open_with(
         alloc,
         replay.shape,

@@ -14,7 +14,7 @@ use crate::links::Links;
 use crate::undo::{take_call, undo_call};
 use events::{Call, Memory, Operation};
 use map_object::SortedMap;
-use memo::{Memo, visit, visited_at_start};
+use memo::{Memo, visited_at_start};
 use orders::may_come_next;
 use std::alloc::Global;
 
@@ -157,12 +157,11 @@ fn take_next(alloc: Global, calls: &[Operation], standing: &mut Standing) -> Res
     ensures { OnOk result (HasMoved start calls.now standing.old standing.new) }
 {
     let place = standing.next;
-    let undo = take_call(alloc, &mut standing.map, &calls[place as usize])?;
-    let config = standing
+    let call = &calls[place as usize];
+    let undo = take_call(alloc, &mut standing.map, call)?;
+    let new = standing
         .memo
-        .at(standing.at)
-        .with(alloc, place, &standing.map)?;
-    let new = visit(&mut standing.memo, config)?;
+        .visit_next(alloc, standing.at, place, call, &standing.map)?;
     if new {
         return push(calls.len() as u32, standing, place, undo);
     }

@@ -1,7 +1,7 @@
 -- What an event makes of a stream that is followed.
-use Rattle.follow.specs.declared.fault.FollowFault.TheVariants as turns
+use Rattle.follower.specs.declared.fault.FollowFault.TheVariants as turns
 use Rattle.std.proofs.Common.{◌≡◌, ℕ, ◌+◌, ◌-◌, ◌^◌, ◌<◌, ◌≤◌, min, Bool, true, false, List, [], ◌∷◌, ◌++◌, length, Option, Some}
-use Rattle.std.proofs.Common.{None, Result, Ok, Err, IfErr, cond, subst, refl, sym, ap, ◌∙◌, inl, inr, arith}
+use Rattle.std.proofs.Common.{None, cond, refl, sym, ap, ◌∙◌, inl, inr, arith}
 use Rattle.std.proofs.Math.Nat.{min-eq_left, min_comm}
 use Rattle.std.proofs.lemmas.Bool.{cases_lt, false≢true}
 use Rattle.std.proofs.lemmas.Bool.Decides.{nat_tests}
@@ -14,15 +14,12 @@ use Rattle.events.specs.HistoryView.{with_event}
 use Rattle.events.specs.HistoryFaults.{has_open_call}
 use Rattle.events.specs.Keys.{low_key, high_key}
 use Rattle.stream_text.specs.Lines.{SpellsEvent}
-use Rattle.follow.specs.Faults.{event_limit, invocation_fault}
-use Rattle.follow.specs.declared.fault.FollowFault.{FollowFault}
-use Rattle.followers.specs.declared.together.Followers.{Followers}
-use Rattle.followers.specs.Followed.{IsFollowedBy}
+use Rattle.follower.specs.Faults.{event_limit, invocation_fault}
+use Rattle.follower.specs.FollowerView.{FollowerView}
+use Rattle.follower.specs.Following.{IsFollowing}
+use Rattle.follower.specs.declared.fault.FollowFault.{FollowFault}
 use Rattle.stream_engines.specs.declared.followed.Followed.{Followed}
-use Rattle.outcomes.specs.declared.outcome.Outcome.{Outcome}
-use Rattle.outcomes.specs.declared.outcome.Outcome.TheVariants as outcomes
 use Rattle.stream_engines.specs.Followed.{IsFollowed}
-use Rattle.stream_engines.specs.Outcomes.{IsStreamOutcome}
 use Rattle.stream_engines.specs.Overlaps.{pending_after, overlap_after, overlap_of}
 use Rattle.stream_engines.proofs.StreamLemmas.{SpellStream-push}
 use Rattle.stream_engines.proofs.OverlapLemmas.{pending-invoke, pending-answer, pending_le, overlap-invoke, overlap-answer}
@@ -53,16 +50,17 @@ room events process call h =
     turns.Shape turns.NotWellFormed turns.TooMany h in
     grind (arith, nat_tests)
 
-pub invoked : (read : List (List ℕ)) (line : List ℕ) (f : Followed) (g : Followers) (process : ℕ) (call : Call)
-    (pending overlap limit : ℕ)
+pub invoked : (read : List (List ℕ)) (line : List ℕ) (f : Followed) (g : FollowerView) (process : ℕ) (call : Call)
+    (pending overlap : ℕ)
     (followed : IsFollowed read f) → SpellsEvent f.version line (Invoke process call)
-    → IsFollowedBy followed.stream.start (followed.stream.events ++ Invoke process call ∷ []) g
+    → IsFollowing followed.stream.start (followed.stream.events ++ Invoke process call ∷ []) g
     → invocation_fault followed.stream.events process call ≡ None → pending ≡ min (f.pending + 1) (2 ^ 64 - 1)
     → overlap ≡ min (f.overlap + f.pending) (2 ^ 64 - 1)
-    → IsFollowed (read ++ line ∷ []) (record { followers = g; version = f.version; pending = pending; overlap = overlap; limit = limit })
-invoked read line f g process call pending overlap limit followed spelled follows accepted pending_is overlap_is =
+    → IsFollowed (read ++ line ∷ []) (record { follower = g; version = f.version; pending = pending; overlap = overlap })
+invoked read line f g process call pending overlap followed spelled follows accepted pending_is overlap_is =
     let events = followed.stream.events in
-    let few : length events < 2 ^ 64 - 1 = room events process call accepted in
+    let below = room events process call accepted in
+    let few : length events < 2 ^ 64 - 1 = omega (arith, below) in
     let bound = pending_le 0 events in
     let small : pending_after 0 events + 1 ≤ 2 ^ 64 - 1 = omega arith in
     record {
@@ -77,11 +75,11 @@ invoked read line f g process call pending overlap limit followed spelled follow
           ∙ ap (λ (n : ℕ). min n (2 ^ 64 - 1)) (sym (overlap-invoke 0 events process call)))));
     }
 
-pub answered : (read : List (List ℕ)) (line : List ℕ) (f : Followed) (g : Followers) (process : ℕ) (reply : Reply) (pending limit : ℕ)
+pub answered : (read : List (List ℕ)) (line : List ℕ) (f : Followed) (g : FollowerView) (process : ℕ) (reply : Reply) (pending : ℕ)
     (followed : IsFollowed read f) → SpellsEvent f.version line (Answer process reply)
-    → IsFollowedBy followed.stream.start (followed.stream.events ++ Answer process reply ∷ []) g → pending ≡ f.pending - 1
-    → IsFollowed (read ++ line ∷ []) (record { followers = g; version = f.version; pending = pending; overlap = f.overlap; limit = limit })
-answered read line f g process reply pending limit followed spelled follows pending_is =
+    → IsFollowing followed.stream.start (followed.stream.events ++ Answer process reply ∷ []) g → pending ≡ f.pending - 1
+    → IsFollowed (read ++ line ∷ []) (record { follower = g; version = f.version; pending = pending; overlap = f.overlap })
+answered read line f g process reply pending followed spelled follows pending_is =
     let events = followed.stream.events in
     record {
       stream = with_event followed.stream (Answer process reply);
@@ -90,9 +88,3 @@ answered read line f g process reply pending limit followed spelled follows pend
       pending = pending_is ∙ (ap (λ (n : ℕ). n - 1) followed.pending ∙ sym (pending-answer 0 events process reply));
       overlap = followed.overlap ∙ ap (λ (n : ℕ). min n (2 ^ 64 - 1)) (sym (overlap-answer 0 events process reply));
     }
-
--- want of memory may come at any text
-pub memory_alone : (budget : ℕ) (told : Option (List ℕ)) (r : Result Followed Outcome) → IfErr r (λ outcome. outcome ≡ outcomes.Memory)
-    → IfErr r (IsStreamOutcome budget told)
-memory_alone budget told (Ok f) is = tt
-memory_alone budget told (Err outcome) is = subst (IsStreamOutcome budget told) (sym is) tt

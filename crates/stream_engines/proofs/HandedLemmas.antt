@@ -1,6 +1,6 @@
 -- What lines that are handed over come to.
 use Rattle.std.proofs.Common.{◌≡◌, ◌≢◌, ℕ, zero, suc, ◌+◌, ◌-◌, ◌<◌, ◌≤◌, ◌==◌, Bool, true, false, List, [], ◌∷◌, ◌++◌, length}
-use Rattle.std.proofs.Common.{take, drop, Option, Some, None, get_or, refl, sym, ap, ◌∙◌, subst, inl, inr, append_assoc, append-nil, length-drop}
+use Rattle.std.proofs.Common.{take, drop, Option, Some, None, get_or, refl, sym, ap, ◌∙◌, subst, inr, append_assoc, append-nil, length-drop}
 use Rattle.std.proofs.Common.{arith, string_bytes}
 use Rattle.std.proofs.lemmas.Bool.Decides.{nat_tests}
 use Rattle.std.proofs.lemmas.List.{take_all}
@@ -88,7 +88,7 @@ handed_many budget given count number lines line f outcome handed many numbers i
     refused None (Refused bytes hint) begins is = tt
     refused (Some text) (Refused bytes hint) begins is =
         refusal_of text lines (line ∷ begins.0) f too_many_name (string_bytes bytes) (string_bytes hint) handed.3 (next_of text lines begins.0 line begins.1)
-        (inr (inr (inl (record { count = most; name_is = refl; hint_is = is.1 }))))
+        (inr (inr (record { count = most; name_is = refl; hint_is = is.1 })))
         (numbered (length lines + 1) number too_many_name (string_bytes bytes) (ap (λ n. n + 1) most ∙ sym numbers) is.0)
 
 -- ---- lines more

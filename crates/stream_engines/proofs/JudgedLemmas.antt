@@ -1,21 +1,14 @@
 -- What an answer that was judged comes to, and the end of the lines.
-use Rattle.std.proofs.Common.{◌≡◌, ℕ, List, [], ◌∷◌, ◌++◌, length, codes, Option, Some, None, refl, sym, subst}
-use Rattle.std.proofs.Common.{string_bytes}
-use Rattle.std.specs.Prelude.{IfSome}
+use Rattle.std.proofs.Common.{◌≡◌, ℕ, List, [], ◌∷◌, ◌++◌, length, Option, Some, None, refl, sym, subst, string_bytes}
 use Rattle.serde_json.specs.Written.{compact_text}
 use Rattle.events.specs.declared.event.Reply.{Reply}
-use Rattle.events.specs.declared.event.Event.{Event}
 use Rattle.events.specs.declared.event.Event.TheVariants.{Answer}
 use Rattle.events.specs.Operations.{operations}
-use Rattle.orders.specs.Orders.{IsLinearizable}
-use Rattle.map_object.specs.MapObject.{Contents}
 use Rattle.stream_text.specs.Cuts.{lines_of}
 use Rattle.stream_text.specs.Lines.{SpellsEvent}
-use Rattle.follow.specs.declared.answered.Loss.{Loss}
-use Rattle.follow.specs.declared.answered.Answered.TheVariants as single
-use Rattle.followers.specs.declared.reason.Part.{Part}
-use Rattle.followers.specs.declared.reason.Reason.{Reason}
-use Rattle.followers.specs.Outcomes.{IsPartOf, IsLost, IsSpent}
+use Rattle.follower.specs.declared.answered.Doubt.{Doubt}
+use Rattle.follower.specs.declared.answered.Loss.{Loss}
+use Rattle.follower.specs.Outcomes.{IsLost, IsSpent}
 use Rattle.outcomes.specs.declared.outcome.Answer as answers
 use Rattle.outcomes.specs.declared.outcome.Answer.TheVariants.{Yes, Undecided}
 use Rattle.outcomes.specs.declared.outcome.Outcome.{Outcome}
@@ -25,7 +18,7 @@ use Rattle.stream_engines.specs.declared.followed.Followed.{Followed}
 use Rattle.stream_engines.specs.Followed.{IsFollowed}
 use Rattle.stream_engines.specs.StreamTexts.{SpellStream, BeginsWith}
 use Rattle.stream_engines.specs.Overlaps.{overlap_of}
-use Rattle.stream_engines.specs.Reports.{yes_data, reason_data}
+use Rattle.stream_engines.specs.Reports.{yes_data, spent_data}
 use Rattle.stream_engines.specs.Notes.{note_of}
 use Rattle.stream_engines.specs.Reading.{AreLinesOf}
 use Rattle.stream_engines.specs.Leaves.{IsAnsweredBy, IsYesOutcome, IsLostOutcome}
@@ -34,11 +27,11 @@ use Rattle.stream_engines.specs.Outcomes.{IsStreamOutcome}
 use Rattle.stream_engines.proofs.RefusalLemmas.{next_of}
 
 -- the answer of the next line, as it was judged
-judged_of : (budget : ℕ) (text : List ℕ) (read rest : List (List ℕ)) (next : List ℕ) (f : Followed) (process : ℕ) (reply : Reply)
-    (IsWhat : Judgement) (reason : Reason) (followed : IsFollowed read f) → SpellsEvent f.version next (Answer process reply)
-    → lines_of text ≡ (read ++ next ∷ []) ++ rest → IsWhat followed.stream.start followed.stream.events process reply budget reason
-    → IsJudgedAnswer budget (lines_of text) IsWhat reason
-judged_of budget text read rest next f process reply IsWhat reason followed spelled parts judged = record {
+judged_of : (text : List ℕ) (read rest : List (List ℕ)) (next : List ℕ) (f : Followed) (process : ℕ) (reply : Reply)
+    (IsWhat : Judgement) (followed : IsFollowed read f) → SpellsEvent f.version next (Answer process reply)
+    → lines_of text ≡ (read ++ next ∷ []) ++ rest → IsWhat followed.stream.start followed.stream.events process reply
+    → IsJudgedAnswer (lines_of text) IsWhat
+judged_of text read rest next f process reply IsWhat followed spelled parts judged = record {
   stream = followed.stream;
   version = f.version;
   read = read;
@@ -54,46 +47,47 @@ judged_of budget text read rest next f process reply IsWhat reason followed spel
   judged = judged;
 }
 
--- what was searched has no order
-abbrev pub IsLossRefuted : Loss → Type 0
-IsLossRefuted loss = IsLinearizable loss.start.items loss.calls.items → ⊥
-
-pub parts_refuted : (start : Contents) (events : List Event) (process : ℕ) (reply : Reply) (budget : ℕ) (part : Option Part)
-    → IfSome part (IsPartOf start events process reply budget single.Lost) → IfSome part (λ p. IsLossRefuted p.loss)
-parts_refuted start events process reply budget None is = tt
-parts_refuted start events process reply budget (Some part) is = is.taken.judged.refuted
-
 pub lost_at : (budget : ℕ) (told : Option (List ℕ)) (read : List (List ℕ)) (next : List ℕ) (f : Followed) (process : ℕ)
-    (reply : Reply) (reason : Reason)
-    (outcome : Outcome) (followed : IsFollowed read f) → SpellsEvent f.version next (Answer process reply)
+    (reply : Reply) (loss : Loss) (outcome : Outcome) (followed : IsFollowed read f) → SpellsEvent f.version next (Answer process reply)
     → BeginsWith told (read ++ next ∷ [])
-    → IsLost followed.stream.start followed.stream.events process reply budget reason
-    → IsLostOutcome reason outcome → IsStreamOutcome budget told outcome
-lost_at budget told read next f process reply reason Memory followed spelled begins judged is = tt
-lost_at budget told read next f process reply reason (Refused bytes hint) followed spelled begins judged is = absurd is
-lost_at budget told read next f process reply reason (Noted answer bytes note) followed spelled begins judged is = absurd is
-lost_at budget told read next f process reply reason (Words bytes) followed spelled begins judged is = absurd is
-lost_at budget told read next f process reply reason Failed followed spelled begins judged is = absurd is
-lost_at budget None read next f process reply reason (Answered answer bytes) followed spelled begins judged is = tt
-lost_at budget (Some text) read next f process reply reason (Answered answer bytes) followed spelled begins judged is =
-    subst (λ (a : answers.Answer). IsFollowAnswer budget text a (string_bytes bytes) []) (sym is.0)
-    (reason, judged_of budget text read begins.0 next f process reply IsLost reason followed spelled begins.1 judged, is.1, refl)
+    → IsLost followed.stream.start followed.stream.events process reply loss
+    → IsLostOutcome loss outcome → IsStreamOutcome budget told outcome
+lost_at budget told read next f process reply loss Memory followed spelled begins judged is = tt
+lost_at budget told read next f process reply loss (Refused bytes hint) followed spelled begins judged is = absurd is
+lost_at budget told read next f process reply loss (Noted answer bytes note) followed spelled begins judged is = absurd is
+lost_at budget told read next f process reply loss (Words bytes) followed spelled begins judged is = absurd is
+lost_at budget told read next f process reply loss Failed followed spelled begins judged is = absurd is
+lost_at budget None read next f process reply loss (Answered answer bytes) followed spelled begins judged is = tt
+lost_at budget (Some text) read next f process reply loss (Answered answer bytes) followed spelled begins judged is =
+    subst (λ (a : answers.Answer). IsFollowAnswer budget text a (string_bytes bytes) []) (sym is.0) (
+      loss,
+      judged_of text read begins.0 next f process reply (λ start events process reply. IsLost start events process reply loss)
+          followed spelled begins.1 judged,
+      is.1,
+      refl,
+    )
 
 pub spent_at : (budget : ℕ) (told : Option (List ℕ)) (read : List (List ℕ)) (next : List ℕ) (f : Followed) (process : ℕ)
-    (reply : Reply) (reason : Reason)
-    (outcome : Outcome) (followed : IsFollowed read f) → SpellsEvent f.version next (Answer process reply)
-    → BeginsWith told (read ++ next ∷ [])
-    → IsSpent followed.stream.start followed.stream.events process reply budget reason
-    → IsAnsweredBy Undecided (line (compact_text (reason_data reason (codes "undecided")))) outcome → IsStreamOutcome budget told outcome
-spent_at budget told read next f process reply reason Memory followed spelled begins judged is = tt
-spent_at budget told read next f process reply reason (Refused bytes hint) followed spelled begins judged is = absurd is
-spent_at budget told read next f process reply reason (Noted answer bytes note) followed spelled begins judged is = absurd is
-spent_at budget told read next f process reply reason (Words bytes) followed spelled begins judged is = absurd is
-spent_at budget told read next f process reply reason Failed followed spelled begins judged is = absurd is
-spent_at budget None read next f process reply reason (Answered answer bytes) followed spelled begins judged is = tt
-spent_at budget (Some text) read next f process reply reason (Answered answer bytes) followed spelled begins judged is =
-    subst (λ (a : answers.Answer). IsFollowAnswer budget text a (string_bytes bytes) []) (sym is.0)
-    (reason, judged_of budget text read begins.0 next f process reply IsSpent reason followed spelled begins.1 judged, is.1, refl)
+    (reply : Reply) (event number : ℕ) (doubt : Doubt) (outcome : Outcome) (followed : IsFollowed read f)
+    → SpellsEvent f.version next (Answer process reply) → BeginsWith told (read ++ next ∷ [])
+    → IsSpent followed.stream.events process budget event number doubt
+    → IsAnsweredBy Undecided (line (compact_text (spent_data event number doubt))) outcome → IsStreamOutcome budget told outcome
+spent_at budget told read next f process reply event number doubt Memory followed spelled begins judged is = tt
+spent_at budget told read next f process reply event number doubt (Refused bytes hint) followed spelled begins judged is = absurd is
+spent_at budget told read next f process reply event number doubt (Noted answer bytes note) followed spelled begins judged is = absurd is
+spent_at budget told read next f process reply event number doubt (Words bytes) followed spelled begins judged is = absurd is
+spent_at budget told read next f process reply event number doubt Failed followed spelled begins judged is = absurd is
+spent_at budget None read next f process reply event number doubt (Answered answer bytes) followed spelled begins judged is = tt
+spent_at budget (Some text) read next f process reply event number doubt (Answered answer bytes) followed spelled begins judged is =
+    subst (λ (a : answers.Answer). IsFollowAnswer budget text a (string_bytes bytes) []) (sym is.0) (
+      event,
+      number,
+      doubt,
+      judged_of text read begins.0 next f process reply
+          (λ start events process reply. IsSpent events process budget event number doubt) followed spelled begins.1 judged,
+      is.1,
+      refl,
+    )
 
 -- what is said of a yes, by its calls and how much they overlap
 abbrev IsSaid : ℕ → ℕ → List ℕ → List ℕ → Type 0

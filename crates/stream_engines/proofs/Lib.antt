@@ -1,5 +1,6 @@
 mod AlikeLemmas
 mod ReportLemmas
+mod OwnLemmas
 mod SmallLemmas
 pub mod StreamLemmas
 mod OverlapLemmas

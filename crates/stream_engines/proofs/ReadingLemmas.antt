@@ -169,7 +169,7 @@ many_at budget told read f number new Failed followed many count has is = absurd
 many_at budget None read f number new (Refused bytes hint) followed many count has is = tt
 many_at budget (Some text) read f number new (Refused bytes hint) followed many count has is =
     refusal_of text read (lines_of has.0) f too_many_name (string_bytes bytes) (string_bytes hint) followed has.2
-    (inr (inr (inl (record { count = many; name_is = refl; hint_is = is.1 }))))
+    (inr (inr (record { count = many; name_is = refl; hint_is = is.1 })))
     (is.0 ∙ ap (λ (n : ℕ). stream_fault_line n too_many_name) (sym count))
 
 -- ---- the next line was taken, or was not

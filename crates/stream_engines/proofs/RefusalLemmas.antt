@@ -1,25 +1,24 @@
 -- What a refused line comes to.
-use Rattle.follow.specs.declared.fault.FollowFault.TheVariants as turns
-use Rattle.history_text.specs.declared.version.TextVersion.TheVariants.{Three}
+use Rattle.follower.specs.declared.fault.FollowFault.TheVariants as turns
 use Rattle.std.proofs.Common.{◌≡◌, ◌≢◌, ℕ, ◌+◌, ◌<◌, List, [], ◌∷◌, ◌++◌, length, Option, Some, None, refl, sym, ap, ◌∙◌}
 use Rattle.std.proofs.Common.{inl, inr, append_assoc, arith, string_bytes}
 use Rattle.events.specs.declared.event.Event.{Event}
 use Rattle.history_text.specs.declared.version.TextVersion.{TextVersion}
 use Rattle.stream_text.specs.declared.line_fault.LineFault.{LineFault}
 use Rattle.stream_text.specs.Cuts.{lines_of}
-use Rattle.stream_text.specs.Lines.{SpellsEvent, SpellsStart}
+use Rattle.stream_text.specs.Lines.{SpellsEvent}
 use Rattle.stream_text.specs.LineFaults.{IsEventLineFault}
-use Rattle.follow.specs.declared.fault.FollowFault.{FollowFault}
-use Rattle.follow.specs.Faults.{shown}
+use Rattle.follower.specs.declared.fault.FollowFault.{FollowFault}
+use Rattle.follower.specs.Faults.{shown}
 use Rattle.outcomes.specs.declared.outcome.Outcome.{Outcome}
 use Rattle.outcomes.specs.declared.outcome.Outcome.TheVariants.{Answered, Noted, Refused, Memory, Words, Failed}
 use Rattle.stream_engines.specs.declared.followed.Followed.{Followed}
 use Rattle.stream_engines.specs.Followed.{IsFollowed}
 use Rattle.stream_engines.specs.StreamTexts.{BeginsWith}
 use Rattle.stream_engines.specs.Refusals.{line_fault_name, turn_fault_name}
-use Rattle.stream_engines.specs.Refusals.{not_followed_name, turn_fault, stream_fault_line, IsLineFaultAfter, StopsFor}
+use Rattle.stream_engines.specs.Refusals.{turn_fault, stream_fault_line, IsLineFaultAfter, StopsFor}
 use Rattle.stream_engines.specs.Answers.{IsStreamRefusal}
-use Rattle.stream_engines.specs.Leaves.{IsLineRefusal, IsTurnRefusal, IsStartRefusal}
+use Rattle.stream_engines.specs.Leaves.{IsLineRefusal, IsTurnRefusal}
 use Rattle.stream_engines.specs.Outcomes.{IsStreamOutcome}
 
 -- a text that begins with lines that are followed, and stops behind them
@@ -101,29 +100,6 @@ refused_turn budget (Some text) read line f number e fault (Refused bytes hint) 
       name_is = refl;
       hint_is = is.2;
     }))) (numbered (length read + 1) number (turn_fault_name fault) (string_bytes bytes) count is.1)
-
--- the first line is that of a stream which is not followed
-pub refused_first : (budget : ℕ) (told : Option (List ℕ)) (line : List ℕ) (pairs : List (ℕ × ℕ)) (f : Followed) (outcome : Outcome)
-    → IsFollowed [] f → SpellsStart Three line pairs → BeginsWith told (line ∷ []) → IsStartRefusal 1 line outcome
-    → IsStreamOutcome budget told outcome
-refused_first budget told line pairs f Memory followed spelled begins is = tt
-refused_first budget told line pairs f (Answered answer bytes) followed spelled begins is = absurd is
-refused_first budget told line pairs f (Noted answer bytes note) followed spelled begins is = absurd is
-refused_first budget told line pairs f (Words bytes) followed spelled begins is = absurd is
-refused_first budget told line pairs f Failed followed spelled begins is = absurd is
-refused_first budget None line pairs f (Refused bytes hint) followed spelled begins is = tt
-refused_first budget (Some text) line pairs f (Refused bytes hint) followed spelled begins is =
-    refusal_of text [] (line ∷ begins.0) f not_followed_name (string_bytes bytes) (string_bytes hint) followed begins.1
-    (inr (inr (inr (record {
-      first = refl;
-      next = line;
-      rest = begins.0;
-      parts = refl;
-      pairs = pairs;
-      spelled = spelled;
-      name_is = refl;
-      hint_is = is.1;
-    })))) is.0
 
 -- what an error shows of an event, unless memory was wanting
 pub shown_some : (fault : FollowFault) (seen : Option FollowFault) → seen ≡ shown fault → fault ≢ turns.Memory → seen ≡ Some fault

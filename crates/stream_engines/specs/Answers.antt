@@ -1,10 +1,11 @@
 -- What the program answers to the lines of a stream.
-use Rattle.std.specs.Prelude.{◌≡◌, ◌⊎◌, ℕ, ◌+◌, List, [], ◌∷◌, ◌++◌, length, MatchOption, codes}
+use Rattle.std.specs.Prelude.{◌≡◌, ◌⊎◌, ℕ, ◌+◌, List, [], ◌∷◌, ◌++◌, length, MatchOption}
 use Rattle.serde_json.specs.Written.{compact_text}
 use Rattle.events.specs.HistoryView.{HistoryView}
 use Rattle.events.specs.declared.event.Reply.{Reply}
 use Rattle.events.specs.declared.event.Event.{Event}
 use Rattle.events.specs.declared.event.Event.TheVariants.{Answer}
+use Rattle.events.specs.declared.operation.Operation.{Operation}
 use Rattle.events.specs.Events.{IsWellFormed}
 use Rattle.events.specs.Histories.{IsHistory}
 use Rattle.events.specs.Operations.{operations}
@@ -15,16 +16,17 @@ use Rattle.history_text.specs.declared.version.TextVersion.{TextVersion}
 use Rattle.history_text.specs.Texts.{Spells}
 use Rattle.stream_text.specs.Cuts.{lines_of}
 use Rattle.stream_text.specs.Lines.{SpellsEvent}
-use Rattle.follow.specs.declared.answered.Loss.{Loss}
-use Rattle.followers.specs.declared.reason.Reason.{Reason}
-use Rattle.followers.specs.Outcomes.{IsLost, IsSpent}
+use Rattle.follower.specs.declared.answered.Doubt.{Doubt}
+use Rattle.follower.specs.declared.answered.Loss.{Loss}
+use Rattle.follower.specs.Outcomes.{IsLost, IsSpent}
 use Rattle.outcomes.specs.declared.outcome.Answer as outcomes
 use Rattle.outcomes.specs.declared.outcome.Answer.TheVariants as verdicts
 use Rattle.outcomes.specs.Lines.{line}
 use Rattle.stream_engines.specs.StreamTexts.{SpellStream}
 use Rattle.stream_engines.specs.Overlaps.{overlap_of}
 use Rattle.stream_engines.specs.Refusals.{stream_fault_line, StopsFor}
-use Rattle.stream_engines.specs.Reports.{yes_data, own_part, reason_data}
+use Rattle.stream_engines.specs.Reports.{yes_data, lost_data, spent_data}
+use Rattle.stream_engines.specs.OwnParts.{own_part}
 use Rattle.stream_engines.specs.Notes.{note_of}
 
 -- all lines spell a stream, whose events have an order; the note is that on its calls and how much they overlap
@@ -37,12 +39,12 @@ pub record IsWholeAnswer (lines : List (List ℕ)) (bytes note : List ℕ) : Typ
   pub bytes_are : bytes ≡ line (compact_text (yes_data (length (operations stream.events)) (overlap_of stream.events)))
   pub note_is : note ≡ note_of (length (operations stream.events)) (overlap_of stream.events)
 
--- what an answer of a process comes to, at a budget, behind events from some pairs
+-- what an answer of a process comes to, behind events from some pairs
 abbrev pub Judgement : Type 1
-Judgement = Contents → List Event → ℕ → Reply → ℕ → Reason → Type 0
+Judgement = Contents → List Event → ℕ → Reply → Type 0
 
 -- the lines begin with those of a stream whose events have an order, and then comes an answer that was judged
-pub record IsJudgedAnswer (budget : ℕ) (lines : List (List ℕ)) (IsWhat : Judgement) (reason : Reason) : Type 0 where
+pub record IsJudgedAnswer (lines : List (List ℕ)) (IsWhat : Judgement) : Type 0 where
   pub stream : HistoryView
   pub version : TextVersion
   pub read : List (List ℕ)
@@ -55,38 +57,43 @@ pub record IsJudgedAnswer (budget : ℕ) (lines : List (List ℕ)) (IsWhat : Jud
   pub process : ℕ
   pub reply : Reply
   pub answer : SpellsEvent version next (Answer process reply)
-  pub judged : IsWhat stream.start stream.events process reply budget reason
+  pub judged : IsWhat stream.start stream.events process reply
 
 -- with this answer, and whatever comes behind it, the events go wrong
-abbrev pub GoesWrongHere : ℕ → List (List ℕ) → Reason → Type 0
-GoesWrongHere budget lines reason = IsJudgedAnswer budget lines IsLost reason
+abbrev pub GoesWrongHere : List (List ℕ) → Loss → Type 0
+GoesWrongHere lines loss = IsJudgedAnswer lines (λ start events process reply. IsLost start events process reply loss)
+
+-- it is not known whether they do, at this budget
+abbrev pub IsDoubtedHere : ℕ → List (List ℕ) → ℕ → ℕ → Doubt → Type 0
+IsDoubtedHere budget lines event number doubt =
+    IsJudgedAnswer lines (λ start events process reply. IsSpent events process budget event number doubt)
 
 -- the text is that of a history with these calls, at other places and by other processes, from these pairs; and it has no order
-pub record IsSmallHistory (loss : Loss) (text : List ℕ) : Type 0 where
+pub record IsSmallHistory (start : Contents) (calls : List Operation) (text : List ℕ) : Type 0 where
   pub history : HistoryView
   pub spelled : Spells text history
   pub is_history : IsHistory history
-  pub start : history.start ≡ loss.start.items
-  pub alike : AreAlike loss.calls.items (operations history.events)
+  pub start_is : history.start ≡ start
+  pub alike : AreAlike calls (operations history.events)
   pub refuted : IsLinearizable history.start (operations history.events) → ⊥
 
 -- the line of such a text, or nothing where the calls fit no history
-abbrev pub IsSmallLine : Loss → List ℕ → Type 0
-IsSmallLine loss bytes = (bytes ≡ []) ⊎ ((text : List ℕ) × (bytes ≡ line text) × IsSmallHistory loss text)
+abbrev pub IsSmallLine : Contents → List Operation → List ℕ → Type 0
+IsSmallLine start calls bytes = (bytes ≡ []) ⊎ ((text : List ℕ) × (bytes ≡ line text) × IsSmallHistory start calls text)
 
--- what is told where the events go wrong; a small history only where the stream itself was searched
-abbrev pub IsLostText : Reason → List ℕ → Type 0
-IsLostText reason bytes = (small : List ℕ) × MatchOption (own_part reason.part) (small ≡ []) (λ loss. IsSmallLine loss small)
-    × (bytes ≡ line (compact_text (reason_data reason (codes "no"))) ++ small)
+-- what is told where the events go wrong; a small history only where one value alone goes wrong
+abbrev pub IsLostText : Loss → List ℕ → Type 0
+IsLostText loss bytes = (small : List ℕ) × MatchOption (own_part loss) (small ≡ []) (λ part. IsSmallLine part.start part.calls small)
+    × (bytes ≡ line (compact_text (lost_data loss)) ++ small)
 
 -- `follow` answers the lines at the budget so, with this note, which only a yes may have
 abbrev pub IsLinesAnswer : ℕ → List (List ℕ) → outcomes.Answer → List ℕ → List ℕ → Type 0
 IsLinesAnswer budget lines verdicts.Yes bytes note = IsWholeAnswer lines bytes note
 IsLinesAnswer budget lines verdicts.No bytes note =
-    (reason : Reason) × GoesWrongHere budget lines reason × IsLostText reason bytes × (note ≡ [])
+    (loss : Loss) × GoesWrongHere lines loss × IsLostText loss bytes × (note ≡ [])
 IsLinesAnswer budget lines verdicts.Undecided bytes note =
-    (reason : Reason) × IsJudgedAnswer budget lines IsSpent reason
-    × (bytes ≡ line (compact_text (reason_data reason (codes "undecided")))) × (note ≡ [])
+    (event : ℕ) × (number : ℕ) × (doubt : Doubt) × IsDoubtedHere budget lines event number doubt
+    × (bytes ≡ line (compact_text (spent_data event number doubt))) × (note ≡ [])
 
 -- with this line and this hint `follow` refuses the lines: those before are followed, and there it stops
 pub record IsLinesRefusal (lines : List (List ℕ)) (bytes hint : List ℕ) : Type 0 where

@@ -1,18 +1,18 @@
 -- How single answers and refusals come out.
 use Rattle.stream_text.specs.declared.line_fault.LineFault.TheVariants as lines
-use Rattle.follow.specs.declared.fault.FollowFault.TheVariants as turns
+use Rattle.follower.specs.declared.fault.FollowFault.TheVariants as turns
 use Rattle.std.specs.Prelude.{◌≡◌, ◌≢◌, ℕ, List, [], ⊤, string_bytes}
 use Rattle.serde_json.specs.Written.{compact_text}
 use Rattle.stream_text.specs.declared.line_fault.LineFault.{LineFault}
-use Rattle.follow.specs.declared.fault.FollowFault.{FollowFault}
-use Rattle.followers.specs.declared.reason.Reason.{Reason}
+use Rattle.follower.specs.declared.answered.Loss.{Loss}
+use Rattle.follower.specs.declared.fault.FollowFault.{FollowFault}
 use Rattle.outcomes.specs.declared.outcome.Answer.{Answer}
 use Rattle.outcomes.specs.declared.outcome.Answer.TheVariants.{Yes, No}
 use Rattle.outcomes.specs.declared.outcome.Outcome.{Outcome}
 use Rattle.outcomes.specs.declared.outcome.Outcome.TheVariants.{Answered, Noted, Refused, Memory}
 use Rattle.outcomes.specs.Lines.{line}
-use Rattle.stream_engines.specs.Refusals.{line_fault_name, turn_fault_name, too_many_name, not_followed_name, stream_fault_line}
-use Rattle.stream_engines.specs.Refusals.{line_fault_hint, turn_fault_hint, too_many_hint, not_followed_hint}
+use Rattle.stream_engines.specs.Refusals.{line_fault_name, turn_fault_name, too_many_name, stream_fault_line}
+use Rattle.stream_engines.specs.Refusals.{line_fault_hint, turn_fault_hint, too_many_hint}
 use Rattle.stream_engines.specs.Reports.{yes_data}
 use Rattle.stream_engines.specs.Notes.{note_of}
 use Rattle.stream_engines.specs.Answers.{IsLostText}
@@ -38,13 +38,6 @@ IsManyRefusal number (Refused bytes hint) = (string_bytes bytes ≡ stream_fault
 IsManyRefusal number Memory = ⊤
 IsManyRefusal number outcome = ⊥
 
--- the outcome of the first line, of this number, of a stream whose answers may tell less than the map answers
-abbrev pub IsStartRefusal : ℕ → List ℕ → Outcome → Type 0
-IsStartRefusal number next (Refused bytes hint) = (string_bytes bytes ≡ stream_fault_line number not_followed_name)
-    × (string_bytes hint ≡ not_followed_hint next)
-IsStartRefusal number next Memory = ⊤
-IsStartRefusal number next outcome = ⊥
-
 -- an answer with these bytes, where memory suffices
 abbrev pub IsAnsweredBy : Answer → List ℕ → Outcome → Type 0
 IsAnsweredBy answer bytes (Answered given text) = (given ≡ answer) × (string_bytes text ≡ bytes)
@@ -61,7 +54,7 @@ IsYesOutcome calls overlap Memory = ⊤
 IsYesOutcome calls overlap outcome = ⊥
 
 -- the outcome where an answer was judged and the events go wrong
-abbrev pub IsLostOutcome : Reason → Outcome → Type 0
-IsLostOutcome reason (Answered given text) = (given ≡ No) × IsLostText reason (string_bytes text)
-IsLostOutcome reason Memory = ⊤
-IsLostOutcome reason outcome = ⊥
+abbrev pub IsLostOutcome : Loss → Outcome → Type 0
+IsLostOutcome loss (Answered given text) = (given ≡ No) × IsLostText loss (string_bytes text)
+IsLostOutcome loss Memory = ⊤
+IsLostOutcome loss outcome = ⊥

@@ -3,6 +3,7 @@ pub mod Overlaps
 pub mod Wanted
 pub mod Refusals
 pub mod Reports
+pub mod OwnParts
 pub mod Notes
 pub mod Followed
 pub mod Answers

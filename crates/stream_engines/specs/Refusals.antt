@@ -1,20 +1,19 @@
 -- Why a line of a stream is refused, as the program says it.
 use Rattle.stream_text.specs.declared.line_fault.LineFault.TheVariants as lines
-use Rattle.follow.specs.declared.fault.FollowFault.TheVariants as turns
+use Rattle.follower.specs.declared.fault.FollowFault.TheVariants as turns
 use Rattle.std.specs.Prelude.{◌≡◌, ◌≢◌, ◌⊎◌, ℕ, ◌-◌, ◌^◌, List, [], ◌∷◌, ◌++◌, length, Option, Some, codes, decimal}
 use Rattle.events.specs.declared.event.Event.{Event}
 use Rattle.events.specs.declared.event.Event.TheVariants.{Invoke, Answer}
 use Rattle.history_text.specs.declared.version.TextVersion.{TextVersion}
-use Rattle.history_text.specs.declared.version.TextVersion.TheVariants as versions
 use Rattle.stream_text.specs.declared.line_fault.LineFault.{LineFault}
-use Rattle.stream_text.specs.Lines.{SpellsEvent, SpellsStart}
+use Rattle.stream_text.specs.Lines.{SpellsEvent}
 use Rattle.stream_text.specs.LineFaults.{IsEventLineFault, IsFirstLineFault}
-use Rattle.follow.specs.declared.fault.FollowFault.{FollowFault}
-use Rattle.follow.specs.Faults.{invocation_fault, answer_fault}
+use Rattle.follower.specs.declared.fault.FollowFault.{FollowFault}
+use Rattle.follower.specs.Faults.{invocation_fault, answer_fault}
 use Rattle.outcomes.specs.Lines.{line}
 use Rattle.outcomes.specs.Found.{found_hint}
 use Rattle.outcomes.specs.Wanted.{wanted_hint}
-use Rattle.stream_engines.specs.Wanted.{too_many_wanted, start_wanted, line_wanted, turn_wanted_for}
+use Rattle.stream_engines.specs.Wanted.{too_many_wanted, line_wanted, turn_wanted_for}
 
 -- how many lines are read at most
 abbrev pub most_lines : ℕ
@@ -22,10 +21,6 @@ most_lines = 2 ^ 64 - 2
 
 abbrev pub too_many_name : List ℕ
 too_many_name = codes "5 TooMany"
-
--- a stream whose answers may tell less than the map answers
-abbrev pub not_followed_name : List ℕ
-not_followed_name = codes "9 NotFollowed"
 
 -- the fault of a line
 abbrev pub line_fault_name : LineFault → List ℕ
@@ -55,10 +50,6 @@ turn_fault_hint next fault = found_hint next (turn_wanted_for fault)
 -- and where there are too many lines
 abbrev pub too_many_hint : List ℕ
 too_many_hint = wanted_hint too_many_wanted
-
--- the hint on a first line of such a stream
-abbrev pub not_followed_hint : List ℕ → List ℕ
-not_followed_hint next = found_hint next start_wanted
 
 -- the line of a fault; lines of a stream are numbered from 1
 abbrev pub stream_fault_line : ℕ → List ℕ → List ℕ
@@ -97,17 +88,6 @@ pub record IsOutOfTurn (version : TextVersion) (events : List Event) (more : Lis
   pub name_is : name ≡ turn_fault_name fault
   pub hint_is : hint ≡ turn_fault_hint next fault
 
--- the first line spells starting pairs, and version 3, in which answers may tell less than the map answers
-pub record IsNotFollowed (read more : List (List ℕ)) (name hint : List ℕ) : Type 0 where
-  pub first : read ≡ []
-  pub next : List ℕ
-  pub rest : List (List ℕ)
-  pub parts : more ≡ next ∷ rest
-  pub pairs : List (ℕ × ℕ)
-  pub spelled : SpellsStart versions.Three next pairs
-  pub name_is : name ≡ not_followed_name
-  pub hint_is : hint ≡ not_followed_hint next
-
 -- as many lines were read as may be
 pub record AreMany (read : List (List ℕ)) (name hint : List ℕ) : Type 0 where
   pub count : length read ≡ most_lines
@@ -118,4 +98,3 @@ pub record AreMany (read : List (List ℕ)) (name hint : List ℕ) : Type 0 wher
 abbrev pub StopsFor : List (List ℕ) → TextVersion → List Event → List (List ℕ) → List ℕ → List ℕ → Type 0
 StopsFor read version events more name hint =
     IsFaulty read version more name hint ⊎ IsOutOfTurn version events more name hint ⊎ AreMany read name hint
-    ⊎ IsNotFollowed read more name hint

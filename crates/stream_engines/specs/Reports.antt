@@ -1,10 +1,12 @@
 -- The reports of a stream: JSON, with members by rising bytes.
-use Rattle.std.specs.Prelude.{ℕ, if◌then◌else◌, List, Option, Some, None, map, codes}
-use Rattle.serde_json.specs.Data.{Data, string, object, no_members, member}
+use Rattle.std.specs.Prelude.{ℕ, List, [], ◌∷◌, Option, Some, None, map, flat_map, codes}
+use Rattle.serde_json.specs.Data.{Data, null, string, object, no_members, member}
 use Rattle.history_text.specs.Texts.{number_data, list_data}
-use Rattle.follow.specs.declared.answered.Loss.{Loss}
-use Rattle.followers.specs.declared.reason.Part.{Part}
-use Rattle.followers.specs.declared.reason.Reason.{Reason}
+use Rattle.following.specs.keys.KeyStates.{Configuration}
+use Rattle.kept_rows.specs.declared.outcomes.KeyLoss.{KeyLoss}
+use Rattle.follower.specs.declared.answered.Loss.{Loss}
+use Rattle.follower.specs.declared.answered.Doubt.{Doubt}
+use Rattle.follower.specs.declared.answered.Doubt.TheVariants.{Budget, Rows}
 
 -- all events have an order: how many calls there were, and how many other calls were open at their invocations, in all
 abbrev pub yes_data : ℕ → ℕ → Data
@@ -12,28 +14,46 @@ yes_data calls overlap =
     object (member (codes "calls") (number_data calls) (member (codes "overlap") (number_data overlap)
     (member (codes "verdict") (string (codes "yes")) no_members)))
 
--- numbers of calls
+-- numbers of events
 abbrev pub numbers_data : List ℕ → Data
 numbers_data numbers = list_data (map number_data numbers)
 
--- an answer that was judged: the number of its call, those of the calls that were searched, its event, and the range of its group
-abbrev pub loss_data : ℕ → ℕ → Loss → List ℕ → Data
-loss_data call event loss word =
-    object (member (codes "call") (number_data call) (member (codes "calls") (numbers_data loss.numbers.items)
-    (member (codes "event") (number_data event) (member (codes "hi") (number_data loss.range.high)
-    (member (codes "lo") (number_data loss.range.low) (member (codes "verdict") (string word) no_members))))))
+-- a value that a key may have had, or none
+abbrev pub value_data : Option ℕ → Data
+value_data None = null
+value_data (Some value) = number_data value
 
--- what was searched in the stream itself, where it was
-abbrev pub own_part : Option Part → Option Loss
-own_part None = None
-own_part (Some part) = if part.plain then Some part.loss else None
+-- those of all configurations, one configuration after the other
+abbrev pub values_data : List Configuration → Data
+values_data configurations = list_data (map value_data (flat_map (λ c. c.values) configurations))
 
--- an answer that was judged: in the stream itself, or else its call and its event alone
-abbrev pub judged_data : ℕ → ℕ → Option Loss → List ℕ → Data
-judged_data call event (Some loss) word = loss_data call event loss word
-judged_data call event None word =
-    object (member (codes "call") (number_data call) (member (codes "event") (number_data event)
-    (member (codes "verdict") (string word) no_members)))
+-- what is left at a key: each call by the event of its invocation, or that of its scan; the key; and the values that it may have had before these
+abbrev pub key_data : KeyLoss → Data
+key_data at =
+    object (member (codes "invoked") (numbers_data at.kept.names) (member (codes "key") (number_data at.key)
+    (member (codes "values") (values_data at.kept.configurations) no_members)))
 
-abbrev pub reason_data : Reason → List ℕ → Data
-reason_data reason word = judged_data reason.number reason.event (own_part reason.part) word
+abbrev pub keys_data : List KeyLoss → Data
+keys_data keys = list_data (map key_data keys)
+
+-- the events go wrong: the number of the call that is answered, the event, and keys at which there is no order any more
+abbrev pub lost_data : Loss → Data
+lost_data loss =
+    object (member (codes "call") (number_data loss.number) (member (codes "event") (number_data loss.event)
+    (member (codes "keys") (keys_data loss.keys.items) (member (codes "verdict") (string (codes "no")) no_members))))
+
+-- why it is not known whether they do, in a word, and the keys of which that is said
+abbrev pub reason_word : Doubt → List ℕ
+reason_word (Budget at) = codes "budget"
+reason_word Rows = codes "scans"
+
+abbrev pub doubted_keys : Doubt → List KeyLoss
+doubted_keys (Budget at) = at ∷ []
+doubted_keys Rows = []
+
+-- it is not known whether the events go wrong at this one, which answers the call of this number
+abbrev pub spent_data : ℕ → ℕ → Doubt → Data
+spent_data event number doubt =
+    object (member (codes "call") (number_data number) (member (codes "event") (number_data event)
+    (member (codes "keys") (keys_data (doubted_keys doubt)) (member (codes "reason") (string (reason_word doubt))
+    (member (codes "verdict") (string (codes "undecided")) no_members)))))

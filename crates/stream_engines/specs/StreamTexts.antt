@@ -21,12 +21,11 @@ pub record SpellFromStart (version : TextVersion) (lines : List (List ℕ)) (str
   pub start : SpellsStart version first stream.start
   pub events : SpellEvents version others stream.events
 
--- the lines spell this stream, which is one that is followed: from the empty map, or with starting pairs; each answer tells all that the
--- map answers, so that a stream of a version in which answers may tell less is none of these
+-- the lines spell this stream: from the empty map, or with starting pairs
 abbrev pub SpellStream : TextVersion → List (List ℕ) → HistoryView → Type 0
 SpellStream One lines stream = (stream.start ≡ []) × SpellEvents One lines stream.events
 SpellStream Two lines stream = SpellFromStart Two lines stream
-SpellStream Three lines stream = ⊥
+SpellStream Three lines stream = SpellFromStart Three lines stream
 
 -- the text that is told begins with these lines
 abbrev pub BeginsWith : Option (List ℕ) → List (List ℕ) → Type 0

@@ -2,16 +2,12 @@
 use Rattle.std.specs.Prelude.{ℕ, List, [], codes}
 use Rattle.stream_text.specs.declared.line_fault.LineFault.{LineFault}
 use Rattle.stream_text.specs.declared.line_fault.LineFault.TheVariants as lines
-use Rattle.follow.specs.declared.fault.FollowFault.{FollowFault}
-use Rattle.follow.specs.declared.fault.FollowFault.TheVariants as turns
+use Rattle.follower.specs.declared.fault.FollowFault.{FollowFault}
+use Rattle.follower.specs.declared.fault.FollowFault.TheVariants as turns
 use Rattle.outcomes.specs.Wanted.{json_wanted, event_wanted, turn_wanted, pair_wanted}
 
 abbrev pub too_many_wanted : List ℕ
-too_many_wanted = codes "processes from 0 to 65535, and fewer than 18446744073709551615 lines"
-
--- for a stream whose answers may tell less than the map answers
-abbrev pub start_wanted : List ℕ
-start_wanted = codes "{\"version\":2,\"start\":[[K,V],..]}, for answers that tell less are judged in a history's text and not followed in a stream"
+too_many_wanted = codes "processes from 0 to 65535, and at most 17592186044414 events"
 
 -- for the fault of a line
 abbrev pub line_wanted : LineFault → List ℕ

@@ -1,37 +1,30 @@
 // A stream, as far as it was followed, and what each line makes of it.
-ghost use Rattle.std.specs.Prelude.{◌≡◌, ℕ, ◌+◌, ◌<◌, true, false, List, [], ◌∷◌, ◌++◌, length, Option, IfOk, IfErr};
+ghost use Rattle.std.specs.Prelude.{◌≡◌, ℕ, ◌+◌, ◌<◌, List, [], ◌∷◌, ◌++◌, length, Option, IfOk, IfErr};
 ghost use Rattle.events.specs.declared.event.Event.TheVariants as events;
 ghost use Rattle.events.specs.Starts.{KeysRise};
-ghost use Rattle.events.specs.Told.{is_told};
-ghost use Rattle.history_text.specs.Versions.{may_tell_less};
-ghost use Rattle.outcomes.specs.declared.outcome.Outcome.TheVariants as outcomes;
 ghost use Rattle.stream_text.specs.Lines.{as_event, SpellsEvent, SpellsStart};
 ghost use Rattle.stream_engines.specs.Followed.{IsFollowed};
 ghost use Rattle.stream_engines.specs.Outcomes.{IsStreamOutcome};
 ghost use Rattle.stream_engines.specs.Reading.{AreLinesOf};
 ghost use Rattle.stream_engines.specs.StreamTexts.{BeginsWith};
 
-use crate::refusals::{refused_event, refused_line, refused_start};
+use crate::refusals::{refused_event, refused_line};
 use crate::reports::{lost_outcome, spent_outcome, yes_outcome};
 use events::{Call, Memory, Pairs, Reply};
-use followers::{Answered, Followers};
+use follower::{Answered, Follower};
 use history_text::TextVersion;
 use outcomes::Outcome;
 use std::alloc::Global;
 use stream_text::{FirstLine, StreamEvent, read_event_line, read_first_line};
 
-/// How many calls may be left at first before choices are tried.
-const FIRST_LIMIT: usize = 256;
-
-/// A stream, as far as it was followed: its followers, its version, how many calls are open, how many other calls were open at the
-/// invocations, in all, and how many calls may be left before choices are tried.
+/// A stream, as far as it was followed: its follower, its version, how many calls are open, and how many other calls were open at the
+/// invocations, in all.
 #[derive(Drop)]
 pub struct Followed {
-    pub followers: Followers,
+    pub follower: Follower,
     pub version: TextVersion,
     pub pending: u64,
     pub overlap: u64,
-    pub limit: usize,
 }
 
 impl Followed {
@@ -39,29 +32,29 @@ impl Followed {
     pub fn new(alloc: Global) -> Result<Followed, Memory>
         ensures { IfOk result (IsFollowed []) }
     {
-        let followers = Followers::new(alloc, &[])?;
+        let follower = Follower::new(alloc, &[])?;
         Ok(Followed {
-            followers,
+            follower,
             version: TextVersion::One,
             pending: 0,
             overlap: 0,
-            limit: FIRST_LIMIT,
         })
     }
 
-    /// Behind a first line of starting pairs, of a version in which answers tell all.
-    fn from_start(alloc: Global, version: TextVersion, start: &Pairs) -> Result<Followed, Memory>
+    /// Behind a first line of starting pairs.
+    fn from_start(alloc: Global, version: TextVersion, start: &Pairs) -> Result<Followed, Outcome>
         requires { KeysRise start.now }
-        ensures { (line : List ℕ) → SpellsStart version line start.now → may_tell_less version ≡ false
-            → IfOk result (IsFollowed (line ∷ [])) }
+        ensures taken { (line : List ℕ) → SpellsStart version line start.now → IfOk result (IsFollowed (line ∷ [])) }
+        ensures stopped { (told : Option (List ℕ)) (budget : ℕ) → IfErr result (IsStreamOutcome budget told) }
     {
-        let followers = Followers::new(alloc, start.as_slice())?;
+        let Ok(follower) = Follower::new(alloc, start.as_slice()) else {
+            return Err(Outcome::Memory);
+        };
         Ok(Followed {
-            followers,
+            follower,
             version,
             pending: 0,
             overlap: 0,
-            limit: FIRST_LIMIT,
         })
     }
 
@@ -97,31 +90,9 @@ impl Followed {
         match read_first_line(alloc, line) {
             Ok(FirstLine::Event(event)) => self.take_event(alloc, 1, line, event, budget),
             Ok(FirstLine::Start { version, pairs }) => {
-                self.take_start(alloc, line, version, &pairs)
+                Followed::from_start(alloc, version, &pairs)
             }
             Err(fault) => Err(refused_line(alloc, 1, line, fault)),
-        }
-    }
-
-    /// Takes a first line of starting pairs.
-    fn take_start(
-        self,
-        alloc: Global,
-        line: &[u8],
-        version: TextVersion,
-        start: &Pairs,
-    ) -> Result<Followed, Outcome>
-        requires { KeysRise start.now }
-        ensures taken { SpellsStart version line.now start.now → IfOk result (IsFollowed (line.now ∷ [])) }
-        ensures stopped { (told : Option (List ℕ)) (budget : ℕ) → IsFollowed [] self → SpellsStart version line.now start.now
-            → BeginsWith told (line.now ∷ []) → IfErr result (IsStreamOutcome budget told) }
-    {
-        if tells_less(version) {
-            return Err(refused_start(alloc, 1, line));
-        }
-        match Followed::from_start(alloc, version, start) {
-            Ok(followed) => Ok(followed),
-            Err(_) => Err(Outcome::Memory),
         }
     }
 
@@ -145,10 +116,6 @@ impl Followed {
                 self.begin_call(alloc, number, line, process, call)
             }
             StreamEvent::Answer { process, reply } => {
-                // No stream that is followed has such an answer; but what is followed here is known to contracts alone.
-                if !reply.is_told() {
-                    return Err(refused_start(alloc, number, line));
-                }
                 self.take_answer(alloc, number, line, process, reply, budget)
             }
         }
@@ -169,15 +136,14 @@ impl Followed {
             → IsFollowed read self → SpellsEvent self.version line.now (events.Invoke process call)
             → BeginsWith told (read ++ line.now ∷ []) → IfErr result (IsStreamOutcome budget told) }
     {
-        let (version, limit) = (self.version, self.limit);
+        let version = self.version;
         let (pending, overlap) = (self.pending, self.overlap);
-        match self.followers.invoke(process, call) {
-            Ok(followers) => Ok(Followed {
-                followers,
+        match self.follower.invoke(alloc, process, call) {
+            Ok(follower) => Ok(Followed {
+                follower,
                 version,
                 pending: pending.saturating_add(1),
                 overlap: overlap.saturating_add(pending),
-                limit,
             }),
             Err(fault) => Err(refused_event(alloc, number, line, &fault)),
         }
@@ -193,51 +159,30 @@ impl Followed {
         reply: Reply,
         budget: u32,
     ) -> Result<Followed, Outcome>
-        requires told { is_told reply ≡ true }
         ensures taken { (read : List (List ℕ)) → IsFollowed read self
             → SpellsEvent self.version line.now (events.Answer process reply) → IfOk result (IsFollowed (read ++ line.now ∷ [])) }
         ensures stopped { (told : Option (List ℕ)) (read : List (List ℕ)) → length read + 1 ≡ number
             → IsFollowed read self → SpellsEvent self.version line.now (events.Answer process reply)
             → BeginsWith told (read ++ line.now ∷ []) → IfErr result (IsStreamOutcome budget told) }
     {
-        let (version, limit) = (self.version, self.limit);
+        let version = self.version;
         let (pending, overlap) = (self.pending, self.overlap);
-        match self.followers.answer(alloc, process, reply, budget) {
-            Ok(Answered::Going(followers)) => {
-                let taken = Followed {
-                    followers,
-                    version,
-                    pending: pending.saturating_sub(1),
-                    overlap,
-                    limit,
-                };
-                taken.relieved(alloc, budget)
-            }
-            Ok(Answered::Lost(reason)) => Err(lost_outcome(alloc, reason)),
-            Ok(Answered::Spent(reason)) => Err(spent_outcome(alloc, reason)),
+        match self.follower.answer(alloc, process, reply, budget) {
+            Ok(Answered::Going(follower)) => Ok(Followed {
+                follower,
+                version,
+                pending: pending.saturating_sub(1),
+                overlap,
+            }),
+            Ok(Answered::Lost(loss)) => Err(lost_outcome(alloc, &loss)),
+            Ok(
+                Answered::Spent {
+                    event,
+                    number: call,
+                    doubt,
+                },
+            ) => Err(spent_outcome(alloc, event, call, &doubt)),
             Ok(Answered::Refused(_, fault)) => Err(refused_event(alloc, number, line, &fault)),
-            Err(_) => Err(Outcome::Memory),
-        }
-    }
-
-    /// With fewer calls left, where there are more than the limit.
-    fn relieved(self, alloc: Global, budget: u32) -> Result<Followed, Outcome>
-        ensures taken { (read : List (List ℕ)) → IsFollowed read self → IfOk result (IsFollowed read) }
-        ensures stopped { IfErr result (λ outcome. outcome ≡ outcomes.Memory) }
-    {
-        let (version, limit) = (self.version, self.limit);
-        let (pending, overlap) = (self.pending, self.overlap);
-        match self.followers.relieved(alloc, limit, budget) {
-            Ok(followers) => {
-                let limit = limit_behind(&followers, limit);
-                Ok(Followed {
-                    followers,
-                    version,
-                    pending,
-                    overlap,
-                    limit,
-                })
-            }
             Err(_) => Err(Outcome::Memory),
         }
     }
@@ -247,22 +192,6 @@ impl Followed {
         ensures { (told : Option (List ℕ)) (read : List (List ℕ)) (budget : ℕ) → IsFollowed read self.now → AreLinesOf told read
             → IsStreamOutcome budget told result }
     {
-        yes_outcome(alloc, self.followers.calls(), self.overlap)
-    }
-}
-
-/// Whether answers of a stream of a version may tell less than the map answers.
-fn tells_less(version: TextVersion) -> bool
-    ensures { result ≡ may_tell_less version }
-{
-    matches!(version, TextVersion::Three)
-}
-
-/// How many calls may be left from now on before choices are tried: twice as many where more than that are left.
-fn limit_behind(followers: &Followers, limit: usize) -> usize {
-    if followers.left() <= limit {
-        limit
-    } else {
-        limit.saturating_mul(2)
+        yes_outcome(alloc, self.follower.calls(), self.overlap)
     }
 }

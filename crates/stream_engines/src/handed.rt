@@ -6,7 +6,7 @@ ghost use Rattle.stream_engines.specs.Outcomes.{IsStreamOutcome};
 ghost use Rattle.stream_engines.specs.Reading.{AreLinesOf};
 
 use crate::followed::Followed;
-use crate::following::MOST_LINES;
+use crate::reading::MOST_LINES;
 use crate::refusals::refused_many;
 use events::Memory;
 use outcomes::Outcome;
@@ -16,7 +16,7 @@ use stream_text::first_line_feed;
 /// Follows a stream whose lines are handed over.
 #[derive(Drop)]
 pub enum LineFollower {
-    /// So many lines were handed over, and are followed: a search meets at most `budget` configurations.
+    /// So many lines were handed over, and are followed: a search reaches at most `budget` positions.
     Going {
         followed: Followed,
         lines: u64,

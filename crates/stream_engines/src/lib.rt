@@ -4,14 +4,15 @@
 
 mod alike;
 mod followed;
-mod following;
 mod handed;
+mod own_parts;
 mod progress;
+mod reading;
 mod refusals;
 mod reports;
 mod small_history;
 
-pub use following::{follow_outcome, run_follow};
 pub use handed::{LineFollower, follow_text};
 pub use progress::{Progress, Unshown};
+pub use reading::{follow_outcome, run_follow};
 pub use small_history::small_line;

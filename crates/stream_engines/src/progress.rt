@@ -2,8 +2,8 @@
 
 /// What is told behind each line that was taken. No clause speaks of what becomes of it.
 pub trait Progress {
-    /// So many calls were taken, and the follower keeps so many of them.
-    fn show(&mut self, calls: usize, left: usize);
+    /// So many calls were taken.
+    fn show(&mut self, calls: usize);
 }
 
 /// Nothing becomes of it.
@@ -11,5 +11,5 @@ pub trait Progress {
 pub struct Unshown;
 
 impl Progress for Unshown {
-    fn show(&mut self, _calls: usize, _left: usize) {}
+    fn show(&mut self, _calls: usize) {}
 }

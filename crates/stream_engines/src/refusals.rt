@@ -1,10 +1,10 @@
 // Why a line of a stream is refused, as an outcome.
 ghost use Rattle.std.specs.Prelude.{◌≡◌, IfOk, string_bytes};
-ghost use Rattle.stream_engines.specs.Leaves.{IsLineRefusal, IsTurnRefusal, IsManyRefusal, IsStartRefusal};
+ghost use Rattle.stream_engines.specs.Leaves.{IsLineRefusal, IsTurnRefusal, IsManyRefusal};
 ghost use Rattle.stream_engines.specs.Refusals.{line_fault_name, turn_fault_name, line_fault_hint, stream_fault_line};
-ghost use Rattle.stream_engines.specs.Wanted.{too_many_wanted, start_wanted, line_wanted, turn_wanted_for};
+ghost use Rattle.stream_engines.specs.Wanted.{too_many_wanted, line_wanted, turn_wanted_for};
 
-use follow::FollowFault;
+use follower::FollowFault;
 use outcomes::{
     Outcome, event_wanted, found_hint, json_wanted, pair_wanted, turn_wanted, wanted_hint,
 };
@@ -44,16 +44,6 @@ pub fn refused_many(alloc: Global, number: u64) -> Outcome
     Outcome::refused(
         fault_line(alloc, number, "5 TooMany"),
         wanted_hint(alloc, too_many_wanted()),
-    )
-}
-
-/// The refusal of a stream whose answers may tell less than the map answers, at the line of this number, or want of memory.
-pub fn refused_start(alloc: Global, number: u64, line: &[u8]) -> Outcome
-    ensures { IsStartRefusal number line.now result }
-{
-    Outcome::refused(
-        fault_line(alloc, number, "9 NotFollowed"),
-        found_hint(alloc, line, start_wanted()),
     )
 }
 
@@ -140,16 +130,9 @@ fn turn_wanted_for(fault: &FollowFault) -> &'static str
     }
 }
 
-/// What the first line of a stream may be whose answers tell all that the map answers.
-fn start_wanted() -> &'static str
-    ensures { result.now ≡ start_wanted }
-{
-    "{\"version\":2,\"start\":[[K,V],..]}, for answers that tell less are judged in a history's text and not followed in a stream"
-}
-
-/// Which processes there may be, and how many lines.
+/// Which processes there may be, and how many events.
 fn too_many_wanted() -> &'static str
     ensures { result.now ≡ too_many_wanted }
 {
-    "processes from 0 to 65535, and fewer than 18446744073709551615 lines"
+    "processes from 0 to 65535, and at most 17592186044414 events"
 }

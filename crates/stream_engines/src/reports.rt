@@ -1,21 +1,25 @@
 // The lines that a stream is answered with.
-ghost use Rattle.std.specs.Prelude.{◌≡◌, ℕ, ◌++◌, List, [], IfOk, OnOk, IfSome, MatchOption, codes, string_bytes};
-ghost use Rattle.orders.specs.Orders.{IsLinearizable};
+ghost use Rattle.std.specs.Prelude.{◌≡◌, ◌++◌, [], map, All, IfOk, OnOk, MatchOption, codes, string_bytes};
+ghost use Rattle.history_text.specs.Texts.{number_data};
+ghost use Rattle.kept_rows.specs.Outcomes.{HasNoOrder};
+ghost use Rattle.outcomes.specs.Lines.{line};
 ghost use Rattle.outcomes.specs.declared.outcome.Answer.TheVariants.{Undecided};
-ghost use Rattle.stream_engines.specs.Leaves.{IsAnsweredBy, IsLostOutcome, IsYesOutcome};
-ghost use Rattle.stream_engines.specs.Notes.{overlap_note};
 ghost use Rattle.serde_json.specs.Data.{object, string, put as with_member};
 ghost use Rattle.serde_json.specs.View.{view, members_view};
 ghost use Rattle.serde_json.specs.Written.{compact_text};
-ghost use Rattle.outcomes.specs.Lines.{line};
-ghost use Rattle.stream_engines.specs.Answers.{IsSmallLine};
-ghost use Rattle.history_text.specs.Texts.{number_data};
-ghost use Rattle.stream_engines.specs.Reports.{yes_data, numbers_data, own_part, judged_data, reason_data};
+ghost use Rattle.stream_engines.specs.Answers.{IsLostText, IsSmallLine};
+ghost use Rattle.stream_engines.specs.Leaves.{IsAnsweredBy, IsLostOutcome, IsYesOutcome};
+ghost use Rattle.stream_engines.specs.Notes.{overlap_note};
+ghost use Rattle.stream_engines.specs.OwnParts.{own_part};
+ghost use Rattle.stream_engines.specs.Reports.{yes_data, numbers_data, value_data, values_data, key_data, keys_data, lost_data};
+ghost use Rattle.stream_engines.specs.Reports.{reason_word, doubted_keys, spent_data};
 
+use crate::own_parts::own_part;
 use crate::small_history::small_line;
 use events::Memory;
-use follow::Loss;
-use followers::{Part, Reason};
+use follower::{Doubt, Loss};
+use kept_keys::Configuration;
+use kept_rows::KeyLoss;
 use outcomes::{Answer, Outcome, line_of};
 use serde_json::{Map, Value, put};
 use std::alloc::{AllocError, Global};
@@ -41,25 +45,18 @@ fn overlap_note(alloc: Global) -> Result<String, AllocError>
     )
 }
 
-/// The answer where a search was given up.
-pub fn spent_outcome(alloc: Global, reason: Reason) -> Outcome
-    ensures { IsAnsweredBy Undecided (line (compact_text (reason_data reason (codes "undecided")))) result }
+/// The answer where it is not known whether the events go wrong at this one, which answers the call of this number.
+pub fn spent_outcome(alloc: Global, event: usize, number: usize, doubt: &Doubt) -> Outcome
+    ensures { IsAnsweredBy Undecided (line (compact_text (spent_data event number doubt.now))) result }
 {
-    let (call, event) = (reason.number, reason.event);
-    let own = own_part(reason.part);
-    Outcome::answered(
-        Answer::Undecided,
-        judged_line(alloc, call, event, &own, "undecided"),
-    )
+    Outcome::answered(Answer::Undecided, spent_line(alloc, event, number, doubt))
 }
 
-/// The answer where the events go wrong: its line, and where the stream itself was searched the line of the small history.
-pub fn lost_outcome(alloc: Global, reason: Reason) -> Outcome
-    ensures { IfSome reason.part (λ part. IsLinearizable part.loss.start.items part.loss.calls.items → ⊥) → IsLostOutcome reason result }
+/// The answer where the events go wrong: its line, and where one value alone goes wrong the line of a small history.
+pub fn lost_outcome(alloc: Global, loss: &Loss) -> Outcome
+    ensures { All HasNoOrder loss.now.keys.items → IsLostOutcome loss.now result }
 {
-    let (call, event) = (reason.number, reason.event);
-    let own = own_part(reason.part);
-    match lost_lines(alloc, call, event, &own) {
+    match lost_lines(alloc, loss) {
         Ok(lines) => Outcome::Answered {
             answer: Answer::No,
             line: lines,
@@ -68,42 +65,24 @@ pub fn lost_outcome(alloc: Global, reason: Reason) -> Outcome
     }
 }
 
-/// What was searched in the stream itself, where it was.
-fn own_part(part: Option<Part>) -> Option<Loss>
-    ensures { result ≡ own_part part }
+fn lost_lines(alloc: Global, loss: &Loss) -> Result<String, Memory>
+    ensures { All HasNoOrder loss.now.keys.items → IfOk result (λ text. IsLostText loss.now (string_bytes text)) }
 {
-    match part {
-        Some(part) => { if part.plain { Some(part.loss) } else { None } }
-        None => None,
-    }
+    let mut lines = lost_line(alloc, loss)?;
+    let small = own_line(alloc, loss)?;
+    lines.push_str(small.as_str())?;
+    Ok(lines)
 }
 
-fn lost_lines(
-    alloc: Global,
-    call: usize,
-    event: usize,
-    own: &Option<Loss>,
-) -> Result<String, Memory>
-    ensures { IfSome own.now (λ loss. IsLinearizable loss.start.items loss.calls.items → ⊥) → IfOk result (λ text. (small : List ℕ)
-        × MatchOption own.now (small ≡ []) (λ loss. IsSmallLine loss small)
-        × (string_bytes text ≡ line (compact_text (judged_data call event own.now (codes "no"))) ++ small)) }
+/// The line of a small history of what goes wrong by itself, where something does.
+fn own_line(alloc: Global, loss: &Loss) -> Result<String, Memory>
+    ensures { All HasNoOrder loss.now.keys.items → IfOk result (λ small. MatchOption (own_part loss.now) (string_bytes small ≡ [])
+        (λ part. IsSmallLine part.start part.calls (string_bytes small))) }
 {
-    let line = judged_line(alloc, call, event, own, "no")?;
-    match own {
-        Some(loss) => with_small_line(alloc, line, loss),
-        None => Ok(line),
+    match own_part(alloc, loss)? {
+        Some(part) => small_line(alloc, &part.start, &part.calls),
+        None => Ok(String::new(alloc)),
     }
-}
-
-/// A text, and behind it the line of the small history.
-fn with_small_line(alloc: Global, text: String, loss: &Loss) -> Result<String, Memory>
-    ensures { (IsLinearizable loss.now.start.items loss.now.calls.items → ⊥) → IfOk result (λ all. (small : List ℕ)
-        × IsSmallLine loss.now small × (string_bytes all ≡ string_bytes text ++ small)) }
-{
-    let mut all = text;
-    let small = small_line(alloc, loss)?;
-    all.push_str(small.as_str())?;
-    Ok(all)
 }
 
 /// The line of a stream whose events have an order: how many calls there were, and how much they overlap.
@@ -142,84 +121,171 @@ fn put_yes(
     )
 }
 
-/// The line of an answer that was judged, with a word for what came of it.
-fn judged_line(
-    alloc: Global,
-    call: usize,
-    event: usize,
-    own: &Option<Loss>,
-    word: &str,
-) -> Result<String, AllocError>
-    ensures { IfOk result (λ text. string_bytes text ≡ line (compact_text (judged_data call event own.now word.now))) }
+/// The line of a stream that goes wrong.
+fn lost_line(alloc: Global, loss: &Loss) -> Result<String, AllocError>
+    ensures { IfOk result (λ text. string_bytes text ≡ line (compact_text (lost_data loss.now))) }
 {
-    let value = judged_value(alloc, call, event, own, word)?;
+    let value = lost_value(alloc, loss)?;
     line_of(value.to_string(alloc)?)
 }
 
-fn judged_value(
-    alloc: Global,
-    call: usize,
-    event: usize,
-    own: &Option<Loss>,
-    word: &str,
-) -> Result<Value, AllocError>
-    ensures { IfOk result (λ value. view value ≡ judged_data call event own.now word.now) }
+fn lost_value(alloc: Global, loss: &Loss) -> Result<Value, AllocError>
+    ensures { IfOk result (λ value. view value ≡ lost_data loss.now) }
 {
     let mut members = Map::new(alloc);
-    put_judged(alloc, &mut members, call, event, own, word)?;
+    put_lost(alloc, &mut members, loss)?;
     Ok(Value::Object(members))
 }
 
-/// Puts what is told of an answer that was judged into an object without members.
-fn put_judged(
-    alloc: Global,
-    members: &mut Map<String, Value>,
-    call: usize,
-    event: usize,
-    own: &Option<Loss>,
-    word: &str,
-) -> Result<(), AllocError>
+/// Puts what is told of a stream that goes wrong into an object without members.
+fn put_lost(alloc: Global, members: &mut Map<String, Value>, loss: &Loss) -> Result<(), AllocError>
     requires { members.old.entries ≡ [] }
-    ensures { OnOk result (object (members_view members.new.entries) ≡ judged_data call event own.now word.now) }
+    ensures { OnOk result (object (members_view members.new.entries) ≡ lost_data loss.now) }
 {
-    put_answer(alloc, members, call, event, word)?;
-    match own {
-        Some(loss) => put_loss(alloc, members, loss),
-        None => Ok(()),
-    }
+    put_answer(alloc, members, loss.number, loss.event)?;
+    put(members, alloc, "keys", keys_value(alloc, &loss.keys)?)?;
+    put(members, alloc, "verdict", Value::try_from_str(alloc, "no")?)
 }
 
-/// Puts the number and the event of an answer, and a word for what came of it.
+/// The line of a stream of which it is not known whether it goes wrong.
+fn spent_line(
+    alloc: Global,
+    event: usize,
+    number: usize,
+    doubt: &Doubt,
+) -> Result<String, AllocError>
+    ensures { IfOk result (λ text. string_bytes text ≡ line (compact_text (spent_data event number doubt.now))) }
+{
+    let value = spent_value(alloc, event, number, doubt)?;
+    line_of(value.to_string(alloc)?)
+}
+
+fn spent_value(
+    alloc: Global,
+    event: usize,
+    number: usize,
+    doubt: &Doubt,
+) -> Result<Value, AllocError>
+    ensures { IfOk result (λ value. view value ≡ spent_data event number doubt.now) }
+{
+    let mut members = Map::new(alloc);
+    put_spent(alloc, &mut members, event, number, doubt)?;
+    Ok(Value::Object(members))
+}
+
+/// Puts what is told of such a stream into an object without members.
+fn put_spent(
+    alloc: Global,
+    members: &mut Map<String, Value>,
+    event: usize,
+    number: usize,
+    doubt: &Doubt,
+) -> Result<(), AllocError>
+    requires { members.old.entries ≡ [] }
+    ensures { OnOk result (object (members_view members.new.entries) ≡ spent_data event number doubt.now) }
+{
+    put_answer(alloc, members, number, event)?;
+    put_doubt(alloc, members, doubt)?;
+    put(
+        members,
+        alloc,
+        "verdict",
+        Value::try_from_str(alloc, "undecided")?,
+    )
+}
+
+/// Puts the number and the event of an answer.
 fn put_answer(
     alloc: Global,
     members: &mut Map<String, Value>,
-    call: usize,
+    number: usize,
     event: usize,
-    word: &str,
 ) -> Result<(), AllocError>
     ensures { OnOk result (members_view members.new.entries
-        ≡ with_member (codes "verdict") (string word.now) (with_member (codes "event") (number_data event)
-        (with_member (codes "call") (number_data call) (members_view members.old.entries)))) }
+        ≡ with_member (codes "event") (number_data event) (with_member (codes "call") (number_data number)
+        (members_view members.old.entries))) }
 {
-    put(members, alloc, "call", Value::from(call))?;
-    put(members, alloc, "event", Value::from(event))?;
-    put(members, alloc, "verdict", Value::try_from_str(alloc, word)?)
+    put(members, alloc, "call", Value::from(number))?;
+    put(members, alloc, "event", Value::from(event))
 }
 
-/// Puts the calls that were searched in the stream itself, and their range.
-fn put_loss(alloc: Global, members: &mut Map<String, Value>, loss: &Loss) -> Result<(), AllocError>
+/// Puts why it is not known whether a stream goes wrong.
+fn put_doubt(
+    alloc: Global,
+    members: &mut Map<String, Value>,
+    doubt: &Doubt,
+) -> Result<(), AllocError>
     ensures { OnOk result (members_view members.new.entries
-        ≡ with_member (codes "lo") (number_data loss.now.range.low) (with_member (codes "hi") (number_data loss.now.range.high)
-        (with_member (codes "calls") (numbers_data loss.now.numbers.items) (members_view members.old.entries)))) }
+        ≡ with_member (codes "reason") (string (reason_word doubt.now)) (with_member (codes "keys") (keys_data (doubted_keys doubt.now))
+        (members_view members.old.entries))) }
+{
+    put(members, alloc, "keys", doubted_value(alloc, doubt)?)?;
+    put(
+        members,
+        alloc,
+        "reason",
+        Value::try_from_str(alloc, reason_word(doubt))?,
+    )
+}
+
+/// Why it is not known, in a word.
+fn reason_word(doubt: &Doubt) -> &'static str
+    ensures { result.now ≡ reason_word doubt.now }
+{
+    match doubt {
+        Doubt::Budget(_) => "budget",
+        Doubt::Rows => "scans",
+    }
+}
+
+/// The keys of which that is said.
+fn doubted_value(alloc: Global, doubt: &Doubt) -> Result<Value, AllocError>
+    ensures { IfOk result (λ value. view value ≡ keys_data (doubted_keys doubt.now)) }
+{
+    let mut items = Vec::new(alloc);
+    if let Doubt::Budget(at) = doubt {
+        items.push(key_value(alloc, at)?)?;
+    }
+    Ok(Value::from(items))
+}
+
+/// Keys, with what is left at each.
+fn keys_value(alloc: Global, keys: &[KeyLoss]) -> Result<Value, AllocError>
+    ensures { IfOk result (λ value. view value ≡ keys_data keys.now) }
+{
+    let mut items = Vec::with_capacity(alloc, keys.len())?;
+    for at in keys {
+        items.push(key_value(alloc, at)?)?;
+    }
+    Ok(Value::from(items))
+}
+
+fn key_value(alloc: Global, at: &KeyLoss) -> Result<Value, AllocError>
+    ensures { IfOk result (λ value. view value ≡ key_data at.now) }
+{
+    let mut members = Map::new(alloc);
+    put_key(alloc, &mut members, at)?;
+    Ok(Value::Object(members))
+}
+
+/// Puts what is left at a key into an object without members.
+fn put_key(alloc: Global, members: &mut Map<String, Value>, at: &KeyLoss) -> Result<(), AllocError>
+    requires { members.old.entries ≡ [] }
+    ensures { OnOk result (object (members_view members.new.entries) ≡ key_data at.now) }
 {
     put(
         members,
         alloc,
-        "calls",
-        numbers_value(alloc, &loss.numbers)?,
+        "invoked",
+        numbers_value(alloc, &at.kept.names)?,
     )?;
-    put(members, alloc, "hi", Value::from(loss.range.high))?;
-    put(members, alloc, "lo", Value::from(loss.range.low))
+    put(members, alloc, "key", Value::from(at.key))?;
+    put(
+        members,
+        alloc,
+        "values",
+        values_value(alloc, &at.kept.configurations)?,
+    )
 }
 
 fn numbers_value(alloc: Global, numbers: &[usize]) -> Result<Value, AllocError>
@@ -230,4 +296,33 @@ fn numbers_value(alloc: Global, numbers: &[usize]) -> Result<Value, AllocError>
         items.push(Value::from(*number))?;
     }
     Ok(Value::from(items))
+}
+
+/// The values of configurations.
+fn values_value(alloc: Global, configurations: &[Configuration]) -> Result<Value, AllocError>
+    ensures { IfOk result (λ value. view value ≡ values_data configurations.now) }
+{
+    let mut items = Vec::new(alloc);
+    for configuration in configurations {
+        push_values(&mut items, &configuration.values)?;
+    }
+    Ok(Value::from(items))
+}
+
+fn push_values(items: &mut Vec<Value>, values: &[Option<u64>]) -> Result<(), AllocError>
+    ensures { OnOk result (map view items.new.items ≡ map view items.old.items ++ map value_data values.now) }
+{
+    for value in values {
+        items.push(value_or_null(*value))?;
+    }
+    Ok(())
+}
+
+fn value_or_null(value: Option<u64>) -> Value
+    ensures { view result ≡ value_data value }
+{
+    match value {
+        Some(value) => Value::from(value),
+        None => Value::Null,
+    }
 }

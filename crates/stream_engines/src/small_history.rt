@@ -1,36 +1,37 @@
-// The calls of a group as a history by themselves: of few processes, at the places that are left when other calls go.
-ghost use Rattle.std.specs.Prelude.{◌≡◌, true, IfOk, IfSome, string_bytes, slice_get};
+// Calls as a history by themselves: of few processes, at the places that are left when other calls go.
+ghost use Rattle.std.specs.Prelude.{◌≡◌, IfOk, IfSome, string_bytes, slice_get};
 ghost use Rattle.orders.specs.Orders.{IsLinearizable};
 ghost use Rattle.stream_engines.specs.Answers.{IsSmallLine};
 
 use crate::alike::are_alike;
 use events::{Call, Event, History, HistoryFault, Memory, Operation, PROCESSES, Response};
-use follow::Loss;
 use history_text::{MAX_TEXT, write_history};
 use outcomes::line_of;
 use quiet_cuts::places_do_not_matter;
 use std::alloc::Global;
 
-/// The line of the text of a history with the calls of a group, from the pairs of its range; nothing where the calls fit no
-/// history: where they are too many, too many of them overlap, or the text is too long.
-pub fn small_line(alloc: Global, loss: &Loss) -> Result<String, Memory>
-    ensures { (IsLinearizable loss.now.start.items loss.now.calls.items → ⊥)
-        → IfOk result (λ text. IsSmallLine loss.now (string_bytes text)) }
+/// The line of the text of a history with these calls, from these pairs; nothing where the calls fit no history: where they are too
+/// many, too many of them overlap, or the text is too long.
+pub fn small_line(
+    alloc: Global,
+    start: &[(u64, u64)],
+    calls: &[Operation],
+) -> Result<String, Memory>
+    ensures { (IsLinearizable start.now calls.now → ⊥) → IfOk result (λ text. IsSmallLine start.now calls.now (string_bytes text)) }
 {
-    match small_history(alloc, loss)? {
-        Some(history) => line_of_alike(alloc, loss, &history),
+    match small_history(alloc, start, calls)? {
+        Some(history) => line_of_alike(alloc, calls, &history),
         None => Ok(String::new(alloc)),
     }
 }
 
-/// The line of a history from the pairs of a group; nothing where its calls are not those of the group, or the text is too long.
-fn line_of_alike(alloc: Global, loss: &Loss, history: &History) -> Result<String, Memory>
-    requires { history.now.start ≡ loss.now.start.items }
-    ensures { (IsLinearizable loss.now.start.items loss.now.calls.items → ⊥)
-        → IfOk result (λ text. IsSmallLine loss.now (string_bytes text)) }
+/// The line of a history; nothing where its calls are not these, or the text is too long.
+fn line_of_alike(alloc: Global, calls: &[Operation], history: &History) -> Result<String, Memory>
+    ensures { (IsLinearizable history.now.start calls.now → ⊥)
+        → IfOk result (λ text. IsSmallLine history.now.start calls.now (string_bytes text)) }
 {
     places_do_not_matter();
-    if !are_alike(&loss.calls, history.calls()) {
+    if !are_alike(calls, history.calls()) {
         return Ok(String::new(alloc));
     }
     let text = write_history(alloc, history)?;
@@ -40,12 +41,16 @@ fn line_of_alike(alloc: Global, loss: &Loss, history: &History) -> Result<String
     Ok(line_of(text)?)
 }
 
-/// A history with the calls of a group, from the pairs of its range, where there is one.
-fn small_history(alloc: Global, loss: &Loss) -> Result<Option<History>, Memory>
-    ensures { IfOk result (λ found. IfSome found (λ history. history.start ≡ loss.now.start.items)) }
+/// A history with these calls, from these pairs, where there is one.
+fn small_history(
+    alloc: Global,
+    start: &[(u64, u64)],
+    calls: &[Operation],
+) -> Result<Option<History>, Memory>
+    ensures { IfOk result (λ found. IfSome found (λ history. history.start ≡ start.now)) }
 {
-    match small_events(alloc, &loss.calls)? {
-        Some(events) => history_from(alloc, &loss.start, events),
+    match small_events(alloc, calls)? {
+        Some(events) => history_from(alloc, start, events),
         None => Ok(None),
     }
 }

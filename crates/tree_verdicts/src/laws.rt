@@ -1,8 +1,11 @@
 // Laws of verdicts on what full trees record: each function only carries its clause.
+ghost use Rattle.tree_verdicts.specs.EngineLaws.{DriveRunsAreNeverRefuted, DrivesAreNeverRefuted, ReplayRunsAreNeverRefuted, ReplaysAreNeverRefuted};
 ghost use Rattle.tree_verdicts.specs.Laws.{LinearizableTextsAreNeverRefuted, NeverRefuted};
 
 use art_schedules::{coupled_is_linearizable, optimistic_is_linearizable};
 use history_text::one_history;
+use replay_text::one_replay;
+use white_space::{spells_between_white_space, white_space_tells_nothing};
 
 /// The judge answers Yes or Undecided, and never No, on the history of a full tree: whatever the schedule and the starting pairs,
 /// at any budget and with any number of workers.
@@ -18,4 +21,26 @@ pub fn linearizable_texts_are_never_refuted()
     ensures { LinearizableTextsAreNeverRefuted }
 {
     one_history();
+}
+
+/// The bytes that `replay` writes of a full tree, the line feed among them, are never answered No by `judge`, at any budget, with any
+/// number of workers, and with any white space around them.
+pub fn replays_are_never_refuted()
+    ensures outcomes { ReplaysAreNeverRefuted }
+    ensures runs { ReplayRunsAreNeverRefuted }
+{
+    linearizable_texts_are_never_refuted();
+    one_replay();
+    spells_between_white_space();
+    white_space_tells_nothing();
+}
+
+/// Nor are those that `drive` writes of a full tree.
+pub fn drives_are_never_refuted()
+    ensures outcomes { DrivesAreNeverRefuted }
+    ensures runs { DriveRunsAreNeverRefuted }
+{
+    linearizable_texts_are_never_refuted();
+    spells_between_white_space();
+    white_space_tells_nothing();
 }

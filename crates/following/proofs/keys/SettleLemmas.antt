@@ -17,7 +17,7 @@ use Rattle.following.proofs.keys.SettleBackLemmas.{holds_before}
 use Rattle.following.proofs.keys.SettleOnLemmas.{next, goes_on, holds_next}
 
 -- calls that are gone are taken in each choice
-choice_covers : (k : KeyState) (w : Choice) → HasChoice k w → (n : ℕ) → Contains k.gone n → Contains w.taken n
+pub choice_covers : (k : KeyState) (w : Choice) → HasChoice k w → (n : ℕ) → Contains k.gone n → Contains w.taken n
 choice_covers k w has n is =
     let (c, c_is, choice) = any_to (λ c. IsChoiceOf k.gone c w) k.configurations has in
     (choice.taken n).1 (Contains-append_left k.gone c.taken n is)

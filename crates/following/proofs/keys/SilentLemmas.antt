@@ -206,6 +206,27 @@ module _ (start : Contents) (calls others : List Operation) (place : ℕ) (diffe
               (λ in_back. Contains-append_right front (x ∷ back) y (Contains-later x back y in_back))
               (Contains-append_cases front back y (subst (λ (l : List Operation). Contains l y) parts there))
 
+-- ---- a place more that is gone
+
+pub with_place : (gone taken : List ℕ) (place n : ℕ) → Contains (gone ++ taken) n → Contains ((gone ++ place ∷ []) ++ taken) n
+with_place gone taken place n is = ⊎_elim
+    (λ in_gone. Contains-append_left (gone ++ place ∷ []) taken n (Contains-append_left gone (place ∷ []) n in_gone))
+    (λ in_taken. Contains-append_right (gone ++ place ∷ []) taken n in_taken)
+    (Contains-append_cases gone taken n is)
+
+pub the_place : (gone taken : List ℕ) (place : ℕ) → Contains ((gone ++ place ∷ []) ++ taken) place
+the_place gone taken place =
+    Contains-append_left (gone ++ place ∷ []) taken place (Contains-append_right gone (place ∷ []) place (Contains-first place []))
+
+pub but_place : (gone taken : List ℕ) (place n : ℕ) → Contains ((gone ++ place ∷ []) ++ taken) n → Contains (gone ++ taken) n ⊎ (n ≡ place)
+but_place gone taken place n is = ⊎_elim
+    (λ front. ⊎_elim
+    (λ in_gone. inl (Contains-append_left gone taken n in_gone))
+    (λ last. ⊎_elim (λ same. inr (sym same)) (λ none. absurd (Contains-nil n none)) (Contains-cases place [] n last))
+    (Contains-append_cases gone (place ∷ []) n front))
+    (λ in_taken. inl (Contains-append_right gone taken n in_taken))
+    (Contains-append_cases (gone ++ place ∷ []) taken n is)
+
 -- the calls at a key with and without a silent call
 module _ (calls : List Operation) (rise : InvocationsRise calls) (none : NonePrecedesItself calls) (key : ℕ)
     (spread moment : ℕ → ℕ) (timing : IsTiming calls spread moment) (a : Operation) (a_is : Contains calls a)
@@ -281,24 +302,6 @@ module _ (calls : List Operation) (rise : InvocationsRise calls) (none : NonePre
         (at_differ ((gone ++ a.inv ∷ []) ++ taken)) (at_none (gone ++ taken)) anywhere from into,
   )
     where
-      widen : (n : ℕ) → Contains (gone ++ taken) n → Contains ((gone ++ a.inv ∷ []) ++ taken) n
-      widen n is = ⊎_elim
-          (λ in_gone. Contains-append_left (gone ++ a.inv ∷ []) taken n (Contains-append_left gone (a.inv ∷ []) n in_gone))
-          (λ in_taken. Contains-append_right (gone ++ a.inv ∷ []) taken n in_taken)
-          (Contains-append_cases gone taken n is)
-
-      itself : Contains ((gone ++ a.inv ∷ []) ++ taken) a.inv
-      itself = Contains-append_left (gone ++ a.inv ∷ []) taken a.inv (Contains-append_right gone (a.inv ∷ []) a.inv (Contains-first a.inv []))
-
-      narrow : (n : ℕ) → Contains ((gone ++ a.inv ∷ []) ++ taken) n → Contains (gone ++ taken) n ⊎ (n ≡ a.inv)
-      narrow n is = ⊎_elim
-          (λ front. ⊎_elim
-          (λ in_gone. inl (Contains-append_left gone taken n in_gone))
-          (λ last. ⊎_elim (λ same. inr (sym same)) (λ none. absurd (Contains-nil n none)) (Contains-cases a.inv [] n last))
-          (Contains-append_cases gone (a.inv ∷ []) n front))
-          (λ in_taken. inl (Contains-append_right gone taken n in_taken))
-          (Contains-append_cases (gone ++ a.inv ∷ []) taken n is)
-
       anywhere : (x : Operation) → Contains (at (gone ++ taken)) x → x.inv ≡ spread a.inv → MayComeAnywhere x
       anywhere x x_is same = let (b, b_is, left, part, is) = at_from (gone ++ taken) x x_is in own b x b_is part same
 
@@ -306,10 +309,11 @@ module _ (calls : List Operation) (rise : InvocationsRise calls) (none : NonePre
           → Contains (at (gone ++ taken)) x × (x.inv ≢ spread a.inv)
       from x x_is =
           let (b, b_is, left, part, is) = at_from ((gone ++ a.inv ∷ []) ++ taken) x x_is in (
-            at_into (gone ++ taken) b x b_is (λ dropped. left (widen b.inv dropped)) is,
+            at_into (gone ++ taken) b x b_is (λ dropped. left (with_place gone taken a.inv b.inv dropped)) is,
             λ same. ⊎_elim
                 (λ (as_spread : x.inv ≡ spread b.inv).
-                left (subst (Contains ((gone ++ a.inv ∷ []) ++ taken)) (same_number a.inv b.inv (sym same ∙ as_spread)) itself))
+                left (subst (Contains ((gone ++ a.inv ∷ []) ++ taken)) (same_number a.inv b.inv (sym same ∙ as_spread))
+                (the_place gone taken a.inv)))
                 (λ (as_told : IsToldScan b × (x.inv ≡ moment b.inv)). timing.between b a.inv b_is as_told.0 (sym as_told.1 ∙ same))
                 (part_inv key spread moment b x (kind_of b.call b.response) refl part),
           )
@@ -323,7 +327,7 @@ module _ (calls : List Operation) (rise : InvocationsRise calls) (none : NonePre
           (λ same. let one = same_call calls b a rise b_is a_is same in
           apart (own_inv x (kind_of a.call a.response) refl
           (subst (λ (c : Operation). IsPart key spread moment c x (kind_of c.call c.response)) one part)))
-          (narrow b.inv dropped)) is
+          (but_place gone taken a.inv b.inv dropped)) is
 
 -- calls left at a key have an order from a value
 abbrev OrderedFrom : ℕ → List Operation → (ℕ → ℕ) → (ℕ → ℕ) → List ℕ → Option ℕ → Type 0

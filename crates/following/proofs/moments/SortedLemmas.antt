@@ -18,7 +18,7 @@ use Rattle.following.proofs.moments.SortLemmas.{IsUpto, by_rank}
 use Rattle.following.proofs.moments.PartLemmas.{waits_to, part_ends, at_key_differ}
 
 -- lists of the same calls have the same orders
-same_calls : (start : Contents) (calls others : List Operation) → InvocationsDiffer calls → InvocationsDiffer others
+pub same_calls : (start : Contents) (calls others : List Operation) → InvocationsDiffer calls → InvocationsDiffer others
     → ((a : Operation) → Contains calls a → Contains others a) → ((a : Operation) → Contains others a → Contains calls a)
     → IsLinearizable start calls → IsLinearizable start others
 same_calls start calls others differ others_differ into back h =

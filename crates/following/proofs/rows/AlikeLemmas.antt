@@ -80,7 +80,7 @@ module _ (key : ℕ) (spread moment other_spread other_moment : ℕ → ℕ) (al
   abbrev g : Operation → Option Operation
   g a = part_at key other_spread other_moment a
 
-  lists_alike : (calls : List Operation) → ((a : Operation) → Contains calls a → Contains all a)
+  pub lists_alike : (calls : List Operation) → ((a : Operation) → Contains calls a → Contains all a)
       → AreAlike (at_key key spread moment calls) (at_key key other_spread other_moment calls)
   lists_alike calls within =
       let xs = at_key key spread moment calls in
@@ -99,7 +99,7 @@ module _ (key : ℕ) (spread moment other_spread other_moment : ℕ → ℕ) (al
 -- ---- what is kept holds in both
 
 -- more places leave fewer calls
-left_weaker : (gone taken : List ℕ) (calls : List Operation) (a : Operation) → Contains (calls_left (gone ++ taken) calls) a
+pub left_weaker : (gone taken : List ℕ) (calls : List Operation) (a : Operation) → Contains (calls_left (gone ++ taken) calls) a
     → Contains (calls_left gone calls) a
 left_weaker gone taken calls a is =
     let (in_calls, left) = Contains-from_filter (is_left (gone ++ taken)) calls a is in

@@ -10,6 +10,7 @@ use Rattle.following.specs.rows.Comparisons.{also, Comparison, Behind, Before, I
 use Rattle.following.specs.rows.Comparisons.{Implies, given, begun, ended, earlier, later, behind_first, before_second, around, through}
 use Rattle.following.specs.rows.Rows.{Row, RowHolds, with_class}
 use Rattle.following.specs.rows.Laws.{ImpliedComparisonsHold, GainsaidRowsAreLost}
+use Rattle.following.specs.rows.WayLaws.{ImpliedComparisonsTell, LeastGapsBound, LateScansAreLost}
 use Rattle.following.proofs.moments.PartLemmas.{spread_upto}
 use Rattle.following.proofs.keys.GrownPartLemmas.{timing_now}
 use Rattle.following.proofs.rows.BlockLemmas.{one_holds}
@@ -65,3 +66,18 @@ implied_hold events states comparisons c implies more h =
 pub gainsaid_lost : GainsaidRowsAreLost
 gainsaid_lost events states comparisons (scan, implies) h =
     let said = implied (operations events) comparisons h.spread h.moment h.timing h.allowed implies in omega arith
+
+pub implied_tell : ImpliedComparisonsTell
+implied_tell calls comparisons c spread moment implies timing allowed =
+    holds spread moment c (implied calls comparisons spread moment timing allowed implies)
+
+pub bound_below : LeastGapsBound
+bound_below calls comparisons scan place spread moment implies timing allowed =
+    implied calls comparisons spread moment timing allowed implies
+
+-- a scan that is late takes effect before itself
+pub late_lost : LateScansAreLost
+late_lost calls states comparisons scan place bound behind before upto h =
+    let low = implied calls comparisons h.spread h.moment h.timing h.allowed behind in
+    let high = implied calls comparisons h.spread h.moment h.timing h.allowed before in
+    let within = spread_upto calls h.spread h.moment h.timing bound place upto in omega arith

@@ -1,8 +1,8 @@
 -- Calls that are done in turn at a key in one timing are so in another that is alike there, and leave and find the same.
-use Rattle.std.proofs.Common.{◌≡◌, ℕ, false, List, [], ◌∷◌, Option, Some, None, refl, sym, ap, ◌∙◌, subst, ⊎_elim, arith}
+use Rattle.std.proofs.Common.{◌≡◌, ℕ, false, List, [], ◌∷◌, Option, Some, None, refl, sym, ap, ◌∙◌, subst, ⊎_elim}
 use Rattle.std.specs.Prelude.{◌↔◌, ◌≢◌, AllPairs, Contains}
 use Rattle.std.specs.List.{AllZip}
-use Rattle.std.proofs.lemmas.Bool.{cases_order}
+use Rattle.std.proofs.lemmas.Bool.{cases_eq}
 use Rattle.std.proofs.lemmas.Option.{none-some, same_Some}
 use Rattle.events.specs.declared.event.Call.{Call}
 use Rattle.events.specs.declared.operation.Operation.{Operation}
@@ -14,14 +14,12 @@ use Rattle.list_laws.proofs.ZipLemmas.{zip_left, zip_right}
 use Rattle.map_object.specs.MapObject.{Contents, value_at, after_reply, IsLegalReply}
 use Rattle.orders.specs.Orders.{after_call, after_calls, IsLegalCall, IsLegal}
 use Rattle.quiet_cuts.specs.Groups.{reply_in}
-use Rattle.quiet_cuts.specs.TimeCuts.{InvocationsRise}
-use Rattle.quiet_cuts.proofs.SetLemmas.{same_call}
 use Rattle.following.specs.moments.KeyCalls.{Kind, OfKey, Told, Silent, kind_of, part_at, at_key}
-use Rattle.following.specs.moments.Timings.{IsTiming}
 use Rattle.following.specs.keys.Settling.{AreInTurn, found_at, found_in}
 use Rattle.following.specs.rows.Alike.{AreAlikeAt}
+use Rattle.following.proofs.moments.DistinctLemmas.{InvocationsDiffer, same_invocation}
 use Rattle.following.proofs.moments.KindLemmas.{IsPart, part_is}
-use Rattle.following.proofs.moments.PartLemmas.{spread_differs, parts_differ}
+use Rattle.following.proofs.moments.PartLemmas.{rising_differs, ArePlaced, placed_differ}
 use Rattle.following.proofs.rows.AlikeLemmas.{IsSame, both_of, AreOfOne}
 
 -- ---- calls with the same replies
@@ -51,15 +49,14 @@ pairs_over R P Q xs zs zip over pairs =
     over x y z w first second (AllPairs-at P xs i j x y pairs before x_at y_at))
 
 -- parts that are invoked at one place are of one call
-one_call : (calls : List Operation) (key : ℕ) (spread moment : ℕ → ℕ) → InvocationsRise calls → IsTiming calls spread moment
+one_call : (key : ℕ) (calls : List Operation) (spread moment : ℕ → ℕ) → InvocationsDiffer calls → ArePlaced key calls spread moment
     → (a b x y : Operation) → Contains calls a → Contains calls b → part_at key spread moment a ≡ Some x → part_at key spread moment b ≡ Some y
     → x.inv ≡ y.inv → a ≡ b
-one_call calls key spread moment rise timing a b x y a_is b_is ax by same = ⊎_elim
-    (λ equal. same_call calls a b rise a_is b_is equal)
-    (λ differ. absurd (parts_differ calls spread moment timing key a b x y a_is b_is
-    (λ equal. ⊎_elim (λ less. omega arith) (λ more. omega arith) differ)
+one_call key calls spread moment differ placed a b x y a_is b_is ax by same = ⊎_elim
+    (λ equal. same_invocation calls a b differ a_is b_is equal)
+    (λ apart. absurd (placed_differ key calls spread moment placed a b x y a_is b_is apart
     (part_is key spread moment a x (kind_of a.call a.response) ax) (part_is key spread moment b y (kind_of b.call b.response) by) same))
-    (cases_order a.inv b.inv)
+    (cases_eq a.inv b.inv)
 
 -- an open part is of a call of the key, and stands at its place
 open_part : (key : ℕ) (spread moment : ℕ → ℕ) (a x : Operation) → part_at key spread moment a ≡ Some x → x.response ≡ None
@@ -78,9 +75,17 @@ noted place value = (place, value)
 pair : (p q : ℕ) (v w : Option ℕ) → p ≡ q → v ≡ w → noted p v ≡ noted q w
 pair p q v w first second = ap (λ (n : ℕ). noted n v) first ∙ ap (noted q) second
 
-module _ (calls : List Operation) (rise : InvocationsRise calls) (key : ℕ) (spread moment other_spread other_moment : ℕ → ℕ)
-    (timing : IsTiming calls spread moment) (other : IsTiming calls other_spread other_moment) (some : List Operation)
-    (known : (a : Operation) → Contains some a → Contains calls a)
+-- what is done in turn in one timing is in another, by calls that leave and find the same
+pub record AreInTurnToo (key : ℕ) (calls : List Operation) (spread other_spread other_moment : ℕ → ℕ) (m : Contents) (order : List Operation)
+    : Type 0 where
+  pub others : List Operation
+  pub in_turn : AreInTurn m (at_key key other_spread other_moment calls) others
+  pub left : after_calls m order ≡ after_calls m others
+  pub found : (n : ℕ) (value : Option ℕ) → Contains (found_in key m order) (spread n, value)
+      ↔ Contains (found_in key m others) (other_spread n, value)
+
+module _ (key : ℕ) (some : List Operation) (differ : InvocationsDiffer some) (spread moment other_spread other_moment : ℕ → ℕ)
+    (placed : ArePlaced key some spread moment) (other : ArePlaced key some other_spread other_moment)
     (alike : AreAlikeAt key some spread moment other_spread other_moment) where
   abbrev f : Operation → Option Operation
   f a = part_at key spread moment a
@@ -132,16 +137,14 @@ module _ (calls : List Operation) (rise : InvocationsRise calls) (key : ℕ) (sp
   same_places : (p q : ℕ) → spread p ≡ spread q → other_spread p ≡ other_spread q
   same_places p q same = ⊎_elim
       (λ equal. ap other_spread equal)
-      (λ differ. absurd (spread_differs calls spread moment timing p q
-      (λ equal. ⊎_elim (λ less. omega arith) (λ more. omega arith) differ) same))
-      (cases_order p q)
+      (λ differ. absurd (rising_differs spread placed.rises p q differ same))
+      (cases_eq p q)
 
   back_places : (p q : ℕ) → other_spread p ≡ other_spread q → spread p ≡ spread q
   back_places p q same = ⊎_elim
       (λ equal. ap spread equal)
-      (λ differ. absurd (spread_differs calls other_spread other_moment other p q
-      (λ equal. ⊎_elim (λ less. omega arith) (λ more. omega arith) differ) same))
-      (cases_order p q)
+      (λ differ. absurd (rising_differs other_spread other.rises p q differ same))
+      (cases_eq p q)
 
   found_either : (n : ℕ) (found : Option ℕ) (x z : Operation) (r s : Option Response) (value : Option ℕ) (rest others : List (ℕ × Option ℕ))
       → AreOne x z → x.response ≡ r → z.response ≡ s → Contains rest (spread n, found) ↔ Contains others (other_spread n, found)
@@ -172,7 +175,7 @@ module _ (calls : List Operation) (rise : InvocationsRise calls) (key : ℕ) (sp
       absurd (none-some r.reply (ap reply_in (sym z_open) ∙ (sym same.1 ∙ ap reply_in x_open)))
   found_either n found x z (Some r) (Some s) value rest others one x_open z_open h = h
 
-  pub found_over : (n : ℕ) (found : Option ℕ) (m : Contents) (xs zs : List Operation) → AllZip AreOne xs zs
+  found_over : (n : ℕ) (found : Option ℕ) (m : Contents) (xs zs : List Operation) → AllZip AreOne xs zs
       → Contains (found_in key m xs) (spread n, found) ↔ Contains (found_in key m zs) (other_spread n, found)
   found_over n found m [] [] zip = (λ h. absurd (Contains-nil (spread n, found) h), λ h. absurd (Contains-nil (other_spread n, found) h))
   found_over n found m [] (z ∷ zs) zip = absurd zip
@@ -187,14 +190,12 @@ module _ (calls : List Operation) (rise : InvocationsRise calls) (key : ℕ) (sp
 
   -- ---- calls in turn
 
-  pub in_turn_over : (m : Contents) (order : List Operation) → AreInTurn m (at_key key spread moment some) order
-      → (zs : List Operation) × AllZip AreOne order zs × AreInTurn m (at_key key other_spread other_moment some) zs
-      × (after_calls m order ≡ after_calls m zs)
-  in_turn_over m order is =
-      let (zs, zip) = images order (λ x x_is. (is.all x).0 x_is) in (
-        zs,
-        zip,
-        record {
+  pub in_turn_too : (m : Contents) (order : List Operation) → AreInTurn m (at_key key spread moment some) order
+      → AreInTurnToo key some spread other_spread other_moment m order
+  in_turn_too m order is =
+      let (zs, zip) = images order (λ x x_is. (is.all x).0 x_is) in record {
+        others = zs;
+        in_turn = record {
           all = λ z. (
             λ z_is.
                 let (i, z_at) = place_of-Contains zs z z_is in
@@ -209,18 +210,18 @@ module _ (calls : List Operation) (rise : InvocationsRise calls) (key : ℕ) (sp
                 let x_is = (is.all x).1 (Contains-filter_map f some a x a_is x_shows) in
                 let (i, x_at) = place_of-Contains order x x_is in
                 let (w, w_at, (b, b_is, b_shows, w_shows, b_same)) = zip_left AreOne order zs i x zip x_at in
-                let one : b ≡ a = one_call calls key spread moment rise timing b a x x (known b b_is) (known a a_is) b_shows x_shows refl in
+                let one : b ≡ a = one_call key some spread moment differ placed b a x x b_is a_is b_shows x_shows refl in
                 let equal : w ≡ z = same_Some w z (sym w_shows ∙ (ap g one ∙ z_shows)) in
                 subst (Contains zs) equal (Contains-at zs i w w_at))
                 (both_of key spread moment other_spread other_moment a (kind_of a.call a.response)),
           );
           distinct = pairs_over AreOne (λ a b. a.inv ≢ b.inv) (λ a b. a.inv ≢ b.inv) order zs zip
-              (λ x y z w first second differ same.
+              (λ x y z w first second apart same.
               let (a, a_is, x_shows, z_shows, a_same) = first in
               let (b, b_is, y_shows, w_shows, b_same) = second in
               let one : a ≡ b =
-              one_call calls key other_spread other_moment rise other a b z w (known a a_is) (known b b_is) z_shows w_shows same in
-              let equal : x ≡ y = same_Some x y (sym x_shows ∙ (ap f one ∙ y_shows)) in differ (ap (λ (o : Operation). o.inv) equal))
+              one_call key some other_spread other_moment differ other a b z w a_is b_is z_shows w_shows same in
+              let equal : x ≡ y = same_Some x y (sym x_shows ∙ (ap f one ∙ y_shows)) in apart (ap (λ (o : Operation). o.inv) equal))
               is.distinct;
           precedence = pairs_over AreOne (λ a b. precedes b a ≡ false) (λ a b. precedes b a ≡ false) order zs zip
               (λ x y z w first second waits.
@@ -229,6 +230,7 @@ module _ (calls : List Operation) (rise : InvocationsRise calls) (key : ℕ) (sp
               sym (alike b a y x w z b_is a_is y_shows x_shows w_shows z_shows) ∙ waits)
               is.precedence;
           legal = legal_over m order zs zip is.legal;
-        },
-        after_over m order zs zip,
-      )
+        };
+        left = after_over m order zs zip;
+        found = λ n value. found_over n value m order zs zip;
+      }

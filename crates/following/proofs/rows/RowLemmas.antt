@@ -211,7 +211,7 @@ states_may_change start events front back row states too stands =
     stands
 
 -- what is kept of a key stands for the timings of a class within
-stands_within : (start : Contents) (events : List Event) (wide narrow : Timings) (key : ℕ) (k : KeyState) → IsWithin wide narrow
+pub stands_within : (start : Contents) (events : List Event) (wide narrow : Timings) (key : ℕ) (k : KeyState) → IsWithin wide narrow
     → KeyStandsFor start events wide key k → KeyStandsFor start events narrow key k
 stands_within start events wide narrow key k within stand more spread moment timing allowed =
     stand more spread moment timing (within spread moment allowed)

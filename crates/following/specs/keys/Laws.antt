@@ -6,6 +6,7 @@ use Rattle.events.specs.Operations.{operations}
 use Rattle.events.specs.Precedence.{is_completed}
 use Rattle.map_object.specs.MapObject.{Contents, IsRising, value_at}
 use Rattle.orders.specs.Orders.{after_calls, IsLinearizable}
+use Rattle.quiet_cuts.specs.Cells.{calls_left}
 use Rattle.quiet_cuts.specs.Leaves.{Leaves}
 use Rattle.quiet_cuts.specs.TimeCuts.{InvocationsRise}
 use Rattle.following.specs.moments.KeyCalls.{at_key}
@@ -15,6 +16,7 @@ use Rattle.following.specs.keys.Choices.{HaveSame, HaveSameChoices, HaveSameValu
 use Rattle.following.specs.keys.KeyStates.{Configuration, KeyState, Timings, SomeHolds, IsRefuted, KeyStandsFor}
 use Rattle.following.specs.keys.PlaceCuts.{IsPlaceCut}
 use Rattle.following.specs.keys.Settling.{IsKeyCut, AreInTurn, SettlesTo, SettlesQuietly}
+use Rattle.following.specs.keys.Still.{IsAtKey, IsStill, IsNarrowedByRead, IsNarrowedWhereUntaken}
 use Rattle.following.specs.keys.WiderAnswers.{OpenGetsGo}
 use Rattle.following.specs.keys.WiderChoices.{UnitedValuesStand}
 
@@ -126,4 +128,20 @@ abbrev pub QuietKeysSettle : Type 0
 QuietKeysSettle =
     (start : Contents) (events : List Event) (allows : Timings) (key : ℕ) (k l : KeyState) (place : ℕ) (ended : List ℕ)
     → IsKeyCut events allows key k.gone place ended [] → SettlesQuietly events allows key ended k l
+    → KeyStandsFor start events allows key k → KeyStandsFor start events allows key l
+
+-- where of the calls of a key that are left all say that they changed nothing, each of them goes that no configuration has taken, and a told
+-- scan over the key too, with the values narrowed to those that it may have found; scans over the key may be open
+abbrev pub StillKeysNarrow : Type 0
+StillKeysNarrow =
+    (start : Contents) (events : List Event) (allows : Timings) (key : ℕ) (k l : KeyState) (a : Operation)
+    → Contains (calls_left k.gone (operations events)) a → IsAtKey key a → All (λ c. Contains c.taken a.inv → ⊥) k.configurations
+    → IsStill events key k.gone → IsNarrowedByRead key a k l → KeyStandsFor start events allows key k
+    → KeyStandsFor start events allows key l
+
+-- and so one that some configurations have taken, which stay as they are
+abbrev pub StillKeysNarrowUntaken : Type 0
+StillKeysNarrowUntaken =
+    (start : Contents) (events : List Event) (allows : Timings) (key : ℕ) (k l : KeyState) (a : Operation)
+    → Contains (calls_left k.gone (operations events)) a → IsAtKey key a → IsStill events key k.gone → IsNarrowedWhereUntaken key a k l
     → KeyStandsFor start events allows key k → KeyStandsFor start events allows key l

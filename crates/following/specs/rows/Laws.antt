@@ -8,6 +8,7 @@ use Rattle.events.specs.Precedence.{is_completed}
 use Rattle.map_object.specs.MapObject.{Contents, IsRising}
 use Rattle.orders.specs.Orders.{IsLinearizable}
 use Rattle.quiet_cuts.specs.Cells.{calls_left}
+use Rattle.quiet_cuts.specs.TimeCuts.{InvocationsRise}
 use Rattle.following.specs.moments.Timings.{IsToldScan, IsTiming}
 use Rattle.following.specs.keys.PlaceCuts.{IsPlaceCut, IsMomentBefore, IsMomentBehind}
 use Rattle.following.specs.keys.Settling.{SettlesTo, SettlesQuietly}
@@ -19,6 +20,7 @@ use Rattle.following.specs.rows.Cuts.{IsComparedCut}
 use Rattle.following.specs.rows.ExactMoments.{AreExact, places_by, moments_by, SayExactly, HasRank}
 use Rattle.following.specs.rows.Fixed.{IsBefore, IsBehind, AreFixed, SettlesIn, IsSettledIn}
 use Rattle.following.specs.rows.Rows.{Row, RowHolds, SomeRowHolds, RowsStandFor, first_row, with_class, IsWithin, Cover}
+use Rattle.following.specs.rows.Twins.{IsTimingAt, AreFixedUpToTwins}
 use Rattle.following.specs.rows.Untouched.{IsUntouched}
 use Rattle.following.specs.rows.WiderBlocks.{ToldMomentsSuffice}
 use Rattle.following.specs.rows.Steps.{with_states, HoldsWhere, Follows}
@@ -219,6 +221,61 @@ FixedKeysSettleQuietly =
     → class_of comparisons spread moment ≡ true → l.gone ≡ k.gone ++ ended
     → AllZip (IsSettledIn (operations events) key spread moment k.gone ended) k.configurations l.configurations
     → SettlesQuietly events (class_of comparisons) key ended k l
+
+-- a timing is one at each key, for the calls left there
+abbrev pub TimingsAreTimingsAt : Type 0
+TimingsAreTimingsAt =
+    (calls : List Operation) (spread moment : ℕ → ℕ) → IsTiming calls spread moment → (key : ℕ) (gone : List ℕ)
+    → IsTimingAt key (calls_left gone calls) spread moment
+
+-- where comparisons fix a key up to twins, what is kept of it holds in all timings of their class at the key or in none
+abbrev pub TwinTimingsHold : Type 0
+TwinTimingsHold =
+    (calls : List Operation) (comparisons : List Comparison) (key : ℕ) (k : KeyState) (spread moment other_spread other_moment : ℕ → ℕ)
+    → InvocationsRise calls → AreFixedUpToTwins comparisons key (calls_left k.gone calls)
+    → IsTimingAt key (calls_left k.gone calls) spread moment → class_of comparisons spread moment ≡ true
+    → IsTimingAt key (calls_left k.gone calls) other_spread other_moment → class_of comparisons other_spread other_moment ≡ true
+    → SomeHolds key spread moment calls k → SomeHolds key other_spread other_moment calls k
+
+-- so one timing at such a key tells that a row does not hold
+abbrev pub TwinKeysRefute : Type 0
+TwinKeysRefute =
+    (calls : List Operation) (comparisons : List Comparison) (states : ℕ → KeyState) (key : ℕ) (spread moment : ℕ → ℕ)
+    → InvocationsRise calls → AreFixedUpToTwins comparisons key (calls_left (states key).gone calls)
+    → IsTimingAt key (calls_left (states key).gone calls) spread moment → class_of comparisons spread moment ≡ true
+    → (SomeHolds key spread moment calls (states key) → ⊥)
+    → RowHolds calls (record { allows = class_of comparisons; states = states }) → ⊥
+
+-- and, where all keys are such, one timing tells whether it holds
+abbrev pub TwinRowsJudge : Type 0
+TwinRowsJudge =
+    (calls : List Operation) (comparisons : List Comparison) (states : ℕ → KeyState) (spread moment : ℕ → ℕ) → InvocationsRise calls
+    → ((key : ℕ) → AreFixedUpToTwins comparisons key (calls_left (states key).gone calls)) → IsTiming calls spread moment
+    → class_of comparisons spread moment ≡ true
+    → RowHolds calls (record { allows = class_of comparisons; states = states }) ↔ ((key : ℕ) → SomeHolds key spread moment calls (states key))
+
+-- what such a key settles to in one timing at it, it settles to in each
+abbrev pub TwinTimingsSettle : Type 0
+TwinTimingsSettle =
+    (events : List Event) (comparisons : List Comparison) (key : ℕ) (k l : KeyState) (place : ℕ) (ended begun : List ℕ)
+    (spread moment other_spread other_moment : ℕ → ℕ) → IsComparedCut events comparisons key k.gone place ended begun
+    → AreFixedUpToTwins comparisons key (calls_left k.gone (operations events))
+    → IsTimingAt key (calls_left k.gone (operations events)) spread moment → class_of comparisons spread moment ≡ true
+    → IsTimingAt key (calls_left k.gone (operations events)) other_spread other_moment
+    → class_of comparisons other_spread other_moment ≡ true → SettlesIn (operations events) key spread moment ended begun k l
+    → SettlesIn (operations events) key other_spread other_moment ended begun k l
+
+-- so a key settles in a class, where some of its comparisons part the key at a moment and fix it up to twins, and one timing at it says what it
+-- settles to
+abbrev pub TwinKeysSettle : Type 0
+TwinKeysSettle =
+    (start : Contents) (events : List Event) (kept others : List Comparison) (key : ℕ) (k l : KeyState) (place : ℕ) (ended begun : List ℕ)
+    (spread moment whole_spread whole_moment : ℕ → ℕ) → IsComparedCut events kept key k.gone place ended begun
+    → AreFixedUpToTwins kept key (calls_left k.gone (operations events))
+    → IsTimingAt key (calls_left k.gone (operations events)) spread moment → class_of kept spread moment ≡ true
+    → IsTiming (operations events) whole_spread whole_moment → class_of (kept ++ others) whole_spread whole_moment ≡ true
+    → SettlesIn (operations events) key spread moment ended begun k l
+    → KeyStandsFor start events (class_of (kept ++ others)) key k → KeyStandsFor start events (class_of (kept ++ others)) key l
 
 -- exact moments are a timing, in which comparisons hold that say so
 abbrev pub ExactMomentsTime : Type 0

@@ -2,7 +2,7 @@
 ghost use Rattle.following.specs.keys.Laws.{AnswersNarrow, EqualConfigurationsJoin, KeysBegin, KeysGoOn, KeysJudge, KeysRefute};
 ghost use Rattle.following.specs.keys.Laws.{KeysSettle, OpenGetsLoseAnswers, QuietKeysSettle, SameChoicesStand, SilentCallsGo};
 ghost use Rattle.following.specs.keys.Laws.{PlacesTellCuts, RefutedConfigurationsGo, TakenCallsGo, TurnsLeave};
-ghost use Rattle.following.specs.keys.Laws.{SilenceHolds, UnitedValuesGainOrders};
+ghost use Rattle.following.specs.keys.Laws.{SilenceHolds, StillKeysNarrow, StillKeysNarrowUntaken, UnitedValuesGainOrders};
 
 /// Before any event a key has the value of the start, with no call gone or taken.
 pub fn keys_begin()
@@ -96,4 +96,15 @@ pub fn keys_settle()
 /// Where no call of the key was open at the moment, only the values change: to all that the calls leave from some value.
 pub fn quiet_keys_settle()
     ensures { QuietKeysSettle }
+{}
+
+/// At a key whose calls left all say that they changed nothing, a read goes at once, while a scan over the key is open: the values stay at
+/// which it may be answered so. What may change the key is invoked later, so behind it.
+pub fn still_keys_narrow()
+    ensures { StillKeysNarrow }
+{}
+
+/// So does a read that some configurations have taken, as one that was open at a past moment: these stay as they are.
+pub fn still_keys_narrow_untaken()
+    ensures { StillKeysNarrowUntaken }
 {}

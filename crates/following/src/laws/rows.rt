@@ -5,6 +5,7 @@ ghost use Rattle.following.specs.rows.Laws.{ComparisonsTellMoments, FixedKeysSet
 ghost use Rattle.following.specs.rows.Laws.{ExactMomentsSay, ExactMomentsTime, FollowedRowsJudge, FixedKeysRefute, FixedRowsJudge, FixedTimingsAlike, ForgottenScansJoin};
 ghost use Rattle.following.specs.rows.Laws.{GoneScansDoNotMatter, LostRowsGo, MomentsSuffice, OpenScansTieMoments, RowsAreExact, RowsBegin, RowsGoOn};
 ghost use Rattle.following.specs.rows.Laws.{RowsJudge, RowsRefute, RowsSplit, StatesMayChange, TurnsCover, UntouchedKeysHold};
+ghost use Rattle.following.specs.rows.Laws.{TimingsAreTimingsAt, TwinKeysRefute, TwinKeysSettle, TwinRowsJudge, TwinTimingsHold, TwinTimingsSettle};
 
 use quiet_cuts::places_do_not_matter;
 
@@ -172,6 +173,44 @@ pub fn fixed_keys_settle()
 /// So it is where none of its calls was open.
 pub fn fixed_keys_settle_quietly()
     ensures { FixedKeysSettleQuietly }
+{}
+
+/// A timing is one at each key, in which the scans over the key that are left there have their moments.
+pub fn timings_are_timings_at()
+    ensures { TimingsAreTimingsAt }
+{}
+
+/// Where comparisons part each scan over a key from the events of its calls, and order those scans over it that were told different things of
+/// it, what is kept of the key holds in all timings at it in which they hold or in none: twins may be exchanged.
+pub fn twin_timings_hold()
+    ensures { TwinTimingsHold }
+{
+    places_do_not_matter();
+}
+
+/// So a row does not hold where such a key has no configuration that holds in one such timing.
+pub fn twin_keys_refute()
+    ensures { TwinKeysRefute }
+{
+    places_do_not_matter();
+}
+
+/// And where all keys are such, it holds exactly where each key has one, in any one such timing.
+pub fn twin_rows_judge()
+    ensures { TwinRowsJudge }
+{
+    places_do_not_matter();
+}
+
+/// What such a key settles to at a past moment in one timing at it, it settles to in each: of twins either may be done first.
+pub fn twin_timings_settle()
+    ensures { TwinTimingsSettle }
+{}
+
+/// So what stands for such a key, in a class, settles as one timing at the key says, in which those comparisons hold that part it at the
+/// moment and fix it up to twins.
+pub fn twin_keys_settle()
+    ensures { TwinKeysSettle }
 {}
 
 /// A gap for each scan, and ranks in each gap, are a timing by numbers.

@@ -1,7 +1,7 @@
 use Rattle.std.specs.Prelude.{refl}
 use Rattle.clap.specs.Walk.{texts}
 use Rattle.history_engines.specs.Answers.{IsCheckAnswer, IsHistoryRefusal, IsJudgeAnswer}
-use Rattle.history_engines.specs.LocateAnswers.{IsLocateAnswer}
+use Rattle.location_engines.specs.Answers.{IsLocateAnswer}
 use Rattle.explain_engines.specs.Answers.{IsExplainAnswer}
 use Rattle.picture_engines.specs.Drawings.{IsViewAnswer}
 use Rattle.plan_engines.specs.Answers.{IsReplayAnswer, IsReplayRefusal}

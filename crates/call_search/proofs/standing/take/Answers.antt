@@ -5,12 +5,14 @@ use Rattle.std.specs.Prelude.{◌⊎◌, ◌↔◌, slice_get, Contains, IsTrue}
 use Rattle.std.proofs.lemmas.Bool.{both_ways}
 use Rattle.std.proofs.lemmas.List.{length-append}
 use Rattle.std.proofs.lemmas.Option.{slice_get_read, slice_get_within, same_Some}
-use Rattle.configurations.specs.Configurations.{Configuration, LeadsTo}
+use Rattle.configurations.specs.Configurations.{Configuration}
 use Rattle.configurations.proofs.ConfigurationLemmas.{LeadsTo-push}
 use Rattle.events.specs.declared.operation.Operation.{Operation}
 use Rattle.map_object.specs.MapObject.{Contents}
 use Rattle.orders.specs.Orders.{after_call}
 use Rattle.search.proofs.MemoLemmas.{visited_or_not}
+use Rattle.memo.specs.Taking.{after_one}
+use Rattle.memo.proofs.TakingLemmas.{Contains-with_place, with_place-rises}
 use Rattle.call_search.specs.Standing.{places, StandsWith, to_try, IsPushed}
 use Rattle.call_search.specs.declared.standing.Standing.{Standing}
 use Rattle.events.specs.declared.event.Call.{Call}
@@ -44,19 +46,16 @@ bounds-calls-place g c =
     let next = c.requires.1.1.is_next in
     slice_get_within c.args.calls.now c.args.place next.call next.here
 
-pub at-requires : goal.at-requires
-at-requires g c =
-    let w = c.args.standing.now in
-    let s = c.requires.1.0 in
-    slice_get_within w.memo w.at s.stands_at.0 s.stands_at.1
-
-pub with-requires : goal.with-requires
-with-requires g c = λ h.
+pub visit_next-requires : goal.visit_next-requires
+visit_next-requires g c =
     let w = c.args.standing.now in
     let s = c.requires.1.0 in
     let next = c.requires.1.1.is_next in
-    let same = same_Some s.stands_at.0 c.at.result.now (sym s.stands_at.1 ∙ c.at.ensures) in
-    next.new ((s.stands_at.2.taken c.args.place).0 (subst (λ (d : Configuration). Contains d.taken c.args.place) (sym same) h))
+    let a = c.index-calls-place.result in
+    rw s.stands_at.1 (record {
+      new = λ h. next.new ((s.stands_at.2.taken c.args.place).0 h);
+      after = c.in_ok-undo.ensures.after ∙ ap (λ m. after_call m a.call a.response) (s.holds ∙ sym s.stands_at.2.pairs);
+    })
 
 pub push-requires-clause-place : goal.push-requires-clause-place
 push-requires-clause-place g c =
@@ -70,8 +69,10 @@ push-requires-clause-low g c = let marked = c.requires.1.0.marked in omega (arit
 pub push-requires-clause-visited : goal.push-requires-clause-visited
 push-requires-clause-visited g c =
     let w = c.args.standing.now in
-    let visited_is = rw c.if-new.true at c.in_ok-new.ensures.visited in
-    omega (arith, ap length visited_is, length-append w.memo (c.in_ok-config.config ∷ []))
+    let s = c.requires.1.0 in
+    let config = after_one s.stands_at.0 c.args.place c.take_call.new.map in
+    let visited_is = rw (c.if-new.true, s.stands_at.1) at c.in_ok-new.ensures.visited in
+    omega (arith, ap length visited_is, length-append w.memo (config ∷ []))
 
 pub returns-then-new : goal.returns-then-new
 returns-then-new g c =
@@ -85,16 +86,14 @@ returns-then-new g c =
     let here : slice_get calls c.args.place ≡ Some a = slice_get_read calls (length calls) c.args.place a refl lt c.index-calls-place.is in
     let same = same_Some next.call a (sym next.here ∙ here) in
     let after_is = same_call w.map c.take_call.new.map a next.call same c.in_ok-undo.ensures.after in
-    let config = c.in_ok-config.config in
-    let before = same_Some s.stands_at.0 c.at.result.now (sym s.stands_at.1 ∙ c.at.ensures) in
-    let leads_before = subst (LeadsTo g.start calls (places w.levels.items)) before s.stands_at.2 in
-    let pairs_before = leads_before.pairs ∙ sym s.holds in
+    let before = s.stands_at.0 in
+    let config = after_one before c.args.place c.take_call.new.map in
+    let pairs_before = s.stands_at.2.pairs ∙ sym s.holds in
     let leads =
-    LeadsTo-push g.start calls (places w.levels.items) c.args.place next.call c.at.result.now config leads_before next.here
-    c.in_ok-config.ensures.rising
-    c.in_ok-config.ensures.taken
-    (c.in_ok-config.ensures.pairs ∙ after_is ∙ ap (λ m. after_call m next.call.call next.call.response) (sym pairs_before)) in
-    let visited_is = rw c.if-new.true at c.in_ok-new.ensures.visited in
+    LeadsTo-push g.start calls (places w.levels.items) c.args.place next.call before config s.stands_at.2 next.here
+    (with_place-rises before.taken c.args.place s.stands_at.2.rising) (Contains-with_place before.taken c.args.place)
+    (after_is ∙ ap (λ m. after_call m next.call.call next.call.response) (sym pairs_before)) in
+    let visited_is = rw (c.if-new.true, s.stands_at.1) at c.in_ok-new.ensures.visited in
     let p = c.in_ok-push.ensures in
     let level : Level = record { place = c.args.place; undo = c.in_ok-undo.undo; at = w.at; rest = w.rest } in
     let n = c.push.new.standing in
@@ -123,19 +122,17 @@ returns g c =
     let here : slice_get calls c.args.place ≡ Some a = slice_get_read calls (length calls) c.args.place a refl lt c.index-calls-place.is in
     let same = same_Some next.call a (sym next.here ∙ here) in
     let after_is = same_call w.map c.take_call.new.map a next.call same c.in_ok-undo.ensures.after in
-    let config = c.in_ok-config.config in
-    let before = same_Some s.stands_at.0 c.at.result.now (sym s.stands_at.1 ∙ c.at.ensures) in
-    let leads_before = subst (LeadsTo g.start calls (places w.levels.items)) before s.stands_at.2 in
-    let pairs_before = leads_before.pairs ∙ sym s.holds in
+    let before = s.stands_at.0 in
+    let config = after_one before c.args.place c.take_call.new.map in
+    let pairs_before = s.stands_at.2.pairs ∙ sym s.holds in
     let leads =
-    LeadsTo-push g.start calls (places w.levels.items) c.args.place next.call c.at.result.now config leads_before next.here
-    c.in_ok-config.ensures.rising
-    c.in_ok-config.ensures.taken
-    (c.in_ok-config.ensures.pairs ∙ after_is ∙ ap (λ m. after_call m next.call.call next.call.response) (sym pairs_before)) in
-    let visited_is = rw c.if-new.false at c.in_ok-new.ensures.visited in
-    let within : Contains w.memo config = not_new config w.memo c.in_ok-new.new c.in_ok-new.ensures.new c.if-new.false in
+    LeadsTo-push g.start calls (places w.levels.items) c.args.place next.call before config s.stands_at.2 next.here
+    (with_place-rises before.taken c.args.place s.stands_at.2.rising) (Contains-with_place before.taken c.args.place)
+    (after_is ∙ ap (λ m. after_call m next.call.call next.call.response) (sym pairs_before)) in
+    let visited_is = rw (c.if-new.false, s.stands_at.1) at c.in_ok-new.ensures.visited in
+    let within : Contains w.memo config = not_new config w.memo c.in_ok-new.new (rw s.stands_at.1 at c.in_ok-new.ensures.new) c.if-new.false in
     let pairs_back = c.in_ok-undo_call.ensures ∙ c.in_ok-undo.ensures.undo in (
-      subst (λ m. StandsWith g.start calls w.levels.items w.at m c.visit.new.memo w.taken.items w.low) (sym pairs_back)
+      subst (λ m. StandsWith g.start calls w.levels.items w.at m c.visit_next.new.self w.taken.items w.low) (sym pairs_back)
           (subst (λ vs. StandsWith g.start calls w.levels.items w.at w.map vs w.taken.items w.low) (sym visited_is) s),
       visited_is,
       refl,

@@ -1,7 +1,6 @@
 use Rattle.std.proofs.Common.{refl, inl}
 use Rattle.clap.specs.Walk.{texts}
 use Rattle.history_engines.specs.Answers.{IsCheckAnswer, IsHistoryRefusal, IsJudgeAnswer}
-use Rattle.history_engines.specs.LocateAnswers.{IsLocateAnswer}
 use Rattle.outcomes.specs.Ends.{change}
 use Rattle.line_outcomes.proofs.OutcomeLemmas.{read-words, fault-words}
 use Rattle.history_bench.specs.Outcomes.{IsHistoryLineOutcome}
@@ -37,22 +36,6 @@ returns-in-Judge-clause-run g c = record {
       })
       c.run_judge.ensures.run.comes);
   leaves = c.run_judge.ensures.run.leaves;
-}
-
-pub returns-in-Locate-clause-run : goal.returns-in-Locate-clause-run
-returns-in-Locate-clause-run g c = record {
-  outcome = c.run_locate.ensures.run.outcome;
-  comes = inl (read-words IsHistoryLineOutcome (IsLocateAnswer c.in-Locate.budget) IsHistoryRefusal (texts c.args.words.now)
-      (change g.S.Source.remaining g.S.Source.failures c.args.source.now c.run_locate.new.source) c.run_locate.ensures.run.outcome
-      (λ comes. record {
-        line = c.in-Ok.line;
-        accepted = c.in-Ok.ensures.line.1;
-        asked = c.in-Ok.ensures.line.0;
-        comes = rw
-            c.in-Locate.is comes;
-      })
-      c.run_locate.ensures.run.comes);
-  leaves = c.run_locate.ensures.run.leaves;
 }
 
 pub returns-in-Err-clause-run : goal.returns-in-Err-clause-run

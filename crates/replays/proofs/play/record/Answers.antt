@@ -1,9 +1,7 @@
-use Rattle.std.proofs.Common.{◌≡◌, ◌∙◌, ap, subst, sym, refl, arith, ◌≤◌}
-use Rattle.events.specs.HistoryView.{HistoryView}
+use Rattle.std.proofs.Common.{◌∙◌, ap, subst, sym, refl, arith}
 use Rattle.map_object.specs.MapObject.{Contents}
-use Rattle.art_core.specs.Core.{Plan, State, history_of}
-use Rattle.machine.specs.Machines.{Shows}
-use Rattle.replays.specs.Played.{Records, IsUnrecorded, is_memory}
+use Rattle.art_core.specs.Core.{history_of}
+use Rattle.replays.specs.Played.{IsUnrecorded, is_memory}
 use Rattle.replays.proofs.PlayLemmas.{stops-at, unrecorded}
 use Rattle.replays.proofs.play.record.Goals as goal
 

@@ -1,9 +1,13 @@
-use Rattle.std.proofs.Common.{Result, Ok, Err, ◌≡◌, Bool, false, List, ◌+◌, [], ◌∷◌, ◌++◌, Some, length, refl, sym, ap, ◌∙◌, subst, inl, inr, ⊎_elim, arith}
+use Rattle.std.proofs.Common.{Result, Ok, Err, ◌≡◌, Bool, false, List, ◌+◌, [], ◌∷◌, ◌++◌, Some, length, refl, sym, ap, ◌∙◌, subst, inl}
+use Rattle.std.proofs.Common.{inr, ⊎_elim, arith}
 use Rattle.std.specs.Prelude.{slice_get, slice_index, Contains, IsTrue, ◌↔◌, OnOk}
 use Rattle.std.proofs.lemmas.Bool.{both_ways}
 use Rattle.std.proofs.lemmas.List.{length-append}
-use Rattle.std.proofs.lemmas.Option.{slice_get_read, slice_get_within, same_Some}
+use Rattle.std.proofs.lemmas.Option.{slice_get_read}
 use Rattle.configurations.specs.Configurations.{Configuration, LeadsTo}
+use Rattle.memo.specs.Taking.{after_one}
+use Rattle.memo.proofs.TakingLemmas.{Contains-with_place, with_place-rises}
+use Rattle.orders.specs.Orders.{after_call}
 use Rattle.search.specs.declared.standing.Level.{Level}
 use Rattle.search.specs.Links.{unlinked}
 use Rattle.search.specs.declared.standing.Standing.{Standing}
@@ -24,26 +28,23 @@ on_ok : {A E : Type 0} (P Q : Type 0) (r : Result A E) → (P → Q) → OnOk r 
 on_ok P Q (Ok x) f h = f h
 on_ok P Q (Err e) f h = h
 
-pub at-requires : goal.at-requires
-at-requires g c =
+pub visit_next-requires : goal.visit_next-requires
+visit_next-requires g c =
     let w = c.args.standing.now in
     let s = c.requires.1.1.0 in
-    slice_get_within w.memo w.at s.stands_at.0 s.stands_at.1
-
-pub with-requires : goal.with-requires
-with-requires g c = λ h.
-    let w = c.args.standing.now in
-    let s = c.requires.1.1.0 in
-    let same = same_Some s.stands_at.0 c.at.result.now (sym s.stands_at.1 ∙ c.at.ensures) in
-    s.left c.requires.1.1.1.0.known ((s.stands_at.2.taken w.next).0 (subst (λ (d : Configuration). Contains d.taken w.next) (sym same) h))
+    let a = c.index-calls-place.result in
+    rw s.stands_at.1 (record {
+      new = λ h. s.left c.requires.1.1.1.0.known ((s.stands_at.2.taken w.next).0 h);
+      after = c.in_ok-undo.ensures.after ∙ ap (λ m. after_call m a.call a.response) (s.holds ∙ sym s.stands_at.2.pairs);
+    })
 
 pub push-requires : goal.push-requires
 push-requires g c =
     let w = c.args.standing.now in
     let s = c.requires.1.1.0 in
     let known = c.requires.1.1.1.0.known in
-    let config = c.in_ok-config.config in
-    let visited_is = rw c.if-new.true at c.in_ok-new.ensures.visited in
+    let config = after_one s.stands_at.0 w.next c.take_call.new.map in
+    let visited_is = rw (c.if-new.true, s.stands_at.1) at c.in_ok-new.ensures.visited in
     record {
       size = omega (arith, s.links.number_size);
       place = omega (arith, s.links.number_size, known);
@@ -62,15 +63,16 @@ returns g c =
     let may = c.requires.1.1.1.0 in
     let a = c.index-calls-place.result in
     let here : slice_get calls w.next ≡ Some a = slice_get_read calls (length calls) w.next a refl may.known c.index-calls-place.is in
-    let config = c.in_ok-config.config in
+    let before = s.stands_at.0 in
+    let config = after_one before w.next c.take_call.new.map in
     let legal = rw here at c.requires.1.1.1.1 in
     let leads =
     LeadsTo-taken g.start calls c.requires.1.0 w.levels.items w.next w.at w.map w.memo w.calls w.answers s may.known may.not_order a here
     may.preceded legal
-    c.at.result.now config c.at.ensures c.in_ok-config.ensures.rising c.in_ok-config.ensures.taken
-    (c.in_ok-config.ensures.pairs ∙ c.in_ok-undo.ensures.after) in
-    let visited_is = rw c.if-new.false at c.in_ok-new.ensures.visited in
-    let within : Contains w.memo config = not_new config w.memo c.in_ok-new.new c.in_ok-new.ensures.new c.if-new.false in
+    before config s.stands_at.1 (with_place-rises before.taken w.next s.stands_at.2.rising) (Contains-with_place before.taken w.next)
+    c.in_ok-undo.ensures.after in
+    let visited_is = rw (c.if-new.false, s.stands_at.1) at c.in_ok-new.ensures.visited in
+    let within : Contains w.memo config = not_new config w.memo c.in_ok-new.new (rw s.stands_at.1 at c.in_ok-new.ensures.new) c.if-new.false in
     let cursor =
     cursor-seen g.start calls c.requires.1.0 w.levels.items w.next w.at w.map w.memo w.calls w.answers s may.known may.not_order a here
     may.preceded legal
@@ -84,7 +86,7 @@ returns g c =
       stands =
           StandsWith-same g.start calls w.levels.items w.levels.items
           (slice_index w.calls.after w.next) c.after-standing.result w.at w.at w.map c.undo_call.new.map w.memo
-          c.visit.new.memo w.calls w.calls
+          c.visit_next.new.self w.calls w.calls
           w.answers w.answers refl c.after-standing.ensures.after refl
           (c.in_ok-undo_call.ensures ∙ c.in_ok-undo.ensures.undo)
           visited_is refl refl stands;
@@ -99,15 +101,16 @@ returns-then-new g c =
     let may = c.requires.1.1.1.0 in
     let a = c.index-calls-place.result in
     let here : slice_get calls w.next ≡ Some a = slice_get_read calls (length calls) w.next a refl may.known c.index-calls-place.is in
-    let config = c.in_ok-config.config in
+    let before = s.stands_at.0 in
+    let config = after_one before w.next c.take_call.new.map in
     let legal = rw here at c.requires.1.1.1.1 in
     let leads =
     LeadsTo-taken g.start calls c.requires.1.0 w.levels.items w.next w.at w.map w.memo w.calls w.answers s may.known may.not_order a here
     may.preceded legal
-    c.at.result.now config c.at.ensures c.in_ok-config.ensures.rising c.in_ok-config.ensures.taken
-    (c.in_ok-config.ensures.pairs ∙ c.in_ok-undo.ensures.after) in
-    let visited_is = rw c.if-new.true at c.in_ok-new.ensures.visited in
-    let new = c.in_ok-new.ensures.new.0 c.if-new.true in
+    before config s.stands_at.1 (with_place-rises before.taken w.next s.stands_at.2.rising) (Contains-with_place before.taken w.next)
+    c.in_ok-undo.ensures.after in
+    let visited_is = rw (c.if-new.true, s.stands_at.1) at c.in_ok-new.ensures.visited in
+    let new = (rw s.stands_at.1 at c.in_ok-new.ensures.new).0 c.if-new.true in
     let level : Level = record { place = w.next; undo = c.in_ok-undo.undo; at = w.at } in
     let n = c.push.new.standing in
     let middle : Standing = record {
@@ -115,7 +118,7 @@ returns-then-new g c =
       next = w.next;
       at = w.at;
       map = c.take_call.new.map;
-      memo = c.visit.new.memo;
+      memo = c.visit_next.new.self;
       calls = w.calls;
       answers = w.answers;
     } in

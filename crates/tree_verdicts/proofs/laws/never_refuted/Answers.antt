@@ -1,4 +1,4 @@
-use Rattle.std.proofs.Common.{◌≡◌, ◌⊎◌, ⊎_elim}
+use Rattle.std.proofs.Common.{⊎_elim}
 use Rattle.events.specs.Operations.{operations}
 use Rattle.orders.specs.Orders.{IsLinearizable}
 use Rattle.art_core.specs.Core.{history_of}

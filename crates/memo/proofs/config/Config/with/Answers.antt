@@ -1,37 +1,86 @@
-use Rattle.std.proofs.Common.{◌≡◌, ◌+◌, ◌%◌, ◌^◌, ◌∙◌, ℕ, List, sym, ap, subst}
-use Rattle.std.specs.Prelude.{Contains}
-use Rattle.std.specs.List.{sum_by}
-use Rattle.configurations.specs.Configurations.{Configuration}
-use Rattle.memo.specs.Digest.{mix_place, mix_pair}
-use Rattle.memo.proofs.DigestLemmas.{digest_after, sum_by-with_place}
-use Rattle.memo.proofs.TakingLemmas.{Contains-with_place}
+use Rattle.std.proofs.Common.{◌≡◌, ◌∙◌, ◌+◌, ◌-◌, ◌%◌, ◌^◌, ◌<◌, Some, ap, subst, rules}
+use Rattle.map_object.specs.MapObject.{Contents, value_at}
+use Rattle.memo.specs.Differences.{with_value, value_put, value_gone, value_from}
+use Rattle.memo.specs.Keys.{AgreeBut}
+use Rattle.memo.specs.Kept.{Kept, configuration_from}
+use Rattle.memo.specs.Taking.{with_place}
+use Rattle.memo.proofs.KeptLemmas.{IsKept-unchanged, IsKept-changed, configuration_from-changed}
+use Rattle.memo.specs.contracts.config.Config.{the_view}
 use Rattle.memo.proofs.config.Config.with.Goals as goal
 
--- the pairs before and after
-changed : (c : goal.After-change) → (c.change.result + sum_by mix_pair c.self.inside.pairs.items) % 2 ^ 64 ≡ sum_by mix_pair
-    c.in_ok-pairs.pairs.items % 2 ^ 64
-changed c =
-    ap (λ (pairs : List (ℕ × ℕ)). (c.change.result + sum_by mix_pair pairs) % 2 ^ 64) (sym c.deref.ensures.value)
-    ∙ c.change.ensures
-    ∙ ap (λ (pairs : List (ℕ × ℕ)). sum_by mix_pair pairs % 2 ^ 64) c.deref-2.ensures.value
+-- the call changed nothing
+pub returns-in_default-clause-kept : goal.returns-in_default-clause-kept
+returns-in_default-clause-kept c =
+    let new = the_view (record {
+      places = c.in_ok-places.places;
+      put = c.in_ok-put.put;
+      gone = c.in_ok-gone.gone;
+      digest = (c.self.inside.digest + c.mix.result) % 2 ^ 64;
+    }) in
+    IsKept-unchanged c.args.start.now c.args.self.now c.requires.kept c.args.place c.requires.new new
+    (c.in_ok-places.ensures.is ∙ ap (λ (k : Kept). with_place k.taken c.args.place) c.self.view_is) c.mix.result c.mix.ensures
+    (c.in_ok-put.ensures.items ∙ c.deref.ensures.value ∙ ap (λ (k : Kept). k.put) c.self.view_is)
+    (c.in_ok-gone.ensures.items ∙ c.deref-in_default.ensures.value ∙ ap (λ (k : Kept). k.gone) c.self.view_is)
+    (ap (λ (k : Kept). (k.digest + c.mix.result) % 2 ^ 64) c.self.view_is)
 
--- the calls taken, with the one
-taken : (c : goal.After-change) → sum_by mix_place c.in_ok-places.places ≡ sum_by mix_place c.self.inside.places + c.mix.result
-taken c =
-    ap (sum_by mix_place) c.in_ok-places.ensures.is
-    ∙ sum_by-with_place mix_place c.args.place c.self.inside.places
-    (λ h. c.requires (subst (λ (v : Configuration). Contains v.taken c.args.place) c.self.view_is h))
-    ∙ ap (λ (n : ℕ). sum_by mix_place c.self.inside.places + n) (sym c.mix.ensures)
+-- the call changed the value of a key
+module _ (c : goal.After-mix_value-2) where
+  abbrev new : Kept
+  new = the_view (record {
+    places = c.in_ok-places.places;
+    put = c.in_ok-put-2.put;
+    gone = c.in_ok-gone-2.gone;
+    digest = (((c.self.inside.digest + c.mix.result) % 2 ^ 64 + (2 ^ 64 - c.mix_value.result)) % 2 ^ 64 + c.mix_value-2.result) % 2 ^ 64;
+  })
 
-pub invariant_of-result : goal.invariant_of-result
-invariant_of-result c = record {
-  digest_is = digest_after (sum_by mix_place c.self.inside.places) (sum_by mix_pair c.self.inside.pairs.items) c.mix.result
-      (sum_by mix_pair c.in_ok-pairs.pairs.items) c.change.result c.self.inside.digest c.self.invariant.digest_is (changed c)
-      ∙ ap (λ (n : ℕ). (n + sum_by mix_pair c.in_ok-pairs.pairs.items) % 2 ^ 64) (sym (taken c));
-}
+  taken_is : new.taken ≡ with_place c.args.self.now.taken c.args.place
+  taken_is = c.in_ok-places.ensures.is ∙ ap (λ (k : Kept). with_place k.taken c.args.place) c.self.view_is
 
-pub returns-clause-taken : goal.returns-clause-taken
-returns-clause-taken c = rw (c.in_ok-places.ensures.is, ← c.self.view_is) (Contains-with_place c.self.inside.places c.args.place)
+  agree : AgreeBut (Some c.in-Some.key) (configuration_from c.args.start.now c.args.self.now).pairs c.args.after.now
+  agree = subst (λ key. AgreeBut key (configuration_from c.args.start.now c.args.self.now).pairs c.args.after.now) c.in-Some.is c.requires.others
 
-pub returns-clause-rising : goal.returns-clause-rising
-returns-clause-rising c = c.in_ok-places.ensures.rising
+  was_is : c.value_from-before.result ≡ value_from c.value-first.result (value_at c.args.self.now.put c.in-Some.key)
+      (value_at c.args.self.now.gone c.in-Some.key)
+  was_is =
+      c.value_from-before.ensures
+      ∙ ap (λ v. value_from c.value-first.result v c.value_at-2.result)
+      (c.value_at.ensures ∙ ap (λ (m : Contents). value_at m c.in-Some.key) c.deref-2.ensures.value
+      ∙ ap (λ (k : Kept). value_at k.put c.in-Some.key) c.self.view_is)
+      ∙ ap (value_from c.value-first.result (value_at c.args.self.now.put c.in-Some.key))
+      (c.value_at-2.ensures ∙ ap (λ (m : Contents). value_at m c.in-Some.key) c.deref-3.ensures.value
+      ∙ ap (λ (k : Kept). value_at k.gone c.in-Some.key) c.self.view_is)
+
+  put_is : new.put ≡ with_value c.in-Some.key (value_put c.value-first.result c.value-value.result) c.args.self.now.put
+  put_is =
+      c.in_ok-put-2.ensures
+      ∙ ap (with_value c.in-Some.key c.value_put.result) (c.deref-4.ensures.value ∙ ap (λ (k : Kept). k.put) c.self.view_is)
+      ∙ ap (λ v. with_value c.in-Some.key v c.args.self.now.put) c.value_put.ensures
+
+  gone_is : new.gone ≡ with_value c.in-Some.key (value_gone c.value-first.result c.value-value.result) c.args.self.now.gone
+  gone_is =
+      c.in_ok-gone-2.ensures
+      ∙ ap (with_value c.in-Some.key c.value_gone.result) (c.deref-5.ensures.value ∙ ap (λ (k : Kept). k.gone) c.self.view_is)
+      ∙ ap (λ v. with_value c.in-Some.key v c.args.self.now.gone) c.value_gone.ensures
+
+  small : c.mix_value.result < 2 ^ 64
+  small = search rules
+
+  digest_is : new.digest ≡ (((c.args.self.now.digest + c.mix.result) % 2 ^ 64 + (2 ^ 64 - c.mix_value.result)) % 2 ^ 64 + c.mix_value-2.result)
+      % 2 ^ 64
+  digest_is = ap (λ (k : Kept). (((k.digest + c.mix.result) % 2 ^ 64 + (2 ^ 64 - c.mix_value.result)) % 2 ^ 64 + c.mix_value-2.result) % 2 ^ 64)
+      c.self.view_is
+
+pub returns-clause-kept : goal.returns-clause-kept
+returns-clause-kept c =
+    IsKept-changed c.args.start.now c.args.self.now c.requires.kept c.args.place c.requires.new (new c) (taken_is c) c.mix.result c.mix.ensures
+    c.value-first.ensures.rising c.in-Some.key c.args.after.now c.value-value.ensures.rising (agree c) c.value-first.result
+    c.value_from-before.result c.value-value.result c.value-first.ensures.value (was_is c) c.value-value.ensures.value (put_is c) (gone_is c)
+    c.mix_value.result c.mix_value-2.result c.mix_value.ensures c.mix_value-2.ensures (small c) (digest_is c)
+
+pub returns-clause-is : goal.returns-clause-is
+returns-clause-is c =
+    configuration_from-changed c.args.start.now c.args.self.now c.requires.kept c.args.place c.requires.new (new c) (taken_is c) c.mix.result
+    c.mix.ensures
+    c.value-first.ensures.rising c.in-Some.key c.args.after.now c.value-value.ensures.rising (agree c) c.value-first.result
+    c.value_from-before.result c.value-value.result c.value-first.ensures.value (was_is c) c.value-value.ensures.value (put_is c) (gone_is c)
+    c.mix_value.result c.mix_value-2.result c.mix_value.ensures c.mix_value-2.ensures (small c) (digest_is c)

@@ -1,5 +1,5 @@
 use Rattle.events.specs.declared.event.Event.TheVariants.{Invoke}
-use Rattle.follow.specs.Faults.{invocation_fault}
+use Rattle.follower.specs.Faults.{invocation_fault}
 use Rattle.stream_engines.proofs.FollowedLemmas.{invoked}
 use Rattle.stream_engines.proofs.RefusalLemmas.{refused_turn, shown_some}
 use Rattle.stream_engines.proofs.followed.Followed.begin_call.Goals as goal
@@ -8,8 +8,8 @@ pub returns-in-Ok-clause-taken : goal.returns-in-Ok-clause-taken
 returns-in-Ok-clause-taken c = λ read followed spelled.
     let line = c.args.line.now in
     let stream = followed.stream in
-    invoked read line c.args.self c.in-Ok.followers c.args.process c.args.call c.saturating_add.result
-    c.saturating_add-in-Ok.result c.args.self.limit followed spelled
+    invoked read line c.args.self c.in-Ok.follower c.args.process c.args.call c.saturating_add.result
+    c.saturating_add-in-Ok.result followed spelled
     (c.in-Ok.ensures.follows stream.start stream.events followed.follows)
     (c.in-Ok.ensures.accepted stream.start stream.events followed.follows)
     c.saturating_add.ensures c.saturating_add-in-Ok.ensures

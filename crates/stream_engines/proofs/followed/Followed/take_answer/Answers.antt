@@ -1,9 +1,12 @@
-use Rattle.std.proofs.Common.{[], ◌∷◌, ◌++◌, subst}
+use Rattle.std.proofs.Common.{subst}
+use Rattle.std.proofs.lemmas.List.Elements.{All-weaker}
 use Rattle.events.specs.declared.event.Event.TheVariants.{Answer}
-use Rattle.followers.specs.declared.reason.Answered.{Answered}
-use Rattle.followers.specs.Outcomes.{IsAnswered}
-use Rattle.stream_engines.proofs.FollowedLemmas.{answered, memory_alone}
-use Rattle.stream_engines.proofs.JudgedLemmas.{lost_at, spent_at, parts_refuted}
+use Rattle.kept_rows.specs.Outcomes.{HasNoOrder}
+use Rattle.follower.specs.Calls.{IsKeyOf}
+use Rattle.follower.specs.Outcomes.{IsAnswered}
+use Rattle.follower.specs.declared.answered.Answered.{Answered}
+use Rattle.stream_engines.proofs.FollowedLemmas.{answered}
+use Rattle.stream_engines.proofs.JudgedLemmas.{lost_at, spent_at}
 use Rattle.stream_engines.proofs.RefusalLemmas.{refused_turn}
 use Rattle.stream_engines.proofs.followed.Followed.take_answer.Goals as goal
 
@@ -13,16 +16,11 @@ returns-in-Ok-Going-clause-taken c = λ read followed spelled.
     let stream = followed.stream in
     let process = c.args.process in
     let reply = c.args.reply in
-    let taken = subst (λ (a : Answered). IsAnswered stream.start stream.events c.args.self.followers process reply c.args.budget a)
+    let taken = subst (λ (a : Answered). IsAnswered stream.start stream.events c.args.self.follower process reply c.args.budget a)
     c.in-Ok-Going.field-0-is
     (c.in-Ok-Going.ensures stream.start stream.events followed.follows) in
-    c.relieved.ensures.taken (read ++ line ∷ [])
-    (answered read line c.args.self c.in-Ok-Going.followers process reply c.saturating_sub.result c.args.self.limit followed spelled taken.1
-    c.saturating_sub.ensures)
-
-pub returns-in-Ok-Going-clause-stopped : goal.returns-in-Ok-Going-clause-stopped
-returns-in-Ok-Going-clause-stopped c = λ told read count followed spelled begins.
-    memory_alone c.args.budget told c.relieved.result c.relieved.ensures.stopped
+    answered read line c.args.self c.in-Ok-Going.follower process reply c.saturating_sub.result followed spelled taken.1
+    c.saturating_sub.ensures
 
 pub returns-in-Ok-Lost-clause-stopped : goal.returns-in-Ok-Lost-clause-stopped
 returns-in-Ok-Lost-clause-stopped c = λ told read count followed spelled begins.
@@ -30,12 +28,12 @@ returns-in-Ok-Lost-clause-stopped c = λ told read count followed spelled begins
     let stream = followed.stream in
     let process = c.args.process in
     let reply = c.args.reply in
-    let taken = subst (λ (a : Answered). IsAnswered stream.start stream.events c.args.self.followers process reply c.args.budget a)
+    let loss = c.in-Ok-Lost.loss in
+    let taken = subst (λ (a : Answered). IsAnswered stream.start stream.events c.args.self.follower process reply c.args.budget a)
     c.in-Ok-Lost.field-0-is
     (c.in-Ok-Lost.ensures stream.start stream.events followed.follows) in
-    lost_at c.args.budget told read line c.args.self process reply c.in-Ok-Lost.reason c.lost_outcome.result followed spelled begins taken
-    (c.lost_outcome.ensures
-    (parts_refuted stream.start stream.events process reply c.args.budget c.in-Ok-Lost.reason.part taken.part))
+    lost_at c.args.budget told read line c.args.self process reply loss c.lost_outcome.result followed spelled begins taken
+    (c.lost_outcome.ensures (All-weaker (λ at. IsKeyOf taken.call at.key × HasNoOrder at) HasNoOrder (λ at here. here.1) loss.keys.items taken.keys))
 
 pub returns-in-Ok-Spent-clause-stopped : goal.returns-in-Ok-Spent-clause-stopped
 returns-in-Ok-Spent-clause-stopped c = λ told read count followed spelled begins.
@@ -43,11 +41,11 @@ returns-in-Ok-Spent-clause-stopped c = λ told read count followed spelled begin
     let stream = followed.stream in
     let process = c.args.process in
     let reply = c.args.reply in
-    let taken = subst (λ (a : Answered). IsAnswered stream.start stream.events c.args.self.followers process reply c.args.budget a)
+    let taken = subst (λ (a : Answered). IsAnswered stream.start stream.events c.args.self.follower process reply c.args.budget a)
     c.in-Ok-Spent.field-0-is
     (c.in-Ok-Spent.ensures stream.start stream.events followed.follows) in
-    spent_at c.args.budget told read line c.args.self process reply c.in-Ok-Spent.reason c.spent_outcome.result followed spelled begins taken
-    c.spent_outcome.ensures
+    spent_at c.args.budget told read line c.args.self process reply c.in-Ok-Spent.event c.in-Ok-Spent.call c.in-Ok-Spent.doubt
+    c.spent_outcome.result followed spelled begins taken c.spent_outcome.ensures
 
 pub returns-in-Ok-Refused-clause-stopped : goal.returns-in-Ok-Refused-clause-stopped
 returns-in-Ok-Refused-clause-stopped c = λ told read count followed spelled begins.
@@ -55,7 +53,7 @@ returns-in-Ok-Refused-clause-stopped c = λ told read count followed spelled beg
     let stream = followed.stream in
     let process = c.args.process in
     let reply = c.args.reply in
-    let taken = subst (λ (a : Answered). IsAnswered stream.start stream.events c.args.self.followers process reply c.args.budget a)
+    let taken = subst (λ (a : Answered). IsAnswered stream.start stream.events c.args.self.follower process reply c.args.budget a)
     c.in-Ok-Refused.field-0-is
     (c.in-Ok-Refused.ensures stream.start stream.events followed.follows) in
     refused_turn c.args.budget told read line c.args.self c.args.number (Answer process reply) c.in-Ok-Refused.fault c.refused_event.result

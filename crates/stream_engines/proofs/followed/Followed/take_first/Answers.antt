@@ -2,7 +2,7 @@ use Rattle.history_text.specs.declared.version.TextVersion.TheVariants.{One}
 use Rattle.std.proofs.Common.{[], refl, subst}
 use Rattle.history_text.specs.declared.version.TextVersion.{TextVersion}
 use Rattle.stream_text.specs.declared.event.FirstLine.{FirstLine}
-use Rattle.stream_text.specs.Lines.{as_event, SpellsEvent, SpellsStart, SpellsFirst}
+use Rattle.stream_text.specs.Lines.{as_event, SpellsEvent, SpellsFirst}
 use Rattle.stream_engines.proofs.FirstLemmas.{no_start}
 use Rattle.stream_engines.proofs.RefusalLemmas.{refused_at}
 use Rattle.stream_engines.proofs.followed.Followed.take_first.Goals as goal
@@ -23,14 +23,11 @@ returns-in-Ok-Event-clause-stopped c = λ told followed begins.
     c.take_event.ensures.stopped told [] refl followed
     (subst (λ (version : TextVersion). SpellsEvent version line (as_event c.in-Ok-Event.event)) (no_start c.args.self followed) spelled) begins
 
-pub returns-in-Ok-Start-clause-stopped : goal.returns-in-Ok-Start-clause-stopped
-returns-in-Ok-Start-clause-stopped c = λ told followed begins.
-    let spelled : SpellsStart c.in-Ok-Start.version c.args.line.now c.in-Ok-Start.pairs =
-    subst (λ (first : FirstLine). SpellsFirst c.args.line.now first) c.in-Ok-Start.field-0-is c.in-Ok-Start.ensures.spelled in
-    c.take_start.ensures.stopped told c.args.budget followed spelled begins
-
 pub returns-in-Err-clause-stopped : goal.returns-in-Err-clause-stopped
 returns-in-Err-clause-stopped c = λ told followed begins.
     refused_at c.args.budget told [] c.args.line.now c.args.self 1 c.in-Err.fault c.refused_line.result followed refl
     c.in-Err.ensures.refused begins
     c.refused_line.ensures
+
+pub returns-in-Ok-Start-clause-stopped : goal.returns-in-Ok-Start-clause-stopped
+returns-in-Ok-Start-clause-stopped c = λ told followed begins. c.from_start.ensures.stopped told c.args.budget

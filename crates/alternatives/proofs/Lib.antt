@@ -1,8 +1,0 @@
-mod LaterLemmas
-mod StreamLemmas
-mod InOrderLemmas
-mod OrderInLemmas
-mod DoneLemmas
-mod RetryLemmas
-mod OpenCallLemmas
-mod AlternativeLemmas

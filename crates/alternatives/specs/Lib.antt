@@ -1,2 +1,0 @@
-pub mod OpenCalls
-pub mod Alternatives

@@ -1,3 +1,0 @@
-pub mod LeftListLemmas
-mod GroupLemmas
-pub mod MarkLemmas

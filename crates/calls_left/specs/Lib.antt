@@ -1,4 +1,0 @@
-pub mod Left
-pub mod Groups
-pub mod Settling
-pub mod Laws

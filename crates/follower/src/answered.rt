@@ -1,0 +1,39 @@
+// What an answer makes of a stream.
+use crate::fault::FollowFault;
+use crate::follower::Follower;
+use kept_rows::KeyLoss;
+
+/// Where a stream goes wrong: the event, the number of the call that it answers, and keys at which there is no order any more, with what was kept of
+/// them.
+#[derive(Debug, Drop)]
+pub struct Loss {
+    pub event: usize,
+    pub number: usize,
+    pub keys: Vec<KeyLoss>,
+}
+
+/// Why it is not known whether a stream goes wrong.
+#[derive(Debug, Drop)]
+pub enum Doubt {
+    /// A search at this key reaches more positions than the budget.
+    Budget(KeyLoss),
+    /// Scans may have taken effect in more ways than are kept.
+    Rows,
+}
+
+/// What an answer makes of a stream.
+#[derive(Drop)]
+pub enum Answered {
+    /// All events so far have an order.
+    Going(Follower),
+    /// They have none since this event, nor with any further events.
+    Lost(Loss),
+    /// It is not known whether they have one since this event, which answers the call of this number.
+    Spent {
+        event: usize,
+        number: usize,
+        doubt: Doubt,
+    },
+    /// The answer is out of turn, or an event too many: the follower is as it was.
+    Refused(Follower, FollowFault),
+}

@@ -1,0 +1,211 @@
+// The follower of a stream.
+ghost use Rattle.std.specs.Prelude.{◌≡◌, ℕ, ◌<◌, ◌≤◌, ◌++◌, ◌∷◌, [], List, length, None, Some, IfOk, IfErr};
+ghost use Rattle.events.specs.declared.event.Event.{Event};
+ghost use Rattle.events.specs.declared.event.Event.TheVariants.{Invoke};
+ghost use Rattle.events.specs.Keys.{low_key, high_key};
+ghost use Rattle.events.specs.Operations.{operations};
+ghost use Rattle.map_object.specs.MapObject.{Contents, IsRising};
+ghost use Rattle.follower.specs.Faults.{event_limit, invocation_fault, shown};
+ghost use Rattle.follower.specs.FollowerView.{known_call};
+ghost use Rattle.follower.specs.Following.{IsFollowing};
+ghost use Rattle.follower.specs.Outcomes.{IsAnswered};
+
+use crate::answered::{Answered, Doubt, Loss};
+use crate::fault::FollowFault;
+use crate::open_calls::{OpenCall, open_call};
+use crate::open_scans::{begin_scan, end_scan};
+use crate::taking::{take_answer, take_call};
+use events::{Call, Memory, Reply};
+use kept_rows::{Answered as Taken, OpenScan, Rows, followed_rows_have_orders};
+use std::alloc::Global;
+use std::collections::BTreeMap;
+use std::marker::Model;
+
+/// How many events are taken at most.
+const EVENT_LIMIT: usize = (1 << 44) - 2;
+
+/// Follows a stream of events: the rows, the open calls by process, those of them that are scans, and how many events and calls were taken.
+#[derive(Drop)]
+pub struct Follower {
+    rows: Rows,
+    open_calls: BTreeMap<u16, OpenCall>,
+    open_scans: Vec<OpenScan>,
+    events: usize,
+    calls: usize,
+}
+
+impl Model for Follower {
+    ghost use Rattle.follower.specs.FollowerView.{FollowerView};
+    ghost use Rattle.follower.specs.Following.{FollowsSome};
+
+    ghost Value = { FollowerView };
+
+    ghost view = { λ f. record {
+      rows = f.rows;
+      open_calls = f.open_calls.entries;
+      open_scans = f.open_scans.items;
+      events = f.events;
+      calls = f.calls;
+    } };
+
+    ghost invariant = { λ f. FollowsSome (record {
+      rows = f.rows;
+      open_calls = f.open_calls.entries;
+      open_scans = f.open_scans.items;
+      events = f.events;
+      calls = f.calls;
+    }) };
+}
+
+impl Follower {
+    /// Before any event, at pairs by rising key, which are copied.
+    pub fn new(alloc: Global, start: &[(u64, u64)]) -> Result<Follower, Memory>
+        requires { IsRising start.now }
+        ensures { IfOk result (IsFollowing start.now []) }
+    {
+        followed_rows_have_orders();
+        let rows = Rows::new(alloc, start)?;
+        Ok(Follower {
+            rows,
+            open_calls: BTreeMap::new(alloc),
+            open_scans: Vec::new(alloc),
+            events: 0,
+            calls: 0,
+        })
+    }
+
+    /// How many calls were invoked.
+    pub fn calls(&self) -> usize
+        ensures { (start : Contents) (events : List Event) → IsFollowing start events self.now → result ≡ length (operations events) }
+    {
+        self.calls
+    }
+
+    /// Takes an invocation. The fault is the first of these, and the follower is lost then: `Shape` where the call's first key is above its
+    /// last, `NotWellFormed` where the process has an open call, `TooMany` after 2^44 - 2 events, or `Memory`.
+    pub fn invoke(self, alloc: Global, process: u16, call: Call) -> Result<Follower, FollowFault>
+        ensures follows { (start : Contents) (events : List Event) → IsFollowing start events self
+            → IfOk result (IsFollowing start (events ++ Invoke process call ∷ [])) }
+        ensures accepted { (start : Contents) (events : List Event) → IsFollowing start events self
+            → IfOk result (λ _. invocation_fault events process call ≡ None) }
+        ensures refused { (start : Contents) (events : List Event) → IsFollowing start events self
+            → IfErr result (λ e. invocation_fault events process call ≡ shown e) }
+    {
+        if call.high_key() < call.low_key() {
+            return Err(FollowFault::Shape);
+        }
+        if open_call(&self.open_calls, process).is_some() {
+            return Err(FollowFault::NotWellFormed);
+        }
+        if self.events >= EVENT_LIMIT {
+            return Err(FollowFault::TooMany);
+        }
+        let next = self.take_call(alloc, process, call)?;
+        Ok(next)
+    }
+
+    /// Takes a call that may be invoked.
+    fn take_call(self, alloc: Global, process: u16, call: Call) -> Result<Follower, Memory>
+        requires room { self.events < event_limit }
+        requires idle { known_call self.open_calls process ≡ None }
+        requires shaped { low_key call ≤ high_key call }
+        ensures { (start : Contents) (events : List Event) → IsFollowing start events self
+            → IfOk result (IsFollowing start (events ++ Invoke process call ∷ [])) }
+    {
+        followed_rows_have_orders();
+        let Follower {
+            rows,
+            mut open_calls,
+            mut open_scans,
+            events,
+            calls,
+        } = self;
+        let rows = take_call(alloc, rows, events, call)?;
+        let known = OpenCall {
+            place: events,
+            number: calls,
+            call,
+        };
+        open_calls.insert(process, known)?;
+        begin_scan(&mut open_scans, events, call)?;
+        Ok(Follower {
+            rows,
+            open_calls,
+            open_scans,
+            events: events + 1,
+            calls: calls.saturating_add(1),
+        })
+    }
+
+    /// Takes the answer of the open call of a process, and judges it. An answer of a process that has no open call is refused
+    /// (`NotWellFormed`), and one after 2^44 - 2 events (`TooMany`). On `Memory` the follower is lost.
+    pub fn answer(
+        self,
+        alloc: Global,
+        process: u16,
+        reply: Reply,
+        budget: u32,
+    ) -> Result<Answered, Memory>
+        ensures { (start : Contents) (events : List Event) → IsFollowing start events self
+            → IfOk result (IsAnswered start events self process reply budget) }
+    {
+        let Some(known) = open_call(&self.open_calls, process) else {
+            return Ok(Answered::Refused(self, FollowFault::NotWellFormed));
+        };
+        if self.events >= EVENT_LIMIT {
+            return Ok(Answered::Refused(self, FollowFault::TooMany));
+        }
+        self.judge(alloc, process, known, reply, budget)
+    }
+
+    /// Takes the answer of an open call of a process, and judges it.
+    fn judge(
+        self,
+        alloc: Global,
+        process: u16,
+        known: OpenCall,
+        reply: Reply,
+        budget: u32,
+    ) -> Result<Answered, Memory>
+        requires room { self.events < event_limit }
+        requires known { known_call self.open_calls process ≡ Some known }
+        ensures { (start : Contents) (events : List Event) → IsFollowing start events self
+            → IfOk result (IsAnswered start events self process reply budget) }
+    {
+        followed_rows_have_orders();
+        let Follower {
+            rows,
+            mut open_calls,
+            mut open_scans,
+            events: event,
+            calls,
+        } = self;
+        let number = known.number;
+        open_calls.remove(&process);
+        end_scan(&mut open_scans, known.place);
+        match take_answer(alloc, rows, event, known, reply, &open_scans, budget)? {
+            Taken::Going(rows) => Ok(Answered::Going(Follower {
+                rows,
+                open_calls,
+                open_scans,
+                events: event + 1,
+                calls,
+            })),
+            Taken::Lost(keys) => Ok(Answered::Lost(Loss {
+                event,
+                number,
+                keys,
+            })),
+            Taken::Spent(at) => Ok(Answered::Spent {
+                event,
+                number,
+                doubt: Doubt::Budget(at),
+            }),
+            Taken::Crowded => Ok(Answered::Spent {
+                event,
+                number,
+                doubt: Doubt::Rows,
+            }),
+        }
+    }
+}

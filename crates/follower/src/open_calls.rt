@@ -1,0 +1,21 @@
+// The open calls of processes.
+ghost use Rattle.std.specs.Prelude.{◌≡◌};
+ghost use Rattle.follower.specs.FollowerView.{known_call};
+
+use events::Call;
+use std::collections::BTreeMap;
+
+/// An open call: the place of its invocation, its number among the calls of the stream, and the call.
+#[derive(Clone, Copy, Debug)]
+pub struct OpenCall {
+    pub place: usize,
+    pub number: usize,
+    pub call: Call,
+}
+
+/// The open call of a process.
+pub(crate) fn open_call(calls: &BTreeMap<u16, OpenCall>, process: u16) -> Option<OpenCall>
+    ensures { result ≡ known_call calls.now.entries process }
+{
+    calls.get(&process).copied()
+}

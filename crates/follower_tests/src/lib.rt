@@ -1,0 +1,20 @@
+//! Tests of what follows streams key by key, through public calls: what is kept of a key as events and scans come, when it is quiet, how it
+//! is judged, and what it settles to; what answers make of rows.
+//!
+//! Expected answers were worked out by hand.
+#![tactic(auto)]
+
+#[cfg(test)]
+mod answered_rows;
+#[cfg(test)]
+mod judged_keys;
+#[cfg(test)]
+mod kept_once;
+#[cfg(test)]
+mod key_events;
+#[cfg(test)]
+mod key_scans;
+#[cfg(test)]
+mod quiet_places;
+#[cfg(test)]
+mod settled_keys;

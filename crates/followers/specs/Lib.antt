@@ -1,4 +1,0 @@
-pub mod Choices
-pub mod Followed
-pub mod Outcomes
-pub mod Turns

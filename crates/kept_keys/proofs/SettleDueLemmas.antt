@@ -1,0 +1,192 @@
+-- Two lists beside each other, place by place.
+use Rattle.std.proofs.Common.{◌≡◌, ℕ, zero, suc, ◌+◌, ◌<◌, ◌≤◌, Bool, true, false, cond, ◌&&◌, nat_lt, List, [], ◌∷◌, ◌++◌, length, map}
+use Rattle.std.proofs.Common.{filter, take}
+use Rattle.std.proofs.Common.{get_or, refl, sym, ap, ap₂, ◌∙◌, subst, arith, append-nil}
+use Rattle.std.specs.Prelude.{zip, not, All, AllPairs, Contains, IfSome, slice_get}
+use Rattle.std.proofs.lemmas.Bool.{ltb-true, lt-ltb, le-ltb, and_parts}
+use Rattle.std.proofs.lemmas.List.{take_all, map_push}
+use Rattle.std.proofs.lemmas.List.Elements.{filter_more, All-cons, All-head, All-tail, All-weaker, All-map, All-filter, All-contains}
+use Rattle.std.proofs.lemmas.List.Kept.{AllPairs-filter}
+use Rattle.events.specs.declared.operation.Operation.{Operation}
+use Rattle.list_laws.specs.Lists.{has_number}
+use Rattle.list_laws.proofs.Lists.{All-from_contains, AllPairs-head, AllPairs-tail, Contains-from_filter}
+use Rattle.list_laws.proofs.FilterLemmas.{AllPairs-map, AllPairs-from_map, Contains-map}
+use Rattle.following.specs.keys.KeyStates.{Configuration}
+use Rattle.kept_keys.specs.SettleSteps.{is_due, due, names_due, calls_due}
+use Rattle.kept_keys.specs.Views.{KeptView}
+
+pub zip_push : {A B : Type 0} (xs : List A) (ys : List B) (x : A) (y : B) → length xs ≡ length ys
+    → zip (xs ++ x ∷ []) (ys ++ y ∷ []) ≡ zip xs ys ++ (x, y) ∷ []
+zip_push [] [] x y e = refl
+zip_push [] (b ∷ ys) x y e = absurd (omega (arith, e))
+zip_push (a ∷ xs) [] x y e = absurd (omega (arith, e))
+zip_push {A} {B} (a ∷ xs) (b ∷ ys) x y e = ap (λ (l : List (A × B)). (a, b) ∷ l) (zip_push xs ys x y (omega (arith, e)))
+
+pub length_zip : {A B : Type 0} (xs : List A) (ys : List B) → length xs ≡ length ys → length (zip xs ys) ≡ length ys
+length_zip [] [] e = refl
+length_zip [] (b ∷ ys) e = absurd (omega (arith, e))
+length_zip (a ∷ xs) [] e = refl
+length_zip (a ∷ xs) (b ∷ ys) e = let rest = length_zip xs ys (omega (arith, e)) in omega (arith, rest)
+
+pub get_or_zip : {A B : Type 0} (xs : List A) (ys : List B) (i : ℕ) (x : A) (y : B) → length xs ≡ length ys → i < length ys
+    → get_or (zip xs ys) i (x, y) ≡ (get_or xs i x, get_or ys i y)
+get_or_zip [] [] i x y e within = absurd (omega (arith, within))
+get_or_zip [] (b ∷ ys) i x y e within = absurd (omega (arith, e))
+get_or_zip (a ∷ xs) [] i x y e within = absurd (omega (arith, within))
+get_or_zip (a ∷ xs) (b ∷ ys) zero x y e within = refl
+get_or_zip (a ∷ xs) (b ∷ ys) (suc i) x y e within = get_or_zip xs ys i x y (omega (arith, e)) (omega (arith, within))
+
+-- one call more, with its name, of those that are picked
+pub pick_more : (p : ℕ × Operation → Bool) (names : List ℕ) (calls : List Operation) (i n : ℕ) (a : Operation) → length names ≡ length calls
+    → i < length calls → n ≡ get_or names i 0 → a ≡ get_or calls i a
+    → filter p (take (i + 1) (zip names calls)) ≡ filter p (take i (zip names calls)) ++ cond (p (n, a)) ((n, a) ∷ []) []
+pick_more p names calls i n a each within name here =
+    filter_more p (zip names calls) i (0, a) (omega (arith, within, length_zip names calls each))
+    ∙ ap (λ (x : ℕ × Operation). filter p (take i (zip names calls)) ++ cond (p x) (x ∷ []) [])
+    (get_or_zip names calls i 0 a each within ∙ ap₂ (λ (m : ℕ) (b : Operation). (m, b)) (sym name) (sym here))
+
+pub pick_yes : (p : ℕ × Operation → Bool) (names : List ℕ) (calls : List Operation) (i n : ℕ) (a : Operation) → length names ≡ length calls
+    → i < length calls → n ≡ get_or names i 0 → a ≡ get_or calls i a → p (n, a) ≡ true
+    → filter p (take (i + 1) (zip names calls)) ≡ filter p (take i (zip names calls)) ++ (n, a) ∷ []
+pick_yes p names calls i n a each within name here had =
+    pick_more p names calls i n a each within name here
+    ∙ ap (λ (b : Bool). filter p (take i (zip names calls)) ++ cond b ((n, a) ∷ []) []) had
+
+pub pick_no : (p : ℕ × Operation → Bool) (names : List ℕ) (calls : List Operation) (i n : ℕ) (a : Operation) → length names ≡ length calls
+    → i < length calls → n ≡ get_or names i 0 → a ≡ get_or calls i a → p (n, a) ≡ false
+    → filter p (take (i + 1) (zip names calls)) ≡ filter p (take i (zip names calls))
+pick_no p names calls i n a each within name here had_not =
+    pick_more p names calls i n a each within name here
+    ∙ ap (λ (b : Bool). filter p (take i (zip names calls)) ++ cond b ((n, a) ∷ []) []) had_not
+    ∙ append-nil (filter p (take i (zip names calls)))
+
+-- all of them
+pub pick_all : (p : ℕ × Operation → Bool) (names : List ℕ) (calls : List Operation) (i : ℕ) → length names ≡ length calls → length calls ≤ i
+    → filter p (take i (zip names calls)) ≡ filter p (zip names calls)
+pick_all p names calls i each all =
+    ap (filter p) (take_all i (zip names calls) (omega (arith, all, length_zip names calls each)))
+
+-- names of one more
+pub name_more : (xs : List (ℕ × Operation)) (n : ℕ) (a : Operation)
+    → map (λ call. call.0) (xs ++ (n, a) ∷ []) ≡ map (λ call. call.0) xs ++ n ∷ []
+name_more xs n a = map_push (λ (call : ℕ × Operation). call.0) xs (n, a)
+
+-- one more that ended, and one that did not
+pub gone_yes : (p : ℕ × Operation → Bool) (names : List ℕ) (calls : List Operation) (i : ℕ) (a : Operation) (old new : List ℕ)
+    → new ≡ old ++ get_or names i 0 ∷ [] → length names ≡ length calls → i < length calls → a ≡ get_or calls i a
+    → p (get_or names i 0, a) ≡ true → old ≡ map (λ call. call.0) (filter p (take i (zip names calls)))
+    → new ≡ map (λ call. call.0) (filter p (take (i + 1) (zip names calls)))
+gone_yes p names calls i a old new is each within here had so_far =
+    is ∙ ap (λ (l : List ℕ). l ++ get_or names i 0 ∷ []) so_far
+    ∙ sym (name_more (filter p (take i (zip names calls))) (get_or names i 0) a)
+    ∙ ap (map (λ (call : ℕ × Operation). call.0)) (sym (pick_yes p names calls i (get_or names i 0) a each within refl here had))
+
+pub gone_no : (p : ℕ × Operation → Bool) (names : List ℕ) (calls : List Operation) (i : ℕ) (a : Operation) (old new : List ℕ)
+    → new ≡ old → length names ≡ length calls → i < length calls → a ≡ get_or calls i a
+    → p (get_or names i 0, a) ≡ false → old ≡ map (λ call. call.0) (filter p (take i (zip names calls)))
+    → new ≡ map (λ call. call.0) (filter p (take (i + 1) (zip names calls)))
+gone_no p names calls i a old new is each within here had_not so_far =
+    is ∙ so_far ∙ ap (map (λ (call : ℕ × Operation). call.0))
+    (sym (pick_no p names calls i (get_or names i 0) a each within refl here had_not))
+
+-- ---- both lists of one of pairs
+
+pub zip_names : {A B : Type 0} (xs : List A) (ys : List B) → length xs ≡ length ys → map (λ (p : A × B). p.0) (zip xs ys) ≡ xs
+zip_names [] [] e = refl
+zip_names [] (b ∷ ys) e = absurd (omega (arith, e))
+zip_names (a ∷ xs) [] e = absurd (omega (arith, e))
+zip_names {A} {B} (a ∷ xs) (b ∷ ys) e = ap (λ (l : List A). a ∷ l) (zip_names xs ys (omega (arith, e)))
+
+pub zip_calls : {A B : Type 0} (xs : List A) (ys : List B) → length xs ≡ length ys → map (λ (p : A × B). p.1) (zip xs ys) ≡ ys
+zip_calls [] [] e = refl
+zip_calls [] (b ∷ ys) e = absurd (omega (arith, e))
+zip_calls (a ∷ xs) [] e = absurd (omega (arith, e))
+zip_calls {A} {B} (a ∷ xs) (b ∷ ys) e = ap (λ (l : List B). b ∷ l) (zip_calls xs ys (omega (arith, e)))
+
+-- where nothing is taken, the calls that are due are the first ones
+due_later : (limit : ℕ) (names : List ℕ) (calls : List Operation) → All (λ a. limit ≤ a.inv) calls
+    → filter (is_due limit []) (zip names calls) ≡ []
+due_later limit [] calls late = refl
+due_later limit (n ∷ names) [] late = refl
+due_later limit (n ∷ names) (a ∷ calls) late =
+    ap (λ (b : Bool). cond (b && true) ((n, a) ∷ filter (is_due limit []) (zip names calls)) (filter (is_due limit []) (zip names calls)))
+    (le-ltb a.inv limit (All-head (λ a. limit ≤ a.inv) a calls late))
+    ∙ due_later limit names calls (All-tail (λ a. limit ≤ a.inv) a calls late)
+
+pub due_first : (limit n : ℕ) (names : List ℕ) (calls : List Operation) → length names ≡ length calls → AllPairs (λ a b. a.inv < b.inv) calls
+    → All (λ a. a.inv < limit) (take n calls) → IfSome (slice_get calls n) (λ a. limit ≤ a.inv)
+    → filter (is_due limit []) (zip names calls) ≡ zip (take n names) (take n calls)
+due_first limit zero [] calls each rising before behind = refl
+due_first limit zero (m ∷ names) [] each rising before behind = refl
+due_first limit zero (m ∷ names) (a ∷ calls) each rising before behind =
+    due_later limit (m ∷ names) (a ∷ calls) (All-cons (λ a. limit ≤ a.inv) a calls behind
+    (All-weaker (λ b. a.inv < b.inv) (λ b. limit ≤ b.inv) (λ b h. omega (arith, h, behind)) calls
+    (AllPairs-head (λ a b. a.inv < b.inv) a calls rising)))
+due_first limit (suc n) [] [] each rising before behind = refl
+due_first limit (suc n) [] (a ∷ calls) each rising before behind = absurd (omega (arith, each))
+due_first limit (suc n) (m ∷ names) [] each rising before behind = absurd (omega (arith, each))
+due_first limit (suc n) (m ∷ names) (a ∷ calls) each rising before behind =
+    ap (λ (b : Bool). cond (b && true) ((m, a) ∷ filter (is_due limit []) (zip names calls)) (filter (is_due limit []) (zip names calls)))
+    (lt-ltb a.inv limit (All-head (λ a. a.inv < limit) a (take n calls) before))
+    ∙ ap (λ (l : List (ℕ × Operation)). (m, a) ∷ l)
+    (due_first limit n names calls (omega (arith, each)) (AllPairs-tail (λ a b. a.inv < b.inv) a calls rising)
+    (All-tail (λ a. a.inv < limit) a (take n calls) before) behind)
+
+-- what holds of some calls holds of those that are picked
+pub picked_all : (p : ℕ × Operation → Bool) (P : Operation → Type 0) (names : List ℕ) (calls : List Operation) → length names ≡ length calls
+    → All P calls → All P (map (λ call. call.1) (filter p (zip names calls)))
+picked_all p P names calls each all =
+    All-map P (λ (call : ℕ × Operation). call.1) (filter p (zip names calls))
+    (All-filter p (λ call. P call.1) (zip names calls)
+    (All-from_contains (λ call. P call.1) (zip names calls) (λ call h.
+    All-contains P calls call.1 all (subst (λ l. Contains l call.1) (zip_calls names calls each)
+    (Contains-map (λ (call : ℕ × Operation). call.1) (zip names calls) call h)))))
+
+pub picked_pairs : (p : ℕ × Operation → Bool) (R : Operation → Operation → Type 0) (names : List ℕ) (calls : List Operation)
+    → length names ≡ length calls → AllPairs R calls → AllPairs R (map (λ call. call.1) (filter p (zip names calls)))
+picked_pairs p R names calls each all =
+    AllPairs-map R (λ (call : ℕ × Operation). call.1) (filter p (zip names calls))
+    (AllPairs-filter (λ (x y : ℕ × Operation). R x.1 y.1) p (zip names calls)
+    (AllPairs-from_map R (λ (call : ℕ × Operation). call.1) (zip names calls)
+    (subst (AllPairs R) (sym (zip_calls names calls each)) all)))
+
+-- calls that are due began before
+pub due_began : (limit : ℕ) (taken names : List ℕ) (calls : List Operation)
+    → All (λ a. a.inv < limit) (map (λ call. call.1) (filter (is_due limit taken) (zip names calls)))
+due_began limit taken names calls =
+    All-map (λ a. a.inv < limit) (λ (call : ℕ × Operation). call.1) (filter (is_due limit taken) (zip names calls))
+    (All-from_contains (λ call. call.1.inv < limit) (filter (is_due limit taken) (zip names calls)) (λ call h.
+    ltb-true call.1.inv limit (and_parts (nat_lt call.1.inv limit) (not (has_number taken call.0))
+    (Contains-from_filter (is_due limit taken) (zip names calls) call h).1).0))
+
+-- the calls that are due, and their names, from lists that have them beside each other
+pub due_found : (limit : ℕ) (k : KeptView) (c : Configuration) (taken names ns : List ℕ) (calls cs : List Operation) → names ≡ k.names
+    → calls ≡ k.calls → taken ≡ c.taken → length ns ≡ length cs → zip ns cs ≡ filter (is_due limit taken) (zip names calls)
+    → (ns ≡ names_due limit k c) × (cs ≡ calls_due limit k c)
+due_found limit k c taken names ns calls cs names_is calls_is taken_is each are =
+    let all : zip ns cs ≡ due limit k c =
+    are ∙ ap (λ (l : List ℕ). filter (is_due limit l) (zip names calls)) taken_is
+    ∙ ap₂ (λ (n : List ℕ) (a : List Operation). filter (is_due limit c.taken) (zip n a)) names_is calls_is in (
+      sym (zip_names ns cs each) ∙ ap (map (λ (call : ℕ × Operation). call.0)) all,
+      sym (zip_calls ns cs each) ∙ ap (map (λ (call : ℕ × Operation). call.1)) all,
+    )
+
+-- where nothing is taken
+pub due_at_first : (limit n : ℕ) (k : KeptView) (c : Configuration) (names : List ℕ) (calls : List Operation) → names ≡ k.names
+    → calls ≡ k.calls → c.taken ≡ [] → length k.names ≡ length k.calls → AllPairs (λ a b. a.inv < b.inv) k.calls
+    → All (λ a. a.inv < limit) (take n calls) → IfSome (slice_get calls n) (λ a. limit ≤ a.inv)
+    → (take n names ≡ names_due limit k c) × (take n calls ≡ calls_due limit k c)
+due_at_first limit n k c names calls names_is calls_is none each rising before behind =
+    due_found limit k c [] names (take n names) calls (take n calls) names_is calls_is (sym none)
+    (same_take n names calls same)
+    (sym (due_first limit n names calls same (subst (AllPairs (λ a b. a.inv < b.inv)) (sym calls_is) rising) before behind))
+  where
+    same : length names ≡ length calls
+    same = ap length names_is ∙ each ∙ sym (ap length calls_is)
+
+    same_take : {A B : Type 0} (m : ℕ) (xs : List A) (ys : List B) → length xs ≡ length ys → length (take m xs) ≡ length (take m ys)
+    same_take zero xs ys e = refl
+    same_take (suc m) [] [] e = refl
+    same_take (suc m) [] (y ∷ ys) e = absurd (omega (arith, e))
+    same_take (suc m) (x ∷ xs) [] e = absurd (omega (arith, e))
+    same_take (suc m) (x ∷ xs) (y ∷ ys) e = let rest = same_take m xs ys (omega (arith, e)) in omega (arith, rest)

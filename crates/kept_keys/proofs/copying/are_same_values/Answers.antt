@@ -1,0 +1,16 @@
+use Rattle.std.proofs.Common.{◌≡◌, ℕ, eqb, Option, Some, None, Decides, refl, ap, eq-eqb, eqb-true}
+use Rattle.std.specs.Option.{option_eq}
+use Rattle.std.proofs.lemmas.Slice.Eq.{slice_eq-Decides}
+use Rattle.std.proofs.lemmas.Bool.{false≢true}
+use Rattle.std.proofs.lemmas.Option.{same_Some}
+use Rattle.kept_keys.proofs.copying.are_same_values.Goals as goal
+
+-- values are equal where they are told so
+Decides-values : (a b : Option ℕ) → Decides (option_eq eqb a b) (a ≡ b)
+Decides-values None None = (λ e. refl, λ e. refl)
+Decides-values None (Some b) = (λ e. absurd (false≢true e), λ e. (cc))
+Decides-values (Some a) None = (λ e. absurd (false≢true e), λ e. (cc))
+Decides-values (Some a) (Some b) = (λ e. ap Some (eqb-true a b e), λ e. eq-eqb a b (same_Some a b e))
+
+pub returns : goal.returns
+returns c = slice_eq-Decides Decides-values _ _ _ c.eq.ensures

@@ -1,0 +1,15 @@
+pub mod Answering
+pub mod Calls
+pub mod Cuts
+pub mod Few
+pub mod Gone
+pub mod Judging
+pub mod Joining
+pub mod Kept
+pub mod Laws
+pub mod Reads
+pub mod Retiming
+pub mod SettleSteps
+pub mod Settling
+pub mod Steps
+pub mod Views

@@ -1,0 +1,173 @@
+// Whether the calls left have an order.
+ghost use Rattle.std.specs.Prelude.{◌<◌, ◌≡◌, true, false, length, AllPairs, IfOk};
+ghost use Rattle.events.specs.Precedence.{NonePrecedesItself};
+ghost use Rattle.orders.specs.Orders.{IsLinearizable};
+ghost use Rattle.following.specs.keys.KeyStates.{one_key};
+ghost use Rattle.kept_keys.specs.Calls.{calls_but};
+ghost use Rattle.kept_keys.specs.Judging.{IsJudged, NoneWasFound, IsJudgedFrom, AreJudgedFrom};
+
+use crate::configuration::Configuration;
+use crate::few::{FEW, are_of, few_have_order};
+use crate::kept::KeptKey;
+use call_search::{Found, search_calls};
+use events::{Memory, Operation};
+use map_object::SortedMap;
+use orders::{apply, may_come_next};
+use std::alloc::Global;
+
+/// Whether the calls left of a key have an order.
+#[derive(Clone, Copy, Debug)]
+pub enum Judged {
+    /// From some value of some configuration they have one.
+    Order,
+    /// From none.
+    NoOrder,
+    /// None was found, and a search reaches more positions than the budget.
+    Spent,
+}
+
+impl KeptKey {
+    /// Judges the calls left: from each value of each configuration they are searched for an order, until one is found. Each search meets at
+    /// most `budget` positions.
+    pub fn judge(&self, alloc: Global, key: u64, budget: u32) -> Result<Judged, Memory>
+        requires each { length self.now.names ≡ length self.now.calls }
+        requires rising { AllPairs (λ x y. x.inv < y.inv) self.now.calls }
+        requires apart { NonePrecedesItself self.now.calls }
+        ensures judged { IfOk result (IsJudged budget key self.now) }
+        ensures spent { IfOk result (λ verdict. verdict ≡ Judged.Spent → NoneWasFound budget key self.now) }
+    {
+        let mut verdict = Judged::NoOrder;
+        for configuration in &self.configurations {
+            match self.judge_configuration(alloc, key, configuration, budget)? {
+                Judged::Order => return Ok(Judged::Order),
+                Judged::NoOrder => {}
+                Judged::Spent => verdict = Judged::Spent,
+            }
+        }
+        Ok(verdict)
+    }
+
+    /// Judges the calls that a configuration has not taken.
+    fn judge_configuration(
+        &self,
+        alloc: Global,
+        key: u64,
+        configuration: &Configuration,
+        budget: u32,
+    ) -> Result<Judged, Memory>
+        requires each { length self.now.names ≡ length self.now.calls }
+        requires rising { AllPairs (λ x y. x.inv < y.inv) self.now.calls }
+        requires apart { NonePrecedesItself self.now.calls }
+        ensures { IfOk result (AreJudgedFrom budget key (calls_but configuration.now.taken self.now.names self.now.calls) configuration.now.values) }
+    {
+        if configuration.taken.as_slice().is_empty() {
+            return judge_values(alloc, key, &configuration.values, &self.calls, budget);
+        }
+        let calls = calls_but(alloc, &configuration.taken, &self.names, &self.calls)?;
+        judge_values(alloc, key, &configuration.values, &calls, budget)
+    }
+}
+
+/// Copies of the calls that are not taken.
+fn calls_but(
+    alloc: Global,
+    taken: &[usize],
+    names: &[usize],
+    calls: &[Operation],
+) -> Result<Vec<Operation>, Memory>
+    requires { length names.now ≡ length calls.now }
+    ensures { IfOk result (λ v. v.items ≡ calls_but taken.now names.now calls.now) }
+{
+    let mut left = Vec::with_capacity(alloc, calls.len())?;
+    for (place, call) in calls.iter().enumerate() {
+        if !taken.contains(&names[place]) {
+            left.push(call.copy(alloc)?)?;
+        }
+    }
+    Ok(left)
+}
+
+/// Judges calls from some values.
+fn judge_values(
+    alloc: Global,
+    key: u64,
+    values: &[Option<u64>],
+    calls: &[Operation],
+    budget: u32,
+) -> Result<Judged, Memory>
+    requires rising { AllPairs (λ x y. x.inv < y.inv) calls.now }
+    requires apart { NonePrecedesItself calls.now }
+    ensures { IfOk result (AreJudgedFrom budget key calls.now values.now) }
+{
+    let mut verdict = Judged::NoOrder;
+    for value in values {
+        match judge_value(alloc, key, *value, calls, budget)? {
+            Judged::Order => return Ok(Judged::Order),
+            Judged::NoOrder => {}
+            Judged::Spent => verdict = Judged::Spent,
+        }
+    }
+    Ok(verdict)
+}
+
+/// Judges calls from one value: few are tried in each order, and more first as they stand, then by a search.
+fn judge_value(
+    alloc: Global,
+    key: u64,
+    value: Option<u64>,
+    calls: &[Operation],
+    budget: u32,
+) -> Result<Judged, Memory>
+    requires rising { AllPairs (λ x y. x.inv < y.inv) calls.now }
+    requires apart { NonePrecedesItself calls.now }
+    ensures { IfOk result (IsJudgedFrom budget key calls.now value) }
+{
+    if calls.len() <= FEW && are_of(key, calls) {
+        return Ok(order_if(few_have_order(key, value, calls)));
+    }
+    let mut map = map_of(alloc, key, value)?;
+    if come_in_turn(alloc, &mut map, calls)? {
+        return Ok(Judged::Order);
+    }
+    let map = map_of(alloc, key, value)?;
+    match search_calls(alloc, map, calls, budget)? {
+        Found::Order(_) => Ok(Judged::Order),
+        Found::NoOrder => Ok(Judged::NoOrder),
+        Found::Spent => Ok(Judged::Spent),
+    }
+}
+
+/// Whether the completed calls may come as they stand, each after those before it.
+fn come_in_turn(alloc: Global, map: &mut SortedMap, calls: &[Operation]) -> Result<bool, Memory>
+    requires rising { AllPairs (λ x y. x.inv < y.inv) calls.now }
+    requires apart { NonePrecedesItself calls.now }
+    ensures { IfOk result (λ may. may ≡ true → IsLinearizable map.old calls.now) }
+{
+    for call in calls {
+        if call.is_completed() {
+            if !may_come_next(map, call) {
+                return Ok(false);
+            }
+            apply(alloc, map, call)?;
+        }
+    }
+    Ok(true)
+}
+
+/// The map of a key and its value, or the empty one.
+fn map_of(alloc: Global, key: u64, value: Option<u64>) -> Result<SortedMap, Memory>
+    ensures { IfOk result (λ map. map ≡ one_key key value) }
+{
+    match value {
+        Some(value) => SortedMap::of(alloc, &[(key, value)]),
+        None => Ok(SortedMap::new(alloc)),
+    }
+}
+
+/// The verdict on calls of which it is known whether they have an order.
+fn order_if(has: bool) -> Judged
+    ensures yes { has ≡ true → result ≡ Judged.Order }
+    ensures no { has ≡ false → result ≡ Judged.NoOrder }
+{
+    if has { Judged::Order } else { Judged::NoOrder }
+}

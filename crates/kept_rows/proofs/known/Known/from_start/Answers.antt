@@ -1,0 +1,15 @@
+use Rattle.std.proofs.Common.{◌∙◌, ap, cond, get_or, Some, ◌==◌}
+use Rattle.std.proofs.lemmas.List.{get_or_default}
+use Rattle.kept_rows.specs.Rows.{entry_at}
+use Rattle.kept_rows.proofs.KnownLemmas.{kept_from-more, changed-entry_at}
+use Rattle.kept_rows.proofs.known.Known.from_start.Goals as goal
+
+-- a pair more is kept
+pub loop-pair-preserved : goal.loop-pair-preserved
+loop-pair-preserved c =
+    let start = c.args.start.now in
+    let i = c.loop-pair.pair-index in
+    let pair = get_or start i (0, 0) in
+    kept_from-more start i pair _ _ c.requires c.loop-pair-test.true (get_or_default start i (0, 0) pair c.loop-pair-test.true) c.loop-pair.invariant
+    (λ key. changed-entry_at _ _ pair.0 key (Some c.in_ok-kept.kept) (c.in_ok-insert.ensures.updates.0 key)
+    ∙ ap (λ k. cond (key == pair.0) (Some k) (entry_at c.loop-pair.keys.entries key)) c.in_ok-kept.ensures)

@@ -1,0 +1,20 @@
+use Rattle.kept_rows.proofs.NewKeyLemmas.{KeyLaws}
+use Rattle.kept_rows.proofs.laws.parts.rows_take_scans.Goals as goal
+use Rattle.kept_rows.proofs.PartedLemmas.{take_scans}
+
+pub returns : goal.returns
+returns c =
+    let laws : KeyLaws = record {
+      narrow = c.kept_keys_narrow.ensures;
+      go_on = c.kept_keys_go_on.ensures;
+      take = c.kept_keys_take_scans.ensures;
+      see = c.kept_keys_see_scans.ensures;
+      retime = c.kept_keys_retime.ensures;
+      judge = c.kept_keys_judge.ensures;
+      settle = c.kept_keys_settle.ensures;
+      reads = c.kept_reads_go.ensures;
+      stay = c.gone_calls_are_answered.ensures.stay;
+      answered = c.gone_calls_are_answered.ensures.answered;
+      twin_timings = c.twin_timings_hold.ensures;
+      twin_rows = c.twin_rows_judge.ensures;
+    } in take_scans laws

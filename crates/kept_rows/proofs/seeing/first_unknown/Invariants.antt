@@ -1,0 +1,7 @@
+use Rattle.std.proofs.Common.{take}
+use Rattle.kept_rows.specs.Steps.{AreKnown}
+use Rattle.kept_rows.proofs.seeing.first_unknown.Given as goal
+
+-- those so far are known
+abbrev pub invariant-loop-pair : goal.invariant-loop-pair
+invariant-loop-pair l = AreKnown l.base l.own (take l.pair-index l.pairs)

@@ -1,0 +1,7 @@
+use Rattle.std.proofs.Common.{take}
+use Rattle.kept_rows.specs.Steps.{HaveSeenAt}
+use Rattle.kept_rows.proofs.seeing.see_keys.Given as goal
+
+-- those so far have seen the scan
+abbrev pub invariant-loop-key : goal.invariant-loop-key
+invariant-loop-key l = HaveSeenAt l.told (take l.key-index l.keys) l.fn.base l.base

@@ -1,0 +1,55 @@
+-- What an answer makes of rows.
+use Rattle.std.specs.Prelude.{◌≡◌, ◌≢◌, ◌↔◌, ℕ, ◌≤◌, List, [], ◌++◌, None, All, Contains, ⊤}
+use Rattle.events.specs.declared.event.Call.TheVariants.{Scan}
+use Rattle.events.specs.declared.event.Event.{Event}
+use Rattle.events.specs.declared.operation.Operation.{Operation}
+use Rattle.events.specs.Operations.{operations}
+use Rattle.map_object.specs.MapObject.{Contents}
+use Rattle.orders.specs.Orders.{IsLinearizable}
+use Rattle.following.specs.keys.Settling.{IsOpenScanOver}
+use Rattle.kept_keys.specs.Judging.{HasOrder, IsBeyond}
+use Rattle.kept_rows.specs.Followed.{AreFollowed}
+use Rattle.kept_rows.specs.declared.outcomes.Answered.{Answered}
+use Rattle.kept_rows.specs.declared.outcomes.Answered.TheVariants.{Going, Lost, Spent, Crowded}
+use Rattle.kept_rows.specs.declared.outcomes.KeyLoss.{KeyLoss}
+use Rattle.kept_rows.specs.declared.rows.OpenScan.{OpenScan}
+
+-- no further events have an order
+abbrev pub IsLostFor : Contents → List Event → Type 0
+IsLostFor start events = (more : List Event) → IsLinearizable start (operations (events ++ more)) → ⊥
+
+-- no open scan over a key began before a place
+abbrev pub IsLimitOf : List Event → ℕ → ℕ → Type 0
+IsLimitOf events key limit = (a : Operation) → Contains (operations events) a → IsOpenScanOver key a.call a.response → limit ≤ a.inv
+
+-- what was kept of a key, with the answer, has no order
+abbrev pub HasNoOrder : KeyLoss → Type 0
+HasNoOrder loss = HasOrder loss.key loss.kept → ⊥
+
+-- what the answer of a call of one key comes to: the rows follow the events with it, or no row has an order at that key, and no events have one, or
+-- of what is kept there a search is beyond the budget
+abbrev pub IsAnswered : Contents → List Event → ℕ → ℕ → Answered → Type 0
+IsAnswered start events budget key (Going rows) = AreFollowed start events rows
+IsAnswered start events budget key (Lost losses) =
+    (losses.items ≢ []) × All (λ loss. (loss.key ≡ key) × HasNoOrder loss) losses.items × IsLostFor start events
+IsAnswered start events budget key (Spent loss) = (loss.key ≡ key) × IsBeyond budget key loss.kept
+IsAnswered start events budget key Crowded = ⊥
+
+-- the open scans, each with its range
+pub record IsOpenScan (events : List Event) (s : OpenScan) : Type 0 where
+  pub scan : Operation
+  pub known : Contains (operations events) scan
+  pub name : scan.inv ≡ s.name
+  pub call : scan.call ≡ Scan s.low s.high
+  pub is_open : scan.response ≡ None
+
+abbrev pub AreOpenScans : List Event → List OpenScan → Type 0
+AreOpenScans events scans = (s : OpenScan) → Contains scans s ↔ IsOpenScan events s
+
+-- what the answer of a scan comes to
+abbrev pub IsScanAnswered : Contents → List Event → ℕ → ℕ → ℕ → Answered → Type 0
+IsScanAnswered start events budget low high (Going rows) = AreFollowed start events rows
+IsScanAnswered start events budget low high (Lost losses) =
+    All (λ loss. (low ≤ loss.key) × (loss.key ≤ high) × HasNoOrder loss) losses.items × IsLostFor start events
+IsScanAnswered start events budget low high (Spent loss) = (low ≤ loss.key) × (loss.key ≤ high) × IsBeyond budget loss.key loss.kept
+IsScanAnswered start events budget low high Crowded = ⊤

@@ -1,0 +1,142 @@
+// A call of one key is answered.
+ghost use Rattle.std.specs.Prelude.{◌≡◌, ◌≢◌, ℕ, ◌<◌, ◌-◌, ◌++◌, ◌∷◌, [], All, List, length, None, IfOk, IsTrue, OnOk};
+ghost use Rattle.events.specs.declared.event.Event.{Event};
+ghost use Rattle.events.specs.declared.event.Event.TheVariants.{Answer};
+ghost use Rattle.map_object.specs.MapObject.{Contents};
+ghost use Rattle.past_choices.specs.Values.{IsCallOf};
+ghost use Rattle.kept_keys.specs.Steps.{IsOpenCall};
+ghost use Rattle.kept_keys.specs.Views.{fresh, place_limit};
+ghost use Rattle.kept_rows.specs.Followed.{AreFollowed};
+ghost use Rattle.kept_rows.specs.Outcomes.{IsAnswered, IsLimitOf};
+ghost use Rattle.kept_rows.specs.Rows.{entry_at, or_fresh};
+ghost use Rattle.kept_rows.specs.Sound.{IsAnswerable, MayRowTurn, MayTurn};
+ghost use Rattle.kept_rows.specs.Turned.{AreRowsTurned, IsBaseTurned, answer_of};
+
+use crate::known::Known;
+use crate::laws::turns::{base_is_lost, base_takes_answers, rows_take_answers};
+use crate::outcomes::{Answered, KeyLoss};
+use crate::own_keys::is_own;
+use crate::row::Row;
+use crate::rows::Rows;
+use crate::turning::{GivenAnswer, TurnedKey, turn_key};
+use crate::turning_rows::{TurnedRows, turn_rows};
+use events::{Call, Memory, Reply};
+use kept_keys::{KeptKey, kept_keys_take_answers};
+use std::alloc::Global;
+
+impl Rows {
+    /// Takes the answer, at its place in the stream, of the call of one key that has this name, and judges it at that key in each row. No open scan
+    /// over the key began before `limit`.
+    pub fn answer_call(
+        self,
+        alloc: Global,
+        place: usize,
+        key: u64,
+        name: usize,
+        call: &Call,
+        reply: Reply,
+        limit: usize,
+        budget: u32,
+    ) -> Result<Answered, Memory>
+        requires place { place < place_limit - 1 }
+        requires answerable { IsAnswerable self place key name call.now }
+        ensures { (start : Contents) (events : List Event) (process : ℕ) → AreFollowed start events self → length events ≡ place
+            → IsCallOf key call.now → IsOpenCall events process name call.now → IsLimitOf (events ++ Answer process reply ∷ []) key limit
+            → IfOk result (IsAnswered start (events ++ Answer process reply ∷ []) budget key) }
+    {
+        kept_keys_take_answers();
+        rows_take_answers();
+        base_takes_answers();
+        base_is_lost();
+        let Rows { mut base, rows } = self;
+        let answer = GivenAnswer {
+            place,
+            key,
+            name,
+            call: *call,
+            reply,
+        };
+        if is_own(&rows, key) {
+            return answer_in_rows(alloc, &answer, base, rows, limit, budget);
+        }
+        let Some(kept) = base.take(key) else {
+            unreachable!();
+        };
+        answer_in_base(alloc, &answer, kept, base, rows, limit, budget)
+    }
+}
+
+/// Takes the answer at a key that is kept once for all rows, and has been taken out there.
+fn answer_in_base(
+    alloc: Global,
+    answer: &GivenAnswer,
+    kept: KeptKey,
+    mut base: Known,
+    rows: Vec<Row>,
+    limit: usize,
+    budget: u32,
+) -> Result<Answered, Memory>
+    requires place { answer.now.place < place_limit - 1 }
+    requires may_turn { MayTurn (answer_of answer.now) kept }
+    requires taken { entry_at base answer.now.key ≡ None }
+    ensures { IfOk result (IsBaseTurned (answer_of answer.now) limit budget kept base rows.items) }
+{
+    let key = answer.key;
+    match turn_key(alloc, answer, kept, limit, budget)? {
+        TurnedKey::Stays(new) => {
+            keep(&mut base, key, new)?;
+            Ok(Answered::Going(Rows { base, rows }))
+        }
+        TurnedKey::Goes(kept) => {
+            let losses = vec![in alloc; KeyLoss { key, kept }]?;
+            Ok(Answered::Lost(losses))
+        }
+        TurnedKey::Away(kept) => Ok(Answered::Spent(KeyLoss { key, kept })),
+    }
+}
+
+/// Keeps something of a key, unless it is what a key is of which nothing is kept.
+fn keep(base: &mut Known, key: u64, kept: KeptKey) -> Result<(), Memory>
+    requires { entry_at base.old key ≡ None }
+    ensures here { OnOk result (or_fresh (entry_at base.new key) ≡ kept) }
+    ensures others { OnOk result ((other : ℕ) → other ≢ key → entry_at base.new other ≡ entry_at base.old other) }
+{
+    if is_fresh(&kept) {
+        return Ok(());
+    }
+    base.put(key, kept)
+}
+
+/// Whether no call is left of a key, and it is certain that it has no value.
+fn is_fresh(kept: &KeptKey) -> bool
+    ensures { IsTrue result → kept.now ≡ fresh None }
+{
+    if !kept.names.is_empty() || !kept.calls.is_empty() || kept.configurations.len() != 1 {
+        return false;
+    }
+    let c = &kept.configurations[0];
+    c.taken.is_empty() && c.ahead.is_empty() && c.values.len() == 1 && c.values[0].is_none()
+}
+
+/// Takes the answer at a key that is each row's own.
+fn answer_in_rows(
+    alloc: Global,
+    answer: &GivenAnswer,
+    base: Known,
+    rows: Vec<Row>,
+    limit: usize,
+    budget: u32,
+) -> Result<Answered, Memory>
+    requires place { answer.now.place < place_limit - 1 }
+    requires may_turn { All (MayRowTurn (answer_of answer.now)) rows.items }
+    ensures { IfOk result (AreRowsTurned (answer_of answer.now) limit budget base rows.items) }
+{
+    match turn_rows(alloc, answer, rows, limit, budget)? {
+        TurnedRows::Turned(next, losses) => Ok(if next.is_empty() {
+            Answered::Lost(losses)
+        } else {
+            Answered::Going(Rows { base, rows: next })
+        }),
+        TurnedRows::Away(loss) => Ok(Answered::Spent(loss)),
+    }
+}

@@ -1,0 +1,242 @@
+// Rows part, by all ways in which a scan may have taken effect in each.
+ghost use Rattle.std.specs.Prelude.{◌≡◌, ◌≤◌, ◌<◌, ◌-◌, ◌+◌, ◌++◌, ◌∷◌, [], ℕ, suc, length, All, Contains, IfOk, IfErr, OnOk};
+ghost use Rattle.following.specs.moments.Timings.{ArePairsOf};
+ghost use Rattle.kept_keys.specs.Views.{place_limit, width};
+ghost use Rattle.kept_rows.specs.Limits.{limit_of};
+ghost use Rattle.kept_rows.specs.Parting.{ScanAnswer};
+ghost use Rattle.kept_rows.specs.Rows.{names_of};
+ghost use Rattle.kept_rows.specs.Scannable.{IsSoundRow};
+ghost use Rattle.kept_rows.specs.Steps.{IsHalt, HaveOthers};
+ghost use Rattle.kept_rows.specs.Trying.{IsAddedAs, HaveTried, HasTriedGap, HasPartedRow, HaveParted, IsScanOf, IsTurnAmong, ways_with};
+
+use crate::halt::Halt;
+use crate::moments::timed;
+use crate::outcomes::KeyLoss;
+use crate::places::places_within;
+use crate::placing::{Tried, try_way};
+use crate::row::{KeptScan, Row};
+use crate::rows::OpenScan;
+use crate::told::Told;
+use crate::ways::{meeting, others_of};
+use events::Memory;
+use kept_keys::WIDTH;
+use std::alloc::Global;
+
+/// So many rows are kept behind a scan.
+const MOST_ROWS: usize = 4096;
+
+/// The rows to which rows come, and keys that have no order in a way of a row.
+#[derive(Drop)]
+pub(crate) struct Parted {
+    pub(crate) next: Vec<Row>,
+    pub(crate) losses: Vec<KeyLoss>,
+}
+
+impl Parted {
+    /// Adds what a row comes to in one of its ways, unless too many rows are kept.
+    fn add(&mut self, tried: Tried) -> Result<(), Halt>
+        ensures added { OnOk result (IsAddedAs tried self.old self.new) }
+        ensures halt { (s : ScanAnswer) (budget : ℕ) → IfErr result (IsHalt s budget) }
+    {
+        match tried {
+            Tried::Taken(row) => {
+                if self.next.len() >= MOST_ROWS {
+                    return Err(Halt::Crowded);
+                }
+                self.next.push(row)?;
+            }
+            Tried::Lost(loss) => self.losses.push(loss)?,
+        }
+        Ok(())
+    }
+}
+
+/// A turn before others.
+fn with_turn(
+    alloc: Global,
+    turn: (usize, usize),
+    others: &[(usize, usize)],
+) -> Result<Vec<(usize, usize)>, Memory>
+    ensures { IfOk result (λ all. all.items ≡ turn ∷ others.now) }
+{
+    let mut all = Vec::with_capacity(alloc, others.len().saturating_add(1))?;
+    all.push(turn)?;
+    all.extend_from_slice(others)?;
+    Ok(all)
+}
+
+/// The turns of a row, and more.
+fn with_turns(
+    alloc: Global,
+    turns: &[(usize, usize)],
+    more: &[(usize, usize)],
+) -> Result<Vec<(usize, usize)>, Memory>
+    ensures { IfOk result (λ all. all.items ≡ turns.now ++ more.now) }
+{
+    let mut all = Vec::with_capacity(alloc, turns.len().saturating_add(more.len()))?;
+    all.extend_from_slice(turns)?;
+    all.extend_from_slice(more)?;
+    Ok(all)
+}
+
+/// The scans of a row, and one more.
+fn with_scan(alloc: Global, scans: &[KeptScan], scan: KeptScan) -> Result<Vec<KeptScan>, Memory>
+    ensures { IfOk result (λ all. all.items ≡ scans.now ++ scan ∷ []) }
+{
+    let mut all = Vec::with_capacity(alloc, scans.len().saturating_add(1))?;
+    all.extend_from_slice(scans)?;
+    all.push(scan)?;
+    Ok(all)
+}
+
+/// Tries a row with a scan in a gap, in all turns with its rivals: from the last one on, as far as there are moments for the turns that are chosen.
+fn try_turns(
+    alloc: Global,
+    told: &Told,
+    row: &Row,
+    scan: KeptScan,
+    scans: &[KeptScan],
+    rivals: &[usize],
+    chosen: &[(usize, usize)],
+    still_open: &[OpenScan],
+    budget: u32,
+    into: &mut Parted,
+) -> Result<(), Halt>
+    requires place { told.now.place < place_limit - 1 }
+    requires pairs { ArePairsOf told.now.low told.now.high told.now.pairs }
+    requires few { length row.now.scans + 1 < width }
+    requires sound { IsSoundRow told.now row.now }
+    requires scan { IsScanOf told.now scan }
+    requires scans { scans.now ≡ row.now.scans ++ scan ∷ [] }
+    requires rivals { All (Contains (names_of row.now.scans)) rivals.now }
+    requires chosen { All (IsTurnAmong (names_of scans.now)) chosen.now }
+    ensures tried { OnOk result
+        (HaveTried told.now (limit_of still_open.now (suc told.now.place)) row.now (ways_with told.now scan rivals.now chosen.now) into.old into.new) }
+    ensures halt { IfErr result (IsHalt told.now budget) }
+{
+    let turns = with_turns(alloc, &row.turns, chosen)?;
+    let numbered = match timed(alloc, scans, &turns)? {
+        Some(numbered) => numbered,
+        None => return Ok(()),
+    };
+    match rivals.split_last() {
+        None => into.add(try_way(alloc, told, row, numbered, turns, still_open, budget)?),
+        Some((last, others)) => {
+            let first = with_turn(alloc, (scan.name, *last), chosen)?;
+            try_turns(
+                alloc, told, row, scan, scans, others, &first, still_open, budget, into,
+            )?;
+            let second = with_turn(alloc, (*last, scan.name), chosen)?;
+            try_turns(
+                alloc, told, row, scan, scans, others, &second, still_open, budget, into,
+            )
+        }
+    }
+}
+
+/// Tries a row with the scan between two places.
+fn try_gap(
+    alloc: Global,
+    told: &Told,
+    row: &Row,
+    others: &[KeptScan],
+    behind: usize,
+    before: usize,
+    still_open: &[OpenScan],
+    budget: u32,
+    into: &mut Parted,
+) -> Result<(), Halt>
+    requires place { told.now.place < place_limit - 1 }
+    requires pairs { ArePairsOf told.now.low told.now.high told.now.pairs }
+    requires few { length row.now.scans + 1 < width }
+    requires sound { IsSoundRow told.now row.now }
+    requires others { HaveOthers told.now row.now.scans row.now.keys others.now }
+    requires begun { told.now.name ≤ behind }
+    requires ended { before ≤ told.now.place }
+    ensures tried { OnOk result
+        (HasTriedGap told.now (limit_of still_open.now (suc told.now.place)) row.now behind before into.old into.new) }
+    ensures halt { IfErr result (IsHalt told.now budget) }
+{
+    let rivals = meeting(alloc, others, behind, before)?;
+    let scan = KeptScan {
+        name: told.scan.name,
+        low: told.scan.low,
+        high: told.scan.high,
+        behind,
+        before,
+        number: 0,
+    };
+    let scans = with_scan(alloc, &row.scans, scan)?;
+    try_turns(
+        alloc,
+        told,
+        row,
+        scan,
+        &scans,
+        &rivals,
+        &[],
+        still_open,
+        budget,
+        into,
+    )
+}
+
+/// Parts a row: between each two events of calls left at keys of the range the scan is tried.
+fn part_row(
+    alloc: Global,
+    told: &Told,
+    row: &Row,
+    still_open: &[OpenScan],
+    budget: u32,
+    into: &mut Parted,
+) -> Result<(), Halt>
+    requires place { told.now.place < place_limit - 1 }
+    requires begun { told.now.name ≤ told.now.place }
+    requires pairs { ArePairsOf told.now.low told.now.high told.now.pairs }
+    requires sound { IsSoundRow told.now row.now }
+    ensures parted { OnOk result
+        (HasPartedRow told.now (limit_of still_open.now (suc told.now.place)) row.now into.old into.new) }
+    ensures halt { IfErr result (IsHalt told.now budget) }
+{
+    if row.scans.len() >= WIDTH - 1 {
+        return Err(Halt::Crowded);
+    }
+    let others = others_of(alloc, told, &row.scans, &row.keys)?;
+    let (low, high) = (told.scan.low, told.scan.high);
+    let places = places_within(alloc, &row.keys, low, high, told.scan.name, told.place)?;
+    let mut behind = told.scan.name;
+    for before in &places {
+        try_gap(
+            alloc, told, row, &others, behind, *before, still_open, budget, into,
+        )?;
+        behind = *before;
+    }
+    try_gap(
+        alloc, told, row, &others, behind, told.place, still_open, budget, into,
+    )
+}
+
+/// Parts all rows.
+pub(crate) fn part_rows(
+    alloc: Global,
+    told: &Told,
+    rows: &[Row],
+    still_open: &[OpenScan],
+    budget: u32,
+) -> Result<Parted, Halt>
+    requires place { told.now.place < place_limit - 1 }
+    requires begun { told.now.name ≤ told.now.place }
+    requires pairs { ArePairsOf told.now.low told.now.high told.now.pairs }
+    requires sound { All (IsSoundRow told.now) rows.now }
+    ensures parted { IfOk result (HaveParted told.now (limit_of still_open.now (suc told.now.place)) rows.now) }
+    ensures halt { IfErr result (IsHalt told.now budget) }
+{
+    let mut into = Parted {
+        next: Vec::new(alloc),
+        losses: Vec::new(alloc),
+    };
+    for row in rows {
+        part_row(alloc, told, row, still_open, budget, &mut into)?;
+    }
+    Ok(into)
+}

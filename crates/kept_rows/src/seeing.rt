@@ -1,0 +1,234 @@
+// Keys of which no call is left see a scan at once.
+ghost use Rattle.std.specs.Prelude.{◌≡◌, ◌≢◌, ◌↔◌, ◌⊎◌, ◌≤◌, ◌<◌, ℕ, [], ◌∷◌, None, map, All, Any, AllPairs, Contains, IsTrue, MatchOption, IfOk, OnOk};
+ghost use Rattle.std.specs.Option.{IsSome};
+ghost use Rattle.map_object.specs.MapObject.{IsRising, value_at};
+ghost use Rattle.following.specs.moments.Timings.{ArePairsOf};
+ghost use Rattle.kept_keys.specs.Steps.{HasGet};
+ghost use Rattle.kept_keys.specs.Views.{fresh, place_limit};
+ghost use Rattle.kept_rows.specs.Parting.{IsInRange, MayHave, HaveSeen, IsUnseen};
+ghost use Rattle.kept_rows.specs.Rows.{entry_at, or_fresh};
+ghost use Rattle.kept_rows.specs.Steps.{IsSeenAs, HaveSeenAt, IsUnknown, AreKnown};
+
+use crate::known::Known;
+use crate::outcomes::KeyLoss;
+use crate::told::Told;
+use events::Memory;
+use kept_keys::{Configuration, KeptKey, WIDTH};
+use std::alloc::Global;
+
+/// Whether a key is kept as fresh, with this value or none.
+fn is_fresh(kept: &KeptKey, value: Option<u64>) -> bool
+    ensures { IsTrue result → kept.now ≡ fresh value }
+{
+    kept.names.is_empty()
+        && kept.calls.is_empty()
+        && kept.configurations.len() == 1
+        && is_certain(&kept.configurations[0], value)
+}
+
+/// Whether a configuration has this value or none alone, and nothing else.
+fn is_certain(c: &Configuration, value: Option<u64>) -> bool
+    ensures { IsTrue result → c.now ≡ record { taken = []; values = value ∷ []; ahead = [] } }
+{
+    c.taken.is_empty() && c.ahead.is_empty() && c.values.len() == 1 && c.values[0] == value
+}
+
+/// Whether some configuration of a key has this value, or none.
+fn may_have(kept: &KeptKey, value: Option<u64>) -> bool
+    ensures { IsTrue result ↔ MayHave value kept.now }
+{
+    some_has(&kept.configurations, value)
+}
+
+/// Whether some configuration has this value, or none, among its values.
+fn some_has(configurations: &[Configuration], value: Option<u64>) -> bool
+    ensures { IsTrue result ↔ Any (λ c. Contains c.values value) configurations.now }
+{
+    for c in configurations {
+        if has_value(c, value) {
+            return true;
+        }
+    }
+    false
+}
+
+/// Whether a configuration has this value, or none, among its values.
+fn has_value(c: &Configuration, value: Option<u64>) -> bool
+    ensures { IsTrue result ↔ Contains c.now.values value }
+{
+    c.values.contains(&value)
+}
+
+/// Whether what is kept of a key that is not the rows' own is this value or none already.
+fn is_known_as(base: &Known, key: u64, value: Option<u64>) -> bool
+    ensures { IsTrue result → or_fresh (entry_at base.now key) ≡ fresh value }
+{
+    match base.look(key) {
+        Some(kept) => is_fresh(kept, value),
+        None => value.is_none(),
+    }
+}
+
+/// Whether it may be this value or none.
+fn may_be(base: &Known, key: u64, value: Option<u64>) -> bool
+    ensures { IsTrue result ↔ MayHave value (or_fresh (entry_at base.now key)) }
+{
+    match base.look(key) {
+        Some(kept) => may_have(kept, value),
+        None => value.is_none(),
+    }
+}
+
+/// Keeps of a key that it has this value; nothing, where it has none.
+fn set_value(alloc: Global, base: &mut Known, key: u64, value: Option<u64>) -> Result<(), Memory>
+    ensures here { OnOk result (or_fresh (entry_at base.new key) ≡ fresh value) }
+    ensures others { OnOk result ((other : ℕ) → other ≢ key → entry_at base.new other ≡ entry_at base.old other) }
+{
+    if value.is_none() {
+        base.take(key);
+        return Ok(());
+    }
+    let kept = KeptKey::fresh(alloc, value)?;
+    base.put(key, kept)
+}
+
+/// A key sees the scan, or it can't have what the scan was told.
+fn see_key(alloc: Global, told: &Told, base: &mut Known, key: u64) -> Result<bool, Memory>
+    requires { IsRising told.now.pairs }
+    ensures { IfOk result (IsSeenAs told.now key base.old base.new) }
+{
+    let value = told.value(key);
+    if is_known_as(base, key, value) {
+        return Ok(true);
+    }
+    if !may_be(base, key, value) {
+        return Ok(false);
+    }
+    set_value(alloc, base, key, value)?;
+    Ok(true)
+}
+
+/// Keys see the scan, one after another, up to the first one that can't have what the scan was told, which is handed back.
+fn see_keys(
+    alloc: Global,
+    told: &Told,
+    base: &mut Known,
+    keys: &[u64],
+) -> Result<Option<u64>, Memory>
+    requires pairs { IsRising told.now.pairs }
+    requires keys { AllPairs (λ k l. k < l) keys.now }
+    ensures { IfOk result (λ lost. MatchOption lost (HaveSeenAt told.now keys.now base.old base.new)
+        (λ key. Contains keys.now key × (entry_at base.new key ≡ entry_at base.old key)
+        × (MayHave (value_at told.now.pairs key) (or_fresh (entry_at base.old key)) → ⊥))) }
+{
+    for key in keys {
+        if !see_key(alloc, told, base, *key)? {
+            return Ok(Some(*key));
+        }
+    }
+    Ok(None)
+}
+
+/// Whether a key is one of a row's own.
+fn is_among(own: &[(u64, KeptKey)], key: u64) -> bool
+    requires { AllPairs (λ d e. d.0 < e.0) own.now }
+    ensures { IsTrue result ↔ Contains (map (λ entry. entry.0) own.now) key }
+{
+    own.binary_search_by_key(&key, |entry| entry.0).is_ok()
+}
+
+/// Whether nothing is kept of a key.
+fn is_unknown(base: &Known, own: &[(u64, KeptKey)], key: u64) -> bool
+    requires { AllPairs (λ d e. d.0 < e.0) own.now }
+    ensures { IsTrue result ↔ ((entry_at base.now key ≡ None) × (Contains (map (λ entry. entry.0) own.now) key → ⊥)) }
+{
+    match base.look(key) {
+        Some(_) => false,
+        None => !is_among(own, key),
+    }
+}
+
+/// The first key of some pairs of which nothing is kept, if there is one.
+fn first_unknown(pairs: &[(u64, u64)], base: &Known, own: &[(u64, KeptKey)]) -> Option<u64>
+    requires { AllPairs (λ d e. d.0 < e.0) own.now }
+    ensures { MatchOption result (AreKnown base.now own.now pairs.now) (IsUnknown base.now own.now pairs.now) }
+{
+    for pair in pairs {
+        if is_unknown(base, own, pair.0) {
+            return Some(pair.0);
+        }
+    }
+    None
+}
+
+/// A key that can't have what the scan was told, with the scan as a get.
+fn unseen(alloc: Global, told: &Told, base: &mut Known, key: u64) -> Result<KeyLoss, Memory>
+    requires pairs { IsRising told.now.pairs }
+    requires place { told.now.place < place_limit }
+    requires names { (or_fresh (entry_at base.old key)).names ≡ [] }
+    requires calls { (or_fresh (entry_at base.old key)).calls ≡ [] }
+    ensures { IfOk result (λ loss. (loss.key ≡ key) × ((number : ℕ)
+        × HasGet key told.now.name number (value_at told.now.pairs key) (or_fresh (entry_at base.old key)) loss.kept)) }
+{
+    let kept = match base.take(key) {
+        Some(kept) => kept,
+        None => KeptKey::fresh(alloc, None)?,
+    };
+    let number = (WIDTH * told.place).saturating_sub(1);
+    let kept = kept.take_get(alloc, key, told.scan.name, number, told.value(key))?;
+    Ok(KeyLoss { key, kept })
+}
+
+/// All keys of the range of which something is kept elsewhere see the scan, or one of them can't have what it was told.
+fn see_known(
+    alloc: Global,
+    told: &Told,
+    base: &mut Known,
+    own: &[(u64, KeptKey)],
+) -> Result<Option<KeyLoss>, Memory>
+    requires pairs { ArePairsOf told.now.low told.now.high told.now.pairs }
+    requires range { told.now.low ≤ told.now.high }
+    requires place { told.now.place < place_limit }
+    requires parted { All (λ entry. entry_at base.old entry.0 ≡ None) own.now }
+    requires known { AreKnown base.old own.now told.now.pairs }
+    requires names { (key : ℕ) → IsInRange told.now key → (or_fresh (entry_at base.old key)).names ≡ [] }
+    requires calls { (key : ℕ) → IsInRange told.now key → (or_fresh (entry_at base.old key)).calls ≡ [] }
+    ensures { IfOk result (λ lost. MatchOption lost (HaveSeen told.now (map (λ entry. entry.0) own.now) base.old base.new)
+        (IsUnseen told.now (map (λ entry. entry.0) own.now) base.old)) }
+{
+    let keys = base.within(alloc, told.scan.low, told.scan.high)?;
+    match see_keys(alloc, told, base, &keys)? {
+        Some(key) => {
+            let loss = unseen(alloc, told, base, key)?;
+            Ok(Some(loss))
+        }
+        None => Ok(None),
+    }
+}
+
+/// All keys of the range that are no rows' own see the scan, or one of them can't have what it was told. Where a key is known to have that, it costs a
+/// look-up.
+pub(crate) fn see_others(
+    alloc: Global,
+    told: &Told,
+    base: &mut Known,
+    own: &[(u64, KeptKey)],
+) -> Result<Option<KeyLoss>, Memory>
+    requires pairs { ArePairsOf told.now.low told.now.high told.now.pairs }
+    requires range { told.now.low ≤ told.now.high }
+    requires place { told.now.place < place_limit }
+    requires rising { AllPairs (λ d e. d.0 < e.0) own.now }
+    requires parted { All (λ entry. entry_at base.old entry.0 ≡ None) own.now }
+    requires names { (key : ℕ) → IsInRange told.now key → (or_fresh (entry_at base.old key)).names ≡ [] }
+    requires calls { (key : ℕ) → IsInRange told.now key → (or_fresh (entry_at base.old key)).calls ≡ [] }
+    ensures { IfOk result (λ lost. MatchOption lost (HaveSeen told.now (map (λ entry. entry.0) own.now) base.old base.new)
+        (IsUnseen told.now (map (λ entry. entry.0) own.now) base.old)) }
+{
+    match first_unknown(told.pairs, base, own) {
+        Some(key) => {
+            let loss = unseen(alloc, told, base, key)?;
+            Ok(Some(loss))
+        }
+        None => see_known(alloc, told, base, own),
+    }
+}

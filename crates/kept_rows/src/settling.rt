@@ -1,0 +1,76 @@
+// A key settles as far as it may.
+ghost use Rattle.std.specs.Prelude.{◌<◌, ◌≡◌, length, All, AllPairs, IfOk, IfSome};
+ghost use Rattle.events.specs.Precedence.{NonePrecedesItself};
+ghost use Rattle.kept_keys.specs.Cuts.{IsPlaceOf};
+ghost use Rattle.kept_keys.specs.Views.{place_limit};
+ghost use Rattle.kept_rows.specs.Settling.{HasSettled};
+ghost use Rattle.past_choices.specs.Values.{IsCallOf};
+
+use events::{Memory, Operation};
+use kept_keys::{KeptKey, WIDTH};
+use std::alloc::Global;
+
+/// What a key is kept as once it has settled: without calls where only reads are left; else behind the last quiet place up to `limit`, or,
+/// where many calls are left, behind one at which few were open, unless that would cost more than the budget.
+pub(crate) fn settle_key(
+    alloc: Global,
+    key: u64,
+    kept: KeptKey,
+    limit: usize,
+    now: usize,
+    budget: u32,
+) -> Result<KeptKey, Memory>
+    requires now { now < place_limit }
+    requires each { length kept.names ≡ length kept.calls }
+    requires rising { AllPairs (λ x y. x.inv < y.inv) kept.calls }
+    requires apart { NonePrecedesItself kept.calls }
+    requires of_key { All (λ a. IsCallOf key a.call) kept.calls }
+    ensures { IfOk result (HasSettled key limit now kept) }
+{
+    if kept.is_still() {
+        return kept.read_off(alloc);
+    }
+    let Some(place) = place_to_settle(&kept, limit, now) else {
+        return Ok(kept);
+    };
+    match kept.settled(alloc, key, place, budget)? {
+        Some(settled) => Ok(settled),
+        None => Ok(kept),
+    }
+}
+
+/// Where a key is to settle: at its last quiet place, if calls have ended before it; else, where many calls are left, at one at which few were
+/// open.
+fn place_to_settle(kept: &KeptKey, limit: usize, now: usize) -> Option<usize>
+    requires now { now < place_limit }
+    requires each { length kept.now.names ≡ length kept.now.calls }
+    requires rising { AllPairs (λ x y. x.inv < y.inv) kept.now.calls }
+    ensures { IfSome result (IsPlaceOf kept.now limit now) }
+{
+    match kept.quiet_place(limit, now) {
+        Some(place) if some_began(&kept.calls, place) => Some(place),
+        _ if are_many(&kept.calls) => kept.few_open_place(limit, now),
+        _ => None,
+    }
+}
+
+/// Whether the first call began before a place.
+fn some_began(calls: &[Operation], place: usize) -> bool {
+    match calls.first() {
+        Some(call) => call.inv / WIDTH < place,
+        None => false,
+    }
+}
+
+/// So few calls are left as they are.
+const FEW: usize = 16;
+
+/// Whether there are many calls, also for those of them that are open: a key with more open calls keeps more that are completed, since to settle costs
+/// more there.
+fn are_many(calls: &[Operation]) -> bool {
+    if calls.len() <= FEW {
+        return false;
+    }
+    let open = calls.iter().filter(|call| !call.is_completed()).count();
+    open <= (calls.len() - 9) / 3
+}

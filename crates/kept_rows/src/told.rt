@@ -1,0 +1,57 @@
+// The answer of a scan.
+ghost use Rattle.std.specs.Prelude.{◌≡◌, ◌↔◌, ◌<◌, ◌≤◌, IsTrue, IfOk};
+ghost use Rattle.map_object.specs.MapObject.{IsRising, value_at};
+ghost use Rattle.kept_rows.specs.Limits.{limit_of};
+ghost use Rattle.kept_rows.specs.Parting as spec;
+
+use crate::rows::OpenScan;
+use std::marker::Model;
+
+/// A scan that is answered, at a place of the stream, with the pairs that it was told, by rising key.
+#[derive(Drop)]
+pub(crate) struct Told<'a> {
+    pub(crate) place: usize,
+    pub(crate) scan: OpenScan,
+    pub(crate) pairs: &'a [(u64, u64)],
+}
+
+impl<'a> Model for Told<'a> {
+    ghost use Rattle.kept_rows.specs.Parting.{ScanAnswer};
+
+    ghost Value = { ScanAnswer };
+
+    ghost view = { λ t. record { place = t.place; name = t.scan.name; low = t.scan.low; high = t.scan.high; pairs = t.pairs.now } };
+}
+
+impl<'a> Told<'a> {
+    /// Whether a key is in the scan's range.
+    pub(crate) fn covers(&self, key: u64) -> bool
+        ensures { IsTrue result ↔ spec.IsInRange self.now key }
+    {
+        self.scan.low <= key && key <= self.scan.high
+    }
+
+    /// What the scan was told of a key: its value, or none.
+    pub(crate) fn value(&self, key: u64) -> Option<u64>
+        requires { IsRising self.now.pairs }
+        ensures { result ≡ value_at self.now.pairs key }
+    {
+        match self.pairs.binary_search_by_key(&key, |pair| pair.0) {
+            Ok(place) => Some(self.pairs[place].1),
+            Err(_) => None,
+        }
+    }
+}
+
+/// Up to which place a key may settle: no scan over it that is open began before.
+pub(crate) fn limit_at(still_open: &[OpenScan], key: u64, now: usize) -> usize
+    ensures { result ≡ limit_of still_open.now now key }
+{
+    let mut limit = now;
+    for scan in still_open {
+        if scan.low <= key && key <= scan.high {
+            limit = limit.min(scan.name);
+        }
+    }
+    limit
+}

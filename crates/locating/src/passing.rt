@@ -1,0 +1,127 @@
+// The pass of a history's events through a follower.
+ghost use Rattle.std.specs.Prelude.{◌≡◌, ◌+◌, ◌<◌, length, take, IfOk, None, Some, slice_get};
+ghost use Rattle.events.specs.declared.event.Event.TheVariants as events;
+ghost use Rattle.events.specs.Histories.{IsHistory};
+ghost use Rattle.follower.specs.Faults.{shown};
+ghost use Rattle.follower.specs.Following.{IsFollowing};
+ghost use Rattle.locating.specs.Locations.{IsLocated};
+ghost use Rattle.locating.specs.Passing.{IsPassed};
+
+use crate::location::Location;
+use events::{Call, Event, History, Memory, Reply};
+use follower::{Answered, FollowFault, Follower};
+use prefixes::histories_have_few_events;
+use std::alloc::Global;
+
+/// What an event makes of the pass.
+#[derive(Drop)]
+pub(crate) enum Passed {
+    /// It goes on.
+    Going(Follower),
+    /// It ends: this is where the history goes wrong, as far as the budget tells.
+    Ended(Location),
+}
+
+/// The event at which a history goes wrong. Having an order is closed under prefixes, so that a history without order loses it at one
+/// event, which is an answer: the events go through a follower of streams one by one, and the pass ends at the first answer at which it
+/// finds that there is no order any more, or, for `budget` positions of a search at one key, does not find out. Want of memory is an error
+/// and decides nothing.
+pub fn locate(alloc: Global, history: &History, budget: u32) -> Result<Location, Memory>
+    ensures { IfOk result (IsLocated budget history.now) }
+{
+    let mut follower = Follower::new(alloc, history.start())?;
+    for place in 0..history.events().len() {
+        match pass(alloc, follower, history, place, budget)? {
+            Passed::Going(next) => follower = next,
+            Passed::Ended(location) => return Ok(location),
+        }
+    }
+    Ok(Location::Yes)
+}
+
+/// Passes the event at this place to a follower of those before it.
+fn pass(
+    alloc: Global,
+    follower: Follower,
+    history: &History,
+    place: usize,
+    budget: u32,
+) -> Result<Passed, Memory>
+    requires place { place < length history.now.events }
+    requires follows { IsFollowing history.now.start (take place history.now.events) follower }
+    ensures { IfOk result (IsPassed budget history.now place) }
+{
+    match &history.events()[place] {
+        Event::Invoke { process, call } => {
+            let next = invoked(alloc, follower, history, place, *process, *call)?;
+            Ok(Passed::Going(next))
+        }
+        Event::Answer { process, reply } => {
+            let reply = reply.copy(alloc)?;
+            answered(alloc, follower, history, place, *process, reply, budget)
+        }
+    }
+}
+
+/// Passes an invocation, which no history has where it could be refused.
+fn invoked(
+    alloc: Global,
+    follower: Follower,
+    history: &History,
+    place: usize,
+    process: u8,
+    call: Call,
+) -> Result<Follower, Memory>
+    requires follows { IsFollowing history.now.start (take place history.now.events) follower }
+    requires history { IsHistory history.now }
+    requires event { slice_get history.now.events place ≡ Some (events.Invoke process call) }
+    ensures { IfOk result (IsFollowing history.now.start (take (place + 1) history.now.events)) }
+{
+    histories_have_few_events();
+    match follower.invoke(alloc, process as u16, call) {
+        Ok(next) => Ok(next),
+        Err(fault) => Err(memory_of(fault)),
+    }
+}
+
+/// The fault of an invocation that is taken where memory suffices.
+fn memory_of(fault: FollowFault) -> Memory
+    requires { shown fault ≡ None }
+{
+    match fault {
+        FollowFault::Memory => Memory,
+        FollowFault::Shape | FollowFault::NotWellFormed | FollowFault::TooMany => unreachable!(),
+    }
+}
+
+/// Passes an answer, which no history has where it could be refused.
+fn answered(
+    alloc: Global,
+    follower: Follower,
+    history: &History,
+    place: usize,
+    process: u8,
+    reply: Reply,
+    budget: u32,
+) -> Result<Passed, Memory>
+    requires follows { IsFollowing history.now.start (take place history.now.events) follower }
+    requires history { IsHistory history.now }
+    requires event { slice_get history.now.events place ≡ Some (events.Answer process reply) }
+    ensures { IfOk result (IsPassed budget history.now place) }
+{
+    histories_have_few_events();
+    match follower.answer(alloc, process as u16, reply, budget)? {
+        Answered::Going(next) => Ok(Passed::Going(next)),
+        Answered::Lost(loss) => Ok(Passed::Ended(Location::No(loss))),
+        Answered::Spent {
+            event,
+            number,
+            doubt,
+        } => Ok(Passed::Ended(Location::Undecided {
+            event,
+            number,
+            doubt,
+        })),
+        Answered::Refused(..) => unreachable!(),
+    }
+}

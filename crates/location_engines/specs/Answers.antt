@@ -1,0 +1,27 @@
+-- What the program answers to the text of a history that it is to locate the fault of.
+use Rattle.std.specs.Prelude.{◌≡◌, ℕ, List}
+use Rattle.serde_json.specs.Written.{compact_text}
+use Rattle.events.specs.HistoryView.{HistoryView}
+use Rattle.locating.specs.declared.location.Location.{Location}
+use Rattle.locating.specs.declared.location.Location.TheVariants as locations
+use Rattle.locating.specs.Locations.{IsLocated}
+use Rattle.locating.specs.Reports.{location_data}
+use Rattle.outcomes.specs.declared.outcome.Answer.{Answer}
+use Rattle.outcomes.specs.declared.outcome.Answer.TheVariants.{Yes, No, Undecided}
+use Rattle.outcomes.specs.Lines.{line}
+use Rattle.history_engines.specs.Answers.{IsTextOf}
+
+-- the answer that a location is
+abbrev pub answer_of_location : Location → Answer
+answer_of_location locations.Yes = Yes
+answer_of_location (locations.No loss) = No
+answer_of_location (locations.Undecided event number doubt) = Undecided
+
+-- `locate` answers the text at the budget so: with the report of a location that is so of the history
+pub record IsLocateAnswer (budget : ℕ) (text : List ℕ) (answer : Answer) (bytes : List ℕ) : Type 0 where
+  pub history : HistoryView
+  pub location : Location
+  pub is_text : IsTextOf text history
+  pub located : IsLocated budget history location
+  pub answer_is : answer ≡ answer_of_location location
+  pub bytes_are : bytes ≡ line (compact_text (location_data location))

@@ -1,0 +1,6 @@
+//! The engine that locates: the event at which the history of a text goes wrong, over any source and sinks.
+#![tactic(auto)]
+
+mod location;
+
+pub use location::{locate_outcome, run_locate};

@@ -1,0 +1,83 @@
+// `bench locate`: the event at which the history on the input goes wrong.
+ghost use Rattle.std.specs.Prelude.{◌≡◌, ℕ, ◌<◌, List, Some, IfOk};
+ghost use Rattle.events.specs.HistoryView.{HistoryView};
+ghost use Rattle.history_engines.specs.Answers.{IsHistoryRefusal, IsTextOf};
+ghost use Rattle.location_engines.specs.Answers.{answer_of_location, IsLocateAnswer};
+ghost use Rattle.location_engines.specs.Outcomes.{IsLocateOutcome};
+ghost use Rattle.history_text.specs.Limits.{text_limit};
+ghost use Rattle.locating.specs.Locations.{IsLocated};
+ghost use Rattle.outcomes.specs.Ends.{change};
+ghost use Rattle.outcomes.specs.Outcomes.{IsTextOutcome};
+ghost use Rattle.outcomes.specs.Reads.{IsTextRead};
+ghost use Rattle.outcomes.specs.Runs.{IsRun};
+
+use events::Memory;
+use history_engines::refused_text;
+use history_text::{MAX_TEXT, read_history};
+use locating::{Location, locate, location_line};
+use outcomes::{Answer, Outcome, line_of, text_from, write_outcome};
+use std::alloc::Global;
+use streams::{Sink, Source};
+
+/// Reads a history text to the end of the source, or until it is too long, and looks for the event at which the history
+/// goes wrong, where a search at one key reaches at most `budget` positions. It starts no thread. Answers the exit status.
+pub fn run_locate<S: Source, O: Sink, F: Sink, H: Sink>(
+    alloc: Global,
+    source: &mut S,
+    output: &mut O,
+    faults: &mut F,
+    hints: &mut H,
+    budget: u32,
+) -> u8
+    requires source { S.failures source.old < u64.MAX }
+    requires output { O.failures output.old < u64.MAX }
+    requires faults { F.failures faults.old < u64.MAX }
+    requires hints { H.failures hints.old < u64.MAX }
+    ensures run { IsRun
+        (IsLocateOutcome budget (change S.remaining S.failures source.old source.new))
+        (change O.written O.failures output.old output.new)
+        (change F.written F.failures faults.old faults.new)
+        (change H.written H.failures hints.old hints.new) result }
+    ensures read { IsTextRead text_limit (change S.remaining S.failures source.old source.new) result }
+{
+    match text_from(alloc, source, MAX_TEXT) {
+        Ok(text) => write_outcome(output, faults, hints, &locate_outcome(alloc, &text, budget)),
+        Err(outcome) => write_outcome(output, faults, hints, &outcome),
+    }
+}
+
+/// The event at which the history that the text spells goes wrong, as its report.
+pub fn locate_outcome(alloc: Global, text: &[u8], budget: u32) -> Outcome
+    ensures { IsTextOutcome (IsLocateAnswer budget) IsHistoryRefusal (Some text.now) result }
+{
+    match read_history(alloc, text) {
+        Ok(history) => outcome_of(alloc, locate(alloc, &history, budget)),
+        Err(fault) => refused_text(alloc, text, &fault),
+    }
+}
+
+/// How a location comes out, or want of memory for it.
+fn outcome_of(alloc: Global, located: Result<Location, Memory>) -> Outcome
+    ensures { (budget : ℕ) (text : List ℕ) (history : HistoryView) → IsTextOf text history
+        → IfOk located (IsLocated budget history)
+        → IsTextOutcome (IsLocateAnswer budget) IsHistoryRefusal (Some text) result }
+{
+    let Ok(location) = located else {
+        return Outcome::Memory;
+    };
+    match location_line(alloc, &location) {
+        Ok(report) => Outcome::answered(answer_of(&location), line_of(report)),
+        Err(_) => Outcome::Memory,
+    }
+}
+
+/// The answer that a location is.
+fn answer_of(location: &Location) -> Answer
+    ensures { result ≡ answer_of_location location.now }
+{
+    match location {
+        Location::Yes => Answer::Yes,
+        Location::No(_) => Answer::No,
+        Location::Undecided { .. } => Answer::Undecided,
+    }
+}

@@ -1,0 +1,97 @@
+// Pairs by rising key, and what differs in them from those at the start of a search.
+ghost use Rattle.std.specs.Prelude.{◌≡◌, ◌≤◌, length, take, drop, IfOk, IfErr};
+ghost use Rattle.map_object.specs.MapObject.{IsRising, value_at, below, above};
+ghost use Rattle.map_object.specs.Places.{IsAt, IsGapFor};
+ghost use Rattle.memo.specs.Differences.{with_value, value_put, value_gone, value_from};
+
+use events::Memory;
+use std::alloc::Global;
+
+/// Where the key is, or where it would go, found by halves.
+fn place(pairs: &[(u64, u64)], key: u64) -> Result<usize, usize>
+    requires { IsRising pairs.now }
+    ensures found { IfOk result (IsAt pairs.now key) }
+    ensures absent { IfErr result (IsGapFor pairs.now key) }
+{
+    pairs.binary_search_by_key(&key, |pair| pair.0)
+}
+
+/// The value at a key.
+pub(crate) fn value_at(pairs: &[(u64, u64)], key: u64) -> Option<u64>
+    requires { IsRising pairs.now }
+    ensures { result ≡ value_at pairs.now key }
+{
+    match place(pairs, key) {
+        Ok(at) => Some(pairs[at].1),
+        Err(_) => None,
+    }
+}
+
+/// How many pairs are below a key, and how many are not above it.
+fn around(pairs: &[(u64, u64)], key: u64) -> (usize, usize)
+    requires { IsRising pairs.now }
+    ensures within { (result.0 ≤ result.1) × (result.1 ≤ length pairs.now) }
+    ensures below { take result.0 pairs.now ≡ below key pairs.now }
+    ensures above { drop result.1 pairs.now ≡ above key pairs.now }
+{
+    match place(pairs, key) {
+        Ok(at) => (at, at + 1),
+        Err(at) => (at, at),
+    }
+}
+
+/// The pairs with a value or none at a key.
+pub(crate) fn with_value(
+    alloc: Global,
+    pairs: &[(u64, u64)],
+    key: u64,
+    value: Option<u64>,
+) -> Result<Vec<(u64, u64)>, Memory>
+    requires { IsRising pairs.now }
+    ensures { IfOk result (λ v. v.items ≡ with_value key value pairs.now) }
+{
+    let (from, upto) = around(pairs, key);
+    let (lower, higher) = (&pairs[..from], &pairs[upto..]);
+    let Some(value) = value else {
+        let mut left = Vec::with_capacity(alloc, lower.len() + higher.len())?;
+        left.extend_from_slice(lower)?;
+        left.extend_from_slice(higher)?;
+        return Ok(left);
+    };
+    let mut put = Vec::with_capacity(alloc, lower.len() + 1 + higher.len())?;
+    put.extend_from_slice(lower)?;
+    put.push((key, value))?;
+    put.extend_from_slice(higher)?;
+    Ok(put)
+}
+
+/// The value, where it is not the one at the start.
+pub(crate) fn value_put(first: Option<u64>, value: Option<u64>) -> Option<u64>
+    ensures { result ≡ value_put first value }
+{
+    match (first, value) {
+        (Some(first), Some(value)) if first == value => None,
+        _ => value,
+    }
+}
+
+/// The value at the start, where there is none now.
+pub(crate) fn value_gone(first: Option<u64>, value: Option<u64>) -> Option<u64>
+    ensures { result ≡ value_gone first value }
+{
+    match value {
+        Some(_) => None,
+        None => first,
+    }
+}
+
+/// The value of a key, from its value at the start, the one put and the one gone.
+pub(crate) fn value_from(first: Option<u64>, put: Option<u64>, gone: Option<u64>) -> Option<u64>
+    ensures { result ≡ value_from first put gone }
+{
+    match (put, gone) {
+        (Some(value), _) => Some(value),
+        (None, Some(_)) => None,
+        (None, None) => first,
+    }
+}

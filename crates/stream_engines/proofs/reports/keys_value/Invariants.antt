@@ -1,0 +1,8 @@
+-- The values so far are those of the keys.
+use Rattle.std.proofs.Common.{◌≡◌, map, take}
+use Rattle.serde_json.specs.View.{view}
+use Rattle.stream_engines.specs.Reports.{key_data}
+use Rattle.stream_engines.proofs.reports.keys_value.Given as goal
+
+abbrev pub invariant-loop-at : goal.invariant-loop-at
+invariant-loop-at l = map view l.items.items ≡ map key_data (take l.at-index l.keys)

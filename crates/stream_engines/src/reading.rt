@@ -1,0 +1,129 @@
+// `bench follow`: the stream of events on the input, judged as it comes.
+ghost use Rattle.std.specs.Prelude.{◌≡◌, ℕ, ◌<◌, List, [], ◌∷◌, ◌++◌, length, Option, IfOk, IfErr, OnOk};
+ghost use Rattle.std.specs.Io.KnownBytes.{prepend_known};
+ghost use Rattle.outcomes.specs.Ends.{change};
+ghost use Rattle.outcomes.specs.Runs.{IsRun};
+ghost use Rattle.stream_engines.specs.Followed.{IsFollowed};
+ghost use Rattle.stream_engines.specs.Outcomes.{IsFollowOutcome};
+ghost use Rattle.stream_engines.specs.Reading.{HasRead};
+
+use crate::followed::Followed;
+use crate::progress::Progress;
+use crate::refusals::{refused_line, refused_many};
+use outcomes::{Outcome, write_outcome};
+use std::alloc::Global;
+use stream_text::{LineFault, NoLine, Window, lines_one_by_one, next_line};
+use streams::{Sink, Source};
+
+/// The most lines that are read.
+pub(crate) const MOST_LINES: u64 = u64::MAX - 1;
+
+/// Reads the lines of a stream one by one, each at most `MAX_LINE` bytes, and judges each answer as it comes: a search at a key
+/// reaches at most `budget` positions from each value that the key may have had. It ends at the end of the source, or at the first
+/// line that goes wrong. Memory is taken for the longest line, and for what the follower keeps. Behind each line it is told how far
+/// this is. Answers the exit status.
+pub fn run_follow<S: Source, O: Sink, F: Sink, H: Sink, P: Progress>(
+    alloc: Global,
+    source: &mut S,
+    output: &mut O,
+    faults: &mut F,
+    hints: &mut H,
+    budget: u32,
+    progress: &mut P,
+) -> u8
+    requires source { S.failures source.old < u64.MAX }
+    requires output { O.failures output.old < u64.MAX }
+    requires faults { F.failures faults.old < u64.MAX }
+    requires hints { H.failures hints.old < u64.MAX }
+    ensures { IsRun
+        (IsFollowOutcome budget (change S.remaining S.failures source.old source.new))
+        (change O.written O.failures output.old output.new)
+        (change F.written F.failures faults.old faults.new)
+        (change H.written H.failures hints.old hints.new) result }
+{
+    let outcome = follow_outcome(alloc, source, budget, progress);
+    write_outcome(output, faults, hints, &outcome)
+}
+
+/// What a stream is answered, before anything is written.
+pub fn follow_outcome<S: Source, P: Progress>(
+    alloc: Global,
+    source: &mut S,
+    budget: u32,
+    progress: &mut P,
+) -> Outcome
+    requires { S.failures source.old < u64.MAX }
+    ensures { IsFollowOutcome budget (change S.remaining S.failures source.old source.new) result }
+{
+    let Ok(mut window) = Window::new(alloc) else {
+        return Outcome::Memory;
+    };
+    let Ok(followed) = Followed::new(alloc) else {
+        return Outcome::Memory;
+    };
+    follow_lines(alloc, &mut window, source, followed, budget, progress)
+}
+
+/// Takes line after line.
+fn follow_lines<S: Source, P: Progress>(
+    alloc: Global,
+    window: &mut Window,
+    source: &mut S,
+    followed: Followed,
+    budget: u32,
+    progress: &mut P,
+) -> Outcome
+    requires few { S.failures source.old < u64.MAX }
+    requires empty { window.old.bytes ≡ [] }
+    requires begins { IsFollowed [] followed }
+    ensures { IsFollowOutcome budget (change S.remaining S.failures source.old source.new) result }
+{
+    let mut followed = followed;
+    for before in 0..MOST_LINES {
+        match follow_next(alloc, window, source, followed, before, budget) {
+            Ok(next) => {
+                progress.show(next.follower.calls());
+                followed = next;
+            }
+            Err(outcome) => return outcome,
+        }
+    }
+    refused_many(alloc, u64::MAX)
+}
+
+/// Takes the next line, behind so many.
+fn follow_next<S: Source>(
+    alloc: Global,
+    window: &mut Window,
+    source: &mut S,
+    followed: Followed,
+    before: u64,
+    budget: u32,
+) -> Result<Followed, Outcome>
+    requires few { S.failures source.old < u64.MAX }
+    requires before { before < u64.MAX }
+    ensures sound { OnOk result (S.failures source.new ≡ S.failures source.old) }
+    ensures went { (told : Option (List ℕ)) (read : List (List ℕ)) → length read ≡ before → IsFollowed read followed
+        → HasRead told read (prepend_known window.old.bytes (S.remaining source.old))
+        → IfOk result (λ next. (line : List ℕ) × IsFollowed (read ++ line ∷ []) next
+        × HasRead told (read ++ line ∷ []) (prepend_known window.new.bytes (S.remaining source.new))) }
+    ensures stopped { (told : Option (List ℕ)) (read : List (List ℕ)) → length read ≡ before → IsFollowed read followed
+        → HasRead told read (prepend_known window.old.bytes (S.remaining source.old))
+        → IfErr result (IsFollowOutcome budget (record {
+          old = record { bytes = told; failures = S.failures source.old };
+          new = record { bytes = S.remaining source.new; failures = S.failures source.new };
+        })) }
+{
+    lines_one_by_one();
+    match next_line(window, source) {
+        Ok(found) => {
+            if found {
+                followed.take_line(alloc, before, window.line(), budget)
+            } else {
+                Err(followed.finish(alloc))
+            }
+        }
+        Err(NoLine::TooLong) => Err(refused_line(alloc, before + 1, &[], LineFault::TooLong)),
+        Err(NoLine::Failed) => Err(Outcome::Failed),
+    }
+}

@@ -1,0 +1,61 @@
+-- What an engine writes of the run of a full tree, and what is never answered to it.
+use Rattle.std.specs.Prelude.{◌≡◌, ◌≢◌, ◌⊎◌, ⊤, ℕ, List, [], ◌++◌, Some, string_bytes}
+use Rattle.art_steps.specs.declared.variant.Variant.{Variant}
+use Rattle.art_steps.specs.declared.variant.Variant.TheVariants.{Coupled, Optimistic}
+use Rattle.replay_text.specs.Replays.{ReplayView}
+use Rattle.replay_text.specs.ReplayTexts.{SpellsReplay}
+use Rattle.outcomes.specs.declared.outcome.Answer.TheVariants.{No}
+use Rattle.outcomes.specs.declared.outcome.Outcome.{Outcome}
+use Rattle.outcomes.specs.declared.outcome.Outcome.TheVariants.{Answered, Noted, Refused, Memory, Words, Failed}
+use Rattle.outcomes.specs.Ends.{Change}
+use Rattle.outcomes.specs.Outcomes.{IsTextOutcome}
+use Rattle.outcomes.specs.Runs.{IsRun}
+use Rattle.outcomes.specs.Statuses.{answer_status}
+use Rattle.history_engines.specs.Answers.{IsJudgeAnswer, IsHistoryRefusal}
+use Rattle.history_engines.specs.Outcomes.{IsJudgeOutcome}
+use Rattle.white_space.specs.WhiteSpace.{AreWhiteSpace}
+
+-- a variant is that of a full tree
+abbrev pub IsFull : Variant → Type 0
+IsFull variant = (variant ≡ Coupled) ⊎ (variant ≡ Optimistic)
+
+-- the text spells a replay of a full tree
+abbrev pub SpellsFullReplay : List ℕ → Type 0
+SpellsFullReplay text = (r : ReplayView) × SpellsReplay text r × IsFull r.variant
+
+-- what an outcome has for the output: its answer, with the line feed behind it, and nothing where it is none
+abbrev pub output_of : Outcome → List ℕ
+output_of (Answered answer bytes) = string_bytes bytes
+output_of (Noted answer bytes note) = string_bytes bytes
+output_of (Refused bytes hint) = []
+output_of Memory = []
+output_of (Words bytes) = []
+output_of Failed = []
+
+-- an outcome is not the answer No
+abbrev pub IsNotNo : Outcome → Type 0
+IsNotNo (Answered answer bytes) = answer ≢ No
+IsNotNo (Noted answer bytes note) = answer ≢ No
+IsNotNo (Refused bytes hint) = ⊤
+IsNotNo Memory = ⊤
+IsNotNo (Words bytes) = ⊤
+IsNotNo Failed = ⊤
+
+-- No outcome of `judge` of these bytes, with any white space around them, and at whatever budget, is the answer No.
+abbrev pub AreNeverRefuted : List ℕ → Type 0
+AreNeverRefuted bytes =
+    (before behind : List ℕ) → AreWhiteSpace before → AreWhiteSpace behind → (budget : ℕ) (judged : Outcome)
+    → IsTextOutcome (IsJudgeAnswer budget) IsHistoryRefusal (Some (before ++ (bytes ++ behind))) judged → IsNotNo judged
+
+-- Nor does a run of `judge` that reads them so end with the status of No.
+abbrev pub AreRefutedByNoRun : List ℕ → Type 0
+AreRefutedByNoRun bytes =
+    (before behind : List ℕ) → AreWhiteSpace before → AreWhiteSpace behind → (budget : ℕ) (source output faults hints : Change) (status : ℕ)
+    → source.old.bytes ≡ Some (before ++ (bytes ++ behind)) → IsRun (IsJudgeOutcome budget source) output faults hints status
+    → status ≢ answer_status No
+
+-- these bytes were written to the output, behind what was in it
+pub record WasWritten (output : Change) (bytes : List ℕ) : Type 0 where
+  pub first : List ℕ
+  pub old : output.old.bytes ≡ Some first
+  pub new : output.new.bytes ≡ Some (first ++ bytes)

@@ -1,0 +1,2 @@
+pub mod WhiteSpace
+pub mod Laws

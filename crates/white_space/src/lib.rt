@@ -1,0 +1,6 @@
+//! White space around the text of a history, such as the line feed behind one that the program writes. The laws alone.
+#![tactic(auto)]
+
+mod laws;
+
+pub use laws::{spells_between_white_space, white_space_tells_nothing};

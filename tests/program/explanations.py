@@ -1,0 +1,369 @@
+#!/usr/bin/env python3
+"""Checks what `explain` says of histories without order against what `judge` says of the few calls that it names.
+
+    tests/program/explanations.py [HISTORIES]
+
+Histories are those of the examples that are not refused, and drawn ones as in tests/program/streams.py, half of them with answers that tell
+less, until so many of them have no order, 300 where no number is given. `explain` has to print the report of `judge` first; of a no then a line for each of few
+calls, each of them a call of the history with its answer, or without where it may tell what a call that is not named put; the
+history of these calls alone, of which `judge` says no; and how far an order of them gets. Without any one of them, and without the
+answers that tell what it put, `judge` says yes or undecided of the others, as the reason says. The front of the last line is a list of
+these calls that a map allows, each behind all that were answered before it began, and none is longer; behind it stand what the map then
+holds, and each call that could come next, with what it was answered, which is not what the map would answer. Then long ones: of 4,000
+calls of one key one answer is wrong, in the middle or near the end, and the explanation has fewer than 20 calls and takes less than two
+seconds of a processor. The last line here counts what passed and failed.
+"""
+
+import concurrent.futures
+import json
+import math
+import os
+import random
+import resource
+import subprocess
+import sys
+
+from streams import BUDGET, ORDERED, PROGRAM, SEED, TOP, answer_of, drawn_history, examples, said, text_of
+
+HISTORIES = 300
+UNTOLD = ("done", "found", "other")
+NO = 1
+LONG_CALLS = 4000
+FEW_CALLS = 20
+FEW_SECONDS = 2.0
+
+
+def calls_of(events):
+    """The calls of events: each with its first event and its process, what is called, and its answer with its event, if it has one."""
+    calls, opened = [], {}
+    for place, event in enumerate(events):
+        process = event["process"]
+        if "invoke" in event:
+            opened[process] = {"event": place, "process": process, "call": event["invoke"]}
+            calls.append(opened[process])
+        else:
+            opened.pop(process).update({"answer": event["answer"], "end": place})
+    return calls
+
+
+def put_by(call):
+    """The value that a call may put at its key, or None in place of one, in a list; no list where it changes nothing."""
+    name, _, *values = call["call"]
+    if name in ("get", "scan"):
+        return []
+    value = {"insert": values[:1], "remove": [None], "replace": values[1:]}[name][0]
+    if "answer" in call:
+        answer = call["answer"]
+        if answer in ("refused", "other") or answer == value and name != "replace":
+            return []
+        told_other = answer not in UNTOLD and answer != values[0] if name == "replace" else False
+        if name == "replace" and not isinstance(answer, list) and (told_other or values[0] == value):
+            return []
+    return [value]
+
+
+def surely_puts(call):
+    """Whether a call's answer says that it put something at its key: that of a replace which is done, or found a value, does not."""
+    return "answer" in call and put_by(call) and not (call["call"][0] == "replace" and call["answer"] in UNTOLD)
+
+
+def tells(call, key, value):
+    """Whether a call tells that this value was at a key, or waits for it."""
+    name, low, *others = call["call"]
+    high = others[0] if name == "scan" else low
+    if not low <= key <= high:
+        return False
+    if "answer" not in call:
+        return name == "replace" and others[0] == value
+    if call["answer"] == "refused":
+        return False
+    if call["answer"] == "other":
+        return name == "replace" and others[0] != value
+    if call["answer"] in UNTOLD:
+        # What a replace does next depends on what it finds.
+        return name == "replace" or call["answer"] == "found" and value is not None
+    if isinstance(call["answer"], list):
+        return next((found for at, found in call["answer"] if at == key), None) == value
+    return call["answer"] == value
+
+
+def precedes(first, second):
+    """Whether a call is answered before another begins."""
+    return "answer" in first and first["end"] < second["event"]
+
+
+def rest_of(calls, kept):
+    """What is left of calls where those stay that begin at some events, by event, and whether one that stays holds another.
+
+    A call loses its answer where that tells what one that goes put, unless it precedes that one, or one that stays puts something
+    between the two."""
+    staying = [call for call in calls if call["event"] in kept]
+    puts = [call for call in staying if surely_puts(call)]
+    gone = [(call, call["call"][1], value) for call in calls if call["event"] not in kept for value in put_by(call)]
+
+    def overwritten(first, second):
+        return any(put["call"][1] == first["call"][1] and precedes(first, put) and precedes(put, second) for put in puts)
+
+    def may_tell(call, left):
+        return any(tells(left, key, value) and not precedes(call, other) and not overwritten(other, call) for other, key, value in gone)
+
+    left, held = {}, False
+    for call in staying:
+        opened = {name: what for name, what in call.items() if name not in ("answer", "end")}
+        touched = may_tell(call, call)
+        held = held or touched and may_tell(call, opened)
+        rest = opened if touched else call
+        if "answer" in rest or rest["call"][0] not in ("get", "scan"):
+            left[call["event"]] = rest
+    return left, held
+
+
+def history_of(small, calls, left):
+    """The small history with the calls that are left alone, at their places: `calls` are the events of its calls in the whole."""
+    events, opened, number = [], {}, -1
+    for event in small["events"]:
+        process = event["process"]
+        if "invoke" in event:
+            number += 1
+            opened[process] = calls[number]
+            if calls[number] in left:
+                events.append(event)
+        elif "answer" in left.get(opened[process], {}):
+            events.append(event)
+    return {"events": events, "version": 3, "start": small.get("start", [])}
+
+
+def wrong_with_reason(whole, small, kept, row):
+    """What is wrong with the reason why a call is kept."""
+    left, held = rest_of(whole, set(kept) - {row["event"]})
+    if held != (row["reason"] == "held"):
+        return f"{row}, which is held: {held}"
+    if row["reason"] == "order":
+        status, report = said("judge", text_of(history_of(small, kept, left)))
+        if status == NO:
+            return f"{row}, but without it judge says {report}"
+    return None
+
+
+def done(held, call):
+    """What a map with these pairs answers to a call, and the pairs behind the call, by key."""
+    pairs = dict(held)
+    would = answer_of(pairs, *call["call"])
+    return would, held if call.get("answer") == "refused" else tuple(sorted(pairs.items()))
+
+
+def next_of(calls, taken):
+    """The calls that are not taken, and before which none of these was answered, by number."""
+    left = [number for number in range(len(calls)) if number not in taken]
+    first = min((calls[number].get("end", math.inf) for number in left), default=0)
+    return [number for number in left if calls[number]["event"] < first]
+
+
+def fits(call, would):
+    """Whether a call's answer, if it has one, may be given where the map would answer so."""
+    answer = call.get("answer", would)
+    if answer == "found":
+        return isinstance(would, int)
+    if answer == "other":
+        return call["call"][0] == "replace" and would != call["call"][2]
+    return answer in (would, "refused", "done")
+
+
+def moves(calls, taken, held):
+    """The calls that a map with these pairs allows next, by number, and the pairs behind each."""
+    for number in next_of(calls, taken):
+        would, after = done(held, calls[number])
+        if fits(calls[number], would):
+            yield number, after
+
+
+def most_behind(calls, taken, held, known):
+    """How many more calls a map allows at most, one behind another. Each set of calls taken, with the pairs, is looked at once."""
+    if (taken, held) not in known:
+        behind = (most_behind(calls, taken | {number}, after, known) for number, after in moves(calls, taken, held))
+        known[taken, held] = max((1 + more for more in behind), default=0)
+    return known[taken, held]
+
+
+def wrong_with_front(small, rows, line):
+    """What is wrong with how far an order of few calls is said to get."""
+    calls = calls_of(small["events"])
+    number_of = {row["event"]: number for number, row in enumerate(rows)}
+    taken, held, known = frozenset(), tuple(sorted(map(tuple, small.get("start", [])))), {}
+    most = most_behind(calls, taken, held, known)
+    for place, event in enumerate(line["front"]):
+        allowed = dict(moves(calls, taken, held))
+        number = number_of[event]
+        if number not in allowed:
+            return f"{line}, whose call {place} cannot come next"
+        # Of the fronts as long it is the least, by numbers.
+        as_long = [other for other in allowed if 1 + most_behind(calls, taken | {other}, allowed[other], known) == most - place]
+        if number != min(as_long) and len(known) <= int(BUDGET[1]):
+            return f"{line}, whose call {place} is not the first of the longest front"
+        taken, held = taken | {number}, allowed[number]
+    stuck = [
+        {"answer": rows[number]["answer"], "event": rows[number]["event"], "would": done(held, calls[number])[0]}
+        for number in next_of(calls, taken)
+    ]
+    if len(taken) < most and len(known) <= int(BUDGET[1]):
+        return f"{line}, though {most} calls get on"
+    if line["holds"] != [list(pair) for pair in held] or line["next"] != stuck:
+        return f"{line}, but a map holds {held}, and {stuck} could be next"
+    return None
+
+
+def wrong_with_few(history, rows, small, front):
+    """What is wrong with few calls, their history and its front."""
+    whole = calls_of(history["events"])
+    known = {call["event"]: call for call in whole}
+    calls = calls_of(small["events"])
+    kept = [row["event"] for row in rows]
+    if [call["call"] for call in calls] != [row["call"] for row in rows]:
+        return f"a history of other calls: {small}"
+    left, held = rest_of(whole, set(kept))
+    if held or list(left) != kept:
+        return f"calls that are held, {held}, or go: {left}"
+    for call, row in zip(calls, rows):
+        said_of = known.get(row["event"], {})
+        if (said_of.get("process"), said_of.get("call")) != (row["process"], row["call"]):
+            return f"{row}, which is no call of the history"
+        if row["answer"] != call.get("answer", "open") or row["answer"] != left[row["event"]].get("answer", "open"):
+            return f"{row}, with an answer that it has not"
+    status, report = said("judge", text_of(small))
+    if status != NO:
+        return f"a history of which judge says {report}"
+    wrongs = (wrong_with_reason(whole, small, kept, row) for row in rows)
+    return next((wrong for wrong in wrongs if wrong), None) or wrong_with_front(small, rows, front)
+
+
+def explained(history):
+    """Whether a history has no order, how many calls are named, and what is wrong with them, or None."""
+    text = text_of(history)
+    judged = said("judge", text)
+    status, lines = said("explain", text)
+    wrong = None
+    if status != judged[0] or lines[:1] != judged[1]:
+        wrong = f"{lines[:1]}, but judge says {judged[1]}"
+    elif status != NO:
+        wrong = f"more than a report: {lines}" if len(lines) != 1 else None
+    elif len(lines) < 4:
+        wrong = f"too little: {lines}"
+    else:
+        wrong = wrong_with_few(history, *parts_of(lines[1:]))
+    return status == NO, len(lines), wrong and f"explain says {wrong}: {text.decode()}"
+
+
+def parts_of(lines):
+    """The lines of few calls, the history behind them, and how far an order of it gets."""
+    behind = (next(line for line in lines if name in line) for name in ("events", "front"))
+    return [line for line in lines if "reason" in line], *behind
+
+
+def less_told(seed):
+    """A drawn history in which some answers tell less: most of them what is so, and some not."""
+    chance, history = random.Random(seed), drawn_history(seed, False)
+    history.update({"version": 3, "start": history.get("start", [])})
+    for call in calls_of(history["events"]):
+        answer = call.get("answer", "refused")
+        if answer == "refused" or chance.randrange(3):
+            continue
+        true = ["done"] + ["found"] * isinstance(answer, int)
+        true += ["other"] * (call["call"][0] == "replace" and answer != call["call"][2])
+        history["events"][call["end"]]["answer"] = chance.choice(true if chance.randrange(8) else UNTOLD)
+    return history
+
+
+def long_history(chance, processes, values):
+    """Calls of one key, each with its effect at a moment while it is open: gets, inserts and removes."""
+    events, opened, answers, held, begun = [], {}, {}, {}, 0
+    while begun < LONG_CALLS or opened:
+        process = chance.randrange(processes)
+        if process in answers:
+            events.append({"answer": answers.pop(process), "process": process})
+            del opened[process]
+        elif process in opened:
+            answers[process] = answer_of(held, *opened[process])
+        elif begun < LONG_CALLS:
+            begun += 1
+            name = chance.choice(["get", "get", "insert", "insert", "remove"])
+            opened[process] = [name, 7, *([chance.randrange(values)] if name == "insert" else [])]
+            events.append({"invoke": opened[process], "process": process})
+    return {"events": events, "version": 1}
+
+
+def is_refuted(history):
+    """Whether `judge` says no with its own budget."""
+    return subprocess.run([PROGRAM, "judge"], input=text_of(history), capture_output=True, timeout=120, check=False).returncode == NO
+
+
+def spoiled(history, place, answers):
+    """Gives a get behind a place of the events another one of these answers, so that `judge` says no."""
+    for call in calls_of(history["events"]):
+        if call["call"][0] == "get" and call["event"] >= place:
+            for answer in answers:
+                if answer != call["answer"]:
+                    history["events"][call["end"]]["answer"] = answer
+                    if is_refuted(history):
+                        return history
+            history["events"][call["end"]]["answer"] = call["answer"]
+    raise ValueError("no answer makes the history wrong")
+
+
+def long_ones():
+    """Histories of many calls of one key with a wrong answer: an old value of many, or one of few where few calls overlap."""
+    for processes, values in ((2, 3), (2, 1 << 30), (8, 1 << 30)):
+        for place in (LONG_CALLS, 2 * LONG_CALLS - 200):
+            history = long_history(random.Random(SEED + processes), processes, values)
+            old = [call["call"][2] for call in calls_of(history["events"]) if call["call"][0] == "insert"][10:11]
+            yield spoiled(history, place, [None, 0, 1, 2] if values == 3 else old)
+
+
+def long_explained(history):
+    """What is wrong with the explanation of a long history, or None: it is that of `explained`, of few calls, and quick."""
+    text = text_of(history)
+    before = resource.getrusage(resource.RUSAGE_CHILDREN)
+    ran = subprocess.run([PROGRAM, "explain"], input=text, capture_output=True, timeout=120, check=False)
+    after = resource.getrusage(resource.RUSAGE_CHILDREN)
+    seconds = after.ru_utime + after.ru_stime - before.ru_utime - before.ru_stime
+    lines = [json.loads(line) for line in ran.stdout.splitlines()]
+    name = f"of {LONG_CALLS} calls of {1 + max(event['process'] for event in history['events'])} processes"
+    print(f"{name}: {len(lines) - 3} calls, {seconds:.2f} s of a processor")
+    if ran.returncode != NO or len(lines) < 4:
+        return f"{name} explain says too little: {lines[1:]}"
+    if len(lines) - 3 >= FEW_CALLS or seconds >= FEW_SECONDS:
+        return f"{name} explain says too much, or not in time: {lines[1:]}"
+    wrong = wrong_with_few(history, *parts_of(lines[1:]))
+    return wrong and f"{name} explain says {wrong}"
+
+
+def main():
+    # Builds the program where that is still to do.
+    with open(ORDERED, "rb") as source:
+        subprocess.run([os.path.join(TOP, "bench"), "draw"], stdin=source, stdout=subprocess.DEVNULL, check=True)
+    wanted = int(sys.argv[1]) if sys.argv[1:] else HISTORIES
+    histories = list(examples())
+    passed = failed = refuted = number = most = 0
+    with concurrent.futures.ThreadPoolExecutor(os.cpu_count()) as runs:
+        while histories:
+            for is_no, count, wrong in runs.map(explained, histories):
+                refuted += is_no
+                most = max(most, count)
+                passed += wrong is None
+                failed += wrong is not None
+                if wrong is not None:
+                    print(wrong)
+            seeds = range(SEED + number, SEED + number + 100)
+            histories = [less_told(seed) if seed % 2 else drawn_history(seed, False) for seed in seeds] if refuted < wanted else []
+            number += 100
+    for wrong in map(long_explained, long_ones()):
+        passed += wrong is None
+        failed += wrong is not None
+        if wrong is not None:
+            print(wrong)
+    print(f"{refuted} without order, with {most} lines at most")
+    print(f"{passed} passed, {failed} failed")
+    return 1 if failed else 0
+
+
+if __name__ == "__main__":
+    sys.exit(main())

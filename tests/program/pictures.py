@@ -1,0 +1,251 @@
+#!/usr/bin/env python3
+"""Reads the pictures that the program draws of the examples, and of histories of 400 and 4,096 calls.
+
+Each is XML of the elements of SVG that a picture has, without a script and without a reference to anything outside. It has a lane for
+each process, one bar for each call, with the call and its answer in the bar's title, drawn as wrong where `locate` names the call, and
+one mark for each call of the order where the verdict is a yes. Its status is that of `judge`. Parts of the pictures have the lanes,
+bars and marks that a window over the columns has which is worked out here, and say what they leave out; a part with room for the whole
+picture is the picture. The last line counts what passed and failed.
+"""
+
+import glob
+import json
+import os
+import re
+import subprocess
+import sys
+import xml.etree.ElementTree
+
+TOP = os.path.dirname(os.path.dirname(os.path.dirname(os.path.abspath(__file__))))
+PROGRAM = os.path.join(TOP, "crates", "bench", "out", "bench")
+ELEMENTS = {"svg", "style", "text", "title", "g", "rect", "path", "circle"}
+ATTRIBUTES = {"xmlns", "width", "height", "class", "x", "y", "rx", "cx", "cy", "r", "d", "stroke", "stroke-dasharray", "text-anchor"}
+NAMESPACE = "{http://www.w3.org/2000/svg}"
+
+
+def bench(words, text):
+    ran = subprocess.run([PROGRAM, *words], input=text, capture_output=True, check=False)
+    return ran.returncode, ran.stdout
+
+
+def called(event):
+    """The words of a call in a picture."""
+    return " ".join(str(word) for word in event["invoke"])
+
+
+def answered(answer):
+    """The words of an answer in a picture."""
+    return "none" if answer is None else answer if isinstance(answer, str) else json.dumps(answer, separators=(",", ":"))
+
+
+def titles(history):
+    """The title of each call's bar."""
+    calls = []
+    open_calls = {}
+    for number, event in enumerate(history["events"]):
+        process = event["process"]
+        if "invoke" in event:
+            open_calls[process] = len(calls)
+            calls.append([process, number, called(event), None, None])
+        else:
+            calls[open_calls.pop(process)][3:] = [number, answered(event["answer"])]
+    return [
+        f"call {call} of process {process}, event {inv} "
+        + (f"on, pending: {words}" if res is None else f"to event {res}: {words}: {reply}")
+        for call, (process, inv, words, res, reply) in enumerate(calls)
+    ]
+
+
+def groups_of(picture):
+    """The groups of a picture by their classes, and what is wrong with its elements."""
+    root = xml.etree.ElementTree.fromstring(picture)
+    elements = list(root.iter())
+    names = {element.tag for element in elements} - {NAMESPACE + name for name in ELEMENTS}
+    attributes = {name for element in elements for name in element.attrib} - ATTRIBUTES
+    groups = {}
+    for group in root.findall(NAMESPACE + "g"):
+        groups.setdefault(group.get("class"), []).append(group)
+    if names or attributes:
+        return groups, f"elements {names}, attributes {attributes}"
+    if re.search(rb"url\(|@import|href|http(?!://www\.w3\.org/2000/svg')", picture):
+        return groups, "a reference to something outside"
+    return groups, None
+
+
+def titles_in(groups, *names):
+    """The titles of the groups of these classes."""
+    return [group.find(NAMESPACE + "title").text for name in names for group in groups.get(name, [])]
+
+
+def lanes_in(groups):
+    """The names of the lanes."""
+    return [group.find(NAMESPACE + "text").text for group in groups.get("lane", []) if group.find(NAMESPACE + "rect") is not None]
+
+
+def window_of(history, verdict, located, marks, around, calls):
+    """The bars, marks and lanes of the part of a picture with these marks, and what it says of itself; none where all has room."""
+    events = history["events"]
+    shown = {"yes": range(len(events))}.get(verdict["verdict"], verdict.get("calls"))
+    spans = []
+    open_calls = {}
+    call_at = []
+    for number, event in enumerate(events):
+        process = event["process"]
+        if "invoke" in event:
+            open_calls[process] = len(spans)
+            spans.append([process, number, None])
+        else:
+            spans[open_calls[process]][2] = number
+        call_at.append(open_calls[process])
+    points = []
+    for call in marks:
+        points.append(max([spans[call][1], *points]))
+    room = 3 * calls
+    if room == 0 or len(events) + len(marks) <= room:
+        return None
+    wrong = located["event"] if verdict["verdict"] == located["verdict"] == "no" else points[-1] if points else 0
+    middle_event = around if around < len(events) else wrong
+    columns = []
+    middle = None
+    for number, call in enumerate(call_at):
+        if number == middle_event:
+            middle = len(columns)
+        if call in shown:
+            columns.append(("event", number))
+        columns += [("mark", place) for place, point in enumerate(points) if point == number]
+    count = min(room, len(columns))
+    first = min(max(middle - room // 2, 0), len(columns) - count)
+    place_of = {column: place for place, column in enumerate(columns)}
+    bars = [call for call, (_, inv, res) in enumerate(spans) if call in shown and place_of["event", inv] < first + count
+            and (res is None or place_of["event", res] >= first)]
+    drawn = [place for kind, place in columns[first:first + count] if kind == "mark"]
+    lanes = [f"process {process}" for process in sorted({spans[call][0] for call in bars})]
+    notes = [f"{count} of {len(columns)} columns, around event {middle_event}."]
+    notes += [f"\u2190 {first} more columns"] if first else []
+    notes += [f"{len(columns) - first - count} more columns \u2192"] if first + count < len(columns) else []
+    return bars, [f"place {place}: call {marks[place]}" for place in drawn], lanes, notes
+
+
+def fault_of_part(text, words, around, calls):
+    """What is wrong with a part of the picture of a history, or nothing."""
+    asked = ["--calls", str(calls), *([] if around is None else ["--around", str(around)])]
+    status, picture = bench(["draw", *words, *asked], text)
+    wanted, whole = bench(["draw", *words, "--calls", "0"], text)
+    if status != wanted:
+        return f"status {status}, where the whole picture has {wanted}"
+    if status > 2:
+        return "output of a refused text" if picture else None
+    groups, fault = groups_of(picture)
+    if fault is not None:
+        return fault
+    history = json.loads(text)
+    verdict, located = (json.loads(bench([word, *words], text)[1]) for word in ("judge", "locate"))
+    marks = [int(title.rsplit(" ", 1)[1]) for title in titles_in(groups_of(whole)[0], "mark")]
+    window = window_of(history, verdict, located, marks, 8192 if around is None else around, calls)
+    if window is None:
+        return None if picture == whole else "not the whole picture, where all of it has room"
+    bars, places, lanes, notes = window
+    every = titles(history)
+    if sorted(titles_in(groups, "call", "pale", "wrong")) != sorted(every[call] for call in bars):
+        return "bars that are not those of the window"
+    if titles_in(groups, "mark") != places:
+        return "marks that are not those of the window"
+    if lanes_in(groups) != lanes:
+        return "lanes that are not those of the processes that act in the window"
+    said = [element.text for element in xml.etree.ElementTree.fromstring(picture).findall(NAMESPACE + "text")]
+    more = sum("more columns" in line for line in said)
+    if not all(any(line.startswith(note) for line in said) for note in notes) or more != len(notes) - 1:
+        return f"{said} is said, where {notes} should be"
+    return None
+
+
+def fault_of(text, words):
+    """What is wrong with the whole picture of a history, or nothing."""
+    status, picture = bench(["draw", *words, "--calls", "0"], text)
+    wanted, report = bench(["judge", *words], text)
+    if status != wanted:
+        return f"status {status}, where judge has {wanted}"
+    if status > 2:
+        return "output of a refused text" if picture else None
+    groups, fault = groups_of(picture)
+    if fault is not None:
+        return fault
+    history = json.loads(text)
+    lanes = len({event["process"] for event in history["events"]})
+    if len(lanes_in(groups)) != lanes:
+        return f"{len(lanes_in(groups))} lanes of {lanes} processes"
+    if sorted(titles_in(groups, "call", "pale", "wrong")) != sorted(titles(history)):
+        return "bars that are not those of the calls"
+    verdict = json.loads(report)
+    located = json.loads(bench(["locate", *words], text)[1])
+    wrong = [f"call {located['call']} of"] if verdict["verdict"] == located["verdict"] == "no" else []
+    if [" ".join(title.split()[:3]) for title in titles_in(groups, "wrong")] != wrong:
+        return "a bar drawn as wrong that is not of the call at which the history goes wrong"
+    places = titles_in(groups, "mark")
+    if verdict["verdict"] == "yes":
+        if places != [f"place {place}: call {call}" for place, call in enumerate(verdict["order"])]:
+            return "marks that are not those of the order"
+    elif not all(int(place.rsplit(" ", 1)[1]) in verdict["calls"] for place in places):
+        return "marks that are not of the named segment"
+    return None
+
+
+def overlapping(count):
+    """A history with an order: four processes whose calls overlap, each with its effect where it is answered."""
+    events = []
+    held = {}
+    for call in range(0, count, 4):
+        inserts = [["insert", (call + process) % 7, call + process] for process in range(4)]
+        events += [{"process": process, "invoke": insert} for process, insert in enumerate(inserts)]
+        for process, (_, key, value) in enumerate(inserts):
+            events.append({"process": process, "answer": held.get(key)})
+            held[key] = value
+    return json.dumps({"events": events, "version": 1}).encode()
+
+
+def cases():
+    """Names, texts and words."""
+    for path in sorted(glob.glob(os.path.join(TOP, "examples", "*.json"))):
+        with open(path, "rb") as file:
+            text = file.read()
+        yield os.path.basename(path), text, []
+        yield os.path.basename(path) + " at budget 2", text, ["--budget", "2"]
+    for count in (8, 60, 400, 4096):
+        yield f"{count} calls", overlapping(count), []
+    yield "400 calls with a wrong answer", wronged(overlapping(400)), []
+    yield "4096 calls at budget 100", overlapping(4096), ["--budget", "100"]
+
+
+def wronged(text):
+    """The same history, where one answer in its midst is another one."""
+    history = json.loads(text)
+    answers = [event for event in history["events"] if "answer" in event]
+    answers[len(answers) // 2]["answer"] = 10 ** 6
+    return json.dumps(history).encode()
+
+
+def faults():
+    """For each case and each part of it, its name and what is wrong."""
+    for name, text, words in cases():
+        yield name, fault_of(text, words)
+        for around, calls in ((None, 20), (0, 1), (5, 2), (11, 3), (300, 20), (8191, 7), (None, 4096)):
+            yield f"{name}, {calls} calls around event {around}", fault_of_part(text, words, around, calls)
+
+
+def main():
+    # Builds the program where that is still to do.
+    with open(os.path.join(TOP, "examples", "no-events.json"), "rb") as source:
+        subprocess.run([os.path.join(TOP, "bench"), "draw"], stdin=source, stdout=subprocess.DEVNULL, check=True)
+    passed = failed = 0
+    for name, fault in faults():
+        if fault is None:
+            passed += 1
+        else:
+            failed += 1
+            print(f"{name}: {fault}")
+    print(f"{passed} passed, {failed} failed")
+    sys.exit(failed > 0)
+
+
+if __name__ == "__main__":
+    main()

@@ -1,0 +1,443 @@
+#!/usr/bin/env python3
+"""Compares what `follow` answers to a stream with all orders of its events, or with what `judge` and `locate` answer to the same history.
+
+    tests/program/streams.py [STREAMS]
+
+Streams are those of the examples that are not refused, and drawn ones, 5,000 where no number is given: up to 64 processes call a map, each
+call has its effect at a moment while it is open, and some stay open; then answers of half of them are changed, or swapped with what stands
+beside them. In a third of them answers tell less than the map answers. Of those of few calls, up to seven at once, all orders are tried here
+behind each answer; of the others `judge` says whether they have one, and `locate` at which event they lose it. Where one of them is
+undecided the others may say what fits. A small history that is written has no order, and it is there where one key is named that had one
+value for sure. Standard error, which is no terminal, has nothing.
+
+Then streams are followed in which processes die: each stops inside an insert, a remove, a replace or a get and never answers, and the
+others call the map at its key thousands of times, one of them for long within a call now and then. Into half of these streams come wrong
+answers. What is expected of them a model in this file works out: it keeps, key by key, each value that the key may have, with the open calls
+that were done by then.
+The last line counts what passed and failed.
+"""
+
+import concurrent.futures
+import itertools
+import json
+import os
+import random
+import subprocess
+import sys
+
+TOP = os.path.dirname(os.path.dirname(os.path.dirname(os.path.abspath(__file__))))
+PROGRAM = os.path.join(TOP, "crates", "bench", "out", "bench")
+EXAMPLES = os.path.join(TOP, "examples")
+ORDERED = os.path.join(EXAMPLES, "insert-then-get.json")
+SEED = 20_261_124
+STREAMS = 5000
+MOST_CALLS = 160
+# Of each stream but the last of so many all orders are tried.
+SMALL_SHARE = 2
+SMALL_CALLS = 16
+MOST_SMALL = 7
+# With many open calls a search of a whole segment may meet millions of configurations.
+BUDGET = ["--budget", "20000"]
+REFUSED = 3
+LESS = ("done", "found", "other")
+# Streams with processes that die, one for each 125 others, and their calls.
+DEAD_SHARE = 125
+DEAD_CALLS = 3000
+
+
+def text_of(history):
+    return json.dumps(history, separators=(",", ":"), sort_keys=True).encode()
+
+
+def lines_of(history):
+    """The stream of a history: a first line where it has starting pairs, and a line for each event."""
+    first = [{"start": history["start"], "version": history["version"]}] if "start" in history else []
+    return b"".join(text_of(line) + b"\n" for line in [*first, *history["events"]])
+
+
+def answer_of(held, name, key, *others):
+    """Does a call on the pairs held, and gives its answer."""
+    if name == "scan":
+        return [[at, held[at]] for at in sorted(held) if key <= at <= others[0]]
+    answer = held.get(key)
+    if name == "insert":
+        held[key] = others[0]
+    elif name == "remove":
+        held.pop(key, None)
+    elif name == "replace" and answer == others[0]:
+        held[key] = others[1]
+    return answer
+
+
+def drawn_call(chance, keys, kinds):
+    key = chance.randrange(keys)
+    name = chance.choice(kinds)
+    if name == "scan":
+        return [name, key, min(keys - 1, key + chance.randrange(4))]
+    return [name, key, *(chance.randrange(3) for _ in range({"insert": 1, "replace": 2}.get(name, 0)))]
+
+
+def drawn_events(chance, held, processes, keys, kinds, calls):
+    """Each process in a random turn begins a call, has the effect of its open one, or is answered."""
+    events, opened, answers = [], {}, {}
+    # Few processes at a time take turns, so that now and then few calls are open.
+    turns = [process for _ in range(1 + 6 * calls // processes)
+             for process in chance.choices(chance.sample(range(processes), chance.randint(1, processes)), k=processes)]
+    # Some processes stop, some when their call has had its effect; and so do all at once.
+    stops = {process: chance.randrange(len(turns)) for process in range(processes) if chance.randrange(8) == 0}
+    for turn, process in enumerate(turns[: chance.choice((len(turns), chance.randint(1, len(turns))))]):
+        if stops.get(process, turn) < turn:
+            continue
+        if process in answers:
+            events.append({"answer": answers.pop(process), "process": process})
+            del opened[process]
+        elif process in opened:
+            refused = chance.randrange(50) == 0
+            answers[process] = "refused" if refused else answer_of(held, *opened[process])
+        elif calls:
+            calls -= 1
+            opened[process] = drawn_call(chance, keys, kinds)
+            events.append({"invoke": opened[process], "process": process})
+    return events
+
+
+def agrees(call, found, answer):
+    """Whether a call that found this is answered so, or by less."""
+    if answer == "found":
+        return call[0] != "scan" and found is not None
+    if answer == "other":
+        return call[0] == "replace" and found != call[2]
+    return answer == "done" or answer == found
+
+
+def tell_less(chance, events):
+    """Changes half of the answers to some that tell less."""
+    opened = {}
+    for event in events:
+        if "invoke" in event:
+            opened[event["process"]] = event["invoke"]
+        elif event["answer"] != "refused" and chance.randrange(2):
+            call = opened[event["process"]]
+            event["answer"] = chance.choice([less for less in LESS if agrees(call, event["answer"], less)])
+
+
+def damage(chance, events, others):
+    """Changes an answer, or swaps two events of different processes that stand side by side."""
+    place = chance.randrange(len(events))
+    event = events[place]
+    if "answer" in event and chance.randrange(3):
+        answer = event["answer"]
+        if isinstance(answer, list):
+            changed = answer[1:] if answer and chance.randrange(2) else [[key, value + 1] for key, value in answer]
+        else:
+            changed = chance.choice([None, 0, 1, 2, *others])
+        events[place] = {"answer": changed, "process": event["process"]}
+    elif place and events[place - 1]["process"] != event["process"]:
+        events[place - 1 : place + 1] = event, events[place - 1]
+
+
+def drawn_history(seed, is_small):
+    chance = random.Random(seed)
+    processes = chance.randint(2, MOST_SMALL) if is_small else chance.choice((1, 2, 3, 4, 6, 8, 16, 32, 64))
+    keys = chance.randint(1, 3) if is_small else max(2, chance.choice((processes // 4, processes, 2 * processes)))
+    kinds = ["get"] * 4 + ["insert"] * 3 + ["remove"] * 2
+    kinds += ["scan"] * (3 * is_small or processes < 16 or chance.randrange(4) == 0)
+    version = chance.randint(1, 3)
+    history = {"version": version}
+    held = {}
+    if version > 1:
+        held = {key: chance.randrange(3) for key in range(keys) if chance.randrange(2)}
+        history = {"start": [list(pair) for pair in held.items()], "version": version}
+        kinds += ["replace"] * 2
+    calls = chance.randint(4, SMALL_CALLS) if is_small else chance.randrange(1, min(MOST_CALLS, 20 * processes))
+    history["events"] = drawn_events(chance, held, processes, keys, kinds, calls)
+    if version == 3:
+        tell_less(chance, history["events"])
+    if history["events"] and chance.randrange(2):
+        for _ in range(chance.randint(1, 3)):
+            damage(chance, history["events"], LESS if version == 3 else ())
+    return history
+
+
+def drawn_deaths(seed):
+    """A long history of few keys, without scans, in which processes die inside their calls, before the effect or behind it, and one at a time
+    sleeps there for long. Few processes at a time take turns, until all of their calls have ended but those of the dead and the sleeper."""
+    chance = random.Random(seed)
+    keys, living = chance.randint(1, 3), list(range(chance.randint(5, 8)))
+    deaths = {process: chance.randrange(DEAD_CALLS) for process in range(chance.randint(1, 2))}
+    held = {key: chance.randrange(3) for key in range(keys) if chance.randrange(2)}
+    start = [list(pair) for pair in held.items()]
+    events, opened, answers = [], {}, {}
+    sleeper, wakes = None, 0
+    while len(events) < 2 * DEAD_CALLS:
+        team = chance.sample(living, chance.randint(1, 3))
+        turns = chance.choices(team, k=6 * len(team))
+        for turn, process in enumerate(turns + 3 * team):
+            if process not in living or (turn >= len(turns) and process not in opened):
+                continue
+            if process == sleeper and len(events) < wakes:
+                continue
+            if process in opened and chance.randrange(2) and deaths.get(process, len(events)) < len(events):
+                living.remove(process)
+            elif process in opened and len(events) >= wakes and chance.randrange(100) == 0:
+                sleeper, wakes = process, len(events) + chance.randrange(300)
+            elif process in answers:
+                events.append({"answer": answers.pop(process), "process": process})
+                del opened[process]
+            elif process in opened:
+                answers[process] = answer_of(held, *opened[process])
+            else:
+                opened[process] = drawn_call(chance, keys, ["get", "get", "insert", "remove", "replace"])
+                events.append({"invoke": opened[process], "process": process})
+    version = chance.randint(2, 3)
+    if version == 3:
+        tell_less(chance, events)
+    begun, late = {}, {False: [], True: []}
+    for place, event in enumerate(events):
+        if "invoke" in event:
+            begun[event["process"]] = place
+        elif place > len(events) // 2:
+            late[place > begun[event["process"]] + 100].append(place)
+    for place in chance.sample(late[chance.randrange(2) == 0] or late[False], chance.randrange(2)):
+        others = LESS[1:] if version == 3 else ()
+        events[place] = {"answer": chance.choice([None, 0, 1, 2, *others]), "process": events[place]["process"]}
+    return {"start": start, "version": version, "events": events}
+
+
+def behind_answer(cases, opened, process, answer):
+    """What may be the case at a key behind an answer: the value, and the answers of the calls that are done by then and still open."""
+    todo, seen, found = list(cases), set(cases), set()
+    while todo:
+        value, done = todo.pop()
+        answers = dict(done)
+        if process in answers:
+            if agrees(opened[process][0], answers[process], answer):
+                found.add((value, done - {(process, answers[process])}))
+            continue
+        for other, (call, is_answered) in opened.items():
+            if other not in answers:
+                held = {} if value is None else {call[1]: value}
+                given = answer_of(held, *call)
+                more = held.get(call[1]), done | {(other, given if is_answered else None)}
+                if more not in seen:
+                    seen.add(more)
+                    todo.append(more)
+    return found
+
+
+def lost_by_deaths(history):
+    """The first event with which a history without scans has no order, or None. An open get that is never answered does not count."""
+    events = history["events"]
+    start, last = dict(history["start"]), {event["process"]: event for event in events}
+    cases, opened, keys = {}, {}, {}
+    for place, event in enumerate(events):
+        process = event["process"]
+        if "invoke" in event:
+            call, is_answered = event["invoke"], event is not last[process]
+            keys[process] = call[1]
+            if is_answered or call[0] != "get":
+                opened.setdefault(call[1], {})[process] = call, is_answered
+            continue
+        key = keys[process]
+        cases[key] = behind_answer(cases.get(key, {(start.get(key), frozenset())}), opened[key], process, event["answer"])
+        del opened[key][process]
+        if not cases[key]:
+            return place
+    return None
+
+
+def has_order(calls, start):
+    """Whether some order of calls, each with the events of its invocation and its answer and with the answer, or without, is one from these
+    pairs: all that may come next are tried, from each set of calls and pairs that is reached."""
+    wanted = sum(1 << number for number, (_, _, end, _) in enumerate(calls) if end is not None)
+    todo, seen = [(0, start)], {(0, start)}
+    while todo:
+        taken, pairs = todo.pop()
+        if taken & wanted == wanted:
+            return True
+        left = [(number, call) for number, call in enumerate(calls) if not taken >> number & 1]
+        first = min(end for _, (_, _, end, _) in left if end is not None)
+        for number, (call, begin, end, answer) in left:
+            held = dict(pairs)
+            found = answer_of(held, *call)
+            if begin > first or not (end is None or answer == "refused" or agrees(call, found, answer)):
+                continue
+            following = taken | 1 << number, pairs if end is not None and answer == "refused" else tuple(sorted(held.items()))
+            if following not in seen:
+                seen.add(following)
+                todo.append(following)
+    return False
+
+
+def lost_by_all_orders(history):
+    """The first event with which a history has no order, or None."""
+    start, calls, opened = tuple(map(tuple, history.get("start", []))), [], {}
+    for place, event in enumerate(history["events"]):
+        if "invoke" in event:
+            opened[event["process"]] = len(calls)
+            calls.append((event["invoke"], place, None, None))
+            continue
+        number = opened.pop(event["process"])
+        calls[number] = (*calls[number][:2], place, event["answer"])
+        if not has_order(calls, start):
+            return place
+    return None
+
+
+def wrong_with_event(history, lines, wanted):
+    """What is wrong with a verdict where the event is known with which the history has no order, or None is."""
+    report = lines[0]
+    if report["verdict"] == "undecided" and (wanted is None or report["event"] <= wanted):
+        return wrong_with_doubt(history, report, lines[1:])
+    if wanted is None:
+        return wrong_with_count(history, lines)
+    if report["verdict"] != "no" or report["event"] != wanted:
+        return f"{report} of a stream that goes wrong at event {wanted}"
+    return wrong_with_small(history, report, lines[1:])
+
+
+def wrong_with_count(history, lines):
+    """What is wrong with a yes."""
+    calls, overlap = overlap_of(history["events"])
+    return None if lines == [{"calls": calls, "overlap": overlap, "verdict": "yes"}] else f"a yes as {lines}"
+
+
+def wrong_with_keys(history, report):
+    """What is wrong with the keys that are named: each call that is left there has to begin before the event and to be of the key, and the call
+    that was answered has to be among them, unless it tells nothing."""
+    events, event = history["events"], report["event"]
+    begun = [place for place in range(event) if "invoke" in events[place]]
+    call = max(place for place in begun if events[place]["process"] == events[event]["process"])
+    if begun.index(call) != report["call"]:
+        return f"{report}, whose event does not answer its call"
+    for kept in report["keys"]:
+        ranges = [events[place]["invoke"] for place in kept["invoked"] if place in begun]
+        are_of = [low <= kept["key"] <= (ends[0] if name == "scan" else low) for name, low, *ends in ranges]
+        if not all(are_of) or len(are_of) != len(set(kept["invoked"])) or len(are_of) != len(kept["invoked"]):
+            return f"{report}, whose key {kept['key']} has calls that are none of it"
+        if call not in kept["invoked"] and events[event]["answer"] not in ("refused", "done"):
+            return f"{report}, whose key {kept['key']} has not the call that is answered"
+    return None
+
+
+def wrong_with_small(history, report, small):
+    """What is wrong with a no beside its event: the keys, and the small history."""
+    keys = report["keys"]
+    if len(small) != (len(keys) == 1 and len(keys[0]["values"]) == 1):
+        return f"{report}, with the small histories {small}"
+    for few in small:
+        count = sum("invoke" in event for event in few["events"])
+        start = [[keys[0]["key"], value] for value in keys[0]["values"] if value is not None]
+        if count > len(keys[0]["invoked"]) or few.get("start", []) != start:
+            return f"{report}, with a small history of other calls: {few}"
+        judged = said("judge", text_of(few))
+        if judged[0] == 0:
+            return f"a small history of which judge says {judged[1]}"
+    return wrong_with_keys(history, report)
+
+
+def overlap_of(events):
+    """How many calls there are, and how many other ones are open at their invocations, in all."""
+    calls = opened = overlap = 0
+    for event in events:
+        if "invoke" in event:
+            calls, overlap, opened = calls + 1, overlap + opened, opened + 1
+        else:
+            opened -= 1
+    return calls, overlap
+
+
+def run(subcommand, text):
+    """The exit status of a run, each line that it writes on standard output, as a value, and what it writes on standard error."""
+    ran = subprocess.run([PROGRAM, subcommand, *BUDGET], input=text, capture_output=True, timeout=120, check=False)
+    return ran.returncode, [json.loads(line) for line in ran.stdout.splitlines()], ran.stderr
+
+
+def said(subcommand, text):
+    """The same without standard error."""
+    return run(subcommand, text)[:2]
+
+
+def wrong_with_yes(history, text, lines):
+    """What is wrong where `follow` says yes."""
+    wrong = wrong_with_count(history, lines)
+    if wrong:
+        return wrong
+    judged = said("judge", text)
+    return f"yes, but judge says {judged[1]}" if judged[0] == 1 else None
+
+
+def wrong_with_no(history, text, report, small):
+    """What is wrong where `follow` says no."""
+    status, (located,) = said("locate", text)
+    call, event = report["call"], report["event"]
+    if status == 2:
+        fits = located["event"] <= event
+    else:
+        fits = located == {"call": call, "event": event, "verdict": "no"}
+    return wrong_with_small(history, report, small) if fits else f"{report}, but locate says {located}"
+
+
+def wrong_with_doubt(history, report, small):
+    """What is wrong where `follow` does not know."""
+    keys = {"budget": 1, "scans": 0}.get(report["reason"])
+    return f"{report}, with {small}" if small or len(report["keys"]) != keys else wrong_with_keys(history, report)
+
+
+def verdict(history, lost=None):
+    """The verdict of `follow`, and what is wrong with it, or None; `lost` finds the event with which the history has no order, else `judge` and
+    `locate` do."""
+    text = text_of(history)
+    status, lines, told = run("follow", lines_of(history))
+    if status > 2:
+        return "refused", f"{told} of {text.decode()}"
+    report, *small = lines
+    if lost is not None:
+        wrong = wrong_with_event(history, lines, lost(history))
+    elif status == 0:
+        wrong = wrong_with_yes(history, text, lines)
+    elif status == 1:
+        wrong = wrong_with_no(history, text, report, small)
+    else:
+        wrong = wrong_with_doubt(history, report, small)
+    if told:
+        wrong = wrong or f"{told} on standard error, with {lines}"
+    return report["verdict"], wrong and f"follow says {wrong}: {text.decode()}"
+
+
+def examples():
+    """The histories of the examples that are not refused."""
+    for name in sorted(os.listdir(EXAMPLES)):
+        if name.endswith(".json") and not name.endswith(("-stream.json", "-replay.json", "-plan.json")):
+            with open(os.path.join(EXAMPLES, name), "rb") as source:
+                text = source.read()
+            if said("judge", text)[0] < REFUSED:
+                yield json.loads(text)
+
+
+def main():
+    # Builds the program where that is still to do.
+    with open(ORDERED, "rb") as source:
+        subprocess.run([os.path.join(TOP, "bench"), "draw"], stdin=source, stdout=subprocess.DEVNULL, check=True)
+    count = int(sys.argv[1]) if sys.argv[1:] else STREAMS
+    failed = 0
+    verdicts = {"yes": 0, "no": 0, "undecided": 0, "refused": 0}
+    with concurrent.futures.ProcessPoolExecutor(os.cpu_count()) as runs:
+        judged = [*examples(), *(drawn_history(SEED + number, False) for number in range(count) if number % SMALL_SHARE == 0)]
+        small = [drawn_history(SEED + number, True) for number in range(count) if number % SMALL_SHARE]
+        deaths = [drawn_deaths(SEED + number) for number in range(count // DEAD_SHARE)]
+        for found, wrong in itertools.chain(
+            runs.map(verdict, judged), runs.map(verdict, small, itertools.repeat(lost_by_all_orders)),
+            runs.map(verdict, deaths, itertools.repeat(lost_by_deaths)),
+        ):
+            verdicts[found] += 1
+            if wrong is not None:
+                failed += 1
+                print(wrong)
+    print(", ".join(f"{number} {found}" for found, number in verdicts.items()))
+    print(f"{sum(verdicts.values()) - failed} passed, {failed} failed")
+    return 1 if failed else 0
+
+
+if __name__ == "__main__":
+    sys.exit(main())

@@ -1,0 +1,806 @@
+#!/usr/bin/env python3
+"""Runs the program on histories and on streams of events: orders, verdicts, locations, explanations, and what is followed.
+
+    tests/program/verdicts.py
+
+What is expected was worked out by hand. Of each history the place where it goes wrong is also sought by a verdict on each of its
+first parts. The last line counts what passed and failed.
+"""
+
+import functools
+import json
+import sys
+
+sys.dont_write_bytecode = True
+from rows import (  # noqa: E402
+    LONG, MOST_CALLS, NOTE, answer, compare, gets, history, numbers, pairs_listed, report_of, scans_of_inserts, started, stream,
+)
+
+STATUSES = {"yes": 0, "no": 1, "undecided": 2}
+
+# The events of small histories.
+NO_EVENTS = ""
+INSERT_THEN_GET = """
+    {"invoke":["insert",5,7],"process":0}, {"answer":null,"process":0},
+    {"invoke":["get",5],"process":0}, {"answer":7,"process":0}"""
+GET_MISSES_ANSWERED_INSERT = """
+    {"invoke":["insert",5,7],"process":0}, {"answer":null,"process":0},
+    {"invoke":["get",5],"process":1}, {"answer":null,"process":1}"""
+GET_SEES_ANSWERED_INSERT = """
+    {"invoke":["insert",5,7],"process":0}, {"answer":null,"process":0},
+    {"invoke":["get",5],"process":1}, {"answer":7,"process":1}"""
+GET_MISSES_OPEN_INSERT = """
+    {"invoke":["insert",5,7],"process":0},
+    {"invoke":["get",5],"process":1}, {"answer":null,"process":1},
+    {"answer":null,"process":0}"""
+GET_SEES_PENDING_INSERT = """
+    {"invoke":["insert",5,7],"process":0},
+    {"invoke":["get",5],"process":1}, {"answer":7,"process":1}"""
+GET_MISSES_PENDING_INSERT = """
+    {"invoke":["insert",5,7],"process":0},
+    {"invoke":["get",5],"process":1}, {"answer":null,"process":1}"""
+LATER_GET_MISSES_WHAT_WAS_SEEN = """
+    {"invoke":["insert",5,7],"process":0},
+    {"invoke":["get",5],"process":1}, {"answer":7,"process":1},
+    {"invoke":["get",5],"process":1}, {"answer":null,"process":1}"""
+SCAN_MISSES_THE_FIRST_OF_TWO_INSERTS = """
+    {"invoke":["scan",1,2],"process":2},
+    {"invoke":["insert",1,10],"process":0}, {"answer":null,"process":0},
+    {"invoke":["insert",2,20],"process":0}, {"answer":null,"process":0},
+    {"answer":[[2,20]],"process":2}"""
+SCANS_SEE_TWO_INSERTS_IN_DIFFERENT_ORDER = """
+    {"invoke":["insert",1,10],"process":0}, {"invoke":["insert",2,20],"process":1},
+    {"invoke":["scan",1,2],"process":2}, {"invoke":["scan",1,2],"process":3},
+    {"answer":null,"process":0}, {"answer":null,"process":1},
+    {"answer":[[1,10]],"process":2}, {"answer":[[2,20]],"process":3}"""
+TWO_KEYS = """
+    {"invoke":["insert",1,10],"process":0}, {"invoke":["get",1],"process":1},
+    {"invoke":["insert",9,90],"process":2}, {"answer":null,"process":2},
+    {"answer":null,"process":1}, {"answer":null,"process":0}"""
+TWO_KEYS_AND_A_PENDING_SCAN = """
+    {"invoke":["insert",1,10],"process":0}, {"invoke":["get",1],"process":1},
+    {"invoke":["insert",9,90],"process":2}, {"answer":null,"process":2},
+    {"answer":null,"process":1}, {"answer":null,"process":0},
+    {"invoke":["scan",0,100],"process":1}"""
+GET_SEES_WHAT_NOBODY_INSERTED = """
+    {"invoke":["insert",5,7],"process":0},
+    {"invoke":["get",5],"process":1}, {"answer":null,"process":1},
+    {"answer":null,"process":0},
+    {"invoke":["get",9],"process":2}, {"answer":1,"process":2}"""
+SCAN_OF_ALL_KEYS = """
+    {"invoke":["insert",0,1],"process":0}, {"answer":null,"process":0},
+    {"invoke":["insert",18446744073709551615,2],"process":0}, {"answer":null,"process":0},
+    {"invoke":["scan",0,18446744073709551615],"process":0},
+    {"answer":[[0,1],[18446744073709551615,2]],"process":0}"""
+SCAN_LISTS_KEYS_THAT_FALL = """
+    {"invoke":["insert",0,1],"process":0}, {"answer":null,"process":0},
+    {"invoke":["insert",18446744073709551615,2],"process":0}, {"answer":null,"process":0},
+    {"invoke":["scan",0,18446744073709551615],"process":0},
+    {"answer":[[18446744073709551615,2],[0,1]],"process":0}"""
+GET_MISSES_REFUSED_INSERT = """
+    {"invoke":["insert",5,7],"process":0}, {"answer":"refused","process":0},
+    {"invoke":["get",5],"process":0}, {"answer":null,"process":0}"""
+GET_SEES_REFUSED_INSERT = """
+    {"invoke":["insert",5,7],"process":0}, {"answer":"refused","process":0},
+    {"invoke":["get",5],"process":0}, {"answer":7,"process":0}"""
+GET_IS_ANSWERED_BY_A_LIST = """
+    {"invoke":["get",5],"process":0}, {"answer":[],"process":0}"""
+TWO_KEYS_BY_FALLING_KEY = """
+    {"invoke":["insert",9,90],"process":0}, {"answer":null,"process":0},
+    {"invoke":["insert",1,10],"process":0}, {"answer":null,"process":0}"""
+# The insert that is invoked first takes effect last, after a get that follows the insert at another key.
+EFFECT_LATER_THAN_THE_INVOCATION = """
+    {"invoke":["insert",1,10],"process":0}, {"invoke":["insert",9,90],"process":1},
+    {"answer":null,"process":1}, {"invoke":["get",1],"process":1},
+    {"answer":null,"process":1}, {"answer":null,"process":0}"""
+TWO_GETS_SEE_WHAT_NOBODY_INSERTED = """
+    {"invoke":["get",9],"process":0}, {"answer":1,"process":0},
+    {"invoke":["get",1],"process":0}, {"answer":1,"process":0}"""
+INSERT_BESIDE_A_SCAN_IS_ANSWERED_FALSELY = """
+    {"invoke":["scan",1,2],"process":0}, {"answer":[],"process":0},
+    {"invoke":["insert",3,30],"process":0}, {"answer":5,"process":0}"""
+REFUSED_SCAN_TIES_KEYS = """
+    {"invoke":["insert",1,10],"process":0}, {"answer":null,"process":0},
+    {"invoke":["scan",1,2],"process":0}, {"answer":"refused","process":0},
+    {"invoke":["get",2],"process":0}, {"answer":5,"process":0}"""
+PENDING_GET_AND_SCAN = """
+    {"invoke":["get",5],"process":0}, {"invoke":["scan",0,9],"process":1}"""
+PENDING_INSERT = '{"invoke":["insert",5,7],"process":0}'
+PENDING_REMOVE = '{"invoke":["remove",5],"process":0}'
+ONE_INSERT = '{"invoke":["insert",5,7],"process":0}, {"answer":null,"process":0}'
+# The inserts come at the ends of the keys, and the pair at the lower end is removed after the scan.
+SCAN_BEFORE_A_REMOVE = """
+    {"invoke":["insert",18446744073709551615,2],"process":0}, {"answer":null,"process":0},
+    {"invoke":["insert",0,1],"process":0}, {"answer":null,"process":0},
+    {"invoke":["scan",0,18446744073709551615],"process":0},
+    {"answer":[[0,1],[18446744073709551615,2]],"process":0},
+    {"invoke":["remove",0],"process":1}, {"answer":1,"process":1},
+    {"invoke":["get",0],"process":1}, {"answer":null,"process":1}"""
+# A get that the insert beside it answers, until the insert is refused; and the same, where the get misses the insert.
+SEEN_INSERT_IS_REFUSED = """
+    {"invoke":["insert",5,7],"process":0}, {"invoke":["get",5],"process":1},
+    {"answer":7,"process":1}, {"answer":"refused","process":0}"""
+MISSED_INSERT_IS_REFUSED = """
+    {"invoke":["insert",5,7],"process":0}, {"invoke":["get",5],"process":1},
+    {"answer":null,"process":1}, {"answer":"refused","process":0}"""
+# The get in the middle sees what nobody inserted, whatever is answered and invoked behind it.
+FALSE_GET_BEFORE_OTHERS = """
+    {"invoke":["insert",5,7],"process":0}, {"answer":null,"process":0},
+    {"invoke":["get",9],"process":0}, {"answer":1,"process":0},
+    {"invoke":["get",9],"process":0}, {"answer":null,"process":0},
+    {"invoke":["get",9],"process":0}"""
+# The get sees the third of five open inserts, of which others are taken first or not at all.
+GET_SEES_THE_THIRD_OF_FIVE_OPEN_INSERTS = """
+    {"invoke":["insert",5,10],"process":0}, {"invoke":["insert",5,20],"process":1},
+    {"invoke":["insert",5,30],"process":2}, {"invoke":["insert",5,40],"process":3},
+    {"invoke":["insert",5,50],"process":4},
+    {"invoke":["get",5],"process":5}, {"answer":30,"process":5}"""
+# The pending remove has the lower number, and changes nothing here.
+GET_MISSES_BESIDE_A_PENDING_REMOVE = """
+    {"invoke":["remove",5],"process":0},
+    {"invoke":["get",5],"process":1}, {"answer":null,"process":1}"""
+# Three calls can be taken and leave nothing, or a pair: the pending insert goes first or last.
+PENDING_INSERT_GOES_BEFORE_OR_AFTER_A_REMOVE = """
+    {"invoke":["insert",0,0],"process":0}, {"answer":null,"process":0},
+    {"invoke":["insert",0,0],"process":1},
+    {"invoke":["remove",0],"process":0}, {"answer":0,"process":0},
+    {"invoke":["get",0],"process":2}, {"answer":0,"process":2}"""
+PENDING_REMOVE_AND_INSERT = """
+    {"invoke":["remove",5],"process":0}, {"invoke":["insert",5,7],"process":1}"""
+# A scan that a value answers holds its keys together, as any completed scan does.
+SCAN_IS_ANSWERED_BY_A_VALUE = """
+    {"invoke":["insert",1,10],"process":0}, {"answer":null,"process":0},
+    {"invoke":["scan",1,2],"process":0}, {"answer":7,"process":0},
+    {"invoke":["get",2],"process":0}, {"answer":5,"process":0}"""
+SCANS_OF_NEIGHBOURS = """
+    {"invoke":["scan",3,4],"process":0}, {"answer":[],"process":0},
+    {"invoke":["scan",1,2],"process":0}, {"answer":[],"process":0}"""
+SCANS_THAT_SHARE_A_KEY = """
+    {"invoke":["scan",2,4],"process":0}, {"answer":[],"process":0},
+    {"invoke":["scan",1,2],"process":0}, {"answer":[],"process":0}"""
+SCAN_INSIDE_ANOTHER = """
+    {"invoke":["insert",8,80],"process":0}, {"answer":null,"process":0},
+    {"invoke":["scan",2,3],"process":0}, {"answer":[],"process":0},
+    {"invoke":["scan",1,9],"process":0}, {"answer":[],"process":0}"""
+LAST_KEY_AND_ITS_NEIGHBOUR = """
+    {"invoke":["scan",18446744073709551615,18446744073709551615],"process":0}, {"answer":[],"process":0},
+    {"invoke":["get",18446744073709551614],"process":0}, {"answer":null,"process":0}"""
+# Pending inserts and removes stand with their key, pending gets and scans nowhere.
+PENDING_CALLS_OF_EACH_KIND = """
+    {"invoke":["insert",5,7],"process":0}, {"invoke":["remove",4],"process":1},
+    {"invoke":["get",3],"process":2}, {"invoke":["scan",0,9],"process":3},
+    {"invoke":["get",5],"process":4}, {"answer":7,"process":4}"""
+# An insert that is open beside three hundred gets, is answered, and is seen.
+OPEN_INSERT_BESIDE_MANY_GETS = ",".join([
+    '{"invoke":["insert",5,9],"process":1}', gets(300), '{"answer":null,"process":1}',
+    '{"invoke":["get",5],"process":0},{"answer":9,"process":0}',
+])
+
+# Events, words, and the line that is written of them as an order.
+ORDERS = [
+    (NO_EVENTS, "", "ok"),
+    (NO_EVENTS, "0", "fault: 1 Unknown at place 0"),
+    (GET_MISSES_ANSWERED_INSERT, "", "fault: 5 Missing call 0"),
+    (GET_MISSES_ANSWERED_INSERT, "1 0", "fault: 3 Precedence at place 1"),
+    (GET_MISSES_ANSWERED_INSERT, "0", "fault: 5 Missing call 1"),
+    (GET_MISSES_ANSWERED_INSERT, "0 0", "fault: 2 Repeated at place 1"),
+    (GET_MISSES_ANSWERED_INSERT, "0 1", "fault: 4 Reply at place 1"),
+    (GET_MISSES_ANSWERED_INSERT, "7", "fault: 1 Unknown at place 0"),
+    (INSERT_THEN_GET, "0 1", "ok"),
+    (INSERT_THEN_GET, "+0 001", "ok"),
+    (INSERT_THEN_GET, "0 1 4294967295", "fault: 1 Unknown at place 2"),
+    (GET_SEES_PENDING_INSERT, "0 1", "ok"),
+    (GET_SEES_PENDING_INSERT, "1", "fault: 4 Reply at place 0"),
+    (GET_MISSES_PENDING_INSERT, "1", "ok"),
+    (LATER_GET_MISSES_WHAT_WAS_SEEN, "0 1 2", "fault: 4 Reply at place 2"),
+    (GET_MISSES_REFUSED_INSERT, "0 1", "ok"),
+    (TWO_KEYS_AND_A_PENDING_SCAN, "1 0 2", "ok"),
+    (TWO_KEYS_AND_A_PENDING_SCAN, "1 0 2 3", "ok"),
+    (TWO_KEYS_AND_A_PENDING_SCAN, "3 1 0 2", "fault: 3 Precedence at place 1"),
+    (SCAN_OF_ALL_KEYS, "0 1 2", "ok"),
+    (SCAN_LISTS_KEYS_THAT_FALL, "0 1 2", "fault: 4 Reply at place 2"),
+    (SCAN_BEFORE_A_REMOVE, "0 1 2 3 4", "ok"),
+    (SCAN_BEFORE_A_REMOVE, "0 1 2 4", "fault: 4 Reply at place 3"),
+    (gets(100), numbers(99).replace(",", " "), "fault: 5 Missing call 99"),
+    (gets(100), numbers(100).replace(",", " "), "ok"),
+    (scans_of_inserts(MOST_CALLS - 1, 1), numbers(MOST_CALLS).replace(",", " "), "ok"),
+]
+
+# Starting pairs, and a call from them with answers that make it an order and with others that do not.
+HELD = "[0,1],[4,40],[7,70],[18446744073709551615,9]"
+ANSWERS = [
+    ('"get",4', ["40", '"refused"'], ["70", "null", "[[4,40]]"]),
+    ('"insert",4,1', ["40", '"refused"'], ["70", "1", "null", "[[4,40]]"]),
+    ('"remove",4', ["40", '"refused"'], ["70", "null", "[[4,40]]"]),
+    ('"replace",4,40,1', ["40", '"refused"'], ["1", "null", "[[4,40]]"]),
+    ('"replace",4,1,40', ["40"], ["1", "null"]),
+    ('"get",5', ["null", '"refused"'], ["40", "[]"]),
+    ('"insert",5,1', ["null"], ["1", "[]"]),
+    ('"remove",5', ["null"], ["40"]),
+    ('"replace",5,0,1', ["null"], ["0", "1"]),
+    ('"scan",4,7', ["[[4,40],[7,70]]", '"refused"'], ["[[7,70],[4,40]]", "[[4,40],[7,71]]", "[[4,40]]", "40", "null"]),
+    ('"scan",5,6', ["[]"], ["[[4,40]]", "null"]),
+    ('"scan",0,0', ["[[0,1]]"], ["[]"]),
+    ('"scan",5,18446744073709551615', ["[[7,70],[18446744073709551615,9]]"], ["[[7,70]]"]),
+    ('"scan",0,18446744073709551615', [f"[{HELD}]"], ["[]"]),
+]
+
+# Events, a budget and the report, whatever the number of workers.
+VERDICTS = [
+    (NO_EVENTS, 1000, '{"order":[],"verdict":"yes"}'),
+    (INSERT_THEN_GET, 1000, '{"order":[0,1],"verdict":"yes"}'),
+    (GET_MISSES_OPEN_INSERT, 1000, '{"order":[1,0],"verdict":"yes"}'),
+    (GET_SEES_PENDING_INSERT, 1000, '{"order":[0,1],"verdict":"yes"}'),
+    (GET_MISSES_PENDING_INSERT, 1000, '{"order":[1],"verdict":"yes"}'),
+    (TWO_KEYS, 1000, '{"order":[1,0,2],"verdict":"yes"}'),
+    (TWO_KEYS_AND_A_PENDING_SCAN, 1000, '{"order":[1,0,2],"verdict":"yes"}'),
+    (TWO_KEYS_BY_FALLING_KEY, 1000, '{"order":[0,1],"verdict":"yes"}'),
+    (EFFECT_LATER_THAN_THE_INVOCATION, 1000, '{"order":[1,2,0],"verdict":"yes"}'),
+    (SCAN_OF_ALL_KEYS, 1000, '{"order":[0,1,2],"verdict":"yes"}'),
+    (GET_MISSES_REFUSED_INSERT, 1000, '{"order":[0,1],"verdict":"yes"}'),
+    (PENDING_GET_AND_SCAN, 1000, '{"order":[],"verdict":"yes"}'),
+    (GET_MISSES_ANSWERED_INSERT, 1000, '{"calls":[0,1],"hi":5,"lo":5,"verdict":"no"}'),
+    (LATER_GET_MISSES_WHAT_WAS_SEEN, 1000, '{"calls":[0,1,2],"hi":5,"lo":5,"verdict":"no"}'),
+    (SCAN_MISSES_THE_FIRST_OF_TWO_INSERTS, 1000, '{"calls":[0,1,2],"hi":2,"lo":1,"verdict":"no"}'),
+    (SCANS_SEE_TWO_INSERTS_IN_DIFFERENT_ORDER, 1000, '{"calls":[0,1,2,3],"hi":2,"lo":1,"verdict":"no"}'),
+    (SCAN_LISTS_KEYS_THAT_FALL, 1000, '{"calls":[0,1,2],"hi":18446744073709551615,"lo":0,"verdict":"no"}'),
+    (GET_SEES_REFUSED_INSERT, 1000, '{"calls":[0,1],"hi":5,"lo":5,"verdict":"no"}'),
+    (GET_IS_ANSWERED_BY_A_LIST, 1000, '{"calls":[0],"hi":5,"lo":5,"verdict":"no"}'),
+    (INSERT_BESIDE_A_SCAN_IS_ANSWERED_FALSELY, 1000, '{"calls":[1],"hi":3,"lo":3,"verdict":"no"}'),
+    (REFUSED_SCAN_TIES_KEYS, 1000, '{"calls":[0,1,2],"hi":2,"lo":1,"verdict":"no"}'),
+    (TWO_GETS_SEE_WHAT_NOBODY_INSERTED, 1000, '{"calls":[1],"hi":1,"lo":1,"verdict":"no"}'),
+    # At small budgets.
+    (GET_MISSES_OPEN_INSERT, 4, '{"order":[1,0],"verdict":"yes"}'),
+    (GET_MISSES_OPEN_INSERT, 3, '{"calls":[0,1],"hi":5,"lo":5,"verdict":"undecided"}'),
+    # The later no decides where the segment before it is spent.
+    (GET_SEES_WHAT_NOBODY_INSERTED, 4, '{"calls":[2],"hi":9,"lo":9,"verdict":"no"}'),
+    (GET_SEES_WHAT_NOBODY_INSERTED, 3, '{"calls":[2],"hi":9,"lo":9,"verdict":"no"}'),
+    # One call is decided at a budget of two.
+    (ONE_INSERT, 2, '{"order":[0],"verdict":"yes"}'),
+    (GET_IS_ANSWERED_BY_A_LIST, 2, '{"calls":[0],"hi":5,"lo":5,"verdict":"no"}'),
+    (ONE_INSERT, 1, '{"calls":[0],"hi":5,"lo":5,"verdict":"undecided"}'),
+    (PENDING_REMOVE, 1, '{"order":[],"verdict":"yes"}'),
+    # Each segment has the whole budget.
+    (TWO_KEYS_BY_FALLING_KEY, 2, '{"order":[0,1],"verdict":"yes"}'),
+    (TWO_KEYS_BY_FALLING_KEY, 1, '{"calls":[1],"hi":1,"lo":1,"verdict":"undecided"}'),
+    # The budget is of new configurations.
+    (GET_MISSES_ANSWERED_INSERT, 2, '{"calls":[0,1],"hi":5,"lo":5,"verdict":"no"}'),
+    (GET_MISSES_ANSWERED_INSERT, 1, '{"calls":[0,1],"hi":5,"lo":5,"verdict":"undecided"}'),
+    (GET_IS_ANSWERED_BY_A_LIST, 1, '{"calls":[0],"hi":5,"lo":5,"verdict":"no"}'),
+    (LATER_GET_MISSES_WHAT_WAS_SEEN, 3, '{"calls":[0,1,2],"hi":5,"lo":5,"verdict":"no"}'),
+    (LATER_GET_MISSES_WHAT_WAS_SEEN, 2, '{"calls":[0,1,2],"hi":5,"lo":5,"verdict":"undecided"}'),
+    (SCANS_SEE_TWO_INSERTS_IN_DIFFERENT_ORDER, 8, '{"calls":[0,1,2,3],"hi":2,"lo":1,"verdict":"no"}'),
+    (SCANS_SEE_TWO_INSERTS_IN_DIFFERENT_ORDER, 7, '{"calls":[0,1,2,3],"hi":2,"lo":1,"verdict":"undecided"}'),
+    # A pending call need not be taken; the least order takes the lower number first, also of such a call.
+    (PENDING_INSERT, 1, '{"order":[],"verdict":"yes"}'),
+    (PENDING_REMOVE_AND_INSERT, 1, '{"order":[],"verdict":"yes"}'),
+    (GET_MISSES_BESIDE_A_PENDING_REMOVE, 3, '{"order":[0,1],"verdict":"yes"}'),
+    (GET_MISSES_BESIDE_A_PENDING_REMOVE, 2, '{"calls":[0,1],"hi":5,"lo":5,"verdict":"undecided"}'),
+    # The same calls taken count once for each list of pairs that they leave.
+    (PENDING_INSERT_GOES_BEFORE_OR_AFTER_A_REMOVE, 7, '{"order":[0,2,1,3],"verdict":"yes"}'),
+    (PENDING_INSERT_GOES_BEFORE_OR_AFTER_A_REMOVE, 6, '{"calls":[0,1,2,3],"hi":0,"lo":0,"verdict":"undecided"}'),
+    # Which calls are in one segment: where the budget is spent, the first one is told.
+    (SCAN_IS_ANSWERED_BY_A_VALUE, 1000, '{"calls":[0,1,2],"hi":2,"lo":1,"verdict":"no"}'),
+    (SCANS_OF_NEIGHBOURS, 2, '{"order":[0,1],"verdict":"yes"}'),
+    (SCANS_OF_NEIGHBOURS, 1, '{"calls":[1],"hi":2,"lo":1,"verdict":"undecided"}'),
+    (SCANS_THAT_SHARE_A_KEY, 2, '{"calls":[0,1],"hi":4,"lo":1,"verdict":"undecided"}'),
+    (SCAN_INSIDE_ANOTHER, 1000, '{"calls":[0,1,2],"hi":9,"lo":1,"verdict":"no"}'),
+    (
+        LAST_KEY_AND_ITS_NEIGHBOUR, 1,
+        '{"calls":[1],"hi":18446744073709551614,"lo":18446744073709551614,"verdict":"undecided"}',
+    ),
+    (PENDING_CALLS_OF_EACH_KIND, 1000, '{"order":[0,4],"verdict":"yes"}'),
+    (PENDING_CALLS_OF_EACH_KIND, 1, '{"calls":[0,4],"hi":5,"lo":5,"verdict":"undecided"}'),
+]
+
+# Texts that spell a history otherwise than the compact form does, and their orders.
+SPELLED = [
+    (
+        """{ "version": 1,
+ "events": [ {"process": 0, "invoke": ["insert", 5, 7]}, {"process": 0, "answer": null},
+ {"invoke": ["get", 5], "process": 0}, {"process": 0, "answer": 7} ] }
+""", "0,1",
+    ),
+    ('{"events":[],"start":[],"version":2}', ""),
+    (
+        """{"version": 2, "start": [[5, 7], [6, 0]], "events": [{"invoke": ["replace", 5, 7, 8], "process": 0},
+ {"answer": 7, "process": 0}, {"process": 0, "invoke": ["get", 5]}, {"process": 0, "answer": 8}]}""", "0,1",
+    ),
+]
+
+WELL = '{"verdict":"yes"}'
+
+# Events, a budget and the line that says where they go wrong. Four calls at a key and fewer are tried in each order, at whatever budget.
+LOCATIONS = [
+    (NO_EVENTS, 1, WELL),
+    (INSERT_THEN_GET, 1000, WELL),
+    (GET_SEES_ANSWERED_INSERT, 1000, WELL),
+    (GET_MISSES_OPEN_INSERT, 1000, WELL),
+    (GET_SEES_PENDING_INSERT, 1000, WELL),
+    (GET_MISSES_PENDING_INSERT, 1000, WELL),
+    (TWO_KEYS, 1000, WELL),
+    (TWO_KEYS_AND_A_PENDING_SCAN, 1000, WELL),
+    (TWO_KEYS_BY_FALLING_KEY, 1000, WELL),
+    (EFFECT_LATER_THAN_THE_INVOCATION, 1000, WELL),
+    (SCAN_OF_ALL_KEYS, 1000, WELL),
+    (GET_MISSES_REFUSED_INSERT, 1000, WELL),
+    (MISSED_INSERT_IS_REFUSED, 1000, WELL),
+    (PENDING_GET_AND_SCAN, 1, WELL),
+    (PENDING_INSERT, 1, WELL),
+    (PENDING_REMOVE, 1, WELL),
+    (ONE_INSERT, 2, WELL),
+    (GET_MISSES_ANSWERED_INSERT, 1000, '{"call":1,"event":3,"verdict":"no"}'),
+    (LATER_GET_MISSES_WHAT_WAS_SEEN, 1000, '{"call":2,"event":4,"verdict":"no"}'),
+    (SCAN_MISSES_THE_FIRST_OF_TWO_INSERTS, 1000, '{"call":0,"event":5,"verdict":"no"}'),
+    (SCANS_SEE_TWO_INSERTS_IN_DIFFERENT_ORDER, 1000, '{"call":3,"event":7,"verdict":"no"}'),
+    (SCAN_LISTS_KEYS_THAT_FALL, 1000, '{"call":2,"event":5,"verdict":"no"}'),
+    (GET_SEES_WHAT_NOBODY_INSERTED, 1000, '{"call":2,"event":5,"verdict":"no"}'),
+    (GET_SEES_REFUSED_INSERT, 1000, '{"call":1,"event":3,"verdict":"no"}'),
+    (SEEN_INSERT_IS_REFUSED, 1000, '{"call":0,"event":3,"verdict":"no"}'),
+    (GET_IS_ANSWERED_BY_A_LIST, 1000, '{"call":0,"event":1,"verdict":"no"}'),
+    (TWO_GETS_SEE_WHAT_NOBODY_INSERTED, 1000, '{"call":0,"event":1,"verdict":"no"}'),
+    (INSERT_BESIDE_A_SCAN_IS_ANSWERED_FALSELY, 1000, '{"call":1,"event":3,"verdict":"no"}'),
+    (REFUSED_SCAN_TIES_KEYS, 1000, '{"call":2,"event":5,"verdict":"no"}'),
+    (FALSE_GET_BEFORE_OTHERS, 1000, '{"call":1,"event":3,"verdict":"no"}'),
+    (FALSE_GET_BEFORE_OTHERS, 1, '{"call":1,"event":3,"verdict":"no"}'),
+    (GET_SEES_WHAT_NOBODY_INSERTED, 1, '{"call":2,"event":5,"verdict":"no"}'),
+    (INSERT_THEN_GET, 1, WELL),
+    (ONE_INSERT, 1, WELL),
+    (gets(MOST_CALLS), 1, WELL),
+    # Six calls of a key, of which the one that is answered cannot come first: before any of them is taken there is one position, and a second
+    # behind the first insert.
+    (GET_SEES_THE_THIRD_OF_FIVE_OPEN_INSERTS, 1, '{"call":5,"event":6,"reason":"budget","verdict":"undecided"}'),
+    (GET_SEES_THE_THIRD_OF_FIVE_OPEN_INSERTS, 1000, WELL),
+]
+
+# Words, events, and the whole report, or where they go wrong: the number of workers and the place of the options tell nothing.
+OPTIONS = [
+    ("judge", GET_MISSES_OPEN_INSERT, '{"order":[1,0],"verdict":"yes"}'),
+    ("judge --workers 2", GET_MISSES_OPEN_INSERT, '{"order":[1,0],"verdict":"yes"}'),
+    ("judge --budget 1000000", GET_MISSES_OPEN_INSERT, '{"order":[1,0],"verdict":"yes"}'),
+    ("judge --budget 4 --workers 3", GET_MISSES_OPEN_INSERT, '{"order":[1,0],"verdict":"yes"}'),
+    ("judge --workers 3 --budget 4", GET_MISSES_OPEN_INSERT, '{"order":[1,0],"verdict":"yes"}'),
+    ("judge --budget=3 --workers=4", GET_MISSES_OPEN_INSERT, '{"calls":[0,1],"hi":5,"lo":5,"verdict":"undecided"}'),
+    ("judge --workers=4 --budget=3", GET_MISSES_OPEN_INSERT, '{"calls":[0,1],"hi":5,"lo":5,"verdict":"undecided"}'),
+    ("locate", NO_EVENTS, WELL),
+    ("locate --budget 1000000", LATER_GET_MISSES_WHAT_WAS_SEEN, '{"call":2,"event":4,"verdict":"no"}'),
+    ("locate --budget=1", GET_MISSES_ANSWERED_INSERT, '{"call":1,"event":3,"verdict":"no"}'),
+]
+
+# The value 5 is overwritten, and read again behind others.
+READ_OF_AN_OVERWRITTEN_VALUE = """
+    {"invoke":["insert",1,4],"process":0}, {"answer":null,"process":0},
+    {"invoke":["insert",1,5],"process":0}, {"answer":4,"process":0},
+    {"invoke":["get",1],"process":0}, {"answer":5,"process":0},
+    {"invoke":["insert",1,6],"process":0}, {"answer":5,"process":0},
+    {"invoke":["insert",2,9],"process":0}, {"answer":null,"process":0},
+    {"invoke":["insert",1,7],"process":0}, {"answer":6,"process":0},
+    {"invoke":["get",1],"process":0}, {"answer":5,"process":0},
+    {"invoke":["scan",1,2],"process":0}, {"answer":[[1,7],[2,9]],"process":0}"""
+# The same, where 5 is inserted a second time, beside the read.
+READ_OF_A_VALUE_THAT_CAME_BACK = """
+    {"invoke":["insert",1,5],"process":0}, {"answer":null,"process":0},
+    {"invoke":["insert",1,6],"process":0}, {"answer":5,"process":0},
+    {"invoke":["insert",1,5],"process":1},
+    {"invoke":["get",1],"process":0}, {"answer":5,"process":0},
+    {"invoke":["get",1],"process":0}, {"answer":6,"process":0}"""
+
+
+def overwrites(count):
+    """So many inserts at one key, each answered by the value of the one before, and then a read of the value of a middle one."""
+    held = ["null", *map(str, range(count))]
+    events = [f'{{"invoke":["insert",5,{value}],"process":0}},{{"answer":{held[value]},"process":0}}' for value in range(count)]
+    return ",".join([*events, f'{{"invoke":["get",5],"process":0}},{{"answer":{count // 2},"process":0}}'])
+
+
+# Events, a budget, and the calls that explain them: of each the event of its invocation, a question mark where its answer does not
+# count, or it has none, and a letter for the reason.
+EXPLANATIONS = [
+    (GET_SEES_ANSWERED_INSERT, 1000, None),
+    (GET_MISSES_ANSWERED_INSERT, 1000, "0o 2o"),
+    # Two configurations are met with both calls, and one without one of them.
+    (GET_MISSES_ANSWERED_INSERT, 2, "0o 2o"),
+    (GET_SEES_WHAT_NOBODY_INSERTED, 1000, "4o"),
+    (LATER_GET_MISSES_WHAT_WAS_SEEN, 1000, "0?o 1o 3o"),
+    # Two inserts that are open or beside, and two scans that cannot both be right.
+    (SCANS_SEE_TWO_INSERTS_IN_DIFFERENT_ORDER, 1000, "0o 1o 2o 3o"),
+    # The insert of 7 overwrites what comes before it, whatever it found.
+    (READ_OF_AN_OVERWRITTEN_VALUE, 1000, "10?o 12o"),
+    (READ_OF_A_VALUE_THAT_CAME_BACK, 1000, "0o 2o 4?o 5o 7o"),
+    # Of three hundred inserts the last stays, as it overwrites what is read behind it, and the read.
+    (overwrites(300), 100_000, "598?o 600o"),
+]
+
+# A scan that misses a pair in the middle of those that are held, and its explanation, from the pairs within its keys.
+HELD_BY_A_SCAN = "[1,10],[4,40],[5,50],[6,60],[9,90]"
+SCAN_MISSES_A_PAIR = '{"invoke":["scan",4,6],"process":0},{"answer":[[4,40],[6,60]],"process":0}'
+SCAN_EXPLAINED = """{"calls":[0],"hi":6,"lo":4,"verdict":"no"}
+{"answer":[[4,40],[6,60]],"call":["scan",4,6],"event":0,"process":0,"reason":"order"}
+{"events":[{"invoke":["scan",4,6],"process":0},{"answer":[[4,40],[6,60]],"process":0}],"start":[[4,40],[5,50],[6,60]],"version":2}
+{"front":[],"holds":[[4,40],[5,50],[6,60]],"next":[{"answer":[[4,40],[6,60]],"event":0,"would":[[4,40],[5,50],[6,60]]}]}
+"""
+
+# The get that misses the insert at its key is at another key than the scan, which was right.
+GET_OF_ANOTHER_KEY_GOES_WRONG = """
+    {"invoke":["insert",3,30],"process":0}, {"answer":null,"process":0},
+    {"invoke":["insert",5,7],"process":0}, {"answer":null,"process":0},
+    {"invoke":["insert",1,10],"process":1},
+    {"invoke":["scan",1,3],"process":2}, {"answer":[[3,30]],"process":2},
+    {"invoke":["get",5],"process":3}, {"answer":null,"process":3}"""
+# An insert that is open holds the get beside it; what was answered before both is gone.
+OPEN_INSERT_HOLDS_A_GET = """
+    {"invoke":["insert",5,1],"process":0}, {"answer":null,"process":0},
+    {"invoke":["insert",5,2],"process":1},
+    {"invoke":["get",5],"process":0}, {"answer":2,"process":0}"""
+# Five inserts at one key, of which two are answered as if each came first.
+INSERTS_ALL_COME_FIRST = """
+    {"invoke":["insert",5,1],"process":0}, {"invoke":["insert",5,2],"process":1},
+    {"invoke":["insert",5,3],"process":2}, {"invoke":["insert",5,4],"process":3},
+    {"invoke":["insert",5,5],"process":4}, {"answer":null,"process":0}, {"answer":null,"process":1}"""
+
+# The insert that is open holds the get and, through it, the remove before it; the first insert was answered before all of these. Then
+# the open one is answered by what the remove took.
+INSERT_HOLDS_A_REMOVE = """
+    {"invoke":["insert",1,5],"process":0}, {"answer":null,"process":0},
+    {"invoke":["remove",1],"process":1}, {"invoke":["get",1],"process":2}, {"answer":5,"process":1},
+    {"invoke":["insert",1,8],"process":3}, {"answer":8,"process":2}, {"answer":5,"process":3}"""
+# The scan that is open holds what is left of its keys; key 4 is none of them, though another scan goes over it and one of them.
+PENDING_SCAN_HOLDS_ITS_KEYS_ALONE = """
+    {"invoke":["insert",4,5],"process":0}, {"invoke":["scan",1,3],"process":1}, {"answer":null,"process":0},
+    {"invoke":["insert",3,5],"process":2}, {"answer":null,"process":2},
+    {"invoke":["scan",3,4],"process":3}, {"answer":[[3,5],[4,5]],"process":3},
+    {"invoke":["insert",4,6],"process":4}, {"answer":5,"process":4},
+    {"invoke":["get",4],"process":0}, {"answer":null,"process":0}"""
+# Of two inserts that were answered the scan lists one, and of key 2 what was overwritten before it began.
+SCAN_MISSES_AN_OVERWRITE = """
+    {"invoke":["insert",1,5],"process":0}, {"answer":null,"process":0},
+    {"invoke":["insert",2,6],"process":0}, {"answer":null,"process":0},
+    {"invoke":["insert",2,7],"process":0}, {"answer":6,"process":0},
+    {"invoke":["scan",1,2],"process":0}, {"answer":[[1,5],[2,6]],"process":0}"""
+SCAN_LISTS_WHAT_NOBODY_INSERTED = """
+    {"invoke":["insert",1,5],"process":0}, {"answer":null,"process":0},
+    {"invoke":["scan",1,3],"process":0}, {"answer":[[1,5],[3,9]],"process":0}"""
+# The scan lists what the first insert put, before that is answered or behind it, and not what the second one puts, which is never answered.
+SCAN_MAY_HAVE_COME_BEFORE_AN_ANSWER = """
+    {"invoke":["insert",1,10],"process":0}, {"invoke":["insert",2,20],"process":1},
+    {"invoke":["scan",1,2],"process":2}, {"answer":null,"process":0}, {"answer":[[1,10]],"process":2},
+    {"invoke":["get",2],"process":0}, {"answer":20,"process":0},
+    {"invoke":["get",2],"process":0}, {"answer":null,"process":0}"""
+
+
+def many_ways(scans, reads):
+    """So many scans at once, beside an insert that is never answered and reads of its key: each scan may have come before or behind each event
+    of the reads, whatever the others did."""
+    begun = [f'{{"invoke":["scan",1,1],"process":{process}}}' for process in range(1, scans + 1)]
+    read = '{"invoke":["get",1],"process":9},{"answer":null,"process":9}'
+    ended = [f'{{"answer":[],"process":{process}}}' for process in range(1, scans + 1)]
+    return ",".join(['{"invoke":["insert",1,10],"process":0}', *begun, *[read] * reads, *ended])
+
+
+def dead_writer(value, count, found_by_the_second):
+    """An insert that is not answered, and so many others behind it, each of its number, which find each other; the second one may find another
+    value than the first one's."""
+    found = [None, 1 if found_by_the_second is None else found_by_the_second, *range(2, count)]
+    inserts = [
+        f'{{"invoke":["insert",5,{number + 1}],"process":0}},{{"answer":{json.dumps(found[number])},"process":0}}' for number in range(count)
+    ]
+    return ",".join([f'{{"invoke":["insert",5,{value}],"process":9}}', *inserts])
+
+
+def get_of_five(found):
+    return f',{{"invoke":["get",5],"process":0}},{{"answer":{found},"process":0}}'
+
+
+def many_readers(last):
+    """An insert beside 61 gets, all at once: 60 find nothing, and the last one this. In whatever order the gets are taken, they leave the
+    map as it is: the exact search meets each set of them, and reads first one list of them."""
+    begun = ['{"invoke":["insert",5,7],"process":0}', *(f'{{"invoke":["get",5],"process":{process}}}' for process in range(1, 62))]
+    missed = [f'{{"answer":null,"process":{process}}}' for process in range(1, 61)]
+    return ",".join([*begun, *missed, f'{{"answer":{last},"process":61}}'])
+
+
+# Events and what following them comes to: how many calls there are, and how many others were open at their invocations.
+FOLLOWED = [
+    (NO_EVENTS, 0, 0),
+    (INSERT_THEN_GET, 2, 0),
+    (GET_SEES_PENDING_INSERT, 2, 1),
+    (GET_MISSES_PENDING_INSERT, 2, 1),
+    (TWO_KEYS_AND_A_PENDING_SCAN, 4, 3),
+    (SCAN_OF_ALL_KEYS, 3, 0),
+    (GET_MISSES_REFUSED_INSERT, 2, 0),
+    (EFFECT_LATER_THAN_THE_INVOCATION, 3, 2),
+    (PENDING_GET_AND_SCAN, 2, 1),
+    (OPEN_INSERT_HOLDS_A_GET, 3, 1),
+    (OPEN_INSERT_BESIDE_MANY_GETS, 302, 300),
+    (many_readers("7"), 62, sum(range(62))),
+    # All 13^3 ways are kept.
+    (many_ways(3, 6), 10, 1 + 2 + 3 + 6 * 4),
+    # The insert of a dead process is found, or not, or is answered after all by what it found.
+    (dead_writer(16, 16, None) + get_of_five(16), 18, 17),
+    (dead_writer(99, 16, 99) + ',{"answer":1,"process":9}', 17, 16),
+    (dead_writer(99, 16, None) + get_of_five(99) + get_of_five(99), 19, 18),
+    (gets(60_000), 60_000, 0),
+]
+
+# Events, a budget, and what is written of those that go wrong, or where it is not known: the report, and a small history.
+LOST = [
+    (
+        GET_MISSES_ANSWERED_INSERT, 1000, report_of(1, 3, [(5, [2], [7])]),
+        '{"events":[{"invoke":["get",5],"process":0},{"answer":null,"process":0}],"start":[[5,7]],"version":2}',
+    ),
+    (
+        LATER_GET_MISSES_WHAT_WAS_SEEN, 1000, report_of(2, 4, [(5, [0, 1, 3], [None])]),
+        '{"events":[{"invoke":["insert",5,7],"process":0},{"invoke":["get",5],"process":1},{"answer":7,"process":1},'
+        '{"invoke":["get",5],"process":1},{"answer":null,"process":1}],"version":1}',
+    ),
+    # Before the second insert is invoked key 2 cannot be as the scan was told, and once the first one is answered key 1 cannot.
+    (
+        SCAN_MISSES_THE_FIRST_OF_TWO_INSERTS, 1000,
+        report_of(0, 5, [(2, [0, 3], [None]), (2, [0, 3], [None]), *[(1, [1, 0], [None])] * 3]), None,
+    ),
+    # The first scan took effect before the answer of the first insert or behind it, so that there are two ways. In the one the second scan
+    # comes before the first one, behind it, behind the answer of the first insert, and behind both; in the other before that answer, and behind
+    # it before the first scan or behind that, and behind both.
+    (
+        SCANS_SEE_TWO_INSERTS_IN_DIFFERENT_ORDER, 1000,
+        report_of(3, 7, [
+            (2, [1, 3, 2], [None]), *[(1, [0, 2, 3], [None])] * 3,
+            (2, [1, 3, 2], [None]), (1, [0, 3, 2], [None]), *[(1, [0, 2, 3], [None])] * 2,
+        ]), None,
+    ),
+    (
+        GET_SEES_WHAT_NOBODY_INSERTED, 1000, report_of(2, 5, [(9, [4], [None])]),
+        '{"events":[{"invoke":["get",9],"process":0},{"answer":1,"process":0}],"version":1}',
+    ),
+    # No map answers a scan so, whatever its keys have.
+    (SCAN_LISTS_KEYS_THAT_FALL, 1000, report_of(2, 5, []), None),
+    (SCAN_IS_ANSWERED_BY_A_VALUE, 1000, report_of(1, 3, []), None),
+    (
+        GET_SEES_REFUSED_INSERT, 1000, report_of(1, 3, [(5, [2], [None])]),
+        '{"events":[{"invoke":["get",5],"process":0},{"answer":7,"process":0}],"version":1}',
+    ),
+    # The refused insert is left no longer.
+    (
+        SEEN_INSERT_IS_REFUSED, 1000, report_of(0, 3, [(5, [1], [None])]),
+        '{"events":[{"invoke":["get",5],"process":0},{"answer":7,"process":0}],"version":1}',
+    ),
+    (
+        GET_IS_ANSWERED_BY_A_LIST, 1000, report_of(0, 1, [(5, [0], [None])]),
+        '{"events":[{"invoke":["get",5],"process":0},{"answer":[],"process":0}],"version":1}',
+    ),
+    (
+        REFUSED_SCAN_TIES_KEYS, 1000, report_of(2, 5, [(2, [4], [None])]),
+        '{"events":[{"invoke":["get",2],"process":0},{"answer":5,"process":0}],"version":1}',
+    ),
+    (
+        GET_OF_ANOTHER_KEY_GOES_WRONG, 1000, report_of(4, 8, [(5, [7], [7])]),
+        '{"events":[{"invoke":["get",5],"process":0},{"answer":null,"process":0}],"start":[[5,7]],"version":2}',
+    ),
+    (
+        INSERTS_ALL_COME_FIRST, 1000, report_of(1, 6, [(5, [0, 1, 2, 3, 4], [None])]),
+        '{"events":[{"invoke":["insert",5,1],"process":0},{"invoke":["insert",5,2],"process":1},{"invoke":["insert",5,3],"process":2},'
+        '{"invoke":["insert",5,4],"process":3},{"invoke":["insert",5,5],"process":4},{"answer":null,"process":0},'
+        '{"answer":null,"process":1}],"version":1}',
+    ),
+    # At a budget of one position.
+    (INSERTS_ALL_COME_FIRST, 1, report_of(1, 6, [(5, [0, 1, 2, 3, 4], [None])], "budget"), None),
+    (
+        INSERT_HOLDS_A_REMOVE, 1000, report_of(3, 7, [(1, [2, 3, 5], [5])]),
+        '{"events":[{"invoke":["remove",1],"process":0},{"invoke":["get",1],"process":1},{"answer":5,"process":0},'
+        '{"invoke":["insert",1,8],"process":0},{"answer":8,"process":1},{"answer":5,"process":0}],"start":[[1,5]],"version":2}',
+    ),
+    (
+        PENDING_SCAN_HOLDS_ITS_KEYS_ALONE, 1000, report_of(5, 10, [(4, [9], [6])]),
+        '{"events":[{"invoke":["get",4],"process":0},{"answer":null,"process":0}],"start":[[4,6]],"version":2}',
+    ),
+    (many_readers("9"), 100, report_of(61, 122, [(5, [*range(62)], [None])]), history(many_readers("9"))),
+    # A scan that cannot have been told so of one key, of which no call is left, stands there as a get.
+    (
+        SCAN_MISSES_AN_OVERWRITE, 1000, report_of(3, 7, [(2, [6], [7])]),
+        '{"events":[{"invoke":["get",2],"process":0},{"answer":6,"process":0}],"start":[[2,7]],"version":2}',
+    ),
+    (
+        SCAN_LISTS_WHAT_NOBODY_INSERTED, 1000, report_of(1, 3, [(3, [2], [None])]),
+        '{"events":[{"invoke":["get",3],"process":0},{"answer":9,"process":0}],"version":1}',
+    ),
+    # In both ways of the scan the later get misses what the insert put.
+    (SCAN_MAY_HAVE_COME_BEFORE_AN_ANSWER, 1000, report_of(4, 8, [(2, [1, 2, 5, 7], [None])] * 2), None),
+    (many_ways(4, 6), 1000, report_of(4, 20, [], "scans"), None),
+    # The insert of the dead process may have come, or not: from each the value is the last one that was put.
+    (dead_writer(16, 16, None) + get_of_five(5), 1000, report_of(17, 34, [(5, [0, 33], [16, 16])]), None),
+    # It has come for sure, between the first and the second insert: so it is not in the small history.
+    (
+        dead_writer(99, 16, 99) + get_of_five(5), 1000, report_of(17, 34, [(5, [0, 33], [16])]),
+        '{"events":[{"invoke":["get",5],"process":0},{"answer":5,"process":0}],"start":[[5,16]],"version":2}',
+    ),
+    # It is answered after all, and not by what it found: there is no way to go on from.
+    (dead_writer(99, 16, 99) + ',{"answer":7,"process":9}', 1000, report_of(0, 33, [(5, [0], [])]), None),
+]
+
+# From 1 at key 5 and 9 at key 9 a get misses what an insert before it was answered for; behind it stands a line that is not read.
+MISSED_STREAM = """{"start":[[5,1],[9,9]],"version":2}
+{"invoke":["insert",5,7],"process":1000}
+{"invoke":["get",9],"process":2}
+{"answer":1,"process":1000}
+{"invoke":["get",5],"process":3}
+{"answer":1,"process":3}
+no line
+"""
+OVERLAPPING_STREAM = """{"invoke":["insert",5,7],"process":0}
+{"invoke":["get",5],"process":70}
+{"answer":null,"process":0}
+{"answer":7,"process":70}
+"""
+APART_STREAM = """{"invoke":["insert",5,7],"process":0}
+{"answer":null,"process":0}
+{"invoke":["get",5],"process":70}
+"""
+
+# Lines that spell events otherwise than the compact form does.
+SPELLED_STREAM = r""" { "invoke" : [ "get" , 5 ] , "process" : 1 }
+{"process":1,"answer":null}@
+{"invoke":["\u0067et",5],"process":300}
+{"answer":null, "process":300}
+{"process":65535,"invoke":["remove",0]}
+{"process":65535,"answer":null}
+{"invoke":["scan",0,18446744073709551615],"process":2}
+{"answer":[],"process":2}
+""".replace("@", "\r")
+
+# Streams, and the status, the output and the faults.
+STREAMS = [
+    (OVERLAPPING_STREAM, 0, '{"calls":2,"overlap":1,"verdict":"yes"}\n', ""),
+    (OVERLAPPING_STREAM.rstrip(), 0, '{"calls":2,"overlap":1,"verdict":"yes"}\n', ""),
+    (
+        MISSED_STREAM, 1,
+        '{"call":2,"event":4,"keys":[{"invoked":[3],"key":5,"values":[7]}],"verdict":"no"}\n'
+        '{"events":[{"invoke":["get",5],"process":0},{"answer":1,"process":0}],"start":[[5,7]],"version":2}\n', "",
+    ),
+    ("", 0, '{"calls":0,"overlap":0,"verdict":"yes"}\n', ""),
+    ('{"start":[],"version":2}', 0, '{"calls":0,"overlap":0,"verdict":"yes"}\n', ""),
+    (APART_STREAM, 0, '{"calls":2,"overlap":0,"verdict":"yes"}\n', NOTE),
+    (SPELLED_STREAM, 0, '{"calls":4,"overlap":0,"verdict":"yes"}\n', NOTE),
+    ('{"invoke":["get",5],"process":70}', 0, '{"calls":1,"overlap":0,"verdict":"yes"}\n', ""),
+]
+
+
+def status_of(report):
+    return STATUSES[json.loads(report)["verdict"]]
+
+
+def names_all(calls, key, verdict):
+    """A verdict that names a segment of all calls below a count, on one key."""
+    return f'{{"calls":[{numbers(calls)}],"hi":{key},"lo":{key},"verdict":"{verdict}"}}'
+
+
+def orders(order):
+    return f'{{"order":[{order}],"verdict":"yes"}}'
+
+
+def counted():
+    """Events with budgets at which the configurations that count are just as many, or one more."""
+    overlapping = [f'{{"invoke":["insert",0,0],"process":{process}}}' for process in range(64)]
+    answers = [f'{{"answer":null,"process":{process}}}' for process in range(64)]
+    seen = ['{"invoke":["get",0],"process":0},{"answer":0,"process":0}'] * 64
+    # One insert alone can come first, whichever it is, and no other after it; with none taken that makes 65.
+    events = ",".join(overlapping + answers + seen)
+    yield events, 65, names_all(128, 0, "no")
+    yield events, 64, names_all(128, 0, "undecided")
+    # Each set of ten pending inserts can be taken, and none makes the get see another value.
+    events = ",".join([*overlapping[:10], '{"invoke":["get",0],"process":10},{"answer":1,"process":10}'])
+    yield events, 1024, names_all(11, 0, "no")
+    yield events, 1023, names_all(11, 0, "undecided")
+    # Each set of 61 gets can be taken.
+    yield many_readers("9"), 500, names_all(62, 5, "undecided")
+    # Where no call was answered the least order is that of no calls, and nothing else counts.
+    yield ",".join(overlapping), 1, orders("")
+    # Calls in a row have one configuration more than there are calls.
+    yield gets(MOST_CALLS), 4097, orders(numbers(MOST_CALLS))
+    yield gets(MOST_CALLS), 4096, names_all(MOST_CALLS, 5, "undecided")
+
+
+def one_false_get(before, behind):
+    """Gets that find nothing, one that finds what nobody inserted, and gets again."""
+    return ",".join(filter(None, [gets(before), '{"invoke":["get",5],"process":0},{"answer":9,"process":0}', gets(behind)]))
+
+
+def located():
+    """Texts, a budget and the line that says where they go wrong."""
+    for events, budget, line in LOCATIONS:
+        yield history(events), budget, line
+    # The fourth scan is call 4, and its answer event 1 + 4 + 2 * 6 + 3.
+    yield history(many_ways(4, 6)), 1000, '{"call":4,"event":20,"reason":"scans","verdict":"undecided"}'
+    yield history(many_ways(2, 6)), 1000, WELL
+    yield history(one_false_get(500, 1000)), 10_000, '{"call":500,"event":1001,"verdict":"no"}'
+    yield history(one_false_get(0, 4095)), 10_000, '{"call":0,"event":1,"verdict":"no"}'
+    yield history(one_false_get(4095, 0)), 10_000, '{"call":4095,"event":8191,"verdict":"no"}'
+    yield history(gets(MOST_CALLS)), 10_000, WELL
+    get = '{"invoke":["get",5],"process":0}'
+    seen, missed = get + ',{"answer":7,"process":0}', get + ',{"answer":null,"process":0}'
+    yield f'{{"events":[{seen},{missed},{seen}],"start":[[5,7]],"version":2}}', 1000, '{"call":1,"event":3,"verdict":"no"}'
+    yield f'{{"events":[{seen}],"start":[[5,7]],"version":2}}', 1000, WELL
+    yield most_starting_pairs(), 1000, '{"call":1,"event":3,"verdict":"no"}'
+
+
+def most_starting_pairs():
+    """As many starting pairs as there may be: a scan lists them all, and one after it none."""
+    pairs, scan = pairs_listed(4096), '{"invoke":["scan",0,4095],"process":0}'
+    events = f'{scan},{{"answer":[{pairs}],"process":0}},{scan},{{"answer":[],"process":0}}'
+    return f'{{"events":[{events}],"start":[{pairs}],"version":2}}'
+
+
+def rows():
+    """Words, a text, and the status, standard output and what a terminal shows that are wanted."""
+    for events, words, line in ORDERS:
+        yield ["check", *words.split()], history(events), int(line != "ok"), line + "\n", ""
+    for call, fitting, others in ANSWERS:
+        for reply in (*fitting, *others):
+            text = started(HELD, f'{{"invoke":[{call}],"process":0}},{{"answer":{reply},"process":0}}')
+            line = "ok" if reply in fitting else "fault: 4 Reply at place 0"
+            yield ["check", "0"], text, int(line != "ok"), line + "\n", ""
+    for events, budget, report in VERDICTS:
+        for workers in ("1", "2", "64"):
+            words = ["judge", "--budget", str(budget), "--workers", workers]
+            yield words, history(events), status_of(report), report + "\n", ""
+    for events, budget, report in counted():
+        for workers in ("1", "64"):
+            words = ["judge", "--budget", str(budget), "--workers", workers]
+            yield words, history(events), status_of(report), report + "\n", ""
+    for text, order in SPELLED:
+        yield ["judge"], text, 0, orders(order) + "\n", ""
+    for text, budget, order in LONG:
+        for workers in ("1", "4"):
+            yield ["judge", "--budget", str(budget), "--workers", workers], text, 0, orders(order) + "\n", ""
+    for text, budget, line in located():
+        yield ["locate", "--budget", str(budget)], text, status_of(line), line + "\n", ""
+    words = ["judge", "--budget", "1000", "--workers", "4"]
+    yield words, most_starting_pairs(), 1, '{"calls":[0,1],"hi":4095,"lo":0,"verdict":"no"}\n', ""
+    yield ["explain"], started(HELD_BY_A_SCAN, SCAN_MISSES_A_PAIR), 1, SCAN_EXPLAINED, ""
+    for words, events, report in OPTIONS:
+        yield words.split(), history(events), status_of(report), report + "\n", ""
+    for events, calls, overlap in FOLLOWED:
+        report = f'{{"calls":{calls},"overlap":{overlap},"verdict":"yes"}}\n'
+        yield ["follow"], stream(events), 0, report, NOTE if calls > 1 and overlap == 0 else ""
+    for events, budget, report, small in LOST:
+        output = "".join(line + "\n" for line in (report, small) if line)
+        yield ["follow", "--budget", str(budget)], stream(events), status_of(report), output, ""
+    for text, status, output, faults in STREAMS:
+        yield ["follow"], text, status, output, faults
+
+
+def by_each_part(events):
+    """What is wrong with where a history goes wrong, which a verdict on each first part of it finds too."""
+    listed = json.loads(f"[{events}]")
+    wanted = {"verdict": "yes"}
+    for count in range(1, len(listed) + 1):
+        if answer(["judge", "--budget", "10000"], json.dumps({"events": listed[:count], "version": 1}))[0] == 1:
+            process = listed[count - 1]["process"]
+            begun = max(place for place in range(count) if "invoke" in listed[place] and listed[place]["process"] == process)
+            wanted = {"call": sum("invoke" in event for event in listed[:begun]), "event": count - 1, "verdict": "no"}
+            break
+    status, line, told = answer(["locate", "--budget", "10000"], history(events))
+    if json.loads(line) != wanted or status != STATUSES[wanted["verdict"]] or told:
+        return f"{line}, and wanted is {wanted} of {events}"
+    return None
+
+
+def explained(events, budget, wanted):
+    """What is wrong with the calls that explain a no."""
+    status, output, told = answer(["explain", "--budget", str(budget)], history(events))
+    judged = answer(["judge", "--budget", str(budget)], history(events))
+    report, *lines = output.splitlines(keepends=True)
+    calls = [json.loads(line) for line in lines if line.startswith(b'{"answer"')]
+    found = " ".join(f"{call['event']}{'?' * (call['answer'] == 'open')}{call['reason'][0]}" for call in calls)
+    if (status, report, told) != judged or status != int(wanted is not None) or found != (wanted or ""):
+        return f"{output} at {budget}, and wanted is {wanted} of {events[:300]}"
+    return None
+
+
+def main():
+    others = [functools.partial(by_each_part, events) for events in dict.fromkeys(events for events, *_ in LOCATIONS) if events != gets(MOST_CALLS)]
+    others += [functools.partial(explained, *row) for row in EXPLANATIONS]
+    return compare(rows(), others)
+
+
+if __name__ == "__main__":
+    sys.exit(main())
