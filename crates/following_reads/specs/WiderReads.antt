@@ -1,0 +1,31 @@
+-- Wider rules for calls beside scans, which are false: of reads that are not legal at what the scan was told; and of calls that change nothing
+-- there, where their answers do not say so of all values.
+use Rattle.std.specs.Prelude.{◌≡◌, ℕ, true, List, Some}
+use Rattle.events.specs.declared.operation.Operation.{Operation}
+use Rattle.events.specs.declared.operation.Response.{Response}
+use Rattle.orders.specs.Orders.{after_call, IsLegalCall}
+use Rattle.quiet_cuts.specs.Cells.{calls_left}
+use Rattle.quiet_cuts.specs.TimeCuts.{InvocationsRise}
+use Rattle.call_search.specs.Replies.{says_unchanged}
+use Rattle.following.specs.keys.KeyStates.{one_key, KeyState, SomeHolds}
+use Rattle.following.specs.rows.Comparisons.{Comparison, class_of}
+use Rattle.following.specs.rows.Twins.{IsTimingAt}
+use Rattle.following_reads.specs.Reads.{Rule, AreFixedUpTo}
+
+-- that what is kept of a key which comparisons fix up to the calls of a rule holds in all timings of their class at the key or in none
+abbrev pub TimingsHoldUpTo : Rule → Type 0
+TimingsHoldUpTo Is =
+    (calls : List Operation) (comparisons : List Comparison) (key : ℕ) (k : KeyState) (spread moment other_spread other_moment : ℕ → ℕ)
+    → InvocationsRise calls → AreFixedUpTo Is comparisons key (calls_left k.gone calls)
+    → IsTimingAt key (calls_left k.gone calls) spread moment → class_of comparisons spread moment ≡ true
+    → IsTimingAt key (calls_left k.gone calls) other_spread other_moment → class_of comparisons other_spread other_moment ≡ true
+    → SomeHolds key spread moment calls k → SomeHolds key other_spread other_moment calls k
+
+-- an answer says that the call changes nothing, whether or not it is legal where the key holds this
+abbrev pub IsAnyRead : Rule
+IsAnyRead key value b = (r : Response) × (b.response ≡ Some r) × (says_unchanged b.call r.reply ≡ true)
+
+-- a call is legal where the key holds this, and changes nothing there: its answer need not say so, and it may be open
+abbrev pub IsUnchangedAt : Rule
+IsUnchangedAt key value b =
+    IsLegalCall (one_key key value) b.call b.response × (after_call (one_key key value) b.call b.response ≡ one_key key value)
