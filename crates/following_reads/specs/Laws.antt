@@ -3,6 +3,7 @@ use Rattle.std.specs.Prelude.{◌≡◌, ◌↔◌, ℕ, true, List, ◌++◌}
 use Rattle.events.specs.declared.event.Event.{Event}
 use Rattle.events.specs.declared.operation.Operation.{Operation}
 use Rattle.events.specs.Operations.{operations}
+use Rattle.events.specs.Precedence.{NonePrecedesItself}
 use Rattle.map_object.specs.MapObject.{Contents}
 use Rattle.quiet_cuts.specs.Cells.{calls_left}
 use Rattle.quiet_cuts.specs.TimeCuts.{InvocationsRise}
@@ -26,7 +27,7 @@ TwinsAreReads =
 abbrev pub ReadTimingsHold : Type 0
 ReadTimingsHold =
     (calls : List Operation) (comparisons : List Comparison) (key : ℕ) (k : KeyState) (spread moment other_spread other_moment : ℕ → ℕ)
-    → InvocationsRise calls → AreFixedUpToReads comparisons key (calls_left k.gone calls)
+    → InvocationsRise calls → NonePrecedesItself calls → AreFixedUpToReads comparisons key (calls_left k.gone calls)
     → IsTimingAt key (calls_left k.gone calls) spread moment → class_of comparisons spread moment ≡ true
     → IsTimingAt key (calls_left k.gone calls) other_spread other_moment → class_of comparisons other_spread other_moment ≡ true
     → SomeHolds key spread moment calls k → SomeHolds key other_spread other_moment calls k
@@ -35,7 +36,7 @@ ReadTimingsHold =
 abbrev pub ReadKeysRefute : Type 0
 ReadKeysRefute =
     (calls : List Operation) (comparisons : List Comparison) (states : ℕ → KeyState) (key : ℕ) (spread moment : ℕ → ℕ)
-    → InvocationsRise calls → AreFixedUpToReads comparisons key (calls_left (states key).gone calls)
+    → InvocationsRise calls → NonePrecedesItself calls → AreFixedUpToReads comparisons key (calls_left (states key).gone calls)
     → IsTimingAt key (calls_left (states key).gone calls) spread moment → class_of comparisons spread moment ≡ true
     → (SomeHolds key spread moment calls (states key) → ⊥)
     → RowHolds calls (record { allows = class_of comparisons; states = states }) → ⊥
@@ -44,7 +45,7 @@ ReadKeysRefute =
 abbrev pub ReadRowsJudge : Type 0
 ReadRowsJudge =
     (calls : List Operation) (comparisons : List Comparison) (states : ℕ → KeyState) (spread moment : ℕ → ℕ) → InvocationsRise calls
-    → ((key : ℕ) → AreFixedUpToReads comparisons key (calls_left (states key).gone calls)) → IsTiming calls spread moment
+    → NonePrecedesItself calls → ((key : ℕ) → AreFixedUpToReads comparisons key (calls_left (states key).gone calls)) → IsTiming calls spread moment
     → class_of comparisons spread moment ≡ true
     → RowHolds calls (record { allows = class_of comparisons; states = states }) ↔ ((key : ℕ) → SomeHolds key spread moment calls (states key))
 

@@ -3,6 +3,7 @@
 use Rattle.std.specs.Prelude.{◌≡◌, ℕ, true, List, Some}
 use Rattle.events.specs.declared.operation.Operation.{Operation}
 use Rattle.events.specs.declared.operation.Response.{Response}
+use Rattle.events.specs.Precedence.{NonePrecedesItself}
 use Rattle.orders.specs.Orders.{after_call, IsLegalCall}
 use Rattle.quiet_cuts.specs.Cells.{calls_left}
 use Rattle.quiet_cuts.specs.TimeCuts.{InvocationsRise}
@@ -16,7 +17,7 @@ use Rattle.following_reads.specs.Reads.{Rule, AreFixedUpTo}
 abbrev pub TimingsHoldUpTo : Rule → Type 0
 TimingsHoldUpTo Is =
     (calls : List Operation) (comparisons : List Comparison) (key : ℕ) (k : KeyState) (spread moment other_spread other_moment : ℕ → ℕ)
-    → InvocationsRise calls → AreFixedUpTo Is comparisons key (calls_left k.gone calls)
+    → InvocationsRise calls → NonePrecedesItself calls → AreFixedUpTo Is comparisons key (calls_left k.gone calls)
     → IsTimingAt key (calls_left k.gone calls) spread moment → class_of comparisons spread moment ≡ true
     → IsTimingAt key (calls_left k.gone calls) other_spread other_moment → class_of comparisons other_spread other_moment ≡ true
     → SomeHolds key spread moment calls k → SomeHolds key other_spread other_moment calls k
