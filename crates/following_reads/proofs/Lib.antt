@@ -6,3 +6,4 @@ mod OrderLemmas
 mod ReadLemmas
 mod SettleLemmas
 mod SortLemmas
+mod WiderLemmas
