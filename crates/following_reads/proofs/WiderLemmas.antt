@@ -21,9 +21,9 @@ use Rattle.quiet_cuts.proofs.LeftLemmas.{from_left}
 use Rattle.following.specs.moments.KeyCalls.{kind_of, at_key, OfKey, Told}
 use Rattle.following.specs.moments.Timings.{IsToldScan}
 use Rattle.following.specs.keys.KeyStates.{one_key, Configuration, KeyState, MayHaveFound, Holds, SomeHolds}
-use Rattle.following.specs.rows.Blocks.{is_scan, IsOver}
-use Rattle.following.specs.rows.Comparisons.{Comparison, Behind, class_of}
-use Rattle.following.specs.rows.Fixed.{IsParted, ComesFirst}
+use Rattle.following.specs.rows.Blocks.{is_scan}
+use Rattle.following.specs.rows.Comparisons.{Comparison, Behind}
+use Rattle.following.specs.rows.Fixed.{IsParted}
 use Rattle.following.specs.rows.Twins.{IsTimingAt}
 use Rattle.following.proofs.keys.ChoiceLemmas.{any_to}
 use Rattle.following.proofs.rows.RowLemmas.{only}
