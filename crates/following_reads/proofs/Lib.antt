@@ -1,0 +1,10 @@
+mod BesideLemmas
+mod HoldLemmas
+mod ImageLemmas
+mod MoveLemmas
+mod OpenLemmas
+mod OrderLemmas
+mod ReadLemmas
+mod SettleLemmas
+mod SortLemmas
+mod WiderLemmas
