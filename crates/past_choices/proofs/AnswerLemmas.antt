@@ -17,7 +17,7 @@ sizes key first calls visited reached =
     (λ p h. (All-contains (IsReached key first calls) visited p reached h).2.each)
 
 pub answer_all : (key : ℕ) (first : Option ℕ) (calls : List Operation) (ended : List Bool) (visited : List Position)
-    (choices : List PastChoice) → ArePast key calls ended → AreReached key first calls visited → AreChoicesOf ended visited choices
+    (choices : List PastChoice) → ArePast key calls ended → AreReached key first calls ended visited → AreChoicesOf ended visited choices
     → ((c : PastChoice) → Contains choices c ↔ IsPastChoice key first calls ended c) × AllPairs (λ c d. c ≢ d) choices
 answer_all key first calls ended visited choices past reached are = (
   λ c. (

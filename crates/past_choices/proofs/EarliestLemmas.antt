@@ -1,18 +1,37 @@
 -- The earliest answer of calls that are left, and the calls that may come next.
-use Rattle.std.proofs.Common.{◌≡◌, ◌≢◌, ℕ, ◌+◌, ◌<◌, ◌≤◌, min, Bool, true, false, not, List, length, Option, Some, None}
+use Rattle.std.proofs.Common.{◌≡◌, ◌≢◌, ℕ, ◌+◌, ◌<◌, ◌≤◌, min, Bool, true, false, List, length, Option, Some, None}
 use Rattle.std.proofs.Common.{refl, sym, ap, ◌∙◌, subst, ⊎_elim, inl, inr, arith}
-use Rattle.std.specs.Prelude.{◌⊎◌, ◌↔◌, IsTrue, IsSomeAnd, slice_get}
-use Rattle.std.proofs.lemmas.Bool.{cases_lt, ltb-true, lt-ltb}
+use Rattle.std.specs.Prelude.{◌⊎◌, ◌↔◌, IsTrue, IsSomeAnd, slice_get, AllPairs}
+use Rattle.std.proofs.lemmas.Bool.{cases_lt, ltb-true, lt-ltb, both_ways}
 use Rattle.std.proofs.lemmas.Option.{none-some, same_Some, slice_get_within}
 use Rattle.events.specs.declared.operation.Operation.{Operation}
 use Rattle.events.specs.declared.operation.Response.{Response}
-use Rattle.events.specs.Precedence.{is_before}
+use Rattle.events.specs.Precedence.{is_before, precedes, NonePrecedesItself}
+use Rattle.list_laws.proofs.Lists.{All-at, AllPairs-at}
+use Rattle.list_laws.proofs.NumberLemmas.{slice_get-below}
 use Rattle.past_choices.specs.declared.mark.Mark.{Mark}
 use Rattle.past_choices.specs.declared.mark.Mark.TheVariants.{Left}
 use Rattle.past_choices.specs.Positions.{Position}
-use Rattle.past_choices.specs.Steps.{earlier_of, IsLeftAnswered, IsEarliest, NoneLeftPrecedes, MayCome}
+use Rattle.past_choices.specs.Steps.{earlier_of, NoneLeftPrecedes, MayCome, IsEnd}
 use Rattle.past_choices.specs.Values.{MayBeAnswered}
 use Rattle.past_choices.proofs.GatherLemmas.{last_or_before}
+
+-- a call that is left, of the first ones, is answered at a place
+pub record IsLeftAnswered (calls : List Operation) (marks : List Mark) (size place : ℕ) : Type 0 where
+  pub number : ℕ
+  pub within : number < size
+  pub call : Operation
+  pub here : slice_get calls number ≡ Some call
+  pub left : slice_get marks number ≡ Some Left
+  pub response : Response
+  pub answered : call.response ≡ Some response
+  pub at : response.res ≡ place
+
+-- the earliest answer of a call that is left, of the first ones
+abbrev pub IsEarliest : List Operation → List Mark → ℕ → Option ℕ → Type 0
+IsEarliest calls marks size None = (place : ℕ) → IsLeftAnswered calls marks size place → ⊥
+IsEarliest calls marks size (Some answered) =
+    IsLeftAnswered calls marks size answered × ((place : ℕ) → IsLeftAnswered calls marks size place → answered ≤ place)
 
 -- of more calls
 wider : (calls : List Operation) (marks : List Mark) (size place : ℕ) → IsLeftAnswered calls marks size place
@@ -123,7 +142,7 @@ earliest_take calls marks size earliest a here left h = by_response earliest a.r
         ))
         (cases_lt e r.res)
 
--- ---- calls that may come next
+-- ---- calls that are preceded, and calls that are not
 
 -- a response before a place
 before_is : (response : Option Response) (place : ℕ) → is_before response place ≡ true → (r : Response) × (response ≡ Some r)
@@ -131,64 +150,114 @@ before_is : (response : Option Response) (place : ℕ) → is_before response pl
 before_is None place h = cc
 before_is (Some r) place h = (r, refl, ltb-true r.res place h)
 
--- no call that is left precedes one that is not behind the earliest answer
-not_behind : (calls : List Operation) (p : Position) (n : ℕ) (a : Operation) (answered : Option ℕ) → slice_get calls n ≡ Some a
-    → IsEarliest calls p.marks (length calls) answered → (IsSomeAnd answered (λ answered. answered < a.inv) → ⊥)
-    → NoneLeftPrecedes calls p n
-not_behind calls p n a None here earliest not_late m (x, y, x_here, y_here, before) left =
-    let (r, is, at) = before_is x.response y.inv before in
-    earliest r.res (record {
-      number = m;
-      within = slice_get_within calls m x x_here;
-      call = x;
-      here = x_here;
-      left = left;
-      response = r;
-      answered = is;
-      at = refl;
-    })
-not_behind calls p n a (Some answered) here earliest not_late m (x, y, x_here, y_here, before) left =
-    let (r, is, at) = before_is x.response y.inv before in
-    let low = earliest.1 r.res (record {
-      number = m;
-      within = slice_get_within calls m x x_here;
-      call = x;
-      here = x_here;
-      left = left;
-      response = r;
-      answered = is;
-      at = refl;
-    }) in
-    let same = ap (λ (b : Operation). b.inv) (same_Some y a (sym y_here ∙ here)) in
-    not_late (omega (arith, low, at, same))
+-- a call begins no later than those behind it
+begins_before : (calls : List Operation) (n m : ℕ) (a b : Operation) → AllPairs (λ a b. a.inv < b.inv) calls → n ≤ m
+    → slice_get calls n ≡ Some a → slice_get calls m ≡ Some b → a.inv ≤ b.inv
+begins_before calls n m a b rising le here there = ⊎_elim
+    (λ lt. let up = AllPairs-at (λ a b. a.inv < b.inv) calls n m a b rising lt here there in omega (arith, up))
+    (λ ge. let same : n ≡ m = omega (arith, le, ge) in
+    let one = ap (λ (x : Operation). x.inv) (same_Some a b (sym here ∙ ap (slice_get calls) same ∙ there)) in omega (arith, one))
+    (cases_lt n m)
 
--- and one that is behind it may not come next
-behind : (calls : List Operation) (p : Position) (n : ℕ) (a : Operation) (answered : Option ℕ) → slice_get calls n ≡ Some a
-    → IsEarliest calls p.marks (length calls) answered → IsSomeAnd answered (λ answered. answered < a.inv) → NoneLeftPrecedes calls p n → ⊥
-behind calls p n a None here earliest late none = absurd late
-behind calls p n a (Some answered) here earliest late none =
-    let l = earliest.0 in
+-- a call does not end before it begins
+ends_after : (calls : List Operation) (m : ℕ) (b : Operation) (r : Response) → NonePrecedesItself calls → slice_get calls m ≡ Some b
+    → b.response ≡ Some r → b.inv ≤ r.res
+ends_after calls m b r apart there is = ⊎_elim
+    (λ early. absurd (both_ways (is_before b.response b.inv) (All-at (λ b. precedes b b ≡ false) calls m b apart there)
+    (subst (λ (o : Option Response). is_before o b.inv ≡ true) (sym is) (lt-ltb r.res b.inv early))))
+    (λ le. le) (cases_lt r.res b.inv)
+
+-- no call that is left precedes one that begins no later than the earliest answer of those before it
+pub not_behind : (calls : List Operation) (p : Position) (n : ℕ) (a : Operation) (earliest : Option ℕ)
+    → AllPairs (λ a b. a.inv < b.inv) calls → NonePrecedesItself calls → slice_get calls n ≡ Some a → IsEarliest calls p.marks n earliest
+    → (IsSomeAnd earliest (λ answered. answered < a.inv) → ⊥) → NoneLeftPrecedes calls p n
+not_behind calls p n a earliest rising apart here is not_late m (x, y, x_here, y_here, before) left =
+    let (r, has, at) = before_is x.response y.inv before in
+    let same = ap (λ (b : Operation). b.inv) (same_Some y a (sym y_here ∙ here)) in
+    ⊎_elim
+    (λ lt. in_front earliest is not_late (record {
+      number = m;
+      within = lt;
+      call = x;
+      here = x_here;
+      left = left;
+      response = r;
+      answered = has;
+      at = refl;
+    }) (omega (arith, at, same)))
+    (λ ge. let begins = begins_before calls n m a x rising ge here x_here in
+    let ends = ends_after calls m x r apart x_here has in absurd (omega (arith, begins, ends, at, same)))
+    (cases_lt m n)
+  where
+    in_front : (earliest : Option ℕ) → IsEarliest calls p.marks n earliest → (IsSomeAnd earliest (λ answered. answered < a.inv) → ⊥)
+        → {place : ℕ} → IsLeftAnswered calls p.marks n place → place < a.inv → ⊥
+    in_front None is not_late {place} l lt = is place l
+    in_front (Some answered) is not_late {place} l lt = let low = is.1 place l in not_late (omega (arith, low, lt))
+
+-- and one does that is left, where one begins behind that answer
+pub behind : (calls : List Operation) (p : Position) (n : ℕ) (a : Operation) (earliest : Option ℕ) (k : ℕ)
+    → AllPairs (λ a b. a.inv < b.inv) calls → slice_get calls n ≡ Some a → IsEarliest calls p.marks n earliest
+    → IsSomeAnd earliest (λ answered. answered < a.inv) → n ≤ k → k < length calls → NoneLeftPrecedes calls p k → ⊥
+behind calls p n a None k rising here is late le within none = absurd late
+behind calls p n a (Some answered) k rising here is late le within none =
+    let l = is.0 in
+    let (b, there) = slice_get-below calls k within in
+    let begins = begins_before calls n k a b rising le here there in
     none l.number (
       l.call,
-      a,
+      b,
       l.here,
-      here,
-      subst (λ (o : Option Response). is_before o a.inv ≡ true) (sym l.answered) (lt-ltb l.response.res a.inv (omega (arith, late, l.at))),
+      there,
+      subst (λ (o : Option Response). is_before o b.inv ≡ true) (sym l.answered)
+          (lt-ltb l.response.res b.inv (omega (arith, late, l.at, begins))),
     ) l.left
 
-pub may_come_is : (calls : List Operation) (p : Position) (n : ℕ) (a : Operation) (answered : Option ℕ) (result : Bool)
-    → slice_get calls n ≡ Some a → slice_get p.marks n ≡ Some Left → IsEarliest calls p.marks (length calls) answered
-    → (IsSomeAnd answered (λ answered. answered < a.inv) → ⊥) → IsTrue result ↔ MayBeAnswered p.value a.call a.response
+-- ---- where calls end that may come next
+
+-- none of the calls so far is preceded by one that is left
+pub record EndsBehind (calls : List Operation) (p : Position) (size : ℕ) (earliest : Option ℕ) : Type 0 where
+  pub is : IsEarliest calls p.marks size earliest
+  pub before : (n : ℕ) → n < size → NoneLeftPrecedes calls p n
+
+pub ends_start : (calls : List Operation) (p : Position) → EndsBehind calls p 0 None
+ends_start calls p = record { is = λ place l. absurd (omega (arith, l.within)); before = λ n h. absurd (omega (arith, h)) }
+
+-- one call more
+pub ends_more : (calls : List Operation) (p : Position) (size : ℕ) (a : Operation) (old new : Option ℕ)
+    → AllPairs (λ a b. a.inv < b.inv) calls → NonePrecedesItself calls → slice_get calls size ≡ Some a
+    → (IsSomeAnd old (λ answered. answered < a.inv) → ⊥) → IsEarliest calls p.marks (size + 1) new → EndsBehind calls p size old
+    → EndsBehind calls p (size + 1) new
+ends_more calls p size a old new rising apart here not_late is ends = record {
+  is = is;
+  before = λ n h. ⊎_elim (λ lt. ends.before n lt)
+      (λ last. subst (NoneLeftPrecedes calls p) (sym last) (not_behind calls p size a old rising apart here ends.is not_late))
+      (last_or_before n size h);
+}
+
+-- the end
+pub end_here : (calls : List Operation) (p : Position) (size : ℕ) (a : Operation) (earliest : Option ℕ)
+    → AllPairs (λ a b. a.inv < b.inv) calls → slice_get calls size ≡ Some a → IsSomeAnd earliest (λ answered. answered < a.inv)
+    → EndsBehind calls p size earliest → IsEnd calls p size
+end_here calls p size a earliest rising here late ends = record {
+  within = let lt = slice_get_within calls size a here in omega (arith, lt);
+  before = ends.before;
+  behind = λ n le within. behind calls p size a earliest n rising here ends.is late le within;
+}
+
+pub end_all : (calls : List Operation) (p : Position) (size : ℕ) (earliest : Option ℕ) → length calls ≡ size
+    → EndsBehind calls p size earliest → IsEnd calls p (length calls)
+end_all calls p size earliest all ends = record {
+  within = omega arith;
+  before = λ n h. ends.before n (omega (arith, all, h));
+  behind = λ n le within none. omega (arith, le, within);
+}
+
+-- ---- calls that may come next
+
+pub may_come_is : (calls : List Operation) (p : Position) (n : ℕ) (a : Operation) (result : Bool) → slice_get calls n ≡ Some a
+    → slice_get p.marks n ≡ Some Left → NoneLeftPrecedes calls p n → IsTrue result ↔ MayBeAnswered p.value a.call a.response
     → IsTrue result ↔ MayCome calls p n
-may_come_is calls p n a answered result here left earliest not_late legal = (
-  λ h. record { call = a; here = here; left = left; preceded = not_behind calls p n a answered here earliest not_late; legal = legal.0 h },
+may_come_is calls p n a result here left preceded legal = (
+  λ h. record { call = a; here = here; left = left; preceded = preceded; legal = legal.0 h },
   λ m. legal.1 (subst (λ (b : Operation). MayBeAnswered p.value b.call b.response) (same_Some m.call a (sym m.here ∙ here)) m.legal),
 )
-
-pub may_not_come : (calls : List Operation) (p : Position) (n : ℕ) (a : Operation) (answered : Option ℕ) → slice_get calls n ≡ Some a
-    → IsEarliest calls p.marks (length calls) answered → IsSomeAnd answered (λ answered. answered < a.inv) → MayCome calls p n → ⊥
-may_not_come calls p n a answered here earliest late m = behind calls p n a answered here earliest late m.preceded
-
-pub not_false : (b : Bool) → not b ≡ false → b ≡ true
-not_false true h = refl
-not_false false h = cc

@@ -1,8 +1,8 @@
 -- What the loops over marks, calls and positions gather.
 use Rattle.std.proofs.Common.{◌≡◌, ◌≢◌, ℕ, ◌+◌, ◌<◌, ◌≤◌, Bool, true, false, List, [], ◌∷◌, ◌++◌, length, Option, Some, None}
-use Rattle.std.proofs.Common.{refl, sym, ap, ◌∙◌, subst, arith}
+use Rattle.std.proofs.Common.{refl, sym, ap, ◌∙◌, subst, ⊎_elim, arith}
 use Rattle.std.specs.Prelude.{◌↔◌, IsTrue, MatchOption, get_or, slice_get, AllPairs, Contains}
-use Rattle.std.proofs.lemmas.Bool.{both_ways}
+use Rattle.std.proofs.lemmas.Bool.{both_ways, cases_lt}
 use Rattle.std.proofs.lemmas.Option.{same_Some, slice_get_within, slice_get-get_or, get_or_from_slice_get}
 use Rattle.events.specs.declared.operation.Operation.{Operation}
 use Rattle.list_laws.proofs.Lists.{Contains-at, place_of-Contains}
@@ -10,7 +10,7 @@ use Rattle.past_choices.specs.declared.mark.Mark.{Mark}
 use Rattle.past_choices.specs.declared.mark.Mark.TheVariants.{Left, Taken, Found}
 use Rattle.past_choices.specs.PastChoices.{PastChoice}
 use Rattle.past_choices.specs.Positions.{Position}
-use Rattle.past_choices.specs.Steps.{next_position, MayCome, IsNextOf, AreChosen, AreFound, IsChoiceOf, AreChoicesOf}
+use Rattle.past_choices.specs.Steps.{next_position, MayCome, IsNextOf, IsEnd, AreChosen, AreFound, IsChoiceOf, AreChoicesOf}
 use Rattle.past_choices.proofs.ChoiceLemmas.{same_choice, same_position_from}
 use Rattle.past_choices.proofs.GatherLemmas.{Gathers, gather_push, gather_skip, pairs_push}
 
@@ -145,16 +145,21 @@ pub next_skip : (calls : List Operation) (p : Position) (n : ℕ) (next more : L
     → Gathers (IsNextAt calls p) n next → Gathers (IsNextAt calls p) (n + 1) more
 next_skip calls p n next more is none h = gather_skip (IsNextAt calls p) n next more is h (λ q item. none item.0)
 
-pub next_all : (calls : List Operation) (p : Position) (size : ℕ) (next : List Position) → length calls ≤ size
+pub next_all : (calls : List Operation) (p : Position) (end size : ℕ) (next : List Position) → IsEnd calls p end → end ≤ size
     → Gathers (IsNextAt calls p) size next → (q : Position) → Contains next q ↔ IsNextOf calls p q
-next_all calls p size next all h q = (
+next_all calls p end size next is_end all h q = (
   λ in_next. let item = (h q).0 in_next in record { place = item.number; may_come = item.is.0; leads = item.is.1 },
   λ follows. (h q).1 (record {
     number = follows.place;
-    below = omega (arith, all, slice_get_within calls follows.place follows.may_come.call follows.may_come.here);
+    below = let lt = in_front follows.place follows.may_come in omega (arith, all, lt);
     is = (follows.may_come, follows.leads);
   }),
 )
+  where
+    in_front : (n : ℕ) → MayCome calls p n → n < end
+    in_front n next = ⊎_elim (λ lt. lt)
+        (λ ge. absurd (is_end.behind n ge (slice_get_within calls n next.call next.here) next.preceded))
+        (cases_lt n end)
 
 -- ---- the choices of positions
 

@@ -4,7 +4,9 @@ mod ChoiceLemmas
 mod EarliestLemmas
 mod GatherLemmas
 mod ItemLemmas
+mod PathLemmas
 mod PlaceLemmas
+mod StepLemmas
 mod TurnLemmas
 pub mod ValueLemmas
 mod VisitLemmas

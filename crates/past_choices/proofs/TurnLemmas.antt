@@ -228,7 +228,7 @@ turn_front m calls ended chosen path rising none preceding known turn = record {
 
 -- where all positions are known, each choice is one of them
 pub choice_at : (key : ℕ) (first : Option ℕ) (calls : List Operation) (ended : List Bool) (visited : List Position) (c : PastChoice)
-    → ArePast key calls ended → AreReached key first calls visited → IsPastChoice key first calls ended c
+    → ArePast key calls ended → AreReached key first calls ended visited → IsPastChoice key first calls ended c
     → (p : Position) × Contains visited p × IsChoiceOf ended p c
 choice_at key first calls ended visited c past reached choice = (
   p,
@@ -279,15 +279,6 @@ choice_at key first calls ended visited c past reached choice = (
     front : IsFront (one_key key first) calls numbered.0
     front = turn_front (one_key key first) calls ended c.chosen numbered.0 past.rising past.apart past.preceding numbered.1 turn
 
-    leads : (p : Position) × Contains visited p × IsAt key first calls numbered.0 p
-    leads = reached.whole numbered.0 front
-
-    p : Position
-    p = leads.0
-
-    at : IsAt key first calls numbered.0 leads.0
-    at = leads.2
-
     below : (n : ℕ) → slice_get ended n ≡ Some true → n < length calls
     below n had = omega (arith, past.each, slice_get_within ended n true had)
 
@@ -295,6 +286,16 @@ choice_at key first calls ended visited c past reached choice = (
     done_to_path n within h = numbers_from_calls calls (done_numbers calls ended c.chosen) numbered.0 past.rising
         (λ a in_done. (turn.all a).1 (subst (λ (l : List Operation). Contains l a) (sym (done_are calls ended c.chosen)) in_done))
         n within h
+
+    leads : (p : Position) × Contains visited p × IsAt key first calls numbered.0 p
+    leads = reached.whole numbered.0 front
+        (λ n had. done_to_path n (below n had) (in_done calls ended c.chosen n (below n had) (inl had)))
+
+    p : Position
+    p = leads.0
+
+    at : IsAt key first calls numbered.0 leads.0
+    at = leads.2
 
     path_to_done : (n : ℕ) → n < length calls → Contains numbered.0 n → Contains (done_numbers calls ended c.chosen) n
     path_to_done n within h = numbers_from_calls calls numbered.0 (done_numbers calls ended c.chosen) past.rising

@@ -1,15 +1,22 @@
 -- What a call of a key does at the pairs of that key alone: what it does at its value.
 use Rattle.events.specs.declared.event.Reply.TheVariants as replies
 use Rattle.std.proofs.Common.{◌≡◌, ℕ, Bool, true, false, [], ◌++◌, Option, Some, None, refl, sym, ap, ◌∙◌, subst, arith}
-use Rattle.std.specs.Prelude.{◌⊎◌, ◌↔◌, if◌then◌else◌}
+use Rattle.std.specs.Prelude.{◌⊎◌, ◌↔◌, if◌then◌else◌, IsSomeAnd}
 use Rattle.std.proofs.lemmas.Bool.{eq-eqb, le-ltb}
 use Rattle.events.specs.declared.event.Call.{Call}
 use Rattle.events.specs.declared.event.Call.TheVariants.{Get, Insert, Remove, Scan, Replace}
 use Rattle.events.specs.declared.event.Reply.{Reply}
+use Rattle.events.specs.declared.operation.Operation.{Operation}
 use Rattle.events.specs.declared.operation.Response.{Response}
 use Rattle.map_object.specs.MapObject.{Contents, value_at, value_reply, is_just, below, above, put, reply_to, after, after_reply, TellsOf}
 use Rattle.orders.specs.Orders.{after_call, IsLegalCall}
 use Rattle.following.specs.keys.KeyStates.{one_key}
+use Rattle.call_search.specs.Replies.{says_unchanged}
+use Rattle.call_search.proofs.ReplyLemmas.{unchanged}
+use Rattle.following.proofs.keys.BeginLemmas.{one_rises}
+use Rattle.past_choices.specs.declared.mark.Mark.TheVariants.{Taken}
+use Rattle.past_choices.specs.Reads.{IsRead}
+use Rattle.past_choices.specs.Steps.{mark_of}
 use Rattle.past_choices.specs.Values.{IsCallOf, value_behind, value_behind_reply, value_behind_call, MayBeAnswered}
 
 -- the value there
@@ -88,3 +95,18 @@ legal_one key value call (Some r) is = (
   λ h. subst (λ (whole : Reply). (r.reply ≡ replies.Refused) ⊎ TellsOf call whole r.reply) (reply_one key value call is) h,
   λ h. subst (λ (whole : Reply). (r.reply ≡ replies.Refused) ⊎ TellsOf call whole r.reply) (sym (reply_one key value call is)) h,
 )
+
+-- a read is done at the value where it may be answered so, and leaves it
+pub read_leaves : (key : ℕ) (value : Option ℕ) (a : Operation) → IsCallOf key a.call → IsRead a → MayBeAnswered value a.call a.response
+    → (mark_of a.response value ≡ Taken) × (value_behind_call value a.call a.response ≡ value)
+read_leaves key value a is read legal = by_response a.response read legal
+  where
+    by_response : (response : Option Response) → IsSomeAnd response (λ r. says_unchanged a.call r.reply ≡ true)
+        → MayBeAnswered value a.call response → (mark_of response value ≡ Taken) × (value_behind_call value a.call response ≡ value)
+    by_response None read legal = absurd read
+    by_response (Some r) read legal = (
+      refl,
+      one_key_same key (value_behind_reply value a.call r.reply) value
+          (sym (after_call_one key value a.call (Some r) is)
+          ∙ unchanged (one_key key value) a.call r.reply (one_rises key value) read ((legal_one key value a.call (Some r) is).1 legal)),
+    )

@@ -1,6 +1,6 @@
 -- Positions visited: one more, and all of a list.
 use Rattle.std.proofs.Common.{◌≡◌, Bool, true, false, List, [], ◌∷◌, ◌++◌, Result, Ok, Err, refl, ◌∙◌, subst, ⊎_elim, inl, inr}
-use Rattle.std.specs.Prelude.{◌↔◌, if◌then◌else◌, OnOk, Contains}
+use Rattle.std.specs.Prelude.{if◌then◌else◌, OnOk, Contains}
 use Rattle.std.specs.List.{list_any}
 use Rattle.std.proofs.lemmas.List.Elements.{Contains-append_left, Contains-push, Contains-push_cases}
 use Rattle.std.proofs.lemmas.Map.Views.{Contains-from_any}
@@ -10,7 +10,7 @@ use Rattle.events.specs.declared.operation.Operation.{Operation}
 use Rattle.list_laws.proofs.Lists.{slice_get-append_left, Contains-cases, Contains-nil, place_of-Contains, Contains-at}
 use Rattle.past_choices.specs.Equality.{is_same, Decides-is_same}
 use Rattle.past_choices.specs.Positions.{Position}
-use Rattle.past_choices.specs.Steps.{AreVisited, IsVisited, IsNextOf, IsExpanded}
+use Rattle.past_choices.specs.Steps.{AreVisited, IsVisited, IsExpanded, AreEnough, AreSteps, next_position}
 
 -- the only member of a list of one
 only : (q x : Position) → Contains (q ∷ []) x → q ≡ x
@@ -53,13 +53,20 @@ visited_more xs q first old new before now = record {
       (Contains-push_cases xs q x h);
 }
 
--- with all that follow a position
-pub expanded : (calls : List Operation) (p : Position) (next old new : List Position)
-    → ((q : Position) → Contains next q ↔ IsNextOf calls p q) → AreVisited next old new → IsExpanded calls p old new
-expanded calls p next old new each visited = record {
+-- positions that are enough stay so among more
+pub enough_more : (calls : List Operation) (ended : List Bool) (p : Position) (xs ys : List Position)
+    → ((q : Position) → Contains xs q → Contains ys q) → AreEnough calls ended p xs → AreEnough calls ended p ys
+enough_more calls ended p xs ys to enough =
+    ⊎_elim (λ all. inl (λ q next. to q (all q next)))
+    (λ read. inr (read.0, read.1, to (next_position p read.0 read.1.may_come.call) read.2)) enough
+
+-- with enough of those that follow a position
+pub expanded : (calls : List Operation) (ended : List Bool) (p : Position) (next old new : List Position)
+    → AreSteps calls ended p next → AreVisited next old new → IsExpanded calls ended p old new
+expanded calls ended p next old new steps visited = record {
   places = visited.places;
-  from = λ q h. ⊎_elim (λ before. inl before) (λ now. inr ((each q).0 now)) (visited.from q h);
-  to = λ q h. visited.to q ((each q).1 h);
+  from = λ q h. ⊎_elim (λ before. inl before) (λ now. inr (steps.follow q now)) (visited.from q h);
+  enough = enough_more calls ended p next new visited.to steps.enough;
 }
 
 -- what holds where a result is one

@@ -3,5 +3,6 @@ pub mod Equality
 pub mod Marks
 pub mod PastChoices
 pub mod Positions
+pub mod Reads
 pub mod Steps
 pub mod Values

@@ -9,6 +9,7 @@ use Rattle.past_choices.specs.declared.mark.Mark.{Mark}
 use Rattle.past_choices.specs.declared.mark.Mark.TheVariants.{Left, Taken, Found}
 use Rattle.past_choices.specs.PastChoices.{PastChoice}
 use Rattle.past_choices.specs.Positions.{Position, IsAt, IsReached}
+use Rattle.past_choices.specs.Reads.{IsRead}
 use Rattle.past_choices.specs.Values.{value_behind_call, MayBeAnswered}
 
 -- the mark of a call that is done at a value
@@ -45,28 +46,35 @@ pub record IsNextOf (calls : List Operation) (p next : Position) : Type 0 where
   pub may_come : MayCome calls p place
   pub leads : next ≡ next_position p place may_come.call
 
+-- a read that ended before the moment may come next
+pub record IsReadAt (calls : List Operation) (ended : List Bool) (p : Position) (n : ℕ) : Type 0 where
+  pub may_come : MayCome calls p n
+  pub had_ended : slice_get ended n ≡ Some true
+  pub read : IsRead may_come.call
+
+-- Some positions are enough to go on to from one: all that follow it, or the one after a read that ended before the moment. Such a read stands in
+-- each order of all calls that ended, and changes nothing in it, so it may as well come at once.
+abbrev pub AreEnough : List Operation → List Bool → Position → List Position → Type 0
+AreEnough calls ended p positions =
+    ((q : Position) → IsNextOf calls p q → Contains positions q)
+    ⊎ ((n : ℕ) × (read : IsReadAt calls ended p n) × Contains positions (next_position p n read.may_come.call))
+
+-- the positions that the worklist goes on to from one
+pub record AreSteps (calls : List Operation) (ended : List Bool) (p : Position) (next : List Position) : Type 0 where
+  pub follow : (q : Position) → Contains next q → IsNextOf calls p q
+  pub enough : AreEnough calls ended p next
+
+-- the calls before an end are those that none precedes which is left
+pub record IsEnd (calls : List Operation) (p : Position) (end : ℕ) : Type 0 where
+  pub within : end ≤ length calls
+  pub before : (n : ℕ) → n < end → NoneLeftPrecedes calls p n
+  pub behind : (n : ℕ) → end ≤ n → n < length calls → NoneLeftPrecedes calls p n → ⊥
+
 -- the earlier of an answer's place and a response's, where there are any
 abbrev pub earlier_of : Option ℕ → Option Response → Option ℕ
 earlier_of earliest None = earliest
 earlier_of None (Some response) = Some response.res
 earlier_of (Some answered) (Some response) = Some (min answered response.res)
-
--- a call that is left, of the first ones, is answered at a place
-pub record IsLeftAnswered (calls : List Operation) (marks : List Mark) (size place : ℕ) : Type 0 where
-  pub number : ℕ
-  pub within : number < size
-  pub call : Operation
-  pub here : slice_get calls number ≡ Some call
-  pub left : slice_get marks number ≡ Some Left
-  pub response : Response
-  pub answered : call.response ≡ Some response
-  pub at : response.res ≡ place
-
--- the earliest answer of a call that is left, of the first ones
-abbrev pub IsEarliest : List Operation → List Mark → ℕ → Option ℕ → Type 0
-IsEarliest calls marks size None = (place : ℕ) → IsLeftAnswered calls marks size place → ⊥
-IsEarliest calls marks size (Some answered) =
-    IsLeftAnswered calls marks size answered × ((place : ℕ) → IsLeftAnswered calls marks size place → answered ≤ place)
 
 -- the positions visited, with those of a list that were not among them
 pub record AreVisited (positions old new : List Position) : Type 0 where
@@ -78,28 +86,30 @@ pub record AreVisited (positions old new : List Position) : Type 0 where
 abbrev pub IsVisited : Position → List Position → List Position → Type 0
 IsVisited position old new = AreVisited (position ∷ []) old new
 
--- the positions visited, with all that a call leads to from one of them
-pub record IsExpanded (calls : List Operation) (p : Position) (old new : List Position) : Type 0 where
+-- the positions visited, with enough of those that follow one of them
+pub record IsExpanded (calls : List Operation) (ended : List Bool) (p : Position) (old new : List Position) : Type 0 where
   pub places : (i : ℕ) (q : Position) → slice_get old i ≡ Some q → slice_get new i ≡ Some q
   pub from : (q : Position) → Contains new q → Contains old q ⊎ IsNextOf calls p q
-  pub to : (q : Position) → IsNextOf calls p q → Contains new q
+  pub enough : AreEnough calls ended p new
 
--- with all that a call leads to from the one at a place
-abbrev pub IsExpandedAt : List Operation → ℕ → List Position → List Position → Type 0
-IsExpandedAt calls at old new = (p : Position) × (slice_get old at ≡ Some p) × IsExpanded calls p old new
+-- with enough of those that follow the one at a place
+abbrev pub IsExpandedAt : List Operation → List Bool → ℕ → List Position → List Position → Type 0
+IsExpandedAt calls ended at old new = (p : Position) × (slice_get old at ≡ Some p) × IsExpanded calls ended p old new
 
 -- positions visited, of which those before a place have been gone on from
-pub record AreExplored (key : ℕ) (first : Option ℕ) (calls : List Operation) (visited : List Position) (at : ℕ)
+pub record AreExplored (key : ℕ) (first : Option ℕ) (calls : List Operation) (ended : List Bool) (visited : List Position) (at : ℕ)
     : Type 0 where
   pub start : Contains visited (start_position (length calls) first)
   pub reached : All (IsReached key first calls) visited
-  pub closed : (i : ℕ) (p q : Position) → i < at → slice_get visited i ≡ Some p → IsNextOf calls p q → Contains visited q
+  pub closed : (i : ℕ) (p : Position) → i < at → slice_get visited i ≡ Some p → AreEnough calls ended p visited
 
--- the positions are those that are reachable
-pub record AreReached (key : ℕ) (first : Option ℕ) (calls : List Operation) (visited : List Position) : Type 0 where
+-- the positions are reachable, and those at which all calls that ended are done are among them
+pub record AreReached (key : ℕ) (first : Option ℕ) (calls : List Operation) (ended : List Bool) (visited : List Position)
+    : Type 0 where
   pub distinct : AllPairs (λ p q. p ≢ q) visited
   pub reached : All (IsReached key first calls) visited
-  pub whole : (path : List ℕ) → IsFront (one_key key first) calls path → (p : Position) × Contains visited p × IsAt key first calls path p
+  pub whole : (path : List ℕ) → IsFront (one_key key first) calls path → ((n : ℕ) → slice_get ended n ≡ Some true → Contains path n)
+      → (p : Position) × Contains visited p × IsAt key first calls path p
 
 -- all calls that ended are done
 abbrev pub EndedAreDone : List Bool → List Mark → Type 0

@@ -3,19 +3,22 @@
 //! of the calls.
 //!
 //! The worklist goes from position to position, each once: which calls are done, the value behind them, and what those found that
-//! are not answered (Lowe 2017, whose memo it is, here for all that is reachable and not for one order).
+//! are not answered (Lowe 2017, whose memo it is, here for all that is left and not for one order). Where a call may come next that
+//! ended before the moment and says that it changed nothing, it goes on with this call alone.
 #![tactic(auto)]
 
 mod answer;
 mod choices;
 mod mark;
 mod position;
+mod reads;
 mod steps;
 mod values;
 mod visited;
 mod worklist;
 
 pub use answer::{Answer, PastChoice};
+pub use reads::is_read;
 pub use values::{may_be_answered, value_behind};
 pub use worklist::past_choices;
 

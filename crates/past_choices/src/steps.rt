@@ -1,44 +1,104 @@
-// The positions that follow one.
-ghost use Rattle.std.specs.Prelude.{◌≡◌, ◌↔◌, ◌<◌, length, IfOk, IsTrue, IsSomeAnd, Contains};
+// The positions to go on to from one.
+ghost use Rattle.std.specs.Prelude.{◌≡◌, ◌↔◌, ◌<◌, length, AllPairs, IfOk, IfSome, IsTrue, IsSomeAnd, Contains};
+ghost use Rattle.events.specs.Precedence.{NonePrecedesItself};
 ghost use Rattle.past_choices.specs.Positions.{Position as Standing};
-ghost use Rattle.past_choices.specs.Steps.{earlier_of, IsEarliest, IsNextOf, MayCome};
+ghost use Rattle.past_choices.specs.Steps.{earlier_of, AreSteps, IsEnd, IsNextOf, IsReadAt, MayCome, NoneLeftPrecedes};
 
 use crate::mark::Mark;
 use crate::position::Position;
+use crate::reads::is_read;
 use crate::values::may_be_answered;
 use events::{Memory, Operation, Response};
 use std::alloc::Global;
 
-/// The positions after one more call. Calls may come next that begin before the earliest answer of those that are left.
+/// The positions to go on to: the one after a read that ended before the moment, where such a read may come next, and else those
+/// after each call that may.
 pub(crate) fn next_positions(
     alloc: Global,
     calls: &[Operation],
+    ended: &[bool],
     position: &Position,
 ) -> Result<Vec<Position>, Memory>
-    requires { length position.now.marks ≡ length calls.now }
+    requires rising { AllPairs (λ a b. a.inv < b.inv) calls.now }
+    requires apart { NonePrecedesItself calls.now }
+    requires each { length position.now.marks ≡ length calls.now }
+    requires each_ended { length ended.now ≡ length calls.now }
+    ensures { IfOk result (λ v. AreSteps calls.now ended.now position.now v.items) }
+{
+    let end = end_of(calls, position);
+    let Some(place) = read_next(calls, ended, position, end) else {
+        return after_each(alloc, calls, position, end);
+    };
+    let mut next = Vec::new(alloc);
+    next.push(position.with(alloc, place, &calls[place])?)?;
+    Ok(next)
+}
+
+/// How many calls begin before the earliest answer of those that are left: no other may come next.
+fn end_of(calls: &[Operation], position: &Position) -> usize
+    requires rising { AllPairs (λ a b. a.inv < b.inv) calls.now }
+    requires apart { NonePrecedesItself calls.now }
+    requires each { length position.now.marks ≡ length calls.now }
+    ensures { IsEnd calls.now position.now result }
+{
+    let marks = position.marks();
+    let mut earliest = None;
+    for place in 0..calls.len() {
+        let call = &calls[place];
+        if is_behind(earliest, call.inv) {
+            return place;
+        }
+        if marks[place].is_left() {
+            earliest = earlier(earliest, &call.response);
+        }
+    }
+    calls.len()
+}
+
+/// A read that ended before the moment and may come next.
+fn read_next(calls: &[Operation], ended: &[bool], position: &Position, end: usize) -> Option<usize>
+    requires each { length position.now.marks ≡ length calls.now }
+    requires each_ended { length ended.now ≡ length calls.now }
+    requires end { IsEnd calls.now position.now end }
+    ensures known { IfSome result (λ place. place < length calls.now) }
+    ensures read { IfSome result (IsReadAt calls.now ended.now position.now) }
+{
+    for place in 0..end {
+        if ended[place] && is_read(&calls[place]) && may_come(calls, position, place) {
+            return Some(place);
+        }
+    }
+    None
+}
+
+/// The positions after each call that may come next.
+fn after_each(
+    alloc: Global,
+    calls: &[Operation],
+    position: &Position,
+    end: usize,
+) -> Result<Vec<Position>, Memory>
+    requires each { length position.now.marks ≡ length calls.now }
+    requires end { IsEnd calls.now position.now end }
     ensures { IfOk result (λ v. (q : Standing) → Contains v.items q ↔ IsNextOf calls.now position.now q) }
 {
-    let answered = earliest_answer(calls, position.marks());
     let mut next = Vec::new(alloc);
-    for place in 0..calls.len() {
-        if may_come(calls, position, answered, place) {
+    for place in 0..end {
+        if may_come(calls, position, place) {
             next.push(position.with(alloc, place, &calls[place])?)?;
         }
     }
     Ok(next)
 }
 
-/// Whether a call may come next.
-fn may_come(calls: &[Operation], position: &Position, answered: Option<usize>, place: usize) -> bool
+/// Whether a call that none precedes which is left may come next.
+fn may_come(calls: &[Operation], position: &Position, place: usize) -> bool
     requires known { place < length calls.now }
     requires each { length position.now.marks ≡ length calls.now }
-    requires earliest { IsEarliest calls.now position.now.marks (length calls.now) answered }
+    requires first { NoneLeftPrecedes calls.now position.now place }
     ensures { IsTrue result ↔ MayCome calls.now position.now place }
 {
-    let call = &calls[place];
-    position.marks()[place].is_left()
-        && !is_behind(answered, call.inv)
-        && may_be_answered(position.value(), call)
+    position.marks()[place].is_left() && may_be_answered(position.value(), &calls[place])
 }
 
 /// Whether a place is behind an answer.
@@ -49,20 +109,6 @@ fn is_behind(answered: Option<usize>, place: usize) -> bool
         Some(answered) => answered < place,
         None => false,
     }
-}
-
-/// The earliest answer of a call that is left.
-fn earliest_answer(calls: &[Operation], marks: &[Mark]) -> Option<usize>
-    requires { length marks.now ≡ length calls.now }
-    ensures { IsEarliest calls.now marks.now (length calls.now) result }
-{
-    let mut earliest = None;
-    for place in 0..calls.len() {
-        if marks[place].is_left() {
-            earliest = earlier(earliest, &calls[place].response);
-        }
-    }
-    earliest
 }
 
 /// The earlier of two answers, where there are any.

@@ -102,3 +102,29 @@ fn answers_and_precedence_are_kept(rt: HostRuntime) -> Result<(), Fail> {
     );
     Ok(())
 }
+
+// Two gets of 1 had ended behind an insert of it, and a remove is open. The gets come at once, one behind the other, and the remove
+// behind them: no call, the insert, the first get, the second, the remove. In all nine positions are reachable.
+#[test]
+fn reads_that_ended_go_first(rt: HostRuntime) -> Result<(), Fail> {
+    let alloc = rt.alloc();
+    let insert = answered(Call::Insert(7, 1), 0, 1, Reply::Done);
+    let first = answered(Call::Get(7), 2, 5, Reply::Some(1));
+    let second = answered(Call::Get(7), 3, 6, Reply::Some(1));
+    let remove = open(Call::Remove(7), 4);
+    let calls = vec![in alloc; insert, first, second, remove]?;
+    let ended = vec![in alloc; true, true, true, false]?;
+    let Answer::All(choices) = past_choices(alloc, 7, None, &calls, &ended, 5)? else {
+        panic!(rt; "more positions than are met");
+    };
+    assert!(rt; choices.len() == 2);
+    assert!(rt; has_choice(&choices, &[], Some(1), &[]));
+    assert!(rt; has_choice(&choices, &[3], None, &[(3, Some(1))]));
+    assert!(rt;
+        matches!(
+            past_choices(alloc, 7, None, &calls, &ended, 4)?,
+            Answer::Spent
+        )
+    );
+    Ok(())
+}

@@ -1,5 +1,6 @@
 // The worklist.
 ghost use Rattle.std.specs.Prelude.{◌≡◌, ◌<◌, ◌≤◌, length, All, AllPairs, MatchOption, IfOk, OnOk};
+ghost use Rattle.events.specs.Precedence.{NonePrecedesItself};
 ghost use Rattle.past_choices.specs.Answers.{IsAnswer};
 ghost use Rattle.past_choices.specs.PastChoices.{ArePast};
 ghost use Rattle.past_choices.specs.Positions.{ReachesMoreThan};
@@ -17,7 +18,8 @@ use std::alloc::Global;
 /// not ended, of the value behind all that were done, and of what calls found that have no answer, once. `Spent` where more than
 /// `budget` positions were met, `Memory` where a growth was refused.
 /// The calls are those of the key that began before the moment, by rising invocation, and `ended` says of each whether it ended
-/// before the moment. Each position costs as much as the calls, and each of the calls that may come next there as much again.
+/// before the moment. From a position at which a read may come next that ended before the moment it goes on with this read alone,
+/// so it meets fewer positions than are reachable. Each of the calls that may come next at a position costs as much as all calls.
 pub fn past_choices(
     alloc: Global,
     key: u64,
@@ -29,24 +31,27 @@ pub fn past_choices(
     requires { ArePast key calls.now ended.now }
     ensures { IfOk result (IsAnswer key value calls.now ended.now budget) }
 {
-    match positions_of(alloc, key, value, calls, budget)? {
+    match positions_of(alloc, key, value, calls, ended, budget)? {
         Some(visited) => Ok(Answer::All(choices_of(alloc, &visited, ended)?)),
         None => Ok(Answer::Spent),
     }
 }
 
-/// The positions that are reachable, or none where there are more than the budget.
+/// Positions that are reachable, with all at which the calls that ended are done, or none where they are more than the budget.
 fn positions_of(
     alloc: Global,
     key: u64,
     value: Option<u64>,
     calls: &[Operation],
+    ended: &[bool],
     budget: u32,
 ) -> Result<Option<Visited>, Memory>
     requires of_key { All (λ a. IsCallOf key a.call) calls.now }
     requires rising { AllPairs (λ a b. a.inv < b.inv) calls.now }
+    requires apart { NonePrecedesItself calls.now }
+    requires each { length ended.now ≡ length calls.now }
     ensures { IfOk result (λ found. MatchOption found (ReachesMoreThan key value calls.now budget)
-        (AreReached key value calls.now)) }
+        (AreReached key value calls.now ended.now)) }
 {
     let mut visited = Visited::at_start(alloc, calls.len(), value)?;
     let mut at = 0;
@@ -54,23 +59,27 @@ fn positions_of(
         if visited.len() > budget as usize {
             return Ok(None);
         }
-        go_on_from(alloc, calls, &mut visited, at)?;
+        go_on_from(alloc, calls, ended, &mut visited, at)?;
         at += 1;
     }
     Ok(Some(visited))
 }
 
-/// Visits the positions that follow the one at a place.
+/// Visits the positions to go on to from the one at a place.
 fn go_on_from(
     alloc: Global,
     calls: &[Operation],
+    ended: &[bool],
     visited: &mut Visited,
     at: usize,
 ) -> Result<(), Memory>
+    requires rising { AllPairs (λ a b. a.inv < b.inv) calls.now }
+    requires apart { NonePrecedesItself calls.now }
     requires known { at < length visited.old }
     requires each { All (λ p. length p.marks ≡ length calls.now) visited.old }
-    ensures { OnOk result (IsExpandedAt calls.now at visited.old visited.new) }
+    requires each_ended { length ended.now ≡ length calls.now }
+    ensures { OnOk result (IsExpandedAt calls.now ended.now at visited.old visited.new) }
 {
-    let next = next_positions(alloc, calls, visited.at(at))?;
+    let next = next_positions(alloc, calls, ended, visited.at(at))?;
     visited.visit_all(next)
 }

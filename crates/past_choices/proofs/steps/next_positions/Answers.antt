@@ -1,30 +1,25 @@
-use Rattle.std.proofs.Common.{◌≡◌, ◌∙◌, Some, length, refl, ap, arith}
-use Rattle.std.specs.Prelude.{slice_get}
-use Rattle.std.proofs.lemmas.Bool.{both_ways}
+use Rattle.std.proofs.Common.{◌≡◌, ◌∙◌, [], ◌∷◌, ◌++◌, Some, length, refl, ap}
+use Rattle.std.specs.Prelude.{◌↔◌, slice_get, Contains}
 use Rattle.std.proofs.lemmas.Option.{slice_get_read}
-use Rattle.past_choices.proofs.ItemLemmas.{next_push, next_skip, next_all}
+use Rattle.std.proofs.lemmas.Result.{IfOk-weaker}
+use Rattle.past_choices.specs.Positions.{Position as Standing}
+use Rattle.past_choices.specs.Steps.{AreSteps, IsNextOf}
+use Rattle.past_choices.proofs.StepLemmas.{steps_all, steps_read}
 use Rattle.past_choices.proofs.steps.next_positions.Goals as goal
-use Rattle.past_choices.proofs.steps.next_positions.Goals.{then-may_come+in_ok-with+in_ok-push, else-may_come}
 
-pub loop-place-preserved : goal.loop-place-preserved
-loop-place-preserved c =
+pub returns-in_default : goal.returns-in_default
+returns-in_default c =
     let calls = c.args.calls.now in
     let p = c.args.position.now in
-    let n = c.loop-place.place in
-    let old = c.loop-place.next.items in
-    let new = c.if-may_come.next.items in
-    elim c.if-may_come.branch [
-      | then-may_come+in_ok-with+in_ok-push w ↦
-          let a = w.index-calls-place.result in
-          let here : slice_get calls n ≡ Some a =
-          slice_get_read calls (length calls) n a refl c.loop-place-test.true w.index-calls-place.is in
-          next_push calls p n a old new w.in_ok-with.field-0 (ap (λ v. v.items) w.next-is ∙ w.in_ok-push.ensures.items)
-          (c.may_come.ensures.0 w.if-may_come.true) here w.in_ok-with.ensures c.loop-place.invariant
-      | else-may_come w ↦ next_skip calls p n old new (ap (λ v. v.items) w.next-is)
-          (λ h. both_ways c.may_come.result w.if-may_come.false (c.may_come.ensures.1 h)) c.loop-place.invariant
-    ]
+    IfOk-weaker c.after_each.result (λ v. (q : Standing) → Contains v.items q ↔ IsNextOf calls p q)
+    (λ v. AreSteps calls c.args.ended.now p v.items) (λ v each. steps_all calls c.args.ended.now p v.items each) c.after_each.ensures
 
 pub returns : goal.returns
 returns c =
-    next_all c.args.calls.now c.args.position.now c.loop-place.place c.loop-place.next.items (omega (arith, c.loop-place-test.false))
-    c.loop-place.invariant
+    let calls = c.args.calls.now in
+    let n = c.in-Some.place in
+    let a = c.index-calls-place.result in
+    let here : slice_get calls n ≡ Some a = slice_get_read calls (length calls) n a refl c.in-Some.ensures.known c.index-calls-place.is in
+    steps_read calls c.args.ended.now c.args.position.now n a c.in_ok-with.field-0 c.push.new.self.items
+    (c.in_ok-push.ensures.items ∙ ap (λ l. l ++ c.in_ok-with.field-0 ∷ []) c.new-next.ensures.items) here c.in_ok-with.ensures
+    c.in-Some.ensures.read
