@@ -10,7 +10,7 @@ use Rattle.kept_rows.specs.Settling.{HasSettled}
 use Rattle.kept_rows.specs.declared.row.KeptScan.{KeptScan}
 
 pub settles : {E : Type 0} (s : ScanAnswer) (limits : ℕ → ℕ) (scans : List KeptScan) (key limit now : ℕ) (old kept : KeptView) (r : Result KeptView E)
-    → limit ≡ limits key → now ≡ suc s.place → IsPlaced s scans (key, old) (Some kept) → IfOk r (HasSettled key limit now kept)
+    → limit ≡ limits key → now ≡ suc s.place → IsPlaced s scans (key, old) (Some kept) → IfOk r (HasSettled key scans limit now kept)
     → IfOk r (λ new. IsEntryPlaced s limits scans (key, old) (key, new))
 settles s limits scans key limit now old kept (Err e) limit_is now_is placed settled = tt
 settles s limits scans key limit now old kept (Ok new) limit_is now_is placed settled = (
@@ -19,8 +19,8 @@ settles s limits scans key limit now old kept (Ok new) limit_is now_is placed se
     kept,
     placed.1,
     placed.3,
-    subst (λ n. HasSettled key (limits key) n kept new) now_is
-        (subst (λ l. HasSettled key l now kept new) limit_is settled),
+    subst (λ n. HasSettled key scans (limits key) n kept new) now_is
+        (subst (λ l. HasSettled key scans l now kept new) limit_is settled),
   ),
   λ outside. absurd (outside placed.0),
 )
