@@ -62,7 +62,7 @@ named_entry (e ∷ keys) key some = ⊎_elim
     (λ other. Contains-later e.0 (names keys) key (named_entry keys key (λ none. some (rw (ne_eqb e.0 key other) none))))
     (cases_eq e.0 key)
 
-entry_named : (keys : List Entry) (key : ℕ) → Contains (names keys) key → entry_at keys key ≡ None → ⊥
+pub entry_named : (keys : List Entry) (key : ℕ) → Contains (names keys) key → entry_at keys key ≡ None → ⊥
 entry_named [] key is none = Contains-nil key is
 entry_named (e ∷ keys) key is none = ⊎_elim
     (λ same. let some : Some e.1 ≡ None = rw (eq-eqb e.0 key same) at none in none-some e.1 (sym some))
