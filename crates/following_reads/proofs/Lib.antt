@@ -1,0 +1,9 @@
+mod BesideLemmas
+mod HoldLemmas
+mod ImageLemmas
+mod MoveLemmas
+mod OrderLemmas
+mod ReadLemmas
+mod SettleLemmas
+mod SortLemmas
+mod WiderLemmas
