@@ -57,20 +57,20 @@ answered value call None = inl tt
 answered value call (Some r) = tells value call r.reply
 
 -- and whether it is then a read of a value or none
+abbrev IsReadBy : Call → Option Response → Type 0
+IsReadBy call o = IsSomeAnd o (λ r. says_unchanged call r.reply ≡ true)
+
 pub read_at_or_not : (value : Option ℕ) (a : Operation) → IsReadAt value a ⊎ (IsReadAt value a → ⊥)
 read_at_or_not value a = by_response a.response refl
   where
-    abbrev IsReadBy : Option Response → Type 0
-    IsReadBy o = IsSomeAnd o (λ r. says_unchanged a.call r.reply ≡ true)
-
     by_response : (o : Option Response) → a.response ≡ o → IsReadAt value a ⊎ (IsReadAt value a → ⊥)
-    by_response None is = inr (λ h. subst IsReadBy is h.read)
+    by_response None is = inr (λ h. subst (IsReadBy a.call) is h.read)
     by_response (Some r) is = ⊎_elim
         (λ read. ⊎_elim
-        (λ legal. inl (record { read = subst IsReadBy (sym is) read; legal = subst (MayBeAnswered value a.call) (sym is) legal }))
+        (λ legal. inl (record { read = subst (IsReadBy a.call) (sym is) read; legal = subst (MayBeAnswered value a.call) (sym is) legal }))
         (λ none. inr (λ h. none (subst (MayBeAnswered value a.call) is h.legal)))
         (tells value a.call r.reply))
-        (λ none. inr (λ h. none (subst IsReadBy is h.read)))
+        (λ none. inr (λ h. none (subst (IsReadBy a.call) is h.read)))
         (is_true (says_unchanged a.call r.reply))
 
 pub found_or_not : (key : ℕ) (a : Operation) (kind : Kind) (value : Option ℕ) → IsFoundBy key a kind value ⊎ (IsFoundBy key a kind value → ⊥)
