@@ -1,5 +1,5 @@
 -- Where comparisons fix a key up to reads, what is kept of it holds in all timings of their class at the key or in none.
-use Rattle.std.proofs.Common.{◌≡◌, ℕ, true, false, List, ◌++◌, Option, inl}
+use Rattle.std.proofs.Common.{◌≡◌, ℕ, false, List, ◌++◌, inl}
 use Rattle.std.specs.Prelude.{Contains}
 use Rattle.std.proofs.lemmas.List.Elements.{All-contains}
 use Rattle.events.specs.declared.operation.Operation.{Operation}

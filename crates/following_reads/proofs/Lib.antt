@@ -2,6 +2,7 @@ mod BesideLemmas
 mod HoldLemmas
 mod ImageLemmas
 mod MoveLemmas
+mod OpenLemmas
 mod OrderLemmas
 mod ReadLemmas
 mod SettleLemmas

@@ -1,23 +1,21 @@
 -- Where comparisons fix a key up to reads, calls at it in one timing stand so in another, where what precedes an earlier one there may stand beside
 -- it, or the earlier one beside that: so they have an order there too.
-use Rattle.std.proofs.Common.{◌≡◌, ℕ, ◌<◌, ◌≤◌, true, false, List, [], ◌∷◌, Option, Some, None, refl, sym, ap, ◌∙◌, subst, ⊎_elim, inl, inr, arith}
-use Rattle.std.specs.Prelude.{◌↔◌, ◌≢◌, nat_lt, All, AllPairs, Contains}
+use Rattle.std.proofs.Common.{◌≡◌, ℕ, ◌<◌, true, false, List, [], ◌∷◌, Option, Some, refl, sym, ap, ◌∙◌, subst, ⊎_elim, inl, inr, arith}
+use Rattle.std.specs.Prelude.{◌↔◌, ◌≢◌, nat_lt, All, Contains}
 use Rattle.std.specs.List.{AllZip}
-use Rattle.std.proofs.lemmas.Bool.{both_ways, cases_lt, cases_eq, lt-ltb, le-ltb, ltb-true}
-use Rattle.std.proofs.lemmas.Option.{none-some}
-use Rattle.std.proofs.lemmas.List.Elements.{All-contains}
+use Rattle.std.proofs.lemmas.Bool.{both_ways, cases_lt, lt-ltb, le-ltb, ltb-true}
 use Rattle.events.specs.declared.operation.Operation.{Operation}
 use Rattle.events.specs.declared.operation.Response.{Response}
 use Rattle.events.specs.Precedence.{is_before, precedes}
 use Rattle.list_laws.proofs.Lists.{All-at, AllPairs-head, AllPairs-tail, place_of-Contains}
 use Rattle.list_laws.proofs.FilterLemmas.{AllPairs-weaker}
 use Rattle.list_laws.proofs.ZipLemmas.{zip_right}
-use Rattle.map_object.specs.MapObject.{Contents, IsRising, value_at}
+use Rattle.map_object.specs.MapObject.{Contents, IsRising}
 use Rattle.orders.specs.Orders.{after_calls, IsLegal, KeepsPrecedence}
 use Rattle.segments.proofs.RangeLemmas.{IsInside}
-use Rattle.following.specs.moments.KeyCalls.{Kind, OfKey, Told, Silent, kind_of, spread_response, spread_call, get_at, part_at, at_key}
+use Rattle.following.specs.moments.KeyCalls.{Kind, OfKey, Told, Silent, kind_of, spread_response, spread_call, get_at, at_key}
 use Rattle.following.specs.keys.Settling.{found_in}
-use Rattle.following.specs.rows.Blocks.{is_scan, IsOver}
+use Rattle.following.specs.rows.Blocks.{IsOver}
 use Rattle.following.specs.rows.Comparisons.{Comparison, class_of}
 use Rattle.following.specs.rows.Twins.{IsTimingAt}
 use Rattle.following.proofs.moments.DistinctLemmas.{InvocationsDiffer}

@@ -6,11 +6,12 @@ use Rattle.std.proofs.lemmas.List.Kept.{AllPairs-filter}
 use Rattle.events.specs.declared.event.Event.{Event}
 use Rattle.events.specs.declared.operation.Operation.{Operation}
 use Rattle.events.specs.Operations.{operations}
-use Rattle.events.specs.Precedence.{precedes}
+use Rattle.events.specs.Precedence.{precedes, NonePrecedesItself}
 use Rattle.events.proofs.TimeLemmas.{inv_rises, NonePrecedesItself-operations}
 use Rattle.list_laws.specs.Lists.{has_number}
 use Rattle.list_laws.proofs.Lists.{Contains-from_filter}
 use Rattle.quiet_cuts.specs.Cells.{is_left, calls_left}
+use Rattle.quiet_cuts.specs.TimeCuts.{InvocationsRise}
 use Rattle.quiet_cuts.proofs.LeftLemmas.{left_from, not_dropped, in_left, from_left}
 use Rattle.following.specs.moments.KeyCalls.{at_key}
 use Rattle.following.specs.keys.Choices.{Choice}
@@ -27,19 +28,16 @@ use Rattle.following.proofs.rows.ComparisonLemmas.{hold_front}
 use Rattle.following.proofs.rows.CutLemmas.{compared}
 use Rattle.following.proofs.rows.InTurnAlikeLemmas.{AreInTurnToo}
 use Rattle.following.proofs.rows.TwinLemmas.{timing_at, timing_among}
-use Rattle.following_reads.specs.Laws.{ReadTimingsSettle, ReadKeysSettle}
+use Rattle.following_reads.specs.Laws.{ReadChoicesGoOn, ReadTimingsSettle, ReadKeysSettle}
 use Rattle.following_reads.specs.Reads.{AreFixedUpToReads}
 use Rattle.following_reads.proofs.HoldLemmas.{fixed_among}
 use Rattle.following_reads.proofs.OrderLemmas.{turns_over}
 
-module _ (events : List Event) (comparisons : List Comparison) (key : ℕ) (gone : List ℕ)
-    (fixed : AreFixedUpToReads comparisons key (calls_left gone (operations events))) (spread moment other_spread other_moment : ℕ → ℕ)
-    (timing : IsTimingAt key (calls_left gone (operations events)) spread moment) (hold : class_of comparisons spread moment ≡ true)
-    (other : IsTimingAt key (calls_left gone (operations events)) other_spread other_moment)
+module _ (calls : List Operation) (rise : InvocationsRise calls) (alone : NonePrecedesItself calls) (comparisons : List Comparison) (key : ℕ)
+    (gone : List ℕ) (fixed : AreFixedUpToReads comparisons key (calls_left gone calls)) (spread moment other_spread other_moment : ℕ → ℕ)
+    (timing : IsTimingAt key (calls_left gone calls) spread moment) (hold : class_of comparisons spread moment ≡ true)
+    (other : IsTimingAt key (calls_left gone calls) other_spread other_moment)
     (other_hold : class_of comparisons other_spread other_moment ≡ true) where
-  abbrev calls : List Operation
-  calls = operations events
-
   -- the calls that are done in turn
   abbrev done : List ℕ → List ℕ → List Operation
   done taken places = calls_left taken (calls_among places calls)
@@ -56,7 +54,7 @@ module _ (events : List Event) (comparisons : List Comparison) (key : ℕ) (gone
 
   differ : (taken places : List ℕ) → InvocationsDiffer (done taken places)
   differ taken places = AllPairs-filter (λ a b. a.inv ≢ b.inv) (is_left taken) (calls_among places calls)
-      (AllPairs-filter (λ a b. a.inv ≢ b.inv) (λ a. has_number places a.inv) calls (differ_from_rise calls (inv_rises events)))
+      (AllPairs-filter (λ a b. a.inv ≢ b.inv) (λ a. has_number places a.inv) calls (differ_from_rise calls rise))
 
   turns_too : (w : Choice) (places : List ℕ) → ((n : ℕ) → Contains gone n → Contains w.taken n) → (order : List Operation)
       → AreInTurn (one_key key w.value) (at_key key spread moment (done w.taken places)) order
@@ -66,7 +64,7 @@ module _ (events : List Event) (comparisons : List Comparison) (key : ℕ) (gone
       let some = done w.taken places in
       let inside = known w.taken places more in
       turns_over key comparisons some (differ w.taken places)
-      (λ a is. All-contains (λ a. precedes a a ≡ false) calls a (NonePrecedesItself-operations events) (in_calls w.taken places a is))
+      (λ a is. All-contains (λ a. precedes a a ≡ false) calls a alone (in_calls w.taken places a is))
       (fixed_among comparisons key all some inside fixed) spread moment other_spread other_moment
       (timing_among key all some spread moment inside timing) hold (timing_among key all some other_spread other_moment inside other) other_hold
       (one_key key w.value) order (one_rises key w.value)
@@ -90,6 +88,10 @@ module _ (events : List Event) (comparisons : List Comparison) (key : ℕ) (gone
             );
       }
 
+pub read_choices : ReadChoicesGoOn
+read_choices calls comparisons key gone spread moment other_spread other_moment ended begun w next rise alone fixed timing hold other other_hold =
+    goes_over calls rise alone comparisons key gone fixed spread moment other_spread other_moment timing hold other other_hold ended begun w next
+
 -- whatever the past moment, what the key settles to in one timing it settles to in another
 settles_over : (events : List Event) (comparisons : List Comparison) (key : ℕ) (k l : KeyState) (ended begun : List ℕ)
     (spread moment other_spread other_moment : ℕ → ℕ) → AreFixedUpToReads comparisons key (calls_left k.gone (operations events))
@@ -98,21 +100,24 @@ settles_over : (events : List Event) (comparisons : List Comparison) (key : ℕ)
     → class_of comparisons other_spread other_moment ≡ true → SettlesIn (operations events) key spread moment ended begun k l
     → SettlesIn (operations events) key other_spread other_moment ended begun k l
 settles_over events comparisons key k l ended begun spread moment other_spread other_moment fixed timing hold other other_hold settle next =
+    let calls = operations events in
+    let rise = inv_rises events in
+    let alone = NonePrecedesItself-operations events in
     let (to, from) = settle next in (
       λ h.
           let (w, has, goes) = to h in (
             w,
             has,
-            goes_over events comparisons key k.gone fixed spread moment other_spread other_moment timing hold other other_hold ended begun w next
-                (choice_covers k w has) goes,
+            read_choices calls comparisons key k.gone spread moment other_spread other_moment ended begun w next rise alone fixed timing hold other
+                other_hold (choice_covers k w has) goes,
           ),
       λ h.
           let (w, has, goes) = h in
           from (
             w,
             has,
-            goes_over events comparisons key k.gone fixed other_spread other_moment spread moment other other_hold timing hold ended begun w next
-                (choice_covers k w has) goes,
+            read_choices calls comparisons key k.gone other_spread other_moment spread moment ended begun w next rise alone fixed other other_hold
+                timing hold (choice_covers k w has) goes,
           ),
     )
 

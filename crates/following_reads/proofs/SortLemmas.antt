@@ -1,7 +1,7 @@
 -- A legal list of calls, in which a later call precedes an earlier one only where one of the two may stand beside the other, is put in an order that
 -- keeps precedence: from the last call on, each call is put in front of those behind it. What precedes it then goes in front of it, where it may
 -- stand beside it; else it goes behind the last call that precedes it.
-use Rattle.std.proofs.Common.{◌≡◌, ℕ, not, Bool, true, false, List, [], ◌∷◌, ◌++◌, filter, refl, sym, ap, ◌∙◌, subst, ⊎_elim, inl, inr}
+use Rattle.std.proofs.Common.{◌≡◌, ℕ, not, Bool, true, false, List, [], ◌∷◌, ◌++◌, filter, refl, sym, ap, subst, ⊎_elim, inl, inr}
 use Rattle.std.specs.Prelude.{◌≢◌, ◌⊎◌, ⊤, All, AllPairs, Contains}
 use Rattle.std.proofs.lemmas.Bool.{both_ways, not-true, not_from_false, false_from_ne_true, cases_Bool}
 use Rattle.std.proofs.lemmas.List.Elements.{All-contains, All-cons, All-head, Contains-append_left, Contains-append_right}
@@ -13,7 +13,7 @@ use Rattle.list_laws.proofs.Lists.{AllPairs-nil, AllPairs-head, AllPairs-tail, A
 use Rattle.list_laws.proofs.Lists.{All-from_contains, Contains-nil, Contains-cases, Contains-first, Contains-later, Contains-around}
 use Rattle.list_laws.proofs.Lists.{Contains-filter, Contains-from_filter}
 use Rattle.map_object.specs.MapObject.{Contents, IsRising}
-use Rattle.orders.specs.Orders.{after_call, IsLegalCall, IsLegal}
+use Rattle.orders.specs.Orders.{after_call, IsLegal}
 use Rattle.quiet_cuts.proofs.AroundLemmas.{beside, middle, AllPairs-behind}
 use Rattle.quiet_cuts.proofs.ValueLemmas.{rising_kept}
 use Rattle.following.proofs.moments.DistinctLemmas.{InvocationsDiffer, one_before}

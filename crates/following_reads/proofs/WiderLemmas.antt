@@ -21,9 +21,9 @@ use Rattle.quiet_cuts.proofs.LeftLemmas.{from_left}
 use Rattle.following.specs.moments.KeyCalls.{kind_of, at_key, OfKey, Told}
 use Rattle.following.specs.moments.Timings.{IsToldScan}
 use Rattle.following.specs.keys.KeyStates.{one_key, Configuration, KeyState, MayHaveFound, Holds, SomeHolds}
-use Rattle.following.specs.rows.Blocks.{is_scan, IsOver}
-use Rattle.following.specs.rows.Comparisons.{Comparison, Behind, class_of}
-use Rattle.following.specs.rows.Fixed.{IsParted, ComesFirst}
+use Rattle.following.specs.rows.Blocks.{is_scan}
+use Rattle.following.specs.rows.Comparisons.{Comparison, Behind}
+use Rattle.following.specs.rows.Fixed.{IsParted}
 use Rattle.following.specs.rows.Twins.{IsTimingAt}
 use Rattle.following.proofs.keys.ChoiceLemmas.{any_to}
 use Rattle.following.proofs.rows.RowLemmas.{only}
@@ -33,17 +33,17 @@ use Rattle.following_reads.specs.WiderReads.{IsAnyRead, IsUnchangedAt}
 
 -- ---- one scan of key 0 that was told nothing, invoked first, and other calls
 
-abbrev scan_of : ℕ → Operation
+abbrev pub scan_of : ℕ → Operation
 scan_of res = record { call = Scan 0 0; inv = 0; response = Some (record { res = res; reply = replies.Pairs [] }) }
 
-abbrev get_told : ℕ → ℕ → Reply → Operation
+abbrev pub get_told : ℕ → ℕ → Reply → Operation
 get_told inv res reply = record { call = Get 0; inv = inv; response = Some (record { res = res; reply = reply }) }
 
 -- the places of events, and one moment
-abbrev twice : ℕ → ℕ
+abbrev pub twice : ℕ → ℕ
 twice place = 2 * place
 
-abbrev at : ℕ → ℕ → ℕ
+abbrev pub at : ℕ → ℕ → ℕ
 at moment n = moment
 
 -- the key may hold one value, or none
@@ -84,12 +84,12 @@ module _ (res : ℕ) (others : List Operation) (own : All (λ a. kind_of a.call 
   all_left : calls_left [] calls ≡ calls
   all_left = filter_all (is_left []) calls (λ k d inside. refl)
 
-  timing_left : (moment half : ℕ) → moment ≡ 2 * half + 1 → half < res → IsTimingAt 0 (calls_left [] calls) twice (at moment)
+  pub timing_left : (moment half : ℕ) → moment ≡ 2 * half + 1 → half < res → IsTimingAt 0 (calls_left [] calls) twice (at moment)
   timing_left moment half odd inside =
       subst (λ (l : List Operation). IsTimingAt 0 l twice (at moment)) (sym all_left) (timing moment half odd inside)
 
   -- and a rule that has the others fixes the key
-  fixed : (Is : Rule) (comparisons : List Comparison)
+  pub fixed : (Is : Rule) (comparisons : List Comparison)
       → All (λ b. (IsParted comparisons (scan_of res) b.inv
       × ((r : Response) → b.response ≡ Some r → IsParted comparisons (scan_of res) r.res)) ⊎ Is 0 None b) others
       → AreFixedUpTo Is comparisons 0 (calls_left [] calls)
@@ -151,7 +151,7 @@ module _ (res : ℕ) (others : List Operation) (own : All (λ a. kind_of a.call 
 pair_of : {X : Type 0} (R : X → X → Type 0) (x y : X) → R x y → AllPairs R (x ∷ y ∷ [])
 pair_of R x y h = AllPairs-cons R x (y ∷ []) (All-cons (R x) y [] h (All-nil (R x))) (AllPairs-cons R y [] (All-nil (R y)) (AllPairs-nil R))
 
-three_of : {X : Type 0} (R : X → X → Type 0) (x y z : X) → R x y → R x z → R y z → AllPairs R (x ∷ y ∷ z ∷ [])
+pub three_of : {X : Type 0} (R : X → X → Type 0) (x y z : X) → R x y → R x z → R y z → AllPairs R (x ∷ y ∷ z ∷ [])
 three_of R x y z first second third =
     AllPairs-cons R x (y ∷ z ∷ []) (All-cons (R x) y (z ∷ []) first (All-cons (R x) z [] second (All-nil (R x)))) (pair_of R y z third)
 
@@ -159,7 +159,7 @@ three_of R x y z first second third =
 behind : (n m : ℕ) (order : List ℕ) → n ≢ m → Contains (n ∷ order) m → Contains order m
 behind n m order other is = ⊎_elim (λ same. absurd (other same)) (λ later. later) (Contains-cases n order m is)
 
-true_not_false : true ≡ false → ⊥
+pub true_not_false : true ≡ false → ⊥
 true_not_false e = cc
 
 -- of a value a get is not told none, and of none no value
@@ -167,7 +167,7 @@ none_there : IsLegalReply [] (Get 0) (replies.Some 1) → ⊥
 none_there (inl refused) = cc
 none_there (inr tells) = cc
 
-one_there : IsLegalReply ((0, 1) ∷ []) (Get 0) replies.None → ⊥
+pub one_there : IsLegalReply ((0, 1) ∷ []) (Get 0) replies.None → ⊥
 one_there (inl refused) = cc
 one_there (inr tells) = cc
 

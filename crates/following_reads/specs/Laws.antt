@@ -14,8 +14,8 @@ use Rattle.following.specs.rows.Cuts.{IsComparedCut}
 use Rattle.following.specs.rows.Fixed.{SettlesIn}
 use Rattle.following.specs.rows.Rows.{RowHolds}
 use Rattle.following.specs.rows.Twins.{IsTimingAt, AreFixedUpToTwins}
-use Rattle.following_reads.specs.Reads.{AreFixedUpToReads}
-use Rattle.following_reads.specs.WiderReads.{TimingsHoldUpTo, IsAnyRead, IsUnchangedAt}
+use Rattle.following_reads.specs.Reads.{IsReadOf, AreFixedUpToReads}
+use Rattle.following_reads.specs.WiderReads.{TimingsHoldUpTo, ChoicesGoOnUpTo, IsAnyRead, IsUnchangedAt, IsOpenGet}
 
 -- a key that is fixed up to twins is so up to reads
 abbrev pub TwinsAreReads : Type 0
@@ -25,12 +25,7 @@ TwinsAreReads =
 
 -- where comparisons fix a key up to reads, what is kept of it holds in all timings of their class at the key or in none
 abbrev pub ReadTimingsHold : Type 0
-ReadTimingsHold =
-    (calls : List Operation) (comparisons : List Comparison) (key : ℕ) (k : KeyState) (spread moment other_spread other_moment : ℕ → ℕ)
-    → InvocationsRise calls → NonePrecedesItself calls → AreFixedUpToReads comparisons key (calls_left k.gone calls)
-    → IsTimingAt key (calls_left k.gone calls) spread moment → class_of comparisons spread moment ≡ true
-    → IsTimingAt key (calls_left k.gone calls) other_spread other_moment → class_of comparisons other_spread other_moment ≡ true
-    → SomeHolds key spread moment calls k → SomeHolds key other_spread other_moment calls k
+ReadTimingsHold = TimingsHoldUpTo IsReadOf
 
 -- so one timing at such a key tells that a row does not hold
 abbrev pub ReadKeysRefute : Type 0
@@ -45,11 +40,15 @@ ReadKeysRefute =
 abbrev pub ReadRowsJudge : Type 0
 ReadRowsJudge =
     (calls : List Operation) (comparisons : List Comparison) (states : ℕ → KeyState) (spread moment : ℕ → ℕ) → InvocationsRise calls
-    → NonePrecedesItself calls → ((key : ℕ) → AreFixedUpToReads comparisons key (calls_left (states key).gone calls)) → IsTiming calls spread moment
-    → class_of comparisons spread moment ≡ true
+    → NonePrecedesItself calls → ((key : ℕ) → AreFixedUpToReads comparisons key (calls_left (states key).gone calls))
+    → IsTiming calls spread moment → class_of comparisons spread moment ≡ true
     → RowHolds calls (record { allows = class_of comparisons; states = states }) ↔ ((key : ℕ) → SomeHolds key spread moment calls (states key))
 
--- what such a key settles to in one timing at it, it settles to in each
+-- what a choice of such a key goes on to at a past moment, in one timing, it goes on to in all: open calls find the same
+abbrev pub ReadChoicesGoOn : Type 0
+ReadChoicesGoOn = ChoicesGoOnUpTo IsReadOf
+
+-- so what the key settles to in one timing at it, it settles to in each
 abbrev pub ReadTimingsSettle : Type 0
 ReadTimingsSettle =
     (events : List Event) (comparisons : List Comparison) (key : ℕ) (k l : KeyState) (place : ℕ) (ended begun : List ℕ)
@@ -79,3 +78,7 @@ UnlikeReadsLoseOrders = TimingsHoldUpTo IsAnyRead → ⊥
 -- and so has a call that changes nothing there, where its answer does not say so
 abbrev pub UnchangedCallsLoseOrders : Type 0
 UnchangedCallsLoseOrders = TimingsHoldUpTo IsUnchangedAt → ⊥
+
+-- nor need an open get find the same where it is not parted
+abbrev pub OpenGetsFindOthers : Type 0
+OpenGetsFindOthers = ChoicesGoOnUpTo IsOpenGet → ⊥

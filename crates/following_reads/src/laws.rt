@@ -1,6 +1,6 @@
 // Laws of reads beside scans: each function only carries its clause, and calls what it rests on.
-ghost use Rattle.following_reads.specs.Laws.{ReadKeysRefute, ReadKeysSettle, ReadRowsJudge, ReadTimingsHold, ReadTimingsSettle};
-ghost use Rattle.following_reads.specs.Laws.{TwinsAreReads, UnchangedCallsLoseOrders, UnlikeReadsLoseOrders};
+ghost use Rattle.following_reads.specs.Laws.{ReadChoicesGoOn, ReadKeysRefute, ReadKeysSettle, ReadRowsJudge, ReadTimingsHold, ReadTimingsSettle};
+ghost use Rattle.following_reads.specs.Laws.{OpenGetsFindOthers, TwinsAreReads, UnchangedCallsLoseOrders, UnlikeReadsLoseOrders};
 
 /// A class that orders the scans over a key up to twins, and parts them from all events of its calls, does so up to reads.
 pub fn twins_are_reads()
@@ -23,7 +23,13 @@ pub fn read_rows_judge()
     ensures { ReadRowsJudge }
 {}
 
-/// What such a key settles to at a past moment in one timing at it, it settles to in each: a read may be done before the scan or behind it.
+/// What a choice of such a key goes on to at a past moment in one timing at it, it goes on to in each: a read may be done before the scan or behind
+/// it, and open calls find the same.
+pub fn read_choices_go_on()
+    ensures { ReadChoicesGoOn }
+{}
+
+/// So what the key settles to in one timing at it, it settles to in each.
 pub fn read_timings_settle()
     ensures { ReadTimingsSettle }
 {}
@@ -44,4 +50,10 @@ pub fn unlike_reads_lose_orders()
 /// overlap. Before the remove the scan has no place.
 pub fn unchanged_calls_lose_orders()
     ensures { UnchangedCallsLoseOrders }
+{}
+
+/// Nor where a get is open, of what it finds: a key has a value, a remove and then a get are open, and a scan is told nothing behind the remove's
+/// beginning. If the get begins before the scan's moment, it may find the value; behind it, it does not.
+pub fn open_gets_find_others()
+    ensures { OpenGetsFindOthers }
 {}

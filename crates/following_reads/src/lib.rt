@@ -5,6 +5,7 @@
 mod laws;
 
 pub use laws::{
-    read_keys_refute, read_keys_settle, read_rows_judge, read_timings_hold, read_timings_settle,
-    twins_are_reads, unchanged_calls_lose_orders, unlike_reads_lose_orders,
+    open_gets_find_others, read_choices_go_on, read_keys_refute, read_keys_settle, read_rows_judge,
+    read_timings_hold, read_timings_settle, twins_are_reads, unchanged_calls_lose_orders,
+    unlike_reads_lose_orders,
 };
