@@ -1,7 +1,7 @@
 -- Which values a call may have found, as it is kept, and as it is for what is kept of a key in general; and lists of those.
 use Rattle.events.specs.declared.event.Reply.TheVariants as replies
 use Rattle.std.proofs.Common.{◌≡◌, ℕ, Bool, true, false, List, [], ◌∷◌, Option, Some, None, refl, sym, ap, subst, ⊎_elim, inl, inr}
-use Rattle.std.specs.Prelude.{◌⊎◌, ◌↔◌, Any, Contains, IsTrue}
+use Rattle.std.specs.Prelude.{◌⊎◌, ◌↔◌, Any, Contains, IsTrue, IsSomeAnd}
 use Rattle.std.proofs.lemmas.Bool.{cases_eq, false≢true}
 use Rattle.events.specs.declared.event.Call.{Call}
 use Rattle.events.specs.declared.event.Call.TheVariants.{Get}
@@ -10,11 +10,13 @@ use Rattle.events.specs.declared.operation.Operation.{Operation}
 use Rattle.events.specs.declared.operation.Response.{Response}
 use Rattle.list_laws.proofs.Lists.{Contains-first, Contains-later, Contains-nil, Contains-cases}
 use Rattle.map_object.specs.MapObject.{value_at, value_reply, is_value, misses, TellsOf}
+use Rattle.call_search.specs.Replies.{says_unchanged}
 use Rattle.following.specs.keys.Still.{IsFoundBy}
 use Rattle.following.specs.keys.Still as still
 use Rattle.following.specs.moments.KeyCalls.{Kind, OfKey, Told, Silent, kind_of, spread_response, part_at}
 use Rattle.following.proofs.moments.KindLemmas.{IsPart, part_is}
 use Rattle.past_choices.specs.Values.{MayBeAnswered}
+use Rattle.kept_keys.specs.Reads.{IsReadAt}
 
 -- ---- values are the same or not
 
@@ -53,6 +55,23 @@ answered : (value : Option ℕ) (call : Call) (response : Option Response)
     → still.MayBeAnswered call response value ⊎ (still.MayBeAnswered call response value → ⊥)
 answered value call None = inl tt
 answered value call (Some r) = tells value call r.reply
+
+-- and whether it is then a read of a value or none
+abbrev IsReadBy : Call → Option Response → Type 0
+IsReadBy call o = IsSomeAnd o (λ r. says_unchanged call r.reply ≡ true)
+
+pub read_at_or_not : (value : Option ℕ) (a : Operation) → IsReadAt value a ⊎ (IsReadAt value a → ⊥)
+read_at_or_not value a = by_response a.response refl
+  where
+    by_response : (o : Option Response) → a.response ≡ o → IsReadAt value a ⊎ (IsReadAt value a → ⊥)
+    by_response None is = inr (λ h. subst (IsReadBy a.call) is h.read)
+    by_response (Some r) is = ⊎_elim
+        (λ read. ⊎_elim
+        (λ legal. inl (record { read = subst (IsReadBy a.call) (sym is) read; legal = subst (MayBeAnswered value a.call) (sym is) legal }))
+        (λ none. inr (λ h. none (subst (MayBeAnswered value a.call) is h.legal)))
+        (tells value a.call r.reply))
+        (λ none. inr (λ h. none (subst (IsReadBy a.call) is h.read)))
+        (is_true (says_unchanged a.call r.reply))
 
 pub found_or_not : (key : ℕ) (a : Operation) (kind : Kind) (value : Option ℕ) → IsFoundBy key a kind value ⊎ (IsFoundBy key a kind value → ⊥)
 found_or_not key a (OfKey own) value = answered value a.call a.response

@@ -24,8 +24,8 @@ use Rattle.following.specs.rows.Comparisons.{Comparison, class_of}
 use Rattle.following.specs.rows.Cuts.{HasEndedBy, IsComparedCut}
 use Rattle.following.specs.rows.ExactMoments.{places_by}
 use Rattle.following.specs.rows.Fixed.{IsParted}
-use Rattle.following.specs.rows.Laws.{TwinKeysSettle}
 use Rattle.following.specs.rows.Twins.{IsTimingAt}
+use Rattle.following_reads.specs.Laws.{ReadKeysSettle}
 use Rattle.following.proofs.keys.ChoiceLemmas.{any_from, any_to, same_test}
 use Rattle.following.proofs.moments.KindLemmas.{IsPart, part_is, is_part}
 use Rattle.following.proofs.rows.UntouchedLemmas.{over_from_part}
@@ -263,10 +263,10 @@ module _ (events : List Event) (kept : List Comparison) (moment : ℕ → ℕ) (
       subst (λ (m : ℕ). m < length events) is
       (name_before events moment key gone timed k.names k.calls left call.0 (zip_name k.names k.calls call.0 call.1 it.0)))
 
-pub kept_settles : TwinKeysSettle → KeptKeysSettle
-kept_settles twin start events kept others moment key gone k l place whole_spread whole_moment fixed hold whole whole_hold past scans parted h settled =
+pub kept_settles : ReadKeysSettle → KeptKeysSettle
+kept_settles law start events kept others moment key gone k l place whole_spread whole_moment fixed hold whole whole_hold past scans parted h settled =
     record {
-      stands = twin start events kept others key (state gone k) (state (gone ++ names_ended place k) l) place (names_ended place k)
+      stands = law start events kept others key (state gone k) (state (gone ++ names_ended place k) l) place (names_ended place k)
           (names_open place k) (places_by width) moment whole_spread whole_moment
           (cut events kept moment key gone k place h.timed hold parted h.left past scans) fixed h.timed hold whole whole_hold
           (settled.choices (operations events) gone moment h.left) h.stands;

@@ -19,7 +19,8 @@ use Rattle.following.specs.rows.Comparisons.{Comparison, class_of}
 use Rattle.following.specs.rows.ExactMoments.{places_by}
 use Rattle.following.specs.rows.Fixed.{IsParted}
 use Rattle.following.specs.rows.Rows.{IsWithin}
-use Rattle.following.specs.rows.Twins.{IsTimingAt, AreFixedUpToTwins}
+use Rattle.following.specs.rows.Twins.{IsTimingAt}
+use Rattle.following_reads.specs.Reads.{AreFixedUpToReads}
 use Rattle.past_choices.specs.Values.{IsCallOf}
 use Rattle.kept_keys.specs.Calls.{AreCallsOf}
 use Rattle.kept_keys.specs.Judging.{HasOrder}
@@ -93,7 +94,7 @@ KeptKeysJudge = (start : Contents) (events : List Event) (allows : Timings) (mom
 abbrev pub KeptKeysSettle : Type 0
 KeptKeysSettle = (start : Contents) (events : List Event) (kept others : List Comparison) (moment : ℕ → ℕ) (key : ℕ) (gone : List ℕ) (k l : KeptView)
     (place : ℕ) (whole_spread whole_moment : ℕ → ℕ)
-    → AreFixedUpToTwins kept key (calls_left gone (operations events)) → class_of kept (places_by width) moment ≡ true
+    → AreFixedUpToReads kept key (calls_left gone (operations events)) → class_of kept (places_by width) moment ≡ true
     → IsTiming (operations events) whole_spread whole_moment → class_of (kept ++ others) whole_spread whole_moment ≡ true
     → place ≤ length events
     → ((a : Operation) → Contains (operations events) a → IsOpenScanOver key a.call a.response → place ≤ a.inv)

@@ -11,6 +11,11 @@ pub record IsStillKept (k : KeptView) : Type 0 where
   pub reads : All (λ a. IsSomeAnd a.response (λ r. says_unchanged a.call r.reply ≡ true)) k.calls
   pub taken : All (λ c. c.taken ≡ []) k.configurations
 
+-- a call is completed, says that it changed nothing, and may be answered so where its key has this value, or none
+pub record IsReadAt (value : Option ℕ) (a : Operation) : Type 0 where
+  pub read : IsSomeAnd a.response (λ r. says_unchanged a.call r.reply ≡ true)
+  pub legal : MayBeAnswered value a.call a.response
+
 -- a value that all of them may have found
 abbrev pub AllFind : KeptView → Option ℕ → Type 0
 AllFind k value = All (λ a. MayBeAnswered value a.call a.response) k.calls

@@ -2,7 +2,7 @@
 ghost use Rattle.std.specs.Prelude.{◌≡◌, ◌↔◌, IsTrue, IsSomeAnd, true, [], ◌∷◌, All, Any, Contains, IfOk};
 ghost use Rattle.call_search.specs.Replies as spec;
 ghost use Rattle.past_choices.specs.Values.{MayBeAnswered};
-ghost use Rattle.kept_keys.specs.Reads.{IsStillKept, AreReadOff, HasSeen, IsNarrowedByReads};
+ghost use Rattle.kept_keys.specs.Reads.{IsStillKept, IsReadAt, AreReadOff, HasSeen, IsNarrowedByReads};
 ghost use Rattle.kept_keys.specs.Views.{fresh};
 
 use crate::configuration::Configuration;
@@ -132,6 +132,13 @@ fn is_read(call: &Operation) -> bool
         Some(response) => says_unchanged(&call.call, &response.reply),
         None => false,
     }
+}
+
+/// Whether a call is completed, says that it changed nothing, and may be answered as it is where its key has this value, or none.
+pub fn is_read_of(value: Option<u64>, call: &Operation) -> bool
+    ensures { IsTrue result ↔ IsReadAt value call.now }
+{
+    is_read(call) && may_be_answered(value, call)
 }
 
 /// Whether a reply says that the call changed nothing: it was refused, or it reads alone, or it put the value that it found,

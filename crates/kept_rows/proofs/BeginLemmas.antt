@@ -21,12 +21,12 @@ use Rattle.map_object.specs.MapObject.{Contents}
 use Rattle.following.specs.keys.KeyStates.{KeyState, SomeHolds}
 use Rattle.following.specs.moments.KeyCalls.{kind_of}
 use Rattle.following.specs.moments.Timings.{HasForm, HaveScansForm}
-use Rattle.following.specs.rows.Laws.{TwinRowsJudge}
 use Rattle.following.specs.rows.Ways.{AreEqualRows}
 use Rattle.following.proofs.moments.TimedLemmas.{pending_form}
 use Rattle.following.proofs.rows.ClassLemmas.{equal_rows}
 use Rattle.following.proofs.rows.RowLemmas.{rows_go_on}
 use Rattle.past_choices.specs.Values.{IsCallOf}
+use Rattle.following_reads.specs.Laws.{ReadRowsJudge}
 use Rattle.kept_keys.specs.Kept.{IsKept}
 use Rattle.kept_keys.specs.Laws.{KeptKeysGoOn, KeptKeysTakeCalls}
 use Rattle.kept_keys.specs.Steps.{IsNotAt, with_call}
@@ -62,7 +62,7 @@ named_entry (e ∷ keys) key some = ⊎_elim
     (λ other. Contains-later e.0 (names keys) key (named_entry keys key (λ none. some (rw (ne_eqb e.0 key other) none))))
     (cases_eq e.0 key)
 
-entry_named : (keys : List Entry) (key : ℕ) → Contains (names keys) key → entry_at keys key ≡ None → ⊥
+pub entry_named : (keys : List Entry) (key : ℕ) → Contains (names keys) key → entry_at keys key ≡ None → ⊥
 entry_named [] key is none = Contains-nil key is
 entry_named (e ∷ keys) key is none = ⊎_elim
     (λ same. let some : Some e.1 ≡ None = rw (eq-eqb e.0 key same) at none in none-some e.1 (sym some))
@@ -103,7 +103,7 @@ pub record IsBegun (key place : ℕ) (call : Call) (base next_base : List Entry)
   pub here : kept_at next_base s.keys key ≡ with_call place call (kept_at base r.keys key)
   pub there : (other : ℕ) → other ≢ key → kept_at next_base s.keys other ≡ kept_at base r.keys other
 
-module _ (law : TwinRowsJudge) (take : KeptKeysTakeCalls) (go_on : KeptKeysGoOn) (start : Contents) (events : List Event) (process key : ℕ)
+module _ (law : ReadRowsJudge) (take : KeptKeysTakeCalls) (go_on : KeptKeysGoOn) (start : Contents) (events : List Event) (process key : ℕ)
     (call : Call) (of_key : IsCallOf key call) (base next_base : List Entry) where
   abbrev e : Event
   e = Invoke process call
@@ -287,7 +287,7 @@ rising_first start events v h = by_rows v.rows h.same_keys
         let columns_are = All-head (λ r. names r.keys ≡ h.columns) r rows named in
         rising_from r.keys (subst (AllPairs (λ k l. k < l)) (sym columns_are) h.apart)
 
-module _ (law : TwinRowsJudge) (take : KeptKeysTakeCalls) (go_on : KeptKeysGoOn) (start : Contents) (events : List Event) (process key : ℕ)
+module _ (law : ReadRowsJudge) (take : KeptKeysTakeCalls) (go_on : KeptKeysGoOn) (start : Contents) (events : List Event) (process key : ℕ)
     (call : Call) (of_key : IsCallOf key call) (well : IsWellFormed (events ++ Invoke process call ∷ [])) (base : List Entry) where
   abbrev After : List Entry → List RowView → Type 0
   After next_base rows = AreFollowed start (events ++ Invoke process call ∷ []) (record { base = next_base; rows = rows })
@@ -320,7 +320,7 @@ module _ (law : TwinRowsJudge) (take : KeptKeysTakeCalls) (go_on : KeptKeysGoOn)
       is_none (Some k) other = absurd (other (λ none. none-some k (sym none)))
 
 -- so where the call was put
-module _ (law : TwinRowsJudge) (take : KeptKeysTakeCalls) (go_on : KeptKeysGoOn) (start : Contents) (events : List Event) (process key place : ℕ)
+module _ (law : ReadRowsJudge) (take : KeptKeysTakeCalls) (go_on : KeptKeysGoOn) (start : Contents) (events : List Event) (process key place : ℕ)
     (call : Call) (of_key : IsCallOf key call) (well : IsWellFormed (events ++ Invoke process call ∷ [])) (long : length events ≡ place)
     (base : List Entry) (rows seen : List RowView) (h : AreFollowed start events (record { base = base; rows = rows })) (same : seen ≡ rows)
     (t : Bool)

@@ -19,7 +19,7 @@ use Rattle.events.specs.Precedence.{is_before, precedes}
 use Rattle.events.proofs.TimeLemmas.{inv_rises, NonePrecedesItself-operations}
 use Rattle.list_laws.proofs.Lists.{All-from_contains, Contains-nil, Contains-cases}
 use Rattle.list_laws.proofs.FilterLemmas.{Contains-from_map}
-use Rattle.map_object.specs.MapObject.{Contents}
+use Rattle.map_object.specs.MapObject.{Contents, value_at}
 use Rattle.quiet_cuts.specs.Cells.{calls_left}
 use Rattle.quiet_cuts.specs.KeptCalls.{begun_at, answered_at}
 use Rattle.quiet_cuts.proofs.ContinueLemmas.{completed_stays}
@@ -34,13 +34,13 @@ use Rattle.following.specs.rows.Blocks.{is_scan, IsOver}
 use Rattle.following.specs.rows.Comparisons.{Comparison, Behind, Before, InTurn, SpeaksOf}
 use Rattle.following.specs.rows.ExactMoments.{places_by, AreExact, SayExactly, HasRank}
 use Rattle.following.specs.rows.Fixed.{IsParted}
-use Rattle.following.specs.rows.Twins.{AreFixedUpToTwins}
 use Rattle.following.proofs.keys.ChoiceLemmas.{any_from, any_to}
 use Rattle.following.proofs.keys.GrownLemmas.{IsGrownResponse, IsGrown, in_now, grown_inv, same_completed}
 use Rattle.following.proofs.keys.SilenceLemmas.{silence}
 use Rattle.following.proofs.moments.PartLemmas.{waits_from}
 use Rattle.following.proofs.moments.TimedLemmas.{told_completed}
 use Rattle.following.proofs.rows.EndLemmas.{grown_call, told_call}
+use Rattle.following_reads.specs.Reads.{AreFixedUpToReads, IsReadOf}
 use Rattle.kept_keys.specs.Kept.{IsOpenAhead, IsFormed, IsKept}
 use Rattle.kept_keys.specs.Steps.{IsOpenCall, IsNotAt, PassesBy}
 use Rattle.kept_keys.specs.Views.{KeptView, state, width}
@@ -147,27 +147,6 @@ module _ (events : List Event) (e : Event) where
   abbrev later : List Operation
   later = operations (events ++ e ∷ [])
 
-  -- a call that is answered, or invoked, at an earlier place was there
-  was_invoked : (b : Operation) → Contains later b → b.inv < length events → (a : Operation) × Contains now a × (a.inv ≡ b.inv) × (a.call ≡ b.call)
-  was_invoked b is before =
-      let (a, a_is, grown) = in_now events (e ∷ []) b is before in
-      (a, a_is, grown_inv (length events) a b grown, grown_call (length events) a b grown)
-
-  was_answered : (b : Operation) (r : Response) → Contains later b → b.response ≡ Some r → r.res < length events → Contains now b
-  was_answered b r is answered before =
-      let begun = waits_from b.response b.inv (All-contains (λ a. precedes a a ≡ false) later b
-      (NonePrecedesItself-operations (events ++ e ∷ [])) is) r answered in
-      let (a, a_is, grown) = in_now events (e ∷ []) b is (omega (arith, begun, before)) in
-      by_response a a_is grown a.response refl
-    where
-      by_response : (a : Operation) → Contains now a → IsGrown (length events) a b → (o : Option Response) → a.response ≡ o → Contains now b
-      by_response a a_is grown None pending =
-          let late = subst (λ (o : Option Response). IsGrownResponse (length events) o (Some r)) pending
-          (subst (λ (o : Option Response). IsGrownResponse (length events) a.response o) answered grown.response) in
-          absurd (omega (arith, late, before))
-      by_response a a_is grown (Some s) done =
-          subst (Contains now) (sym (same_completed (length events) a b grown (ap (λ (o : Option Response). is_some o) done))) a_is
-
   -- a scan that was told is parted from what comes then
   parted_late : (comparisons : List Comparison) (a : Operation) (place : ℕ) → Contains now a → IsToldScan a → length events ≤ place
       → IsParted comparisons a place
@@ -175,28 +154,57 @@ module _ (events : List Event) (e : Event) where
       let (r, answered, before) = told_answer events a is told in
       inl (inl (r, answered, omega (arith, late, before)))
 
+  -- an event of a call of a key is parted from a scan, or the call is a read of what it was told, as it was before
+  event_on : (comparisons : List Comparison) (key : ℕ) (gone : List ℕ) (a b : Operation) (low high : ℕ) (pairs : Contents)
+      → AreFixedUpToReads comparisons key (calls_left gone now) → Contains (calls_left gone now) a → Contains (calls_left gone later) b
+      → kind_of a.call a.response ≡ Told low high pairs → IsOver key a.call → is_scan b.call ≡ false → IsOver key b.call
+      → (IsParted comparisons a b.inv × ((r : Response) → b.response ≡ Some r → IsParted comparisons a r.res))
+      ⊎ IsReadOf key (value_at pairs key) b
+  event_on comparisons key gone a b low high pairs fixed a_is b_is told over own own_over = ⊎_elim
+      (λ before. let (c, c_is, grown) = in_now events (e ∷ []) b b_later before in by_response c c_is grown c.response refl)
+      (λ late. inl (late_parted b.inv late, λ r answered. let begun = begun_before r answered in late_parted r.res (omega (arith, begun, late))))
+      (cases_lt b.inv (length events))
+    where
+      b_later : Contains later b
+      b_later = (from_left gone later b b_is).0
+
+      late_parted : (place : ℕ) → length events ≤ place → IsParted comparisons a place
+      late_parted place late = parted_late comparisons a place (from_left gone now a a_is).0 (low, (high, (pairs, told))) late
+
+      begun_before : (r : Response) → b.response ≡ Some r → b.inv ≤ r.res
+      begun_before r answered =
+          let begun = waits_from b.response b.inv (All-contains (λ a. precedes a a ≡ false) later b
+          (NonePrecedesItself-operations (events ++ e ∷ [])) b_later) r answered in omega (arith, begun)
+
+      by_response : (c : Operation) → Contains now c → IsGrown (length events) c b → (o : Option Response) → c.response ≡ o
+          → (IsParted comparisons a b.inv × ((r : Response) → b.response ≡ Some r → IsParted comparisons a r.res))
+          ⊎ IsReadOf key (value_at pairs key) b
+      by_response c c_is grown None pending =
+          let same_inv = grown_inv (length events) c b grown in
+          let same = grown_call (length events) c b grown in
+          let there = in_left gone now c c_is (left_too gone b c (sym same_inv) (from_left gone later b b_is).1) in
+          let parted : IsParted comparisons a c.inv = ⊎_elim
+          (λ apart. apart.0)
+          (λ read. let (r, answered, unchanged, legal) = read in absurd (none-some r (sym pending ∙ answered)))
+          (fixed.events a c low high pairs a_is there told over (ap is_scan same ∙ own) (subst (IsOver key) (sym same) own_over)) in
+          inl (
+            subst (IsParted comparisons a) same_inv parted,
+            λ r answered.
+                let after = subst (λ (o : Option Response). IsGrownResponse (length events) o (Some r)) pending
+                (subst (λ (o : Option Response). IsGrownResponse (length events) c.response o) answered grown.response) in
+                late_parted r.res after,
+          )
+      by_response c c_is grown (Some s) done =
+          let b_now = subst (Contains now) (sym (same_completed (length events) c b grown (ap (λ (o : Option Response). is_some o) done))) c_is in
+          fixed.events a b low high pairs a_is (in_left gone now b b_now (from_left gone later b b_is).1) told over own own_over
+
   pub fixed_on : (comparisons : List Comparison) (key : ℕ) (gone : List ℕ) → TellsNoneOver events e key
-      → AreFixedUpToTwins comparisons key (calls_left gone now) → AreFixedUpToTwins comparisons key (calls_left gone later)
+      → AreFixedUpToReads comparisons key (calls_left gone now) → AreFixedUpToReads comparisons key (calls_left gone later)
   fixed_on comparisons key gone none fixed = record {
-    events = λ a b a_is b_is told over own own_over.
+    events = λ a b low high pairs a_is b_is told over own own_over.
         let (a_later, a_left) = from_left gone later a a_is in
-        let (b_later, b_left) = from_left gone later b b_is in
-        let a_now = none a a_later told over in
-        let there = in_left gone now a a_now a_left in (
-          ⊎_elim
-              (λ before.
-              let (c, c_is, same_inv, same) = was_invoked b b_later before in
-              subst (IsParted comparisons a) same_inv
-              (fixed.events a c there (in_left gone now c c_is (left_too gone b c (sym same_inv) b_left)) told over
-              (ap is_scan same ∙ own) (subst (IsOver key) (sym same) own_over)).0)
-              (λ late. parted_late comparisons a b.inv a_now told late)
-              (cases_lt b.inv (length events)),
-          λ r answered. ⊎_elim
-              (λ before. (fixed.events a b there (in_left gone now b (was_answered b r b_later answered before) b_left) told over own own_over).1
-              r answered)
-              (λ late. parted_late comparisons a r.res a_now told late)
-              (cases_lt r.res (length events)),
-        );
+        let a_now = none a a_later (low, (high, (pairs, told))) over in
+        event_on comparisons key gone a b low high pairs fixed (in_left gone now a a_now a_left) b_is told over own own_over;
     scans = λ a b low high other_low other_high pairs other a_is b_is a_told b_told a_over b_over apart.
         let (a_later, a_left) = from_left gone later a a_is in
         let (b_later, b_left) = from_left gone later b b_is in

@@ -24,7 +24,8 @@ use Rattle.following.specs.rows.Comparisons.{Comparison, Behind, Before, InTurn,
 use Rattle.following.specs.rows.ExactMoments.{SayExactly, HasRank, places_by}
 use Rattle.following.specs.rows.Fixed.{IsBefore, IsBehind, IsParted, ComesFirst}
 use Rattle.following.specs.rows.Rows.{Row, RowHolds, RowsStandFor, IsWithin}
-use Rattle.following.specs.rows.Twins.{IsTimingAt, AreFixedUpToTwins}
+use Rattle.following.specs.rows.Twins.{IsTimingAt}
+use Rattle.following_reads.specs.Reads.{AreFixedUpToReads}
 use Rattle.following.proofs.keys.ChoiceLemmas.{any_from, any_to}
 use Rattle.following.proofs.moments.KindLemmas.{is_part}
 use Rattle.following.proofs.rows.EndLemmas.{told_call}
@@ -292,12 +293,13 @@ module _ (narrow : KeptKeysNarrow) (start : Contents) (events : List Event) (bas
       (λ between. let (place, before, behind) = between in inr (place, before_stays a place a_name before, behind_stays b place b_name behind))
       first
 
-  fixed_stays : (key : ℕ) → AreFixedUpToTwins New key (calls_left (g.gones key) (operations events))
+  fixed_stays : (key : ℕ) → AreFixedUpToReads New key (calls_left (g.gones key) (operations events))
   fixed_stays key = record {
-    events = λ a b a_is b_is told over own own_over.
-        let (begun, ended) = (h.fixed key).events a b a_is b_is told over own own_over in
-        let name = name_left key a a_is told over in
-        (parted_stays a b.inv name begun, λ q answered. parted_stays a q.res name (ended q answered));
+    events = λ a b low high pairs a_is b_is told over own own_over.
+        let name = name_left key a a_is (low, (high, (pairs, told))) over in ⊎_elim
+        (λ parted. inl (parted_stays a b.inv name parted.0, λ q answered. parted_stays a q.res name (parted.1 q answered)))
+        (λ read. inr read)
+        ((h.fixed key).events a b low high pairs a_is b_is told over own own_over);
     scans = λ a b low high other_low other_high pairs other a_is b_is a_told b_told a_over b_over differ.
         let a_name = name_left key a a_is (low, (high, (pairs, a_told))) a_over in
         let b_name = name_left key b b_is (other_low, (other_high, (other, b_told))) b_over in ⊎_elim

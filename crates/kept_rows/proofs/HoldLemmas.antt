@@ -8,7 +8,7 @@ use Rattle.list_laws.proofs.Lists.{Contains-nil, Contains-first, Contains-later,
 use Rattle.list_laws.proofs.FilterLemmas.{Contains-map, Contains-from_map}
 use Rattle.following.specs.rows.Comparisons.{Comparison, Behind, Before, InTurn, holds_in, all_hold}
 use Rattle.following.specs.rows.Fixed.{IsBefore, IsBehind, IsParted, ComesFirst}
-use Rattle.following.specs.rows.Twins.{AreFixedUpToTwins}
+use Rattle.following_reads.specs.Reads.{AreFixedUpToReads}
 use Rattle.kept_rows.specs.Moments.{IsSameScan}
 use Rattle.kept_rows.specs.Rows.{scan_comparisons, turn_comparisons, comparisons_of}
 use Rattle.kept_rows.specs.declared.row.KeptScan.{KeptScan}
@@ -150,11 +150,12 @@ module _ (kept more : List Comparison) (within : (c : Comparison) → Contains k
 
 -- a key that is fixed is so by more comparisons
 pub fixed_within : (kept more : List Comparison) (key : ℕ) (calls : List Operation) → ((c : Comparison) → Contains kept c → Contains more c)
-    → AreFixedUpToTwins kept key calls → AreFixedUpToTwins more key calls
+    → AreFixedUpToReads kept key calls → AreFixedUpToReads more key calls
 fixed_within kept more key calls within fixed = record {
-  events = λ a b a_is b_is told over own own_over.
-      let (begun, ended) = fixed.events a b a_is b_is told over own own_over in
-      (parted_within kept more within a b.inv begun, λ r answered. parted_within kept more within a r.res (ended r answered));
+  events = λ a b low high pairs a_is b_is told over own own_over. ⊎_elim
+      (λ parted. inl (parted_within kept more within a b.inv parted.0, λ r answered. parted_within kept more within a r.res (parted.1 r answered)))
+      (λ read. inr read)
+      (fixed.events a b low high pairs a_is b_is told over own own_over);
   scans = λ a b low high other_low other_high pairs other a_is b_is a_told b_told a_over b_over differ. ⊎_elim
       (λ first. inl (⊎_elim (λ one. inl (first_within kept more within a b one)) (λ two. inr (first_within kept more within b a two)) first))
       (λ same. inr same)
@@ -164,9 +165,9 @@ fixed_within kept more key calls within fixed = record {
 -- and where calls are fewer
 pub fixed_fewer : (comparisons : List Comparison) (key : ℕ) (calls fewer : List Operation)
     → ((a : Operation) → Contains fewer a → Contains calls a)
-    → AreFixedUpToTwins comparisons key calls → AreFixedUpToTwins comparisons key fewer
+    → AreFixedUpToReads comparisons key calls → AreFixedUpToReads comparisons key fewer
 fixed_fewer comparisons key calls fewer within fixed = record {
-  events = λ a b a_is b_is. fixed.events a b (within a a_is) (within b b_is);
+  events = λ a b low high pairs a_is b_is. fixed.events a b low high pairs (within a a_is) (within b b_is);
   scans = λ a b low high other_low other_high pairs other a_is b_is.
       fixed.scans a b low high other_low other_high pairs other (within a a_is) (within b b_is);
 }

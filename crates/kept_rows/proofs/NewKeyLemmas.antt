@@ -21,7 +21,7 @@ use Rattle.following.specs.moments.Timings.{IsToldScan}
 use Rattle.following.specs.rows.Blocks.{IsOver}
 use Rattle.following.specs.rows.Comparisons.{class_of}
 use Rattle.following.specs.rows.ExactMoments.{places_by}
-use Rattle.following.specs.rows.Laws.{TwinTimingsHold, TwinRowsJudge}
+use Rattle.following_reads.specs.Laws.{ReadTimingsHold, ReadRowsJudge}
 use Rattle.following.specs.rows.Rows.{IsWithin}
 use Rattle.following.proofs.keys.ChoiceLemmas.{any_from, any_to}
 use Rattle.following.proofs.rows.AlikeLemmas.{left_weaker}
@@ -44,7 +44,7 @@ use Rattle.kept_rows.proofs.NumberLemmas.{number_is, scan_named}
 use Rattle.kept_rows.proofs.TakenLemmas.{IsTaken, answer, later, before_calls, calls, new_or_old, left_before, old_told, kept, old_comparison, old_name}
 use Rattle.kept_rows.proofs.TakenLemmas.{numbers_time, numbers_time_before}
 
--- the laws of kept keys and of twins on which these stand
+-- the laws of kept keys and of reads on which these stand
 pub record KeyLaws : Type 0 where
   pub narrow : KeptKeysNarrow
   pub go_on : KeptKeysGoOn
@@ -56,8 +56,8 @@ pub record KeyLaws : Type 0 where
   pub reads : KeptReadsGo
   pub stay : GoneStayAnswered
   pub answered : AnsweredCallsGo
-  pub twin_timings : TwinTimingsHold
-  pub twin_rows : TwinRowsJudge
+  pub read_timings : ReadTimingsHold
+  pub read_rows : ReadRowsJudge
 
 -- ---- other moments, where no told scan is left of a key
 

@@ -104,7 +104,7 @@ module _ (laws : KeyLaws) {start : Contents} {events : List Event} {process : �
       (Contains-cases last [] way new))
       (Contains-append_cases ways (last ∷ []) way is)
 
-  module _ (places : List ℕ) (are_places : ArePlacesWithin s.low s.high s.name s.place r.keys places) where
+  module _ (places : List ℕ) (are_places : ArePlacesWithin s.low s.high s.name s.place s.pairs r.keys places) where
     taken_by : {way : Way} {scans : List KeptScan} → IsWayOf s r s.name places way → IsTimedWay s way r scans
         → IsTaken start events process s base r g way scans
     taken_by is_way timed = record { met = m; places = places; are_places = are_places; is_way = is_way; timed = timed }

@@ -9,7 +9,7 @@ use Rattle.events.specs.declared.event.Event.TheVariants.{Invoke, Answer}
 use Rattle.events.specs.declared.operation.Operation.{Operation}
 use Rattle.events.specs.declared.operation.Response.{Response}
 use Rattle.events.specs.Operations.{operations}
-use Rattle.events.proofs.TimeLemmas.{inv_rises}
+use Rattle.events.proofs.TimeLemmas.{inv_rises, NonePrecedesItself-operations}
 use Rattle.map_object.specs.MapObject.{Contents}
 use Rattle.quiet_cuts.specs.Cells.{calls_left}
 use Rattle.quiet_cuts.proofs.ContinueLemmas.{invoked_before}
@@ -19,9 +19,9 @@ use Rattle.following.specs.moments.Timings.{IsTiming}
 use Rattle.following.specs.rows.Comparisons.{Comparison, Behind, Before, InTurn}
 use Rattle.following.specs.rows.ExactMoments.{places_by, moments_by}
 use Rattle.following.specs.rows.Fixed.{IsBefore, IsBehind, IsParted, ComesFirst}
-use Rattle.following.specs.rows.Laws.{TwinRowsJudge}
+use Rattle.following_reads.specs.Laws.{ReadRowsJudge}
 use Rattle.following.specs.rows.Rows.{Row, RowsStandFor}
-use Rattle.following.specs.rows.Twins.{AreFixedUpToTwins}
+use Rattle.following_reads.specs.Reads.{AreFixedUpToReads}
 use Rattle.following.proofs.keys.GrownPartLemmas.{timing_now}
 use Rattle.following.proofs.rows.ExactLemmas.{exact_time, exact_say}
 use Rattle.following.proofs.rows.RowLemmas.{rows_go_on}
@@ -63,12 +63,13 @@ first_more kept others a b h = ⊎_elim
     inr (place, before_more kept others a place before, behind_more kept others b place behind))
     h
 
-pub fixed_more : (kept others : List Comparison) (key : ℕ) (calls : List Operation) → AreFixedUpToTwins kept key calls
-    → AreFixedUpToTwins (kept ++ others) key calls
+pub fixed_more : (kept others : List Comparison) (key : ℕ) (calls : List Operation) → AreFixedUpToReads kept key calls
+    → AreFixedUpToReads (kept ++ others) key calls
 fixed_more kept others key calls fixed = record {
-  events = λ a b a_is b_is told over own own_over.
-      let (begun, ended) = fixed.events a b a_is b_is told over own own_over in
-      (parted_more kept others a b.inv begun, λ r answered. parted_more kept others a r.res (ended r answered));
+  events = λ a b low high pairs a_is b_is told over own own_over. ⊎_elim
+      (λ parted. inl (parted_more kept others a b.inv parted.0, λ r answered. parted_more kept others a r.res (parted.1 r answered)))
+      (λ read. inr read)
+      (fixed.events a b low high pairs a_is b_is told over own own_over);
   scans = λ a b low high other_low other_high pairs other a_is b_is a_told b_told a_over b_over differ. ⊎_elim
       (λ first. inl (⊎_elim (λ one. inl (first_more kept others a b one)) (λ two. inr (first_more kept others b a two)) first))
       (λ same. inr same)
@@ -85,7 +86,7 @@ abbrev pub with_exact : ℕ → (ℕ → ℕ) → (ℕ → ℕ) → RowGhost →
 with_exact room gap rank g = record { others = g.others; gones = g.gones; room = room; gap = gap; rank = rank }
 
 -- A row goes on with an event that tells no scan over a key, where what is kept of each key does, and holds on in each timing.
-pub row_on : TwinRowsJudge → (start : Contents) (events : List Event) (e : Event) (base next_base : List (ℕ × KeptView)) (r : RowView)
+pub row_on : ReadRowsJudge → (start : Contents) (events : List Event) (e : Event) (base next_base : List (ℕ × KeptView)) (r : RowView)
     (keys : List (ℕ × KeptView)) (g : RowGhost) (room : ℕ) (gap rank : ℕ → ℕ) → ((key : ℕ) → TellsNoneOver events e key)
     → map (λ entry. entry.0) r.keys ≡ map (λ entry. entry.0) keys
     → ((key : ℕ) → IsKept start (events ++ e ∷ []) (class_of_row r g) (number_of r.scans) key (g.gones key) (kept_at next_base keys key))
@@ -101,7 +102,7 @@ row_on law start events e base next_base r keys g room gap rank none names kept 
     let states = (row_of base r g).states in
     let timing = exact_time later room gap rank timed.exact in
     let allowed = exact_say room gap rank comparisons timed.ranks timed.say in
-    let held = (law now comparisons states (places_by room) (moments_by room gap rank) (inv_rises events)
+    let held = (law now comparisons states (places_by room) (moments_by room gap rank) (inv_rises events) (NonePrecedesItself-operations events)
     (λ key. fixed_more (comparisons_of r.scans r.turns) g.others key (calls_left (g.gones key) now) (h.fixed key))
     (timing_now events (e ∷ []) (places_by room) (moments_by room gap rank) timing) allowed).0 h.holds in record {
       kept = kept;
@@ -185,7 +186,7 @@ passes_exactly start events (Answer process reply) base r g passes h =
 abbrev pub GoOn : Contents → List Event → List (ℕ × KeptView) → List RowView → List Row → Type 0
 GoOn start events base rows are = (ghosts : List RowGhost) × AllZip (IsRowOf start events base) rows ghosts × (rows_of base rows ghosts ≡ are)
 
-rows_pass : TwinRowsJudge → KeptKeysGoOn → (start : Contents) (events : List Event) (e : Event) (base : List (ℕ × KeptView)) (rows : List RowView)
+rows_pass : ReadRowsJudge → KeptKeysGoOn → (start : Contents) (events : List Event) (e : Event) (base : List (ℕ × KeptView)) (rows : List RowView)
     (ghosts : List RowGhost) → ((key : ℕ) → PassesBy events key e) → AllZip (IsRowOf start events base) rows ghosts
     → GoOn start (events ++ e ∷ []) base rows (rows_of base rows ghosts)
 rows_pass law go_on start events e base [] [] passes zip = ([], tt, refl)
@@ -207,7 +208,7 @@ rows_pass law go_on start events e base (r ∷ rows) (g ∷ ghosts) passes zip =
       ap (λ (l : List Row). row_of base r g ∷ l) same,
     )
 
-pub pass_by : TwinRowsJudge → KeptKeysGoOn → RowsPassBy
+pub pass_by : ReadRowsJudge → KeptKeysGoOn → RowsPassBy
 pass_by law go_on start events e v well form passes h =
     let (ghosts, zip, same) = rows_pass law go_on start events e v.base v.rows h.ghosts passes h.each in record {
       start_rises = h.start_rises;

@@ -96,7 +96,7 @@ tried_more s limit r places i behind before old middle new within is begun upto 
     }
 
 pub tried_all : (s : ScanAnswer) (limit : ℕ → ℕ) (r : RowView) (places : List ℕ) (i behind : ℕ) (old middle new : Parted) → length places ≤ i
-    → ArePlacesWithin s.low s.high s.name s.place r.keys places → AreTriedUpTo s limit r places i behind old middle
+    → ArePlacesWithin s.low s.high s.name s.place s.pairs r.keys places → AreTriedUpTo s limit r places i behind old middle
     → HasTriedGap s limit r behind s.place middle new → HasPartedRow s limit r old new
 tried_all s limit r places i behind old middle new past are upto gap =
     let now = ways_by s behind s.place gap.rivals in
@@ -116,7 +116,7 @@ tried_all s limit r places i behind old middle new past are upto gap =
     }
 
 -- a place lies within the scan
-pub place_within : (s : ScanAnswer) (keys : List (ℕ × KeptView)) (places : List ℕ) (place : ℕ) → ArePlacesWithin s.low s.high s.name s.place keys places
+pub place_within : (s : ScanAnswer) (keys : List (ℕ × KeptView)) (places : List ℕ) (place : ℕ) → ArePlacesWithin s.low s.high s.name s.place s.pairs keys places
     → Contains places place → (s.name < place) × (place < s.place)
 place_within s keys places place are is = ((are.each place).0 is).within
 

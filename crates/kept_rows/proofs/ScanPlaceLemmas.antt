@@ -1,16 +1,17 @@
 -- Keys of a row with a scan as a get.
-use Rattle.std.proofs.Common.{◌≡◌, ℕ, suc, ◌+◌, ◌<◌, List, [], ◌∷◌, ◌++◌, length, take, drop, get_or, Some, Result, Ok, Err, refl, sym, ap, ◌∙◌, subst}
-use Rattle.std.specs.Prelude.{IfOk}
+use Rattle.std.proofs.Common.{◌≡◌, ℕ, suc, ◌+◌, ◌<◌, ◌≤◌, List, [], ◌∷◌, ◌++◌, length, take, drop, get_or, Some, Result, Ok, Err, refl, sym, ap, ◌∙◌, subst}
+use Rattle.std.specs.Prelude.{All, IfOk}
 use Rattle.std.specs.List.{AllZip}
-use Rattle.std.proofs.lemmas.List.{take_more, drop_more}
+use Rattle.std.proofs.lemmas.List.{take_all, take_more, drop_more}
+use Rattle.std.proofs.lemmas.List.Elements.{All-append, All-cons, All-nil}
 use Rattle.kept_keys.specs.Views.{KeptView}
 use Rattle.kept_rows.specs.Parting.{ScanAnswer, IsEntryPlaced}
 use Rattle.kept_rows.specs.Placing.{IsPlaced}
-use Rattle.kept_rows.specs.Settling.{HasSettled}
+use Rattle.kept_rows.specs.Settling.{IsAround, IsClear, HasSettled}
 use Rattle.kept_rows.specs.declared.row.KeptScan.{KeptScan}
 
 pub settles : {E : Type 0} (s : ScanAnswer) (limits : ℕ → ℕ) (scans : List KeptScan) (key limit now : ℕ) (old kept : KeptView) (r : Result KeptView E)
-    → limit ≡ limits key → now ≡ suc s.place → IsPlaced s scans (key, old) (Some kept) → IfOk r (HasSettled key limit now kept)
+    → limit ≡ limits key → now ≡ suc s.place → IsPlaced s scans (key, old) (Some kept) → IfOk r (HasSettled key scans limit now kept)
     → IfOk r (λ new. IsEntryPlaced s limits scans (key, old) (key, new))
 settles s limits scans key limit now old kept (Err e) limit_is now_is placed settled = tt
 settles s limits scans key limit now old kept (Ok new) limit_is now_is placed settled = (
@@ -19,8 +20,8 @@ settles s limits scans key limit now old kept (Ok new) limit_is now_is placed se
     kept,
     placed.1,
     placed.3,
-    subst (λ n. HasSettled key (limits key) n kept new) now_is
-        (subst (λ l. HasSettled key l now kept new) limit_is settled),
+    subst (λ n. HasSettled key scans (limits key) n kept new) now_is
+        (subst (λ l. HasSettled key scans l now kept new) limit_is settled),
   ),
   λ outside. absurd (outside placed.0),
 )
@@ -51,3 +52,14 @@ pub zip_next : {X Y : Type 0} (R : X → Y → Type 0) (xs : List X) (ys rest : 
 zip_next {X} {Y} R xs ys rest i x y within is are h =
     let parts : drop i xs ≡ x ∷ drop (i + 1) xs = drop_more xs i x within ∙ ap (λ z. z ∷ drop (i + 1) xs) (sym is) in
     subst (λ (l : List X). AllZip R l (y ∷ rest)) parts (subst (λ (l : List Y). AllZip R (drop i xs) l) are h)
+
+-- no scan is around a place, one scan after another
+pub clear_more : (key place : ℕ) (scans : List KeptScan) (i : ℕ) (s : KeptScan) → i < length scans → s ≡ get_or scans i s
+    → IsClear key (take i scans) place → (IsAround key place s → ⊥) → IsClear key (take (i + 1) scans) place
+clear_more key place scans i s within is clear none =
+    let Is = λ (s : KeptScan). IsAround key place s → ⊥ in
+    subst (λ (l : List KeptScan). All Is l) (sym (take_more scans i s within ∙ ap (λ z. take i scans ++ z ∷ []) (sym is)))
+    (All-append Is (take i scans) (s ∷ []) clear (All-cons Is s [] none (All-nil Is)))
+
+pub clear_all : (key place : ℕ) (scans : List KeptScan) (i : ℕ) → length scans ≤ i → IsClear key (take i scans) place → IsClear key scans place
+clear_all key place scans i past clear = subst (λ (l : List KeptScan). IsClear key l place) (take_all i scans past) clear

@@ -1,71 +1,75 @@
 -- A key that has settled, as far as it may, is kept as what it settled to.
-use Rattle.std.proofs.Common.{◌≡◌, ℕ, ◌*◌, ◌≤◌, true, List, [], ◌++◌, length, Some}
-use Rattle.std.proofs.Common.{refl, sym, ap, ◌∙◌, subst, ⊎_elim, inl, arith, append-nil}
-use Rattle.std.specs.Prelude.{Contains}
+use Rattle.std.proofs.Common.{◌≡◌, ℕ, ◌≤◌, true, List, [], ◌++◌, length}
+use Rattle.std.proofs.Common.{sym, ap, ◌∙◌, subst, ⊎_elim, inl, inr, arith, append-nil}
+use Rattle.std.specs.Prelude.{All, Contains}
+use Rattle.std.proofs.lemmas.Bool.{cases_lt}
+use Rattle.std.proofs.lemmas.List.Elements.{All-contains}
 use Rattle.events.specs.declared.event.Event.{Event}
 use Rattle.events.specs.declared.operation.Operation.{Operation}
 use Rattle.events.specs.Operations.{operations}
+use Rattle.events.proofs.TimeLemmas.{inv_rises}
 use Rattle.map_object.specs.MapObject.{Contents}
 use Rattle.quiet_cuts.specs.Cells.{calls_left}
 use Rattle.quiet_cuts.proofs.LeftLemmas.{from_left}
-use Rattle.following.specs.moments.KeyCalls.{Kind, OfKey, Told, Silent, kind_of, part_at}
+use Rattle.quiet_cuts.proofs.SetLemmas.{same_call}
+use Rattle.following.specs.moments.KeyCalls.{Told, kind_of}
 use Rattle.following.specs.moments.Timings.{IsTiming}
-use Rattle.following.specs.rows.Blocks.{IsOver}
-use Rattle.following.specs.rows.Comparisons.{Comparison, class_of}
+use Rattle.following.specs.rows.Comparisons.{Comparison, Behind, Before, class_of}
 use Rattle.following.specs.rows.ExactMoments.{places_by}
 use Rattle.following.specs.rows.Fixed.{IsParted}
-use Rattle.following.specs.rows.Twins.{AreFixedUpToTwins}
-use Rattle.following.proofs.keys.ChoiceLemmas.{any_to}
-use Rattle.following.proofs.moments.KindLemmas.{IsPart, part_is}
-use Rattle.following.proofs.rows.EndLemmas.{own_call}
-use Rattle.kept_keys.specs.Cuts.{IsPlaceOf}
+use Rattle.following_reads.specs.Reads.{AreFixedUpToReads}
 use Rattle.kept_keys.specs.Kept.{AreAnswered, IsKept}
 use Rattle.kept_keys.specs.Laws.{KeptKeysSettle, KeptReadsGo}
 use Rattle.kept_keys.specs.Settling.{names_ended}
 use Rattle.kept_keys.specs.Views.{KeptView, width}
 use Rattle.kept_keys.proofs.ScanGoneLemmas.{ended_go, reads_answered}
-use Rattle.kept_keys.proofs.ScanZipLemmas.{name_of_call}
+use Rattle.kept_rows.specs.Followed.{IsKeptScan}
 use Rattle.kept_rows.specs.Outcomes.{IsLimitOf}
-use Rattle.kept_rows.specs.Settling.{HasSettled}
-use Rattle.kept_rows.proofs.EventLemmas.{told_answer, told_over}
+use Rattle.kept_rows.specs.Rows.{comparisons_of, names_of}
+use Rattle.kept_rows.specs.Settling.{IsAround, IsClear, HasSettled}
+use Rattle.kept_rows.specs.declared.row.KeptScan.{KeptScan}
+use Rattle.kept_rows.proofs.HoldLemmas.{behind_said, before_said}
+use Rattle.kept_rows.proofs.NumberLemmas.{scan_named}
 
-module _ (start : Contents) (events : List Event) (kept others : List Comparison) (moment : ℕ → ℕ) (key limit : ℕ) (gone : List ℕ) (k l : KeptView)
-    (fixed : AreFixedUpToTwins kept key (calls_left gone (operations events)))
-    (is_kept : IsKept start events (class_of (kept ++ others)) moment key gone k) where
-  -- comparisons part each scan that is left from a place of an event of the key
-  parted_at : (place : ℕ) → IsPlaceOf k limit (length events) place → (a : Operation) (low high : ℕ) (pairs : Contents)
+module _ (start : Contents) (events : List Event) (scans : List KeptScan) (turns : List (ℕ × ℕ)) (others : List Comparison) (moment : ℕ → ℕ)
+    (key limit : ℕ) (gone : List ℕ) (k l : KeptView) (fixed : AreFixedUpToReads (comparisons_of scans turns) key (calls_left gone (operations events)))
+    (is_kept : IsKept start events (class_of (comparisons_of scans turns ++ others)) moment key gone k) (seen : List KeptScan)
+    (kept_scans : All (IsKeptScan events) seen) (among : (s : KeptScan) → Contains seen s → Contains scans s)
+    (left : (a : Operation) (low high : ℕ) (pairs : Contents) → Contains (calls_left gone (operations events)) a
+    → kind_of a.call a.response ≡ Told low high pairs → low ≤ key → key ≤ high → Contains (names_of seen) a.inv) where
+  abbrev kept : List Comparison
+  kept = comparisons_of scans turns
+
+  -- a scan that is kept is the told scan of its name, with its range
+  same_range : (x : KeptScan) (a : Operation) (low high : ℕ) (pairs : Contents) → IsKeptScan events x → Contains (operations events) a
+      → x.name ≡ a.inv → kind_of a.call a.response ≡ Told low high pairs → (x.low ≡ low) × (x.high ≡ high)
+  same_range x a low high pairs h a_is at told =
+      let same : h.scan ≡ a = same_call (operations events) h.scan a (inv_rises events) h.known a_is (h.name ∙ at) in
+      let one : Told x.low x.high h.pairs ≡ Told low high pairs =
+      sym h.told ∙ (ap (λ (b : Operation). kind_of b.call b.response) same ∙ told) in (cc, cc)
+
+  -- comparisons part each scan that is left from a place that none of them is around
+  parted_at : (place : ℕ) → IsClear key seen place → (a : Operation) (low high : ℕ) (pairs : Contents)
       → Contains (calls_left gone (operations events)) a → kind_of a.call a.response ≡ Told low high pairs → low ≤ key → key ≤ high
       → IsParted kept a place
-  parted_at place is a low high pairs a_is told from to = ⊎_elim
-      (λ now.
-      let (r, answered, before) = told_answer events a (from_left gone (operations events) a a_is).0 (low, (high, (pairs, told))) in
-      inl (inl (r, answered, omega (arith, now, before))))
-      (λ event.
-      let (x, x_is, at) = any_to (λ x. x.inv ≡ width * place) k.calls event in
-      let (n, named) = name_of_call k.names k.calls x is_kept.left.each x_is in
-      let (b, b_is, b_at) = any_to (λ b. (b.inv ≡ n) × (part_at key (places_by width) moment b ≡ Some x)) (calls_left gone (operations events))
-      ((is_kept.left.are n x).0 named) in
-      by_kind b x b_is at (kind_of b.call b.response) refl (part_is key (places_by width) moment b x (kind_of b.call b.response) b_at.1))
-      is.at
-    where
-      by_kind : (b x : Operation) → Contains (calls_left gone (operations events)) b → x.inv ≡ width * place → (kind : Kind)
-          → kind_of b.call b.response ≡ kind → IsPart key (places_by width) moment b x kind → IsParted kept a place
-      by_kind b x b_is at (OfKey own) is h =
-          let (not_scan, over) = own_call b.call b.response own is in
-          let spread : width * b.inv ≡ x.inv = ap (λ (y : Operation). y.inv) h.1 in
-          let here : b.inv ≡ place = omega (arith, spread, at) in
-          subst (IsParted kept a) here
-          (fixed.events a b a_is b_is (low, (high, (pairs, told))) (told_over key a low high pairs told from to) not_scan
-          (subst (λ (n : ℕ). IsOver n b.call) h.0 over)).0
-      by_kind b x b_is at (Told b_low b_high b_pairs) is h =
-          let got : moment b.inv ≡ x.inv = ap (λ (y : Operation). y.inv) h.2 in
-          absurd (is_kept.timed.between b place b_is (b_low, (b_high, (b_pairs, is))) (told_over key b b_low b_high b_pairs is h.0 h.1) (got ∙ at))
-      by_kind b x b_is at Silent is h = absurd h
+  parted_at place clear a low high pairs a_is told from to =
+      let (x, x_is, at) = scan_named seen a.inv (left a low high pairs a_is told from to) in
+      let h = All-contains (IsKeptScan events) seen x kept_scans x_is in
+      let (same_low, same_high) = same_range x a low high pairs h (from_left gone (operations events) a a_is).0 at told in
+      let none = All-contains (λ (s : KeptScan). IsAround key place s → ⊥) seen x clear x_is in
+      let behind = subst (λ (n : ℕ). Contains kept (Behind n x.behind)) at (behind_said scans turns x (among x x_is)) in
+      let before = subst (λ (n : ℕ). Contains kept (Before n x.before)) at (before_said scans turns x (among x x_is)) in ⊎_elim
+      (λ over. ⊎_elim
+      (λ under. absurd (none ((omega (arith, same_low, from), omega (arith, same_high, to)), (over, under))))
+      (λ upto. inl (inr (x.before, before, upto)))
+      (cases_lt place x.before))
+      (λ upto. inr (inr (x.behind, behind, upto)))
+      (cases_lt x.behind place)
 
   -- so it is kept, with the calls gone that ended, which are answered
   pub settled_kept : KeptKeysSettle → KeptReadsGo → (whole_spread whole_moment : ℕ → ℕ) → class_of kept (places_by width) moment ≡ true
       → IsTiming (operations events) whole_spread whole_moment → class_of (kept ++ others) whole_spread whole_moment ≡ true
-      → IsLimitOf events key limit → AreAnswered events gone → HasSettled key limit (length events) k l
+      → IsLimitOf events key limit → AreAnswered events gone → HasSettled key seen limit (length events) k l
       → (ended : List ℕ) × IsKept start events (class_of (kept ++ others)) moment key (gone ++ ended) l × AreAnswered events (gone ++ ended)
   settled_kept settle reads whole_spread whole_moment hold timing whole limits answered settled =
       let allows = class_of (kept ++ others) in ⊎_elim
@@ -83,11 +87,11 @@ module _ (start : Contents) (events : List Event) (kept others : List Comparison
         reads_answered start events allows moment key gone k still.0 is_kept answered,
       ))
       (λ at.
-      let (place, is, to) = at in (
+      let (place, is, clear, to) = at in (
         names_ended place k,
         settle start events kept others moment key gone k l place whole_spread whole_moment fixed hold timing whole is.past
             (λ a a_is over. let late = limits a a_is over in omega (arith, late, is.within))
-            (parted_at place is) is_kept to,
+            (parted_at place clear) is_kept to,
         ended_go start events allows moment key gone k place is_kept answered,
       ))
       changed)

@@ -7,7 +7,7 @@ use Rattle.std.proofs.lemmas.List.Elements.{Contains-append_left}
 use Rattle.events.specs.declared.event.Call.TheVariants.{Scan}
 use Rattle.events.specs.declared.event.Event.{Event}
 use Rattle.events.specs.declared.operation.Operation.{Operation}
-use Rattle.events.proofs.TimeLemmas.{inv_rises}
+use Rattle.events.proofs.TimeLemmas.{inv_rises, NonePrecedesItself-operations}
 use Rattle.map_object.specs.MapObject.{Contents, value_at}
 use Rattle.quiet_cuts.specs.Cells.{calls_left}
 use Rattle.following.specs.keys.KeyStates.{SomeHolds}
@@ -31,12 +31,12 @@ use Rattle.kept_rows.specs.Rows.{RowView, entry_at, or_fresh, kept_at, compariso
 use Rattle.kept_rows.specs.Settling.{HasSettled}
 use Rattle.kept_rows.specs.declared.row.KeptScan.{KeptScan}
 use Rattle.kept_rows.proofs.RowEntryLemmas.{keys_of, kept_elsewhere}
-use Rattle.kept_rows.proofs.EventLemmas.{passing_holds}
+use Rattle.kept_rows.proofs.EventLemmas.{passing_holds, told_over}
 use Rattle.kept_rows.proofs.HoldLemmas.{fixed_within, fixed_fewer}
 use Rattle.kept_rows.proofs.NewKeyLemmas.{KeyLaws, allows, class_within, passes, placed_kept, aside_kept, elsewhere_kept, none_told, none_told_seen}
 use Rattle.kept_rows.proofs.NewKeyLemmas.{seen_kept, fresh_ordered}
 use Rattle.kept_rows.proofs.SettleLemmas.{settled_kept}
-use Rattle.kept_rows.proofs.TakenLemmas.{IsTaken, answer, later, before_calls, calls, kept, taken_fixed}
+use Rattle.kept_rows.proofs.TakenLemmas.{IsTaken, answer, later, before_calls, calls, turns, kept, kept_scans, left_told, taken_fixed}
 
 module _ (laws : KeyLaws) {start : Contents} {events : List Event} {process : ℕ} {s : ScanAnswer} {base : List (ℕ × KeptView)} {r : RowView}
     {g : RowGhost} {way : Way} {scans : List KeptScan} (t : IsTaken start events process s base r g way scans) (spread moment : ℕ → ℕ)
@@ -63,7 +63,8 @@ module _ (laws : KeyLaws) {start : Contents} {events : List Event} {process : �
       → ((a : Operation) → Contains (calls_left gone (calls t.met)) a → Contains (calls_left (g.gones key) (calls t.met)) a) → HasOrder key k
       → SomeHolds key spread moment (calls t.met) (state gone k)
   judged_holds key gone k is fewer order =
-      laws.twin_timings (calls t.met) (kept t) key (state gone k) (places_by width) (number_of scans) spread moment (inv_rises (later t.met))
+      laws.read_timings (calls t.met) (kept t) key (state gone k) (places_by width) (number_of scans) spread moment (inv_rises (later t.met))
+      (NonePrecedesItself-operations (later t.met))
       (fixed_fewer (kept t) key (calls_left (g.gones key) (calls t.met)) (calls_left gone (calls t.met)) fewer (taken_fixed t key))
       is.timed t.timed.timed.hold (timing_at (calls t.met) spread moment timing key gone) (hold_front spread moment (kept t) g.others allowed)
       ((laws.judge start (later t.met) (allows laws t) (number_of scans) key gone k is).1 order)
@@ -74,7 +75,8 @@ module _ (laws : KeyLaws) {start : Contents} {events : List Event} {process : �
       → SomeHolds key spread moment (calls t.met) (state gone k) → HasOrder key k
   holds_judged key gone k is fewer holds =
       (laws.judge start (later t.met) (allows laws t) (number_of scans) key gone k is).0
-      (laws.twin_timings (calls t.met) (kept t) key (state gone k) spread moment (places_by width) (number_of scans) (inv_rises (later t.met))
+      (laws.read_timings (calls t.met) (kept t) key (state gone k) spread moment (places_by width) (number_of scans) (inv_rises (later t.met))
+      (NonePrecedesItself-operations (later t.met))
       (fixed_fewer (kept t) key (calls_left (g.gones key) (calls t.met)) (calls_left gone (calls t.met)) fewer (taken_fixed t key))
       (timing_at (calls t.met) spread moment timing key gone) (hold_front spread moment (kept t) g.others allowed) is.timed t.timed.timed.hold holds)
 
@@ -88,7 +90,8 @@ module _ (laws : KeyLaws) {start : Contents} {events : List Event} {process : �
   old_holds =
       let h = t.met.row in
       let comparisons = comparisons_of r.scans r.turns in
-      (laws.twin_rows (before_calls t.met) (comparisons ++ g.others) (row_of base r g).states spread moment (inv_rises events)
+      (laws.read_rows (before_calls t.met) (comparisons ++ g.others) (row_of base r g).states spread moment (inv_rises events)
+      (NonePrecedesItself-operations events)
       (λ key. fixed_within comparisons (comparisons ++ g.others) key (calls_left (g.gones key) (before_calls t.met))
       (λ c is. Contains-append_left comparisons g.others c is) (h.fixed key))
       (timing_now events (answer t.met ∷ []) spread moment timing) (class_within laws t spread moment allowed)).0 h.holds
@@ -148,20 +151,22 @@ module _ (laws : KeyLaws) {start : Contents} {events : List Event} {process : �
       }
 
   -- what has settled is kept
-  settled_gone : (key limit : ℕ) (placed l : KeptView) → Contains (keys_of r.keys) key → HasSettled key limit (suc s.place) placed l
+  settled_gone : (key limit : ℕ) (placed l : KeptView) → Contains (keys_of r.keys) key → HasSettled key scans limit (suc s.place) placed l
       → IsLimitOf (later t.met) key limit → IsKept start (later t.met) (allows laws t) (number_of scans) key (g.gones key) placed
       → (gone : List ℕ) × IsKept start (later t.met) (allows laws t) (number_of scans) key gone l × AreAnswered (later t.met) gone
       × ((a : Operation) → Contains (calls_left gone (calls t.met)) a → Contains (calls_left (g.gones key) (calls t.met)) a)
   settled_gone key limit placed l own settled limit_is is =
       let now : suc s.place ≡ length (later t.met) =
       (let long = length-append events (answer t.met ∷ []) in let here = t.met.place in omega (arith, long, here)) in
-      let (ended, there, answered) = settled_kept start (later t.met) (kept t) g.others (number_of scans) key limit (g.gones key) placed l
-      (taken_fixed t key) is laws.settle laws.reads spread moment t.timed.timed.hold timing allowed limit_is (still_answered key)
-      (subst (λ (n : ℕ). HasSettled key limit n placed l) now settled) in
+      let (ended, there, answered) = settled_kept start (later t.met) scans (turns t) g.others (number_of scans) key limit (g.gones key) placed l
+      (taken_fixed t key) is scans (kept_scans t) (λ x x_is. x_is)
+      (λ a low high pairs a_is told from to. (left_told t key a a_is (low, (high, (pairs, told))) (told_over key a low high pairs told from to)).1)
+      laws.settle laws.reads spread moment t.timed.timed.hold timing allowed limit_is (still_answered key)
+      (subst (λ (n : ℕ). HasSettled key scans limit n placed l) now settled) in
       (g.gones key ++ ended, there, answered, left_weaker (g.gones key) ended (calls t.met))
 
   pub new_placed : (key limit : ℕ) (k placed l : KeptView) → kept_at base r.keys key ≡ k → Contains (keys_of r.keys) key → IsInRange s key
-      → HasPlacedGet s key scans k placed → HasOrder key placed → HasSettled key limit (suc s.place) placed l → IsLimitOf (later t.met) key limit
+      → HasPlacedGet s key scans k placed → HasOrder key placed → HasSettled key scans limit (suc s.place) placed l → IsLimitOf (later t.met) key limit
       → IsNewKey key l
   new_placed key limit k placed l same own within get order settled limit_is =
       let is = placed_kept laws t key k placed same within get in

@@ -24,13 +24,18 @@ use Rattle.following.specs.rows.Blocks.{is_scan, IsOver}
 use Rattle.following.specs.rows.Comparisons.{Comparison, Behind, Before}
 use Rattle.following.specs.rows.ExactMoments.{places_by}
 use Rattle.following.specs.rows.Fixed.{IsParted, ComesFirst}
-use Rattle.following.specs.rows.Twins.{IsTimingAt, AreFixedUpToTwins}
+use Rattle.following.specs.rows.Twins.{IsTimingAt}
 use Rattle.following.proofs.keys.ChoiceLemmas.{any_from}
 use Rattle.following.proofs.moments.KindLemmas.{is_part}
 use Rattle.following.proofs.rows.EndLemmas.{told_call}
+use Rattle.following_reads.specs.Reads.{AreFixedUpToReads, IsReadOf}
+use Rattle.past_choices.specs.Values.{IsCallOf}
+use Rattle.past_choices.proofs.ValueLemmas.{legal_one}
 use Rattle.kept_keys.specs.Kept.{IsKept}
+use Rattle.kept_keys.specs.Reads.{IsReadAt}
 use Rattle.kept_keys.specs.Steps.{IsOpenCall}
 use Rattle.kept_keys.specs.Views.{KeptView, width}
+use Rattle.kept_keys.proofs.ReadFoundLemmas.{read_at_or_not}
 use Rattle.kept_keys.proofs.ScanAnswerLemmas.{open_call, answered_calls}
 use Rattle.kept_rows.specs.Candidates.{IsEventAt, ArePlacesWithin}
 use Rattle.kept_rows.specs.Followed.{RowGhost, class_of_row, IsKeptScan, IsRowOf}
@@ -53,6 +58,27 @@ own_kind key (Insert k value) response own over = ap OfKey (omega arith)
 own_kind key (Remove k) response own over = ap OfKey (omega arith)
 own_kind key (Scan low high) response own over = absurd (false≢true (sym own))
 own_kind key (Replace k expected value) response own over = ap OfKey (omega arith)
+
+-- a read of a value or none, as it is kept, is one as it was called
+call_of : (key : ℕ) (call : Call) → is_scan call ≡ false → IsOver key call → IsCallOf key call
+call_of key (Get k) own over = omega arith
+call_of key (Insert k value) own over = omega arith
+call_of key (Remove k) own over = omega arith
+call_of key (Scan low high) own over = absurd (false≢true (sym own))
+call_of key (Replace k expected value) own over = omega arith
+
+read_as_called : (key : ℕ) (value : Option ℕ) (spread : ℕ → ℕ) (b : Operation) → is_scan b.call ≡ false → IsOver key b.call
+    → IsReadAt value (spread_call spread b) → IsReadOf key value b
+read_as_called key value spread b own over h = by_response b.response refl
+  where
+    read : (o : Option Response) → b.response ≡ o → IsReadAt value (record { call = b.call; inv = spread b.inv; response = spread_response spread o })
+    read o is = subst (λ (o : Option Response). IsReadAt value (record { call = b.call; inv = spread b.inv; response = spread_response spread o })) is h
+
+    by_response : (o : Option Response) → b.response ≡ o → IsReadOf key value b
+    by_response None is = absurd (read None is).read
+    by_response (Some r) is =
+        let there = read (Some r) is in
+        (r, is, there.read, (legal_one key value b.call (Some (record { res = spread r.res; reply = r.reply })) (call_of key b.call own over)).1 there.legal)
 
 own_at_key : (key : ℕ) (spread moment : ℕ → ℕ) (b : Operation) → is_scan b.call ≡ false → IsOver key b.call
     → part_at key spread moment b ≡ Some (spread_call spread b)
@@ -105,7 +131,7 @@ pub record IsTaken (start : Contents) (events : List Event) (process : ℕ) (s :
     (way : Way) (scans : List KeptScan) : Type 0 where
   pub met : IsMet start events process s base r g
   pub places : List ℕ
-  pub are_places : ArePlacesWithin s.low s.high s.name s.place r.keys places
+  pub are_places : ArePlacesWithin s.low s.high s.name s.place s.pairs r.keys places
   pub is_way : IsWayOf s r s.name places way
   pub timed : IsTimedWay s way r scans
 
@@ -309,25 +335,31 @@ module _ {start : Contents} {events : List Event} {process : ℕ} {s : ScanAnswe
   numbers_time_before key = timing_by_numbers (later t.met) scans kept_scans t.timed.timed.named t.timed.timed.numbered t.timed.timed.rising key
       (calls_left (g.gones key) (before_calls t.met)) (λ a is told over. left_told key a (left_later t.met (g.gones key) a is told) told over)
 
-  -- ---- each key is fixed up to twins
+  -- ---- each key is fixed up to reads
 
   -- a place is that of an event of a call
   abbrev IsPlaceOf : Operation → ℕ → Type 0
   IsPlaceOf b p = (p ≡ b.inv) ⊎ ((q : Response) × (b.response ≡ Some q) × (p ≡ q.res))
 
-  event_there : (b : Operation) (p : ℕ) → IsPlaceOf b p → IsEventAt p (b.inv, spread_call (places_by width) b)
-  event_there b p at = (
+  -- a call is no read of what the scan was told of a key
+  abbrev IsOther : ℕ → Operation → Type 0
+  IsOther key b = IsReadAt (value_at s.pairs key) (spread_call (places_by width) b) → ⊥
+
+  event_there : (key : ℕ) (b : Operation) (p : ℕ) → IsOther key b → IsPlaceOf b p
+      → IsEventAt (value_at s.pairs key) p (b.inv, spread_call (places_by width) b)
+  event_there key b p other at = (
     refl,
+    other,
     ⊎_elim (λ invoked. inl invoked)
         (λ answered. let (q, is, here) = answered in
         let own : Response = record { res = width * q.res; reply = q.reply } in
         inr (own, ap (spread_response (places_by width)) is, ap (λ (n : ℕ). width * n) (sym here))) at,
   )
 
-  -- no event of a call left of a key of the range lies in the gap of the way
+  -- no event of such a call left of a key of the range lies in the gap of the way
   event_parted : (key : ℕ) (b : Operation) (p : ℕ) → IsInRange s key → Contains (calls_left (g.gones key) (before_calls t.met)) b
-      → is_scan b.call ≡ false → IsOver key b.call → IsPlaceOf b p → (p ≤ way.behind) ⊎ (way.before ≤ p)
-  event_parted key b p within is own over at = ⊎_elim
+      → is_scan b.call ≡ false → IsOver key b.call → IsOther key b → IsPlaceOf b p → (p ≤ way.behind) ⊎ (way.before ≤ p)
+  event_parted key b p within is own over no_read at = ⊎_elim
       (λ inside.
       ⊎_elim
       (λ before. ⊎_elim
@@ -340,7 +372,8 @@ module _ {start : Contents} {events : List Event} {process : ℕ} {s : ScanAnswe
         kept = k;
         known = k_is;
         in_range = within;
-        event = any_from (IsEventAt p) (zip k.names k.calls) (b.inv, spread_call (places_by width) b) there (event_there b p at);
+        event = any_from (IsEventAt (value_at s.pairs key) p) (zip k.names k.calls) (b.inv, spread_call (places_by width) b) there
+            (event_there key b p no_read at);
       })))
       (λ other. absurd (none_left t.met key b within other is own over))
       (has_entry r.keys key))
@@ -350,11 +383,11 @@ module _ {start : Contents} {events : List Event} {process : ℕ} {s : ScanAnswe
       (cases_lt s.name p)
 
   new_parted : (key : ℕ) (b : Operation) (p : ℕ) → IsInRange s key → Contains (calls_left (g.gones key) (before_calls t.met)) b
-      → is_scan b.call ≡ false → IsOver key b.call → IsPlaceOf b p → IsParted kept (new t.met) p
-  new_parted key b p within is own over at = ⊎_elim
+      → is_scan b.call ≡ false → IsOver key b.call → IsOther key b → IsPlaceOf b p → IsParted kept (new t.met) p
+  new_parted key b p within is own over no_read at = ⊎_elim
       (λ behind. inr (inr (way.behind, new_behind, behind)))
       (λ before. inl (inr (way.before, new_before, before)))
-      (event_parted key b p within is own over at)
+      (event_parted key b p within is own over no_read at)
 
   -- of the scan and another one that was told otherwise of a key one comes first
   abbrev IsFirstOrTwin : ℕ → Operation → Contents → Type 0
@@ -411,21 +444,29 @@ module _ {start : Contents} {events : List Event} {process : ℕ} {s : ScanAnswe
       → (ComesFirst kept b (new t.met) ⊎ ComesFirst kept (new t.met) b) ⊎ (value_at other key ≡ value_at s.pairs key)
   turned key b other h = ⊎_elim (λ first. inl (⊎_elim (λ one. inr one) (λ two. inl two) first)) (λ same. inr (sym same)) h
 
-  pub taken_fixed : (key : ℕ) → AreFixedUpToTwins kept key (calls_left (g.gones key) (calls t.met))
+  pub taken_fixed : (key : ℕ) → AreFixedUpToReads kept key (calls_left (g.gones key) (calls t.met))
   taken_fixed key = record {
-    events = λ a b a_is b_is told over own own_over. ⊎_elim
+    events = λ a b low high pairs a_is b_is told over own own_over. ⊎_elim
         (λ b_new. absurd (false≢true (sym own ∙ ap (λ (c : Operation). is_scan c.call) b_new)))
         (λ b_old.
         let b_left = left_before t.met (g.gones key) b b_is b_old.0 in ⊎_elim
         (λ a_new.
-        let within = in_range key a a_new over in
+        let within = in_range key a a_new over in ⊎_elim
+        (λ read. inr (subst (λ (p : Contents). IsReadOf key (value_at p key) b) (told_pairs a low high pairs a_new told)
+        (read_as_called key (value_at s.pairs key) (places_by width) b own own_over read)))
+        (λ other.
         let parted = λ (p : ℕ) (at : IsPlaceOf b p). subst (λ (c : Operation). IsParted kept c p) (sym a_new)
-        (new_parted key b p within b_left own own_over at) in
-        (parted b.inv (inl refl), λ q answered. parted q.res (inr (q, answered, refl))))
+        (new_parted key b p within b_left own own_over other at) in
+        inl (parted b.inv (inl refl), λ q answered. parted q.res (inr (q, answered, refl))))
+        (read_at_or_not (value_at s.pairs key) (spread_call (places_by width) b)))
         (λ a_old.
-        let old = comparisons_of r.scans r.turns in
-        let (begun, ended) = (t.met.row.fixed key).events a b (left_before t.met (g.gones key) a a_is a_old.0) b_left told over own own_over in
-        (parted_within old kept old_comparison a b.inv begun, λ q answered. parted_within old kept old_comparison a q.res (ended q answered)))
+        let old = comparisons_of r.scans r.turns in ⊎_elim
+        (λ parted. inl (
+          parted_within old kept old_comparison a b.inv parted.0,
+          λ q answered. parted_within old kept old_comparison a q.res (parted.1 q answered),
+        ))
+        (λ read. inr read)
+        ((t.met.row.fixed key).events a b low high pairs (left_before t.met (g.gones key) a a_is a_old.0) b_left told over own own_over))
         (new_or_old t.met a (from_left (g.gones key) (calls t.met) a a_is).0))
         (new_or_old t.met b (from_left (g.gones key) (calls t.met) b b_is).0);
     scans = λ a b low high other_low other_high pairs other a_is b_is a_told b_told a_over b_over apart. ⊎_elim

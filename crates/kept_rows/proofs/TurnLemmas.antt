@@ -4,7 +4,7 @@ use Rattle.std.proofs.Common.{sym, subst, ⊎_elim, append-nil}
 use Rattle.events.specs.declared.event.Event.{Event}
 use Rattle.events.specs.declared.event.Event.TheVariants.{Answer}
 use Rattle.events.specs.Operations.{operations}
-use Rattle.events.proofs.TimeLemmas.{inv_rises}
+use Rattle.events.proofs.TimeLemmas.{inv_rises, NonePrecedesItself-operations}
 use Rattle.map_object.specs.MapObject.{Contents}
 use Rattle.orders.specs.Orders.{IsLinearizable}
 use Rattle.quiet_cuts.specs.Cells.{calls_left}
@@ -14,15 +14,15 @@ use Rattle.following.specs.moments.Timings.{IsTiming}
 use Rattle.following.specs.rows.Comparisons.{Comparison}
 use Rattle.following.specs.rows.ExactMoments.{places_by}
 use Rattle.following.specs.keys.Laws.{KeysGoOn}
-use Rattle.following.specs.rows.Laws.{TwinTimingsHold}
 use Rattle.following.specs.rows.Rows.{RowHolds}
-use Rattle.following.specs.rows.Twins.{AreFixedUpToTwins}
 use Rattle.following.proofs.keys.BeginLemmas.{judges}
 use Rattle.following.proofs.keys.GrownPartLemmas.{timing_now}
 use Rattle.following.proofs.keys.RefuteLemmas.{refutes}
 use Rattle.following.proofs.rows.AlikeLemmas.{left_weaker}
 use Rattle.following.proofs.rows.ComparisonLemmas.{hold_front}
-use Rattle.following.proofs.rows.TwinLemmas.{timing_at, fixed_among}
+use Rattle.following.proofs.rows.TwinLemmas.{timing_at}
+use Rattle.following_reads.specs.Laws.{ReadTimingsHold}
+use Rattle.following_reads.specs.Reads.{AreFixedUpToReads}
 use Rattle.kept_keys.specs.Judging.{HasOrder}
 use Rattle.kept_keys.specs.Kept.{AreAnswered, IsKept}
 use Rattle.kept_keys.specs.Laws.{KeptKeysTakeAnswers, KeptKeysJudge}
@@ -35,6 +35,7 @@ use Rattle.kept_rows.specs.TurnLaws.{IsAnswerOf}
 use Rattle.kept_rows.specs.Turning.{CallAnswer, IsTurnedDown}
 use Rattle.kept_rows.proofs.AnswerLemmas.{own_tells_none, is_silent}
 use Rattle.kept_rows.proofs.EventLemmas.{TellsNone, fixed_on}
+use Rattle.kept_rows.proofs.HoldLemmas.{fixed_fewer}
 
 abbrev Entries : Type 0
 Entries = List (ℕ × KeptView)
@@ -52,7 +53,7 @@ same_now start events allows key k l spread moment k_stands l_stands timing allo
 -- laws of keys and timings by which it is judged
 pub record AnswerLaws : Type 0 where
   pub extend : KeysGoOn
-  pub twins : TwinTimingsHold
+  pub reads : ReadTimingsHold
   pub take : KeptKeysTakeAnswers
   pub judge : KeptKeysJudge
 
@@ -97,27 +98,29 @@ module _ (laws : AnswerLaws) (start : Contents) (events : List Event) (process :
     tells_none = own_tells_none events process a.key a.name a.call a.reply is.of_key is.is_open
 
     -- what fixed a key fixes it with the answer, and with more calls gone
-    pub fixed_then : (key : ℕ) (ended : List ℕ) → AreFixedUpToTwins said key (calls_left (g.gones key ++ ended) (operations next))
+    pub fixed_then : (key : ℕ) (ended : List ℕ) → AreFixedUpToReads said key (calls_left (g.gones key ++ ended) (operations next))
     fixed_then key ended =
-        fixed_among said key (calls_left (g.gones key) (operations next)) (calls_left (g.gones key ++ ended) (operations next))
+        fixed_fewer said key (calls_left (g.gones key) (operations next)) (calls_left (g.gones key ++ ended) (operations next))
         (left_weaker (g.gones key) ended (operations next))
         (fixed_on events e said key (g.gones key) (λ b b_is told over. tells_none b b_is told) (h.fixed key))
 
     -- where it holds in a timing of the row, it has an order
-    order_from : (gone : List ℕ) (k : KeptView) (spread moment : ℕ → ℕ) → AreFixedUpToTwins said a.key (calls_left gone (operations next))
+    order_from : (gone : List ℕ) (k : KeptView) (spread moment : ℕ → ℕ) → AreFixedUpToReads said a.key (calls_left gone (operations next))
         → IsKept start next allows numbers a.key gone k → IsTiming (operations next) spread moment → allows spread moment ≡ true
         → SomeHolds a.key spread moment (operations next) (state gone k) → HasOrder a.key k
     order_from gone k spread moment fixed kept timing allowed holds =
         (laws.judge start next allows numbers a.key gone k kept).0
-        (laws.twins (operations next) said a.key (state gone k) spread moment (places_by width) numbers (inv_rises next) fixed
+        (laws.reads (operations next) said a.key (state gone k) spread moment (places_by width) numbers (inv_rises next)
+        (NonePrecedesItself-operations next) fixed
         (timing_at (operations next) spread moment timing a.key gone) (hold_front spread moment said g.others allowed) kept.timed h.hold holds)
 
     -- and where it has an order, it holds in each
-    pub holds_from : (gone : List ℕ) (k : KeptView) (spread moment : ℕ → ℕ) → AreFixedUpToTwins said a.key (calls_left gone (operations next))
+    pub holds_from : (gone : List ℕ) (k : KeptView) (spread moment : ℕ → ℕ) → AreFixedUpToReads said a.key (calls_left gone (operations next))
         → IsKept start next allows numbers a.key gone k → IsTiming (operations next) spread moment → allows spread moment ≡ true
         → HasOrder a.key k → SomeHolds a.key spread moment (operations next) (state gone k)
     holds_from gone k spread moment fixed kept timing allowed order =
-        laws.twins (operations next) said a.key (state gone k) (places_by width) numbers spread moment (inv_rises next) fixed kept.timed h.hold
+        laws.reads (operations next) said a.key (state gone k) (places_by width) numbers spread moment (inv_rises next)
+        (NonePrecedesItself-operations next) fixed kept.timed h.hold
         (timing_at (operations next) spread moment timing a.key gone) (hold_front spread moment said g.others allowed)
         ((laws.judge start next allows numbers a.key gone k kept).1 order)
 

@@ -1,37 +1,41 @@
 -- A row whose key has an order with the answer of a call of it goes on, with what the key settles to.
-use Rattle.std.proofs.Common.{◌≡◌, ℕ, ◌+◌, true, List, [], ◌∷◌, ◌++◌, length, map}
+use Rattle.std.proofs.Common.{◌≡◌, ℕ, ◌+◌, ◌≤◌, true, List, [], ◌∷◌, ◌++◌, length, map}
 use Rattle.std.proofs.Common.{sym, ap, ap₂, ◌∙◌, subst, ⊎_elim, length-append}
 use Rattle.std.specs.Prelude.{◌≢◌, Contains}
 use Rattle.std.proofs.lemmas.Bool.{cases_eq}
-use Rattle.std.proofs.lemmas.List.Elements.{All-weaker}
+use Rattle.std.proofs.lemmas.List.Elements.{All-contains, All-weaker}
 use Rattle.events.specs.declared.event.Event.{Event}
 use Rattle.events.specs.declared.event.Event.TheVariants.{Answer}
+use Rattle.events.specs.declared.operation.Operation.{Operation}
 use Rattle.events.specs.Operations.{operations}
-use Rattle.events.proofs.TimeLemmas.{inv_rises}
+use Rattle.events.proofs.TimeLemmas.{inv_rises, NonePrecedesItself-operations}
+use Rattle.list_laws.proofs.Lists.{All-from_contains}
 use Rattle.map_object.specs.MapObject.{Contents}
 use Rattle.quiet_cuts.specs.Cells.{calls_left}
 use Rattle.following.specs.keys.KeyStates.{Timings, SomeHolds}
+use Rattle.following.specs.moments.KeyCalls.{Told, kind_of}
 use Rattle.following.specs.moments.Timings.{IsTiming}
 use Rattle.following.specs.rows.Comparisons.{Comparison}
 use Rattle.following.specs.rows.ExactMoments.{places_by, moments_by}
-use Rattle.following.specs.rows.Laws.{TwinRowsJudge}
 use Rattle.following.specs.rows.Rows.{RowHolds}
-use Rattle.following.specs.rows.Twins.{AreFixedUpToTwins}
 use Rattle.following.proofs.keys.GrownPartLemmas.{timing_now}
 use Rattle.following.proofs.rows.AlikeLemmas.{left_weaker}
 use Rattle.following.proofs.rows.ExactLemmas.{exact_time, exact_say}
-use Rattle.following.proofs.rows.TwinLemmas.{fixed_among}
+use Rattle.following_reads.specs.Laws.{ReadRowsJudge}
+use Rattle.following_reads.specs.Reads.{AreFixedUpToReads}
 use Rattle.kept_keys.specs.Kept.{AreAnswered, IsKept}
 use Rattle.kept_keys.specs.Laws.{KeptKeysGoOn, KeptKeysSettle, KeptReadsGo}
 use Rattle.kept_keys.specs.Views.{KeptView, state}
 use Rattle.kept_keys.proofs.ScanGoneLemmas.{stay_answered}
 use Rattle.kept_rows.specs.Followed.{RowGhost, class_of_row, row_of, IsKeptScan, AreScansKept, WasTold, IsTimedExactly, IsRowOf}
-use Rattle.kept_rows.specs.Rows.{RowView, kept_at, comparisons_of, number_of}
+use Rattle.kept_rows.specs.Rows.{RowView, kept_at, comparisons_of, number_of, names_of}
 use Rattle.kept_rows.specs.Settling.{HasSettled}
 use Rattle.kept_rows.specs.TurnLaws.{IsAnswerOf}
 use Rattle.kept_rows.specs.Turning.{CallAnswer, IsTurned}
+use Rattle.kept_rows.specs.declared.row.KeptScan.{KeptScan}
 use Rattle.kept_rows.proofs.AnswerLemmas.{own_tells_none, own_passes}
 use Rattle.kept_rows.proofs.EventLemmas.{TellsNone, fixed_on, scans_kept_on, kept_scan_on, was_told_on, timed_on, passing_holds, speaks_weaker}
+use Rattle.kept_rows.proofs.HoldLemmas.{fixed_fewer}
 use Rattle.kept_rows.proofs.PassLemmas.{fixed_more, with_keys}
 use Rattle.kept_rows.proofs.SettleLemmas.{settled_kept}
 use Rattle.kept_rows.proofs.TurnLemmas.{AnswerLaws, same_now, fixed_then, holds_from, kept_then, ordered}
@@ -42,7 +46,7 @@ Entries = List (ℕ × KeptView)
 -- laws by which it goes on
 pub record TurnLaws : Type 0 where
   pub answer : AnswerLaws
-  pub judge_rows : TwinRowsJudge
+  pub judge_rows : ReadRowsJudge
   pub go_on : KeptKeysGoOn
   pub reads : KeptReadsGo
   pub settle : KeptKeysSettle
@@ -56,14 +60,17 @@ pub record IsTurnedRow (a : CallAnswer) (limit : ℕ) (base next_base : Entries)
   pub new : KeptView
   pub here : kept_at base r.keys a.key ≡ old
   pub then : kept_at next_base s.keys a.key ≡ new
-  pub turned : IsTurned a limit old new
+  pub seen : List KeptScan
+  pub turned : IsTurned a seen limit old new
+  pub among : (x : KeptScan) → Contains seen x → Contains r.scans x
+  pub own : Contains (map (λ entry. entry.0) r.keys) a.key → seen ≡ r.scans
   pub there : (other : ℕ) → other ≢ a.key → kept_at next_base s.keys other ≡ kept_at base r.keys other
 
 -- a key of a row goes on, with more calls gone, in exact moments
 pub record KeyGoesOn (start : Contents) (events : List Event) (base : Entries) (r s : RowView) (g : RowGhost) (key : ℕ) (gone : List ℕ) : Type 0 where
   pub kept : IsKept start events (class_of_row r g) (number_of r.scans) key gone (kept_at base s.keys key)
   pub answered : AreAnswered events gone
-  pub fixed : AreFixedUpToTwins (comparisons_of r.scans r.turns) key (calls_left gone (operations events))
+  pub fixed : AreFixedUpToReads (comparisons_of r.scans r.turns) key (calls_left gone (operations events))
   pub left : AreScansKept events r key gone
   pub holds : SomeHolds key (places_by g.room) (moments_by g.room g.gap g.rank) (operations events) (state gone (kept_at base s.keys key))
 
@@ -114,8 +121,17 @@ module _ (laws : TurnLaws) (start : Contents) (events : List Event) (process : �
   -- all keys hold before the answer
   held : (key : ℕ) → SomeHolds key spread moment (operations events) (state (g.gones key) (kept_at base r.keys key))
   held = (laws.judge_rows (operations events) (said ++ g.others) (row_of base r g).states spread moment (inv_rises events)
+      (NonePrecedesItself-operations events)
       (λ key. fixed_more said g.others key (calls_left (g.gones key) (operations events)) (h.fixed key))
       (timing_now events (e ∷ []) spread moment timing) allowed).0 h.holds
+
+  -- the scans that are left of the key of the call are those from which it is parted where it settles
+  seen_left : (ended : List ℕ) (b : Operation) (low high : ℕ) (pairs : Contents)
+      → Contains (calls_left (g.gones a.key ++ ended) (operations next)) b → kind_of b.call b.response ≡ Told low high pairs → low ≤ a.key
+      → a.key ≤ high → Contains (names_of turned.seen) b.inv
+  seen_left ended b low high pairs b_is told from to =
+      let (scan, own) = left_then a.key ended b low high pairs b_is told from to in
+      subst (λ (scans : List KeptScan). Contains (names_of scans) b.inv) (sym (turned.own own)) scan
 
   -- the key of the call
   here_goes : (gone : List ℕ) × KeyGoesOn start next next_base r s g a.key gone
@@ -125,9 +141,13 @@ module _ (laws : TurnLaws) (start : Contents) (events : List Event) (process : �
       let gone = g.gones a.key ++ ended in
       let fixed = fixed_then laws.answer start events process a limit is base r g h a.key ended in
       let now : a.place + 1 ≡ length next = sym (length-append events (e ∷ []) ∙ ap (λ (n : ℕ). n + 1) (sym is.place)) in
-      let (more, settled, ended_too) = settled_kept start next said g.others numbers a.key limit gone turned.turned.answered turned.new fixed kept
+      let (more, settled, ended_too) = settled_kept start next r.scans r.turns g.others numbers a.key limit gone turned.turned.answered turned.new fixed
+      kept turned.seen
+      (All-from_contains (IsKeptScan next) turned.seen (λ x x_is. kept_scan_on events (e ∷ []) x
+      (All-contains (IsKeptScan events) r.scans x h.scans (turned.among x x_is))))
+      turned.among (seen_left ended)
       laws.settle laws.reads spread moment h.hold timing allowed is.limit_is went
-      (subst (λ (n : ℕ). HasSettled a.key limit n turned.turned.answered turned.new) now turned.turned.settled) in
+      (subst (λ (n : ℕ). HasSettled a.key turned.seen limit n turned.turned.answered turned.new) now turned.turned.settled) in
       let then = subst (IsKept start next allows numbers a.key (gone ++ more)) (sym turned.then) settled in
       let answered_holds = holds_from laws.answer start events process a limit is base r g h gone turned.turned.answered spread moment fixed kept
       timing allowed turned.turned.order in (
@@ -135,7 +155,7 @@ module _ (laws : TurnLaws) (start : Contents) (events : List Event) (process : �
         record {
           kept = then;
           answered = ended_too;
-          fixed = fixed_among said a.key (calls_left gone (operations next)) (calls_left (gone ++ more) (operations next))
+          fixed = fixed_fewer said a.key (calls_left gone (operations next)) (calls_left (gone ++ more) (operations next))
               (left_weaker gone more (operations next)) fixed;
           left = λ b low high pairs b_is. left_then a.key ended b low high pairs (left_weaker gone more (operations next) b b_is);
           holds = same_now start next allows a.key (state gone turned.turned.answered) (state (gone ++ more) (kept_at next_base s.keys a.key))

@@ -28,6 +28,7 @@ use Rattle.kept_rows.proofs.BecomeLemmas.{may_become}
 use Rattle.kept_rows.proofs.OpenCallLemmas.{well_formed_on}
 use Rattle.kept_rows.proofs.RowEntryLemmas.{keys_of, no_entry, row_from}
 use Rattle.kept_rows.proofs.TurnLemmas.{AnswerLaws, turned_down}
+use Rattle.kept_rows.proofs.BeginLemmas.{entry_named}
 use Rattle.kept_rows.proofs.TurnedLemmas.{TurnLaws, IsTurnedRow, turned_row}
 
 abbrev Entries : Type 0
@@ -107,7 +108,10 @@ own_turned a limit base r s h =
       then =
           let is : entry_at s.keys a.key ≡ Some h.new = rw (eq-eqb a.key a.key refl) at (h.changed.entries a.key) in
           ap (λ (o : Option KeptView). or_fresh (or_else o (entry_at base a.key))) is;
+      seen = r.scans;
       turned = h.turned;
+      among = λ x is. is;
+      own = λ named. refl;
       there = λ other apart.
           let same : entry_at s.keys other ≡ entry_at r.keys other = rw (ne_eqb other a.key apart) at (h.changed.entries other) in
           ap (λ (o : Option KeptView). or_fresh (or_else o (entry_at base other))) same;
@@ -231,7 +235,7 @@ is_lost laws start events process a limit v old answered h is here down more ord
     (subst (RowHolds (operations (then ++ more))) (sym same) holds)
 
 base_turned : (a : CallAnswer) (limit : ℕ) (base next_base : Entries) (old new : KeptView) (r : RowView) → entry_at r.keys a.key ≡ None
-    → entry_at base a.key ≡ Some old → IsTurned a limit old new → or_fresh (entry_at next_base a.key) ≡ new
+    → entry_at base a.key ≡ Some old → IsTurned a [] limit old new → or_fresh (entry_at next_base a.key) ≡ new
     → ((other : ℕ) → other ≢ a.key → entry_at next_base other ≡ entry_at base other) → IsTurnedRow a limit base next_base r r
 base_turned a limit base next_base old new r none here turned then others = record {
   scans = refl;
@@ -241,7 +245,10 @@ base_turned a limit base next_base old new r none here turned then others = reco
   new = new;
   here = ap (λ (o : Option KeptView). or_fresh (or_else o (entry_at base a.key))) none ∙ ap or_fresh here;
   then = ap (λ (o : Option KeptView). or_fresh (or_else o (entry_at next_base a.key))) none ∙ then;
+  seen = [];
   turned = turned;
+  among = λ x is. absurd (Contains-nil x is);
+  own = λ named. absurd (entry_named r.keys a.key named none);
   there = λ other apart. ap (λ (o : Option KeptView). or_fresh (or_else (entry_at r.keys other) o)) (others other apart);
 }
 

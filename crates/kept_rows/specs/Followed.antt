@@ -14,7 +14,7 @@ use Rattle.following.specs.moments.Timings.{IsToldScan, HaveScansForm}
 use Rattle.following.specs.rows.Comparisons.{Comparison, class_of, SpeaksOf}
 use Rattle.following.specs.rows.ExactMoments.{AreExact, SayExactly, HasRank}
 use Rattle.following.specs.rows.Rows.{Row, RowHolds, RowsStandFor}
-use Rattle.following.specs.rows.Twins.{AreFixedUpToTwins}
+use Rattle.following_reads.specs.Reads.{AreFixedUpToReads}
 use Rattle.kept_keys.specs.Kept.{IsKept, AreAnswered}
 use Rattle.kept_keys.specs.Views.{KeptView, state, width}
 use Rattle.kept_rows.specs.Moments.{IsNumbered}
@@ -67,7 +67,7 @@ pub record IsTimedExactly (events : List Event) (r : RowView) (g : RowGhost) : T
 pub record IsRowOf (start : Contents) (events : List Event) (base : List (ℕ × KeptView)) (r : RowView) (g : RowGhost) : Type 0 where
   pub kept : (key : ℕ) → IsKept start events (class_of_row r g) (number_of r.scans) key (g.gones key) (kept_at base r.keys key)
   pub answered : (key : ℕ) → AreAnswered events (g.gones key)
-  pub fixed : (key : ℕ) → AreFixedUpToTwins (comparisons_of r.scans r.turns) key (calls_left (g.gones key) (operations events))
+  pub fixed : (key : ℕ) → AreFixedUpToReads (comparisons_of r.scans r.turns) key (calls_left (g.gones key) (operations events))
   pub left : (key : ℕ) → AreScansKept events r key (g.gones key)
   pub scans : All (IsKeptScan events) r.scans
   pub named : AllPairs (λ s t. s.name ≢ t.name) r.scans

@@ -134,7 +134,7 @@ pub record HasPlacedGet (s : ScanAnswer) (key : ℕ) (scans : List KeptScan) (ol
 abbrev pub IsEntryPlaced : ScanAnswer → (ℕ → ℕ) → List KeptScan → ℕ × KeptView → ℕ × KeptView → Type 0
 IsEntryPlaced s limit scans old new = (new.0 ≡ old.0)
     × (IsInRange s old.0 → (placed : KeptView) × HasPlacedGet s old.0 scans old.1 placed × HasOrder old.0 placed
-    × HasSettled old.0 (limit old.0) (suc s.place) placed new.1)
+    × HasSettled old.0 scans (limit old.0) (suc s.place) placed new.1)
     × ((IsInRange s old.0 → ⊥) → IsRetimed old.0 (map (λ t. (t.name, t.number)) scans) old.1 new.1)
 
 -- a way in which each key has an order
@@ -166,7 +166,7 @@ pub data AreTried (s : ScanAnswer) (limit : ℕ → ℕ) (r : RowView) : List Wa
 -- a row parts into rows, by all its ways
 pub record IsParted (s : ScanAnswer) (limit : ℕ → ℕ) (r : RowView) (next : List RowView) (losses : List KeyLoss) : Type 0 where
   pub places : List ℕ
-  pub are_places : ArePlacesWithin s.low s.high s.name s.place r.keys places
+  pub are_places : ArePlacesWithin s.low s.high s.name s.place s.pairs r.keys places
   pub ways : List Way
   pub are_ways : AreWays s r s.name places ways
   pub tried : AreTried s limit r ways next losses

@@ -31,7 +31,7 @@ RowsTakeAnswers =
 abbrev pub BaseTakesAnswers : Type 0
 BaseTakesAnswers =
     (start : Contents) (events : List Event) (process : ℕ) (a : CallAnswer) (limit : ℕ) (v : RowsView) (old new : KeptView) (base : List (ℕ × KeptView))
-    → AreFollowed start events v → IsAnswerOf events process a limit → entry_at v.base a.key ≡ Some old → IsTurned a limit old new
+    → AreFollowed start events v → IsAnswerOf events process a limit → entry_at v.base a.key ≡ Some old → IsTurned a [] limit old new
     → or_fresh (entry_at base a.key) ≡ new → ((other : ℕ) → other ≢ a.key → entry_at base other ≡ entry_at v.base other)
     → AreFollowed start (events ++ Answer process a.reply ∷ []) (record { base = base; rows = v.rows })
 

@@ -7,6 +7,7 @@ use Rattle.kept_rows.specs.Turning.{CallAnswer, IsTurned, IsTurnedDown, IsTurned
 use Rattle.kept_rows.specs.declared.outcomes.Answered.{Answered}
 use Rattle.kept_rows.specs.declared.outcomes.Answered.TheVariants as answers
 use Rattle.kept_rows.specs.declared.outcomes.KeyLoss.{KeyLoss}
+use Rattle.kept_rows.specs.declared.row.KeptScan.{KeptScan}
 use Rattle.kept_rows.specs.declared.turning.GivenAnswer.{GivenAnswer}
 use Rattle.kept_rows.specs.declared.turning.TurnedKey.{TurnedKey}
 use Rattle.kept_rows.specs.declared.turning.TurnedKey.TheVariants as keys
@@ -24,10 +25,10 @@ abbrev pub HasOther : ℕ → KeptView → List (ℕ × KeptView) → List (ℕ 
 HasOther at kept old new = (other : ℕ × KeptView) → new ≡ slice_set old at ((slice_index_or old at other).0, kept)
 
 -- a key goes on, has no order, or its search is beyond the budget
-abbrev pub IsKeyTurned : CallAnswer → ℕ → ℕ → KeptView → TurnedKey → Type 0
-IsKeyTurned a limit budget old (keys.Stays new) = IsTurned a limit old new
-IsKeyTurned a limit budget old (keys.Goes answered) = IsTurnedDown a old answered
-IsKeyTurned a limit budget old (keys.Away answered) = IsTurnedAway a budget old answered
+abbrev pub IsKeyTurned : CallAnswer → List KeptScan → ℕ → ℕ → KeptView → TurnedKey → Type 0
+IsKeyTurned a scans limit budget old (keys.Stays new) = IsTurned a scans limit old new
+IsKeyTurned a scans limit budget old (keys.Goes answered) = IsTurnedDown a old answered
+IsKeyTurned a scans limit budget old (keys.Away answered) = IsTurnedAway a budget old answered
 
 -- a search of what is kept of the key is beyond the budget
 abbrev pub IsAway : CallAnswer → ℕ → KeyLoss → Type 0
@@ -47,7 +48,7 @@ AreAllTurned a limit budget rows (several.Away loss) = IsAway a budget loss
 -- what is kept elsewhere with another key
 pub record HasKept (a : CallAnswer) (limit : ℕ) (old : KeptView) (base next : List (ℕ × KeptView)) : Type 0 where
   pub new : KeptView
-  pub turned : IsTurned a limit old new
+  pub turned : IsTurned a [] limit old new
   pub here : or_fresh (entry_at next a.key) ≡ new
   pub others : (other : ℕ) → other ≢ a.key → entry_at next other ≡ entry_at base other
 

@@ -8,6 +8,7 @@ use Rattle.kept_keys.specs.Views.{KeptView}
 use Rattle.kept_rows.specs.Rows.{RowView, entry_at}
 use Rattle.kept_rows.specs.Settling.{HasSettled}
 use Rattle.kept_rows.specs.declared.outcomes.KeyLoss.{KeyLoss}
+use Rattle.kept_rows.specs.declared.row.KeptScan.{KeptScan}
 
 -- the answer at a place of the stream, of a call of a key
 pub record CallAnswer : Type 0 where
@@ -17,12 +18,12 @@ pub record CallAnswer : Type 0 where
   pub call : Call
   pub reply : Reply
 
--- with the answer a key has an order, and settles
-pub record IsTurned (a : CallAnswer) (limit : ℕ) (old new : KeptView) : Type 0 where
+-- with the answer a key has an order, and settles, where of scans these alone may be left of it
+pub record IsTurned (a : CallAnswer) (scans : List KeptScan) (limit : ℕ) (old new : KeptView) : Type 0 where
   pub answered : KeptView
   pub is_answered : IsAnswered a.place a.name a.call a.reply old answered
   pub order : HasOrder a.key answered
-  pub settled : HasSettled a.key limit (a.place + 1) answered new
+  pub settled : HasSettled a.key scans limit (a.place + 1) answered new
 
 -- with it the key has none
 pub record IsTurnedDown (a : CallAnswer) (old answered : KeptView) : Type 0 where
@@ -46,7 +47,7 @@ pub record IsRowTurned (a : CallAnswer) (limit : ℕ) (r s : RowView) : Type 0 w
   pub old : KeptView
   pub new : KeptView
   pub here : entry_at r.keys a.key ≡ Some old
-  pub turned : IsTurned a limit old new
+  pub turned : IsTurned a r.scans limit old new
   pub changed : HasChanged a.key new r s
 
 -- and one that has none

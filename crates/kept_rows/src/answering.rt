@@ -82,7 +82,7 @@ fn answer_in_base(
     ensures { IfOk result (IsBaseTurned (answer_of answer.now) limit budget kept base rows.items) }
 {
     let key = answer.key;
-    match turn_key(alloc, answer, kept, limit, budget)? {
+    match turn_key(alloc, answer, kept, &[], limit, budget)? {
         TurnedKey::Stays(new) => {
             keep(&mut base, key, new)?;
             Ok(Answered::Going(Rows { base, rows }))

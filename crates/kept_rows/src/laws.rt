@@ -5,7 +5,7 @@ pub mod turns;
 
 ghost use Rattle.kept_rows.specs.Laws.{RowsMayBecome, FollowedRowsHaveOrders, RowsPassBy};
 
-use following::twin_rows_judge;
+use following_reads::read_rows_judge;
 use kept_keys::kept_keys_go_on;
 
 /// Rows may become others that stand at each key, and of which one holds wherever one of the rows does.
@@ -23,5 +23,5 @@ pub fn rows_pass_by()
     ensures { RowsPassBy }
 {
     kept_keys_go_on();
-    twin_rows_judge();
+    read_rows_judge();
 }

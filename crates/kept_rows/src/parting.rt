@@ -181,7 +181,7 @@ fn try_gap(
     )
 }
 
-/// Parts a row: between each two events of calls left at keys of the range the scan is tried.
+/// Parts a row: between each two events of calls left at keys of the range, but for reads of what was told, the scan is tried.
 fn part_row(
     alloc: Global,
     told: &Told,
@@ -202,8 +202,7 @@ fn part_row(
         return Err(Halt::Crowded);
     }
     let others = others_of(alloc, told, &row.scans, &row.keys)?;
-    let (low, high) = (told.scan.low, told.scan.high);
-    let places = places_within(alloc, &row.keys, low, high, told.scan.name, told.place)?;
+    let places = places_within(alloc, told, &row.keys)?;
     let mut behind = told.scan.name;
     for before in &places {
         try_gap(

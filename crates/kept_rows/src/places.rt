@@ -1,27 +1,29 @@
 // Between which events a scan may have taken effect.
 ghost use Rattle.std.specs.Prelude.{◌≡◌, ◌↔◌, ◌⊎◌, ◌<◌, ◌∷◌, [], ℕ, zip, AllPairs, Contains, IfOk, OnOk};
+ghost use Rattle.map_object.specs.MapObject.{IsRising};
 ghost use Rattle.kept_rows.specs.Candidates.{ArePlacesWithin};
 ghost use Rattle.kept_rows.specs.Places.{AreNoted};
 
+use crate::told::Told;
 use events::{Memory, Operation};
-use kept_keys::{KeptKey, WIDTH};
+use kept_keys::{KeptKey, WIDTH, is_read_of};
 use std::alloc::Global;
 
-/// The places between two others at which calls left of keys of a range were invoked or answered, by rising place.
+/// The places between the invocation of a scan and its answer at which calls left of keys of its range were invoked or answered, but for reads of
+/// what it was told, by rising place.
 pub(crate) fn places_within(
     alloc: Global,
+    told: &Told,
     keys: &[(u64, KeptKey)],
-    low: u64,
-    high: u64,
-    from: usize,
-    to: usize,
 ) -> Result<Vec<usize>, Memory>
-    ensures { IfOk result (λ places. ArePlacesWithin low high from to keys.now places.items) }
+    requires { IsRising told.now.pairs }
+    ensures { IfOk result (λ places. ArePlacesWithin told.now.low told.now.high told.now.name told.now.place told.now.pairs keys.now places.items) }
 {
     let mut places = Vec::new(alloc);
     for entry in keys {
-        if low <= entry.0 && entry.0 <= high {
-            note_key(&mut places, &entry.1, from, to)?;
+        if told.covers(entry.0) {
+            let value = told.value(entry.0);
+            note_key(&mut places, &entry.1, value, told.scan.name, told.place)?;
         }
     }
     Ok(in_order(places))
@@ -37,27 +39,34 @@ fn in_order(mut places: Vec<usize>) -> Vec<usize>
     places
 }
 
-/// Notes the places between two others of the calls left of a key.
-fn note_key(places: &mut Vec<usize>, kept: &KeptKey, from: usize, to: usize) -> Result<(), Memory>
-    ensures { OnOk result (AreNoted from to (zip kept.now.names kept.now.calls) places.old.items places.new.items) }
+/// Notes the places between two others of the calls left of a key, but for reads of a value or none.
+fn note_key(
+    places: &mut Vec<usize>,
+    kept: &KeptKey,
+    value: Option<u64>,
+    from: usize,
+    to: usize,
+) -> Result<(), Memory>
+    ensures { OnOk result (AreNoted value from to (zip kept.now.names kept.now.calls) places.old.items places.new.items) }
 {
     for (name, call) in kept.names.iter().zip(&kept.calls) {
-        note_call(places, *name, call, from, to)?;
+        note_call(places, *name, call, value, from, to)?;
     }
     Ok(())
 }
 
-/// Notes those of a call of a name, unless it is a get of a scan.
+/// Notes those of a call of a name, unless it is a get of a scan, or a read of the value.
 fn note_call(
     places: &mut Vec<usize>,
     name: usize,
     call: &Operation,
+    value: Option<u64>,
     from: usize,
     to: usize,
 ) -> Result<(), Memory>
-    ensures { OnOk result (AreNoted from to ((name, call.now) ∷ []) places.old.items places.new.items) }
+    ensures { OnOk result (AreNoted value from to ((name, call.now) ∷ []) places.old.items places.new.items) }
 {
-    if call.inv % WIDTH != 0 || call.inv / WIDTH != name {
+    if call.inv % WIDTH != 0 || call.inv / WIDTH != name || is_read_of(value, call) {
         return Ok(());
     }
     note(places, name, from, to)?;

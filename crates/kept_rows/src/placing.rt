@@ -148,7 +148,7 @@ fn settled_key(
         Some(kept) => {
             let now = told.place + 1;
             let limit = limit_at(still_open, key, now);
-            settle_key(alloc, key, kept, limit, now, budget)
+            settle_key(alloc, key, kept, scans, limit, now, budget)
         }
         None => Ok(old.copy(alloc)?.retimed(alloc, key, numbers)?),
     }

@@ -1,21 +1,24 @@
 // A key settles as far as it may.
-ghost use Rattle.std.specs.Prelude.{◌<◌, ◌≡◌, length, All, AllPairs, IfOk, IfSome};
+ghost use Rattle.std.specs.Prelude.{◌<◌, ◌≡◌, ◌↔◌, length, All, AllPairs, IfOk, IfSome, IsTrue, MatchOption};
 ghost use Rattle.events.specs.Precedence.{NonePrecedesItself};
 ghost use Rattle.kept_keys.specs.Cuts.{IsPlaceOf};
 ghost use Rattle.kept_keys.specs.Views.{place_limit};
-ghost use Rattle.kept_rows.specs.Settling.{HasSettled};
+ghost use Rattle.kept_rows.specs.Settling.{HasSettled, IsAround, IsClear};
 ghost use Rattle.past_choices.specs.Values.{IsCallOf};
 
+use crate::row::KeptScan;
 use events::{Memory, Operation};
 use kept_keys::{KeptKey, WIDTH};
 use std::alloc::Global;
 
 /// What a key is kept as once it has settled: without calls where only reads are left; else behind the last quiet place up to `limit`, or,
-/// where many calls are left, behind one at which few were open, unless that would cost more than the budget.
+/// where many calls are left, behind one at which few were open, unless that would cost more than the budget. Each of these scans that is over
+/// the key took effect on one side of the place.
 pub(crate) fn settle_key(
     alloc: Global,
     key: u64,
     kept: KeptKey,
+    scans: &[KeptScan],
     limit: usize,
     now: usize,
     budget: u32,
@@ -25,18 +28,62 @@ pub(crate) fn settle_key(
     requires rising { AllPairs (λ x y. x.inv < y.inv) kept.calls }
     requires apart { NonePrecedesItself kept.calls }
     requires of_key { All (λ a. IsCallOf key a.call) kept.calls }
-    ensures { IfOk result (HasSettled key limit now kept) }
+    ensures { IfOk result (HasSettled key scans.now limit now kept) }
 {
     if kept.is_still() {
         return kept.read_off(alloc);
     }
-    let Some(place) = place_to_settle(&kept, limit, now) else {
+    let Some(place) = clear_place(&kept, key, scans, limit, now) else {
         return Ok(kept);
     };
     match kept.settled(alloc, key, place, budget)? {
         Some(settled) => Ok(settled),
         None => Ok(kept),
     }
+}
+
+/// Where a key is to settle, as below, up to a limit and at a place that no scan over the key is around.
+fn clear_place(
+    kept: &KeptKey,
+    key: u64,
+    scans: &[KeptScan],
+    limit: usize,
+    now: usize,
+) -> Option<usize>
+    requires now { now < place_limit }
+    requires each { length kept.now.names ≡ length kept.now.calls }
+    requires rising { AllPairs (λ x y. x.inv < y.inv) kept.now.calls }
+    ensures place { IfSome result (IsPlaceOf kept.now limit now) }
+    ensures clear { IfSome result (IsClear key scans.now) }
+{
+    let mut last = limit;
+    for _ in 0..=scans.len() {
+        let place = place_to_settle(kept, last, now)?;
+        match around(scans, key, place) {
+            Some(behind) => last = behind,
+            None => return Some(place),
+        }
+    }
+    None
+}
+
+/// The place behind which a scan over the key took effect that is around a place, if one is.
+fn around(scans: &[KeptScan], key: u64, place: usize) -> Option<usize>
+    ensures { MatchOption result (IsClear key scans.now place) (λ behind. behind < place) }
+{
+    for scan in scans {
+        if is_around(scan, key, place) {
+            return Some(scan.behind);
+        }
+    }
+    None
+}
+
+/// Whether a scan over the key may have taken effect before a place, and behind it.
+fn is_around(scan: &KeptScan, key: u64, place: usize) -> bool
+    ensures { IsTrue result ↔ IsAround key place scan.now }
+{
+    scan.low <= key && key <= scan.high && scan.behind < place && place < scan.before
 }
 
 /// Where a key is to settle: at its last quiet place, if calls have ended before it; else, where many calls are left, at one at which few were

@@ -15,7 +15,7 @@ use crate::own_keys::{is_own, place_of};
 use crate::row::Row;
 use crate::rows::Rows;
 use events::{Call, Memory};
-use following::twin_rows_judge;
+use following_reads::read_rows_judge;
 use kept_keys::{KeptKey, kept_keys_go_on, kept_keys_take_calls};
 use std::alloc::Global;
 
@@ -76,7 +76,7 @@ impl Rows {
     {
         kept_keys_take_calls();
         kept_keys_go_on();
-        twin_rows_judge();
+        read_rows_judge();
         let Rows { mut base, mut rows } = self;
         if is_own(&rows, key) {
             begin_in_rows(&mut rows, key, place, call)?;

@@ -4,6 +4,7 @@ ghost use Rattle.kept_keys.specs.Views.{place_limit};
 ghost use Rattle.kept_rows.specs.Sound.{MayTurn};
 ghost use Rattle.kept_rows.specs.Turned.{IsKeyTurned, answer_of};
 
+use crate::row::KeptScan;
 use crate::settling::settle_key;
 use events::{Call, Memory, Reply};
 use kept_keys::{Judged, KeptKey};
@@ -30,24 +31,25 @@ pub(crate) enum TurnedKey {
     Away(KeptKey),
 }
 
-/// Takes the answer, judges the key, and settles it.
+/// Takes the answer, judges the key, and settles it. Of scans these alone may be left of it.
 pub(crate) fn turn_key(
     alloc: Global,
     answer: &GivenAnswer,
     kept: KeptKey,
+    scans: &[KeptScan],
     limit: usize,
     budget: u32,
 ) -> Result<TurnedKey, Memory>
     requires place { answer.now.place < place_limit - 1 }
     requires may_turn { MayTurn (answer_of answer.now) kept }
-    ensures { IfOk result (IsKeyTurned (answer_of answer.now) limit budget kept) }
+    ensures { IfOk result (IsKeyTurned (answer_of answer.now) scans.now limit budget kept) }
 {
     let reply = answer.reply.copy(alloc)?;
     let answered = kept.answer(alloc, answer.place, answer.name, &answer.call, reply)?;
     match answered.judge(alloc, answer.key, budget)? {
         Judged::Order => {
             let now = answer.place + 1;
-            let settled = settle_key(alloc, answer.key, answered, limit, now, budget)?;
+            let settled = settle_key(alloc, answer.key, answered, scans, limit, now, budget)?;
             Ok(TurnedKey::Stays(settled))
         }
         Judged::NoOrder => Ok(TurnedKey::Goes(answered)),

@@ -79,7 +79,7 @@ fn turn_row(
         unreachable!();
     };
     let kept = take_at(alloc, &mut keys, at);
-    match turn_key(alloc, answer, kept, limit, budget)? {
+    match turn_key(alloc, answer, kept, &scans, limit, budget)? {
         TurnedKey::Stays(new) => {
             put_at(&mut keys, at, new);
             Ok(TurnedRow::Stays(Row { scans, turns, keys }))

@@ -10,8 +10,8 @@ pub fn opened_rows_follow()
 pub fn rows_take_scans()
     ensures { RowsTakeScans }
 {
-    following::twin_timings_hold();
-    following::twin_rows_judge();
+    following_reads::read_timings_hold();
+    following_reads::read_rows_judge();
     kept_keys::kept_keys_narrow();
     kept_keys::kept_keys_go_on();
     kept_keys::kept_keys_take_scans();

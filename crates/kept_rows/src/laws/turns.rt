@@ -6,8 +6,8 @@ pub fn rows_take_answers()
     ensures { RowsTakeAnswers }
 {
     following::keys_go_on();
-    following::twin_timings_hold();
-    following::twin_rows_judge();
+    following_reads::read_timings_hold();
+    following_reads::read_rows_judge();
     kept_keys::kept_keys_take_answers();
     kept_keys::kept_keys_judge();
     kept_keys::kept_keys_go_on();
@@ -20,8 +20,8 @@ pub fn base_takes_answers()
     ensures { BaseTakesAnswers }
 {
     following::keys_go_on();
-    following::twin_timings_hold();
-    following::twin_rows_judge();
+    following_reads::read_timings_hold();
+    following_reads::read_rows_judge();
     kept_keys::kept_keys_take_answers();
     kept_keys::kept_keys_judge();
     kept_keys::kept_keys_go_on();
@@ -34,7 +34,7 @@ pub fn base_is_lost()
     ensures { BaseIsLost }
 {
     following::keys_go_on();
-    following::twin_timings_hold();
+    following_reads::read_timings_hold();
     kept_keys::kept_keys_take_answers();
     kept_keys::kept_keys_judge();
 }

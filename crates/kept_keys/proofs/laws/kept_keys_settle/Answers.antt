@@ -2,4 +2,4 @@ use Rattle.kept_keys.proofs.SettleLawLemmas.{kept_settles}
 use Rattle.kept_keys.proofs.laws.kept_keys_settle.Goals as goal
 
 pub returns : goal.returns
-returns c = kept_settles c.twin_keys_settle.ensures
+returns c = kept_settles c.read_keys_settle.ensures

@@ -26,8 +26,7 @@ try_gap-requires-clause-ended c =
     let places = c.deref-before-items.result.now in
     let i = c.loop-before.before-index in
     let before = get_or places i 0 in
-    let told = subst (λ (s : ScanAnswer). ArePlacesWithin s.low s.high s.name s.place c.deref-3.result.now c.in_ok-places.places.items) c.told.view_is
-    c.in_ok-places.ensures in
+    let told = c.in_ok-places.ensures in
     let is = get_or_default places i 0 before c.loop-before-test.true in
     let there = subst (λ (l : List ℕ). Contains l before) c.deref-before-items.ensures.value (here_is places i before c.loop-before-test.true is) in
     let within = place_within c.args.told.now c.deref-3.result.now c.in_ok-places.places.items before told there in
@@ -40,8 +39,7 @@ loop-before-preserved c =
     let places = c.deref-before-items.result.now in
     let i = c.loop-before.before-index in
     let before = get_or places i 0 in
-    let told = subst (λ (s : ScanAnswer). ArePlacesWithin s.low s.high s.name s.place c.deref-3.result.now c.in_ok-places.places.items) c.told.view_is
-    c.in_ok-places.ensures in
+    let told = c.in_ok-places.ensures in
     let is = get_or_default places i 0 before c.loop-before-test.true in
     let there = subst (λ (l : List ℕ). Contains l before) c.deref-before-items.ensures.value (here_is places i before c.loop-before-test.true is) in
     let within = place_within s c.deref-3.result.now c.in_ok-places.places.items before told there in
@@ -54,11 +52,10 @@ returns-clause-parted c =
     let r = c.args.row.now in
     let limit = limit_of c.args.still_open.now (suc s.place) in
     let places = c.deref-before-items.result.now in
-    let told = subst (λ (s : ScanAnswer). ArePlacesWithin s.low s.high s.name s.place c.deref-3.result.now c.in_ok-places.places.items) c.told.view_is
-    c.in_ok-places.ensures in
+    let told = c.in_ok-places.ensures in
     let keys : c.deref-3.result.now ≡ r.keys = c.deref-3.ensures.value ∙ ap (λ (r : RowView). r.keys) c.row.view_is in
-    let are = subst (λ (l : List ℕ). ArePlacesWithin s.low s.high s.name s.place r.keys l) (sym c.deref-before-items.ensures.value)
-    (subst (λ (l : List (ℕ × KeptView)). ArePlacesWithin s.low s.high s.name s.place l c.in_ok-places.places.items) keys told) in
+    let are = subst (λ (l : List ℕ). ArePlacesWithin s.low s.high s.name s.place s.pairs r.keys l) (sym c.deref-before-items.ensures.value)
+    (subst (λ (l : List (ℕ × KeptView)). ArePlacesWithin s.low s.high s.name s.place s.pairs l c.in_ok-places.places.items) keys told) in
     let place = ap (λ (s : ScanAnswer). s.place) c.told.view_is in
     ok_map _ (HasPartedRow s limit r c.args.into.now c.try_gap-2.new.into) c.try_gap-2.result
     (λ gap. tried_all s limit r places c.loop-before.before-index c.loop-before.behind c.args.into.now c.loop-before.into c.try_gap-2.new.into

@@ -17,7 +17,7 @@ loop-name-init c =
     ∙ ap (λ (k : KeptView). k.names) c.kept.view_is in
     let calls : iter_rest (zip_second c.into_iter-name-iterator.result) ≡ c.args.kept.now.calls =
     ap (λ z. iter_rest (zip_second z)) gives ∙ c.zip-name-items.ensures.second.0 ∙ ap (λ (k : KeptView). k.calls) c.kept.view_is in
-    noted_start c.args.from c.args.to c.args.places.now.items (zip c.args.kept.now.names c.args.kept.now.calls)
+    noted_start c.args.value c.args.from c.args.to c.args.places.now.items (zip c.args.kept.now.names c.args.kept.now.calls)
     (zip (iter_rest (zip_first c.into_iter-name-iterator.result)) (iter_rest (zip_second c.into_iter-name-iterator.result)))
     (ap (λ ns. zip ns (iter_rest (zip_second c.into_iter-name-iterator.result))) names ∙ ap (zip c.args.kept.now.names) calls)
 
@@ -31,8 +31,8 @@ loop-name-preserved c =
     let is : zip (iter_rest (zip_first c.loop-name.name-iterator)) (iter_rest (zip_second c.loop-name.name-iterator)) ≡ here ∷ rest =
     ap (λ ns. zip ns (iter_rest (zip_second c.loop-name.name-iterator))) names
     ∙ ap (zip (c.in-Some.name.now ∷ iter_rest (zip_first c.next.new.self))) calls in
-    noted_more c.args.from c.args.to c.args.places.now.items c.loop-name.places.items c.note_call.new.places.items all here rest
-    (subst (λ (some : List (ℕ × Operation)). AreNotedSoFar c.args.from c.args.to c.args.places.now.items all some c.loop-name.places.items) is
+    noted_more c.args.value c.args.from c.args.to c.args.places.now.items c.loop-name.places.items c.note_call.new.places.items all here rest
+    (subst (λ (some : List (ℕ × Operation)). AreNotedSoFar c.args.value c.args.from c.args.to c.args.places.now.items all some c.loop-name.places.items) is
     c.loop-name.invariant)
     c.in_ok-note_call.ensures
 
@@ -41,6 +41,6 @@ returns c =
     let all : List (ℕ × Operation) = zip c.args.kept.now.names c.args.kept.now.calls in
     let none = zip_empty (iter_rest (zip_first c.loop-name.name-iterator)) (iter_rest (zip_second c.loop-name.name-iterator))
     (either_empty_from_Zip c.loop-name.name-iterator c.next.new.self c.next.result c.in-None.is c.next.ensures.steps) in
-    noted_all c.args.from c.args.to c.args.places.now.items c.loop-name.places.items all
-    (subst (λ (some : List (ℕ × Operation)). AreNotedSoFar c.args.from c.args.to c.args.places.now.items all some c.loop-name.places.items) none
+    noted_all c.args.value c.args.from c.args.to c.args.places.now.items c.loop-name.places.items all
+    (subst (λ (some : List (ℕ × Operation)). AreNotedSoFar c.args.value c.args.from c.args.to c.args.places.now.items all some c.loop-name.places.items) none
     c.loop-name.invariant)

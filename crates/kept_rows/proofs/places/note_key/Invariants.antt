@@ -7,5 +7,5 @@ use Rattle.kept_rows.proofs.places.note_key.Given as goal
 -- the places that are noted, or are to come, are those that were, and those of the calls
 abbrev pub invariant-loop-name : goal.invariant-loop-name
 invariant-loop-name l =
-    AreNotedSoFar l.from l.to l.initial.places.items (zip l.kept.names l.kept.calls)
+    AreNotedSoFar l.value l.from l.to l.initial.places.items (zip l.kept.names l.kept.calls)
     (zip (iter_rest (zip_first l.name-iterator)) (iter_rest (zip_second l.name-iterator))) l.places.items

@@ -53,8 +53,10 @@ returns-in-Stays c =
       old = old;
       new = new;
       here = c.requires.may_turn.here;
-      turned = subst (λ k. IsTurned (answer_of a) c.args.limit k new) (sym kept_is)
-          (subst (IsKeyTurned (answer_of a) c.args.limit c.args.budget c.take_at-kept.result) c.in-Stays.is c.in_ok-new.ensures);
+      turned = subst (λ k. IsTurned (answer_of a) row.scans c.args.limit k new) (sym kept_is)
+          (subst (λ scans. IsTurned (answer_of a) scans c.args.limit c.take_at-kept.result new)
+          (c.deref-2.ensures.value ∙ ap (λ (r : RowView). r.scans) c.row.view_is)
+          (subst (IsKeyTurned (answer_of a) c.deref-2.result.now c.args.limit c.args.budget c.take_at-kept.result) c.in-Stays.is c.in_ok-new.ensures));
       changed = own_changed row rising a.key at here nothing new next c.take_at-kept.new.keys.items
           (subst (λ l. HasOther at nothing l c.take_at-kept.new.keys.items) view_is left) c.put_at.ensures
           (ap (λ (r : RowView). r.scans) c.row.view_is) (ap (λ (r : RowView). r.turns) c.row.view_is);
@@ -77,7 +79,7 @@ returns-in-Goes c =
       here = c.requires.may_turn.here;
       key = refl;
       turned_down = subst (λ k. IsTurnedDown (answer_of a) k c.in-Goes.kept) (sym kept_is)
-          (subst (IsKeyTurned (answer_of a) c.args.limit c.args.budget c.take_at-kept.result) c.in-Goes.is c.in_ok-new.ensures);
+          (subst (IsKeyTurned (answer_of a) c.deref-2.result.now c.args.limit c.args.budget c.take_at-kept.result) c.in-Goes.is c.in_ok-new.ensures);
     }
 
 -- src/turning_rows.rt:83:13

@@ -15,6 +15,6 @@ returns c =
       reads = c.kept_reads_go.ensures;
       stay = c.gone_calls_are_answered.ensures.stay;
       answered = c.gone_calls_are_answered.ensures.answered;
-      twin_timings = c.twin_timings_hold.ensures;
-      twin_rows = c.twin_rows_judge.ensures;
+      read_timings = c.read_timings_hold.ensures;
+      read_rows = c.read_rows_judge.ensures;
     } in take_scans laws

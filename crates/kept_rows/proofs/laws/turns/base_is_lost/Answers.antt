@@ -4,7 +4,7 @@ use Rattle.kept_rows.proofs.laws.turns.base_is_lost.Goals as goal
 pub returns : goal.returns
 returns c = is_lost (record {
   extend = c.keys_go_on.ensures;
-  twins = c.twin_timings_hold.ensures;
+  reads = c.read_timings_hold.ensures;
   take = c.kept_keys_take_answers.ensures;
   judge = c.kept_keys_judge.ensures;
 })

@@ -7,7 +7,7 @@ use Rattle.kept_rows.proofs.rows.Rows.begin_call.Goals.{then-is_own+in_ok-begin_
 
 pub returns : goal.returns
 returns c start events process h long of_key well =
-    let law = c.twin_rows_judge.ensures in
+    let law = c.read_rows_judge.ensures in
     let take = c.kept_keys_take_calls.ensures in
     let go_on = c.kept_keys_go_on.ensures in
     let known = subst (AreFollowed start events) (sym c.self.view_is) h in
