@@ -1,0 +1,7 @@
+mod PartLemmas
+mod OpenLemmas
+mod BeginLemmas
+mod EndLemmas
+mod OwnerLemmas
+mod OtherLemmas
+mod SeatedLemmas
