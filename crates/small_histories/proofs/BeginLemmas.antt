@@ -1,7 +1,7 @@
 -- One call more begins, by a process that is free.
-use Rattle.std.proofs.Common.{◌≡◌, ◌≢◌, ℕ, ◌+◌, ◌<◌, ◌≤◌, true, false, List, [], ◌∷◌, ◌++◌, length, take, Option, Some, None, refl, sym, ap, ◌∙◌}
-use Rattle.std.proofs.Common.{⊎_elim, inl, inr, subst, arith, get_or}
-use Rattle.std.specs.Prelude.{◌⊎◌, All, AllPairs, Contains, IfSome, IsSomeAnd, is_some, slice_get}
+use Rattle.std.proofs.Common.{◌≡◌, ◌≢◌, ℕ, ◌+◌, ◌<◌, ◌≤◌, false, List, [], ◌∷◌, ◌++◌, length, take, Option, Some, None, refl, sym, ap, ◌∙◌}
+use Rattle.std.proofs.Common.{⊎_elim, inl, inr, subst, arith}
+use Rattle.std.specs.Prelude.{◌⊎◌, All, Contains, IfSome, IsSomeAnd, is_some, slice_get}
 use Rattle.std.proofs.lemmas.Bool.{lt-ltb, false≢true}
 use Rattle.std.proofs.lemmas.List.{length_push}
 use Rattle.std.proofs.lemmas.List.Elements.{All-contains, All-push, All-head, Contains-append_left, Contains-append_right}
@@ -11,7 +11,6 @@ use Rattle.events.specs.declared.event.Event.{Event}
 use Rattle.events.specs.declared.event.Event.TheVariants.{Invoke}
 use Rattle.events.specs.declared.operation.Operation.{Operation}
 use Rattle.events.specs.declared.operation.Response.{Response}
-use Rattle.events.specs.Events.{IsWellFormed}
 use Rattle.events.specs.HistoryFaults.{has_open_call}
 use Rattle.events.specs.Limits.{process_limit}
 use Rattle.events.specs.Operations.{operations}
@@ -22,8 +21,8 @@ use Rattle.list_laws.proofs.Lists.{place-push, slice_get-append_left, slice_get-
 use Rattle.quiet_cuts.specs.KeptCalls.{begun_at}
 use Rattle.quiet_cuts.proofs.ContinueLemmas.{completed_at}
 use Rattle.quiet_cuts.proofs.EventLemmas.{operations-invoke}
-use Rattle.small_histories.specs.Seats.{place_in, begun_of, NoneEndsBefore, EndsBehind, EndsOutside, MayFollow, IsOpenAt, IsSeat}
-use Rattle.small_histories.specs.Seats.{IsOpenOrAnswered, IsAnsweredAs, IsEventOf, AreSeatedAs}
+use Rattle.small_histories.specs.Seats.{place_in, begun_of, NoneEndsBefore, EndsOutside, MayFollow, IsSeat}
+use Rattle.small_histories.specs.Seats.{IsOpenOrAnswered, IsEventOf, AreSeatedAs}
 use Rattle.small_histories.specs.declared.seats.Seat.{Seat}
 use Rattle.small_histories.proofs.OpenLemmas.{other_open, own_open, open_on}
 use Rattle.small_histories.proofs.PartLemmas.{not_before, behind_as_kept, kept_behind, begun_bound, answered_parts}

@@ -1,7 +1,7 @@
 -- One of the open calls ends, and its process is free.
-use Rattle.std.proofs.Common.{◌≡◌, ◌≢◌, ℕ, ◌+◌, ◌<◌, ◌≤◌, Bool, true, false, not, cond, ◌==◌, List, [], ◌∷◌, ◌++◌, length, map, Option, Some, None}
+use Rattle.std.proofs.Common.{◌≡◌, ◌≢◌, ℕ, ◌<◌, ◌≤◌, Bool, true, false, not, cond, ◌==◌, List, [], ◌∷◌, ◌++◌, length, map, Option, Some, None}
 use Rattle.std.proofs.Common.{refl, sym, ap, ap₂, ◌∙◌, ⊎_elim, inl, inr, subst, arith, IsTrue}
-use Rattle.std.specs.Prelude.{All, AllPairs, Contains, IfSome, IsSomeAnd, slice_get, option_map}
+use Rattle.std.specs.Prelude.{AllPairs, Contains, IsSomeAnd, slice_get, option_map}
 use Rattle.std.proofs.lemmas.Bool.{cases_eq, eq-eqb, ne_eqb, le-ltb, false≢true}
 use Rattle.std.proofs.lemmas.List.{length_push, length-append, length-map}
 use Rattle.std.proofs.lemmas.List.Elements.{All-contains, All-push}
@@ -26,11 +26,11 @@ use Rattle.quiet_cuts.specs.Groups.{reply_in}
 use Rattle.quiet_cuts.specs.KeptCalls.{answered_at}
 use Rattle.quiet_cuts.proofs.ContinueLemmas.{invoked_before}
 use Rattle.quiet_cuts.proofs.EventLemmas.{operations-answer}
-use Rattle.small_histories.specs.Seats.{begun_of, IsOpenAt, IsSeat, IsAnsweredAs, IsOpenOrAnswered, IsEventOf, AreSeatedAs}
+use Rattle.small_histories.specs.Seats.{begun_of, IsSeat, IsAnsweredAs, IsOpenOrAnswered, IsEventOf, AreSeatedAs}
 use Rattle.small_histories.specs.declared.seats.Seat.{Seat}
 use Rattle.small_histories.proofs.OpenLemmas.{other_open, own_open, open_on}
-use Rattle.small_histories.proofs.PartLemmas.{All-without, All-middle, AllPairs-without, Contains-with, others_apart, one_number}
-use Rattle.small_histories.proofs.PartLemmas.{not_before, behind_as_kept, begun_bound, answered_parts}
+use Rattle.small_histories.proofs.PartLemmas.{All-middle, AllPairs-without, Contains-with, others_apart, one_number}
+use Rattle.small_histories.proofs.PartLemmas.{not_before, behind_as_kept, begun_bound}
 
 -- what a map makes of an element comes from one
 from_map : {X : Type 0} (f : X → X) (o : Option X) (y : X) → option_map f o ≡ Some y → (x : X) × (o ≡ Some x) × (y ≡ f x)
@@ -189,12 +189,12 @@ module _ (calls : List Operation) (count limit : ℕ) (free : List ℕ) (front :
     free_apart = all_pairs_push (λ (p : ℕ) (q : ℕ). p ≢ q) free s.process h.free_apart (λ k d within same.
         false≢true (sym (h.free_idle k d within) ∙ (ap (λ (p : ℕ). has_open_call p events) same ∙ its.waits)));
     all_processes = omega (
-          arith,
-          length_push free s.process,
-          length-append front back,
-          length-append front (s ∷ back),
-          h.all_processes,
-        );
+      arith,
+      length_push free s.process,
+      length-append front back,
+      length-append front (s ∷ back),
+      h.all_processes,
+    );
     well_formed = IsWellFormed-push events e h.well_formed (ap not its.waits);
     own = All-push (IsEventOf calls) events e h.own
         (its.process, (s.number, a, slice_get_within calls s.number a here, get_or_from_slice_get calls s.number a a here, ap reply_in response_is));

@@ -5,3 +5,5 @@ mod EndLemmas
 mod OwnerLemmas
 mod OtherLemmas
 mod SeatedLemmas
+mod StepLemmas
+mod OrderLemmas

@@ -1,18 +1,17 @@
 -- A list without one of its elements, and places of calls.
-use Rattle.std.proofs.Common.{◌≡◌, ◌≢◌, ℕ, ◌+◌, ◌<◌, ◌≤◌, true, false, List, [], ◌∷◌, ◌++◌, map, take, Option, Some, None, refl, sym, ap, ◌∙◌}
+use Rattle.std.proofs.Common.{◌≡◌, ◌≢◌, ℕ, ◌<◌, ◌≤◌, true, false, List, ◌∷◌, ◌++◌, take, Option, Some, None, refl, sym}
 use Rattle.std.proofs.Common.{⊎_elim, subst, arith}
 use Rattle.std.specs.Prelude.{All, AllPairs, Contains, IfSome, slice_get}
-use Rattle.std.proofs.lemmas.Bool.{cases_order, le-ltb, lt-ltb, ltb-true, false≢true}
+use Rattle.std.proofs.lemmas.Bool.{cases_order, le-ltb, lt-ltb, ltb-true}
 use Rattle.std.proofs.lemmas.List.Elements.{All-append, All-contains, All-head, All-tail, All-weaker}
 use Rattle.std.proofs.lemmas.List.Elements.{Contains-append_left, Contains-append_right, Contains-append_cases}
-use Rattle.std.proofs.lemmas.Option.{none-some}
 use Rattle.events.specs.declared.operation.Operation.{Operation}
 use Rattle.events.specs.declared.operation.Response.{Response}
 use Rattle.events.specs.Precedence.{is_before}
 use Rattle.list_laws.proofs.Lists.{All-front, All-back, AllPairs-append, AllPairs-front, AllPairs-back, AllPairs-across, AllPairs-at}
 use Rattle.list_laws.proofs.Lists.{AllPairs-head, AllPairs-tail, Contains-later, Contains-take}
 use Rattle.list_laws.proofs.NumberLemmas.{greatest_bound}
-use Rattle.small_histories.specs.Seats.{place_in, begun_of, EndsBehind, IsAnsweredAs}
+use Rattle.small_histories.specs.Seats.{place_in, begun_of, IsAnsweredAs}
 
 -- ---- a list without one of its elements
 

@@ -1,12 +1,11 @@
 -- What events come to where all calls have begun and no open one is left that ends.
-use Rattle.std.proofs.Common.{◌≡◌, ◌≢◌, ℕ, ◌+◌, ◌<◌, ◌≤◌, true, List, [], ◌∷◌, ◌++◌, length, get_or, Option, Some, None, refl, sym, ap, ◌∙◌}
+use Rattle.std.proofs.Common.{◌≡◌, ◌≢◌, ℕ, ◌<◌, ◌≤◌, true, List, [], length, get_or, Option, Some, None, refl, sym, ap, ◌∙◌}
 use Rattle.std.proofs.Common.{⊎_elim, inl, inr, subst, arith}
-use Rattle.std.specs.Prelude.{All, AllPairs, Contains, IfSome, IsSomeAnd, nat_lt, nat_le, slice_get, ◌&&◌}
-use Rattle.std.specs.List.{list_all}
+use Rattle.std.specs.Prelude.{All, AllPairs, Contains, IfSome, nat_lt, nat_le, slice_get}
 use Rattle.std.proofs.lemmas.Bool.{and_from, lt-ltb, le-leb}
 use Rattle.std.proofs.lemmas.List.Elements.{All-contains, All-weaker}
 use Rattle.std.proofs.lemmas.List.Sums.{list_all-from_AllPass}
-use Rattle.std.proofs.lemmas.Option.{none-some, same_Some, slice_get_within}
+use Rattle.std.proofs.lemmas.Option.{none-some, same_Some}
 use Rattle.events.specs.declared.event.Event.{Event}
 use Rattle.events.specs.declared.event.Event.TheVariants.{Invoke, Answer}
 use Rattle.events.specs.declared.operation.Operation.{Operation}
@@ -18,7 +17,7 @@ use Rattle.events.specs.Operations.{operations}
 use Rattle.events.proofs.OperationLemmas.{length-operations_from}
 use Rattle.list_laws.proofs.NumberLemmas.{slice_get-below}
 use Rattle.quiet_cuts.specs.Groups.{AreAlike, reply_in}
-use Rattle.small_histories.specs.Seats.{place_in, reply_at, begun_of, IsSeat, IsOpenOrAnswered, IsAnsweredAs, IsEventOf, AreSeatedAs, AreEventsWith}
+use Rattle.small_histories.specs.Seats.{place_in, reply_at, IsSeat, IsAnsweredAs, IsEventOf, AreSeatedAs, AreEventsWith}
 use Rattle.small_histories.specs.declared.seats.Seat.{Seat}
 use Rattle.small_histories.proofs.OtherLemmas.{all_shaped, all_small, few_calls}
 use Rattle.small_histories.proofs.PartLemmas.{answered_parts}

@@ -1,5 +1,5 @@
 // All calls, one after another.
-ghost use Rattle.std.specs.Prelude.{◌≡◌, ℕ, ◌+◌, ◌<◌, ◌≤◌, ◌↔◌, length, All, IfOk, OnOk, IsTrue, MatchBool};
+ghost use Rattle.std.specs.Prelude.{◌≡◌, ℕ, ◌+◌, ◌<◌, ◌≤◌, ◌↔◌, max, length, All, IfOk, OnOk, IsTrue, MatchBool};
 ghost use Rattle.small_histories.specs.Seats.{begun_of, NoneEndsBefore, EndsBehind, EndsOutside};
 ghost use Rattle.small_histories.specs.Seats.{AreSeated, NoEventsHave, AreEventsWith};
 
@@ -15,13 +15,21 @@ pub fn seat_all(alloc: Global, seats: &mut Seats, calls: &[Operation]) -> Result
 {
     let mut begun = 0;
     for number in 0..calls.len() {
-        begun = begun.max(calls[number].inv);
-        if !seat(alloc, seats, calls, number, begun)? {
+        begun = later(begun, calls[number].inv);
+        let fits = seat(alloc, seats, calls, number, begun)?;
+        if !fits {
             return Ok(false);
         }
     }
     end_all(alloc, seats, calls)?;
     Ok(true)
+}
+
+/// The later of two places.
+fn later(place: usize, other: usize) -> usize
+    ensures { result ≡ max place other }
+{
+    if place < other { other } else { place }
 }
 
 /// Begins the call with a number behind the answers that stand before it, where the last of the calls up to it begins at this place.
@@ -42,7 +50,8 @@ fn seat(
         return Ok(false);
     }
     end_before(alloc, seats, calls, place)?;
-    seats.begin(calls, number)
+    let begun = seats.begin(calls, number)?;
+    Ok(begun)
 }
 
 /// Whether a call that begins with the last of those before it, or behind it, may follow them.

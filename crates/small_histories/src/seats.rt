@@ -134,13 +134,7 @@ pub fn first_before(open_seats: &[Seat], place: usize) -> Option<usize>
         (λ at. IsSomeAnd (slice_get open_seats.now at) (λ s. IsSomeAnd s.res (λ res. res < place))) }
 {
     match first_answer(open_seats) {
-        Some((at, res)) => {
-            if res < place {
-                Some(at)
-            } else {
-                None
-            }
-        }
+        Some((at, res)) => { if res < place { Some(at) } else { None } }
         None => None,
     }
 }
