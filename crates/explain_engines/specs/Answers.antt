@@ -6,7 +6,7 @@ use Rattle.events.specs.declared.event.Event.{Event}
 use Rattle.events.specs.declared.operation.Operation.{Operation}
 use Rattle.events.specs.Operations.{operations}
 use Rattle.map_object.specs.MapObject.{Contents}
-use Rattle.small_histories.specs.SmallHistories.{AreOfNoHistory, IsSmallHistory, IsTextOf, text_of}
+use Rattle.small_histories.specs.SmallHistories.{AreOfNoHistory, IsSmallHistory, IsWrittenAs, text_of}
 use Rattle.configurations.specs.Counts.{ReachesMoreThan}
 use Rattle.search.specs.LongestFront.{IsLongestFront}
 use Rattle.segments.specs.SegmentView.{SegmentView}
@@ -35,7 +35,7 @@ pub record IsFrontOf (budget : ℕ) (history : HistoryView) (front : List ℕ) :
 pub record AreTwoLines (budget : ℕ) (start : Contents) (calls : List Operation) (history : HistoryView) (bytes : List ℕ) : Type 0 where
   pub text : List ℕ
   pub front : List ℕ
-  pub is_text : IsTextOf history text
+  pub is_text : IsWrittenAs history text
   pub is_front : IsFrontOf budget history front
   pub bytes_are : bytes ≡ line text ++ line (compact_text (front_data start calls front))
 

@@ -11,7 +11,7 @@ ghost use Rattle.search.specs.Limits.{budget_limit};
 ghost use Rattle.outcomes.specs.Lines.{line};
 ghost use Rattle.explaining.specs.Explained.{IsExplanation};
 ghost use Rattle.orders.specs.Orders.{IsLinearizable};
-ghost use Rattle.small_histories.specs.SmallHistories.{IsTextOf};
+ghost use Rattle.small_histories.specs.SmallHistories.{IsWrittenAs};
 ghost use Rattle.explain_engines.specs.Answers.{AreDetailsOf, AreHistoryLines, AreLinesOf, AreTwoLines, IsFrontOf};
 ghost use Rattle.explain_engines.specs.Reports.{answer_data, process_at, reason_word, row_data, rows};
 
@@ -92,7 +92,7 @@ fn two_lines(
 ) -> Result<String, Memory>
     requires rising { IsRising start.now }
     requires budget { (1 ≤ budget) × (budget ≤ budget_limit) }
-    ensures { IsTextOf history.now (string_bytes text) → (IsLinearizable history.now.start (operations history.now.events) → ⊥)
+    ensures { IsWrittenAs history.now (string_bytes text) → (IsLinearizable history.now.start (operations history.now.events) → ⊥)
         → IfOk result (λ lines. AreTwoLines budget start.now calls.now history.now (string_bytes lines)) }
 {
     let front = front_of(alloc, history, budget)?;

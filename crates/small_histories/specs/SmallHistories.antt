@@ -30,6 +30,6 @@ abbrev pub text_of : HistoryView → List ℕ
 text_of history = compact_text (history_data history)
 
 -- that text, where it is not too long to be read
-pub record IsTextOf (history : HistoryView) (text : List ℕ) : Type 0 where
+pub record IsWrittenAs (history : HistoryView) (text : List ℕ) : Type 0 where
   pub text_is : text ≡ text_of history
   pub spelled : Spells text history

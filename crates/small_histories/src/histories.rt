@@ -6,7 +6,7 @@ ghost use Rattle.events.specs.Operations.{operations};
 ghost use Rattle.history_text.specs.Limits.{text_limit};
 ghost use Rattle.orders.specs.Orders.{IsLinearizable};
 ghost use Rattle.small_histories.specs.Seats.{NoEventsHave, AreEventsWith};
-ghost use Rattle.small_histories.specs.SmallHistories.{IsHistoryWith, AreOfNoHistory, IsTextOf, text_of};
+ghost use Rattle.small_histories.specs.SmallHistories.{IsHistoryWith, AreOfNoHistory, IsWrittenAs, text_of};
 
 use crate::seating::seat_all;
 use crate::seats::Seats;
@@ -15,16 +15,17 @@ use history_text::{MAX_TEXT, write_history};
 use quiet_cuts::places_do_not_matter;
 use std::alloc::Global;
 
-/// A history with these calls, from these pairs: its events stand as those of the calls do, an invocation before responses at its place, and each
-/// call is of the process that was free last. It has an order exactly where they have one. None where no history has them: where there are too
-/// many calls or pairs, more than 64 of them overlap at one place, one has a scan without a range or an answer that is too long, the pairs are no
-/// start, or one that stands behind another in the list ends before that one begins, or before one that what precedes it does not precede.
+/// A history with these calls, from these pairs. Its events stand as those of the calls do, an invocation before the responses at its
+/// place, and each call is of the process that was free last. It has an order exactly where the calls have one. There is none where no
+/// history has them: where there are too many calls or pairs, the keys of the pairs do not rise, a scan has no range, an answer lists too
+/// many pairs, more than 64 calls are open at once, a call ends before it begins, or they do not stand in an order of invocations.
 pub fn small_history(
     alloc: Global,
     start: &[(u64, u64)],
     calls: &[Operation],
 ) -> Result<Option<History>, Memory>
-    ensures history { IfOk result (λ found. MatchOption found (AreOfNoHistory start.now calls.now) (λ history. IsHistoryWith start.now calls.now history)) }
+    ensures history { IfOk result (λ found. MatchOption found (AreOfNoHistory start.now calls.now)
+        (λ history. IsHistoryWith start.now calls.now history)) }
     ensures orders { IfOk result (λ found. IfSome found (λ history.
         IsLinearizable start.now calls.now ↔ IsLinearizable history.start (operations history.events))) }
 {
@@ -38,7 +39,7 @@ pub fn small_history(
 /// The text of a history; none where it would be longer than a text may be.
 pub fn small_text(alloc: Global, history: &History) -> Result<Option<String>, Memory>
     ensures { IfOk result (λ found. MatchOption found (text_limit < length (text_of history.now))
-        (λ text. IsTextOf history.now (string_bytes text))) }
+        (λ text. IsWrittenAs history.now (string_bytes text))) }
 {
     let text = write_history(alloc, history)?;
     if text.len() > MAX_TEXT {
@@ -67,7 +68,8 @@ fn history_of(
     events: Vec<Event>,
 ) -> Result<Option<History>, Memory>
     ensures { (calls : List Operation) → AreEventsWith calls events.items
-        → IfOk result (λ found. MatchOption found (AreOfNoHistory start.now calls) (λ history. IsHistoryWith start.now calls history)) }
+        → IfOk result (λ found. MatchOption found (AreOfNoHistory start.now calls)
+        (λ history. IsHistoryWith start.now calls history)) }
 {
     let start = Vec::from_slice(alloc, start)?;
     match History::with_start(alloc, start, events) {

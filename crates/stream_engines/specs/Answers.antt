@@ -12,7 +12,7 @@ use Rattle.orders.specs.Orders.{IsLinearizable}
 use Rattle.map_object.specs.MapObject.{Contents}
 use Rattle.history_text.specs.declared.version.TextVersion.{TextVersion}
 use Rattle.history_text.specs.Limits.{text_limit}
-use Rattle.small_histories.specs.SmallHistories.{AreOfNoHistory, IsSmallHistory, IsTextOf, text_of}
+use Rattle.small_histories.specs.SmallHistories.{AreOfNoHistory, IsSmallHistory, IsWrittenAs, text_of}
 use Rattle.stream_text.specs.Cuts.{lines_of}
 use Rattle.stream_text.specs.Lines.{SpellsEvent}
 use Rattle.follower.specs.declared.answered.Doubt.{Doubt}
@@ -70,7 +70,7 @@ IsDoubtedHere budget lines event number doubt =
 -- the line of the text of a history; nothing where that would be too long
 abbrev pub IsHistoryLine : HistoryView → List ℕ → Type 0
 IsHistoryLine history bytes =
-    ((bytes ≡ []) × (text_limit < length (text_of history))) ⊎ ((text : List ℕ) × (bytes ≡ line text) × IsTextOf history text)
+    ((bytes ≡ []) × (text_limit < length (text_of history))) ⊎ ((text : List ℕ) × (bytes ≡ line text) × IsWrittenAs history text)
 
 -- that of a history with calls that have no order; nothing where no history has them
 abbrev pub IsSmallLine : Contents → List Operation → List ℕ → Type 0

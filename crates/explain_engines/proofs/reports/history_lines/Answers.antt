@@ -1,12 +1,14 @@
 use Rattle.std.proofs.Common.{inl, inr}
 use Rattle.std.proofs.lemmas.Result.{IfOk-weaker}
+use Rattle.events.specs.Operations.{operations}
+use Rattle.orders.specs.Orders.{IsLinearizable}
 use Rattle.explain_engines.proofs.reports.history_lines.Goals as goal
 
 pub returns-in-Some : goal.returns-in-Some
 returns-in-Some c = λ refuted.
     let history = c.in-Some.history in
     let same = rw c.in-Some.is at c.in_ok-history.ensures.orders in
-    let none = λ order. refuted (same.1 order) in
+    let none : IsLinearizable history.start (operations history.events) → ⊥ = λ order. refuted (same.1 order) in
     IfOk-weaker c.lines_of.result _ _
     (λ text lines. inr (history, record { has_calls = rw c.in-Some.is at c.in_ok-history.ensures.history; refuted = none }, lines))
     (c.lines_of.ensures none)
