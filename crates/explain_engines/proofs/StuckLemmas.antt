@@ -10,18 +10,15 @@ use Rattle.events.specs.declared.event.Call.{Call}
 use Rattle.events.specs.declared.event.Reply.{Reply}
 use Rattle.events.specs.declared.operation.Operation.{Operation}
 use Rattle.events.specs.declared.operation.Response.{Response}
-use Rattle.events.specs.HistoryView.{HistoryView}
-use Rattle.events.specs.Histories.{IsHistory}
 use Rattle.events.specs.Keys.{may_change}
 use Rattle.events.specs.Operations.{operations}
 use Rattle.events.specs.Precedence.{belongs, precedes}
-use Rattle.history_text.specs.TextLaws.{SpellsOneHistory}
 use Rattle.list_laws.proofs.FilterLemmas.{Contains-filter_map, Contains-from_filter_map}
 use Rattle.list_laws.proofs.Lists.{AllPairs-at, All-from_contains, Contains-at, Contains-cases, Contains-filter, Contains-from_filter}
 use Rattle.list_laws.proofs.Lists.{Contains-first, Contains-later, Contains-nil, place_of-Contains}
 use Rattle.list_laws.proofs.NumberLemmas.{slice_get-below}
 use Rattle.map_object.specs.MapObject.{Contents, after_reply, IsLegalReply}
-use Rattle.orders.specs.Orders.{after_call, after_calls, calls_at, IsLegalCall, IsLinearizable}
+use Rattle.orders.specs.Orders.{after_call, after_calls, calls_at, IsLegalCall}
 use Rattle.orders.proofs.PlaceLemmas.{at_places, All-at_places}
 use Rattle.segments.specs.SegmentView.{IsSegmentView}
 use Rattle.segments.proofs.BelongingLemmas.{BelongsAt-below}
@@ -141,18 +138,17 @@ preceding_taken calls front k a b rise next b_at before =
     (any_from (λ (c : Operation). precedes c a) (left_by taken calls) b among before)))
     (cases_Bool (is_taken taken b))
 
-pub no_next_call_is_legal : SpellsOneHistory → RangesSuffice → NoNextCallIsLegal
-no_next_call_is_legal one suffice budget start calls text front a rise told h within next a_belongs legal =
-    let same_history : told.history ≡ h.history = one text told.history h.history told.spelled h.spelled in
-    let alike = subst (λ (v : HistoryView). AreAlike calls (operations v.events)) same_history told.alike in
-    let refuted = subst (λ (v : HistoryView). IsLinearizable v.start (operations v.events) → ⊥) same_history told.refuted in
-    let start_is : h.history.start ≡ start = ap (λ (v : HistoryView). v.start) (sym same_history) ∙ told.start_is in
+pub no_next_call_is_legal : RangesSuffice → NoNextCallIsLegal
+no_next_call_is_legal suffice budget start calls history front a rise told h within next a_belongs legal =
+    let alike = told.has_calls.alike in
+    let refuted = told.refuted in
+    let start_is = told.has_calls.start_is in
     let s = h.segment in
-    let others = operations h.history.events in
+    let others = operations history.events in
     let places = h.longest.places in
     let below_others = λ (n : ℕ) (is : Contains s.numbers n). BelongsAt-below others n ((h.whole.members n).0 is) in
     let view : IsSegmentView s =
-    subst IsSegmentView (sym h.whole.view) (IsSegmentView-segment_of h.history s.numbers (subst IsHistory same_history told.is_history)
+    subst IsSegmentView (sym h.whole.view) (IsSegmentView-segment_of history s.numbers told.has_calls.is_history
     h.whole.not_empty h.whole.rising (All-from_contains (λ n. n < length others) s.numbers below_others)) in
     let all_within : All (λ p. p < length s.numbers) places =
     subst (λ size. All (λ p. p < size) places) view.one_call_each h.longest.is_front.known in
@@ -166,12 +162,12 @@ no_next_call_is_legal one suffice budget start calls text front a rise told h wi
     let same = alike.same n a b a_at b_at in
     let b_belongs : belongs b ≡ true =
     sym (ap₂ (λ (t : Bool) (call : Call). t || may_change call) (completed_as a.response b.response same.1) same.0) ∙ a_belongs in
-    let pairs : after_calls start (calls_at calls front) ≡ after_calls h.history.start (calls_at others (at_places s.numbers places)) =
+    let pairs : after_calls start (calls_at calls front) ≡ after_calls history.start (calls_at others (at_places s.numbers places)) =
     after_alike calls others front start alike known
     ∙ (ap (λ (m : Contents). after_calls m (calls_at others front)) (sym start_is)
-    ∙ ap (λ (l : List ℕ). after_calls h.history.start (calls_at others l)) h.longest.is) in
-    let pairs_then = after_calls h.history.start (calls_at others (at_places s.numbers places)) in
-    let (other, is_front, longer) = whole_front_goes_on h.history.start others s h.whole view places h.longest.is_front n b b_at b_belongs
+    ∙ ap (λ (l : List ℕ). after_calls history.start (calls_at others l)) h.longest.is) in
+    let pairs_then = after_calls history.start (calls_at others (at_places s.numbers places)) in
+    let (other, is_front, longer) = whole_front_goes_on history.start others s h.whole view places h.longest.is_front n b b_at b_belongs
     (λ there. both_ways (is_taken (calls_at calls front) a) comes.left
     (taken_from calls front n a a_at (subst (λ (l : List ℕ). Contains l n) (sym h.longest.is) there)))
     (λ k k_belongs before.
@@ -184,7 +180,7 @@ no_next_call_is_legal one suffice budget start calls text front a rise told h wi
     (subst (λ (call : Call). IsLegalCall pairs_then call b.response) same.0
     (legal_as pairs_then a.call a.response b.response same.1
     (subst (λ (m : Contents). IsLegalCall m a.call a.response) pairs legal))) in
-    let no_order = whole_has_no_order h.history.start others s h.whole view suffice refuted in
+    let no_order = whole_has_no_order history.start others s h.whole view suffice refuted in
     omega (
       arith,
       longer,

@@ -1,19 +1,17 @@
 -- What `explain` answers to the text of a history at a budget.
-use Rattle.std.specs.Prelude.{◌≡◌, ◌⊎◌, ℕ, List, [], ◌++◌}
+use Rattle.std.specs.Prelude.{◌≡◌, ◌⊎◌, ℕ, ◌<◌, List, [], ◌++◌, length}
 use Rattle.serde_json.specs.Written.{compact_text}
 use Rattle.events.specs.HistoryView.{HistoryView}
 use Rattle.events.specs.declared.event.Event.{Event}
 use Rattle.events.specs.declared.operation.Operation.{Operation}
-use Rattle.events.specs.Histories.{IsHistory}
 use Rattle.events.specs.Operations.{operations}
 use Rattle.map_object.specs.MapObject.{Contents}
-use Rattle.orders.specs.Orders.{IsLinearizable}
+use Rattle.small_histories.specs.SmallHistories.{AreOfNoHistory, IsSmallHistory, IsWrittenAs, text_of}
 use Rattle.configurations.specs.Counts.{ReachesMoreThan}
 use Rattle.search.specs.LongestFront.{IsLongestFront}
 use Rattle.segments.specs.SegmentView.{SegmentView}
 use Rattle.segments.specs.WholeSegments.{IsWholeSegment}
-use Rattle.quiet_cuts.specs.Groups.{AreAlike}
-use Rattle.history_text.specs.Texts.{Spells}
+use Rattle.history_text.specs.Limits.{text_limit}
 use Rattle.judge.specs.declared.verdict.Verdict.{Verdict}
 use Rattle.judge.specs.declared.verdict.Verdict.TheVariants.{Yes, No, Undecided}
 use Rattle.judge.specs.Exact.{IsExactVerdict}
@@ -27,40 +25,30 @@ use Rattle.history_engines.specs.Answers.{IsTextOf, answer_of}
 use Rattle.explain_engines.specs.Reports.{rows}
 use Rattle.explain_engines.specs.Fronts.{front_data}
 
--- the text is that of a history with these calls, at other places and by other processes, from these pairs; and it has no order
-pub record IsHistoryWith (start : Contents) (calls : List Operation) (text : List ℕ) : Type 0 where
-  pub history : HistoryView
-  pub spelled : Spells text history
-  pub is_history : IsHistory history
-  pub start_is : history.start ≡ start
-  pub alike : AreAlike calls (operations history.events)
-  pub refuted : IsLinearizable history.start (operations history.events) → ⊥
-
--- the longest front that a search at the budget meets of the calls of a text, by their numbers
-pub record IsFrontOfText (budget : ℕ) (text : List ℕ) (front : List ℕ) : Type 0 where
-  pub history : HistoryView
-  pub spelled : Spells text history
+-- the longest front that a search at the budget meets of the calls of a history, by their numbers
+pub record IsFrontOf (budget : ℕ) (history : HistoryView) (front : List ℕ) : Type 0 where
   pub segment : SegmentView
   pub whole : IsWholeSegment history.start (operations history.events) segment
   pub longest : IsLongestFront budget segment front
 
--- a line, of the longest front of the history with these calls that other bytes are the line of
-abbrev pub IsToldFront : ℕ → Contents → List Operation → List ℕ → List ℕ → Type 0
-IsToldFront budget start calls bytes told =
-    (front : List ℕ) × ((text : List ℕ) → bytes ≡ line text → IsHistoryWith start calls text → IsFrontOfText budget text front)
-    × (told ≡ line (compact_text (front_data start calls front)))
-
--- the line of a history with these calls, and that of its longest front, with what it leaves and which calls would come next
-pub record AreTwoLines (budget : ℕ) (start : Contents) (calls : List Operation) (bytes : List ℕ) : Type 0 where
+-- the line of the text of a history, and that of its longest front, with what it leaves and which of these calls would come next
+pub record AreTwoLines (budget : ℕ) (start : Contents) (calls : List Operation) (history : HistoryView) (bytes : List ℕ) : Type 0 where
   pub text : List ℕ
   pub front : List ℕ
-  pub is_history : IsHistoryWith start calls text
-  pub is_front : IsFrontOfText budget text front
+  pub is_text : IsWrittenAs history text
+  pub is_front : IsFrontOf budget history front
   pub bytes_are : bytes ≡ line text ++ line (compact_text (front_data start calls front))
 
--- these lines, or nothing where the calls fit no history
+-- these lines; nothing where the text would be too long
+abbrev pub AreLinesOf : ℕ → Contents → List Operation → HistoryView → List ℕ → Type 0
+AreLinesOf budget start calls history bytes =
+    ((bytes ≡ []) × (text_limit < length (text_of history))) ⊎ AreTwoLines budget start calls history bytes
+
+-- those of a history with calls that have no order; nothing where no history has them
 abbrev pub AreHistoryLines : ℕ → Contents → List Operation → List ℕ → Type 0
-AreHistoryLines budget start calls bytes = (bytes ≡ []) ⊎ AreTwoLines budget start calls bytes
+AreHistoryLines budget start calls bytes =
+    ((bytes ≡ []) × AreOfNoHistory start calls)
+    ⊎ ((history : HistoryView) × IsSmallHistory start calls history × AreLinesOf budget start calls history bytes)
 
 -- few calls of a segment that have no order, which is why it has none, in a line each, and behind them a history with them and its front
 pub record AreFew (budget : ℕ) (events : List Event) (segment : SegmentView) (bytes : List ℕ) : Type 0 where

@@ -1,5 +1,6 @@
 -- Laws of how far an order of few calls gets.
 use Rattle.std.specs.Prelude.{◌≡◌, ℕ, ◌≤◌, true, List, length, Contains}
+use Rattle.events.specs.HistoryView.{HistoryView}
 use Rattle.events.specs.declared.operation.Operation.{Operation}
 use Rattle.events.specs.Precedence.{NonePrecedesItself, belongs}
 use Rattle.map_object.specs.MapObject.{Contents}
@@ -11,7 +12,8 @@ use Rattle.segments.specs.SegmentView.{SegmentView}
 use Rattle.quiet_cuts.specs.TimeCuts.{InvocationsRise}
 use Rattle.search.specs.LongestFront.{IsLongestFront}
 use Rattle.explain_engines.specs.Fronts.{next_of}
-use Rattle.explain_engines.specs.Answers.{IsHistoryWith, IsFrontOfText}
+use Rattle.small_histories.specs.SmallHistories.{IsSmallHistory}
+use Rattle.explain_engines.specs.Answers.{IsFrontOf}
 
 -- where no more configurations are reachable than the budget, no front is longer than the longest that a search meets
 abbrev pub NoFrontIsLonger : Type 0
@@ -23,7 +25,7 @@ NoFrontIsLonger =
 -- and behind that of the few calls none that is told as next can come: the map would answer it otherwise
 abbrev pub NoNextCallIsLegal : Type 0
 NoNextCallIsLegal =
-    (budget : ℕ) (start : Contents) (calls : List Operation) (text front : List ℕ) (a : Operation) → InvocationsRise calls
-    → IsHistoryWith start calls text → (h : IsFrontOfText budget text front)
+    (budget : ℕ) (start : Contents) (calls : List Operation) (history : HistoryView) (front : List ℕ) (a : Operation) → InvocationsRise calls
+    → IsSmallHistory start calls history → (h : IsFrontOf budget history front)
     → (ReachesMoreThan h.segment.start h.segment.calls budget → ⊥) → Contains (next_of (calls_at calls front) calls) a
     → belongs a ≡ true → IsLegalCall (after_calls start (calls_at calls front)) a.call a.response → ⊥

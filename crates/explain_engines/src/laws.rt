@@ -1,7 +1,6 @@
 // Laws of how far an order of few calls gets: each function only carries its clause; one that rests on others calls them.
 ghost use Rattle.explain_engines.specs.Laws.{NoFrontIsLonger, NoNextCallIsLegal};
 
-use history_text::one_history;
 use quiet_cuts::ranges_suffice;
 
 /// The longest front that a search of calls without order meets is as long as any, unless more configurations are reachable than
@@ -14,6 +13,5 @@ pub fn no_front_is_longer()
 pub fn no_next_call_is_legal()
     ensures { NoNextCallIsLegal }
 {
-    one_history();
     ranges_suffice();
 }

@@ -1,29 +1,30 @@
 // The lines of an explanation.
-ghost use Rattle.std.specs.Prelude.{◌≡◌, ℕ, ◌≤◌, List, [], length, IfOk, OnOk, codes, string_bytes};
+ghost use Rattle.std.specs.Prelude.{◌≡◌, ◌≤◌, [], IfOk, OnOk, codes, string_bytes};
 ghost use Rattle.serde_json.specs.Data.{object, put as with_member};
 ghost use Rattle.serde_json.specs.View.{view, members_view};
 ghost use Rattle.serde_json.specs.Written.{compact_text};
 ghost use Rattle.events.specs.Events.{process_of};
+ghost use Rattle.events.specs.Operations.{operations};
 ghost use Rattle.history_text.specs.Texts.{number_data, call_data};
-ghost use Rattle.map_object.specs.MapObject.{Contents, IsRising};
+ghost use Rattle.map_object.specs.MapObject.{IsRising};
 ghost use Rattle.search.specs.Limits.{budget_limit};
 ghost use Rattle.outcomes.specs.Lines.{line};
 ghost use Rattle.explaining.specs.Explained.{IsExplanation};
 ghost use Rattle.orders.specs.Orders.{IsLinearizable};
-ghost use Rattle.stream_engines.specs.Answers.{IsSmallLine};
-ghost use Rattle.explain_engines.specs.Answers.{AreDetailsOf, AreHistoryLines, IsHistoryWith, IsFrontOfText, IsToldFront};
+ghost use Rattle.small_histories.specs.SmallHistories.{IsWrittenAs};
+ghost use Rattle.explain_engines.specs.Answers.{AreDetailsOf, AreHistoryLines, AreLinesOf, AreTwoLines, IsFrontOf};
 ghost use Rattle.explain_engines.specs.Reports.{answer_data, process_at, reason_word, row_data, rows};
 
 use crate::fronts::front_line;
-use events::{Event, Memory, Operation, Response};
+use events::{Event, History, Memory, Operation, Response};
 use explaining::{Explanation, Reason};
-use history_text::{call_value, one_history, read_history, reply_value};
+use history_text::{call_value, reply_value};
 use outcomes::line_of;
 use search::longest_front;
 use segments::Segment;
 use serde_json::{Map, Value, put};
+use small_histories::{small_history, small_text};
 use std::alloc::{AllocError, Global};
-use stream_engines::small_line;
 
 /// A line for each of few calls, that of a history with them, and that of a front of these.
 pub(crate) fn few_lines(
@@ -43,7 +44,8 @@ pub(crate) fn few_lines(
     Ok(text)
 }
 
-/// The line of a history with some calls from some pairs, and that of a front of these; nothing where they fit no history.
+/// The line of a history with some calls from some pairs, and that of a front of these; nothing where no history has them, or its text is too
+/// long.
 fn history_lines(
     alloc: Global,
     start: &[(u64, u64)],
@@ -54,63 +56,59 @@ fn history_lines(
     requires budget { (1 ≤ budget) × (budget ≤ budget_limit) }
     ensures { (IsLinearizable start.now calls.now → ⊥) → IfOk result (λ text. AreHistoryLines budget start.now calls.now (string_bytes text)) }
 {
-    let small = small_line(alloc, start, calls)?;
-    if small.is_empty() {
-        return Ok(small);
+    match small_history(alloc, start, calls)? {
+        Some(history) => lines_of(alloc, &history, start, calls, budget),
+        None => Ok(String::new(alloc)),
     }
-    with_front_line(alloc, small, start, calls, budget)
 }
 
-/// The line of a history with some calls, and behind it that of a front of these.
-fn with_front_line(
+/// The line of a history with some calls from some pairs, and that of a front of these; nothing where its text is too long.
+fn lines_of(
     alloc: Global,
-    small: String,
+    history: &History,
     start: &[(u64, u64)],
     calls: &[Operation],
     budget: u32,
 ) -> Result<String, Memory>
-    requires some { 1 ≤ length (string_bytes small) }
     requires rising { IsRising start.now }
     requires budget { (1 ≤ budget) × (budget ≤ budget_limit) }
-    ensures { IsSmallLine start.now calls.now (string_bytes small)
-        → IfOk result (λ text. AreHistoryLines budget start.now calls.now (string_bytes text)) }
+    ensures { (IsLinearizable history.now.start (operations history.now.events) → ⊥)
+        → IfOk result (λ text. AreLinesOf budget start.now calls.now history.now (string_bytes text)) }
 {
-    let mut lines = small;
-    let told = told_front(alloc, lines.as_bytes(), start, calls, budget)?;
+    match small_text(alloc, history)? {
+        Some(text) => two_lines(alloc, text, history, start, calls, budget),
+        None => Ok(String::new(alloc)),
+    }
+}
+
+/// The line of the text of a history, and behind it that of a front of its calls.
+fn two_lines(
+    alloc: Global,
+    text: String,
+    history: &History,
+    start: &[(u64, u64)],
+    calls: &[Operation],
+    budget: u32,
+) -> Result<String, Memory>
+    requires rising { IsRising start.now }
+    requires budget { (1 ≤ budget) × (budget ≤ budget_limit) }
+    ensures { IsWrittenAs history.now (string_bytes text) → (IsLinearizable history.now.start (operations history.now.events) → ⊥)
+        → IfOk result (λ lines. AreTwoLines budget start.now calls.now history.now (string_bytes lines)) }
+{
+    let front = front_of(alloc, history, budget)?;
+    let told = front_line(alloc, start, calls, &front)?;
+    let mut lines = line_of(text)?;
     lines.push_str(told.as_str())?;
     Ok(lines)
 }
 
-/// The line of the longest front that a search of the history on a line meets, which is one with some calls from some pairs.
-fn told_front(
-    alloc: Global,
-    bytes: &[u8],
-    start: &[(u64, u64)],
-    calls: &[Operation],
-    budget: u32,
-) -> Result<String, Memory>
-    requires some { 1 ≤ length bytes.now }
-    requires rising { IsRising start.now }
-    requires budget { (1 ≤ budget) × (budget ≤ budget_limit) }
-    ensures { IfOk result (λ told. IsToldFront budget start.now calls.now bytes.now (string_bytes told)) }
+/// The longest front that a search of all calls of a history meets.
+fn front_of(alloc: Global, history: &History, budget: u32) -> Result<Vec<u32>, Memory>
+    requires { (1 ≤ budget) × (budget ≤ budget_limit) }
+    ensures { (IsLinearizable history.now.start (operations history.now.events) → ⊥)
+        → IfOk result (λ front. IsFrontOf budget history.now front.items) }
 {
-    let front = front_of(alloc, bytes, budget)?;
-    front_line(alloc, start, calls, &front)
-}
-
-/// The longest front that a search of all calls of the history on a line meets.
-fn front_of(alloc: Global, bytes: &[u8], budget: u32) -> Result<Vec<u32>, Memory>
-    requires budget { (1 ≤ budget) × (budget ≤ budget_limit) }
-    requires some { 1 ≤ length bytes.now }
-    ensures { (text : List ℕ) (start : Contents) (calls : List Operation) → bytes.now ≡ line text
-        → IsHistoryWith start calls text → IfOk result (λ front. IsFrontOfText budget text front.items) }
-{
-    one_history();
-    let text = without_feed(bytes);
-    let Ok(history) = read_history(alloc, text) else {
-        return Err(Memory);
-    };
-    let found = Segment::whole(alloc, &history)?;
+    let found = Segment::whole(alloc, history)?;
     match found {
         Some(whole) => {
             let front = longest_front(alloc, &whole, budget)?;
@@ -118,14 +116,6 @@ fn front_of(alloc: Global, bytes: &[u8], budget: u32) -> Result<Vec<u32>, Memory
         }
         None => Ok(Vec::new(alloc)),
     }
-}
-
-/// The text of a line.
-fn without_feed(bytes: &[u8]) -> &[u8]
-    requires { 1 ≤ length bytes.now }
-    ensures { (text : List ℕ) → bytes.now ≡ line text → result.now ≡ text }
-{
-    &bytes[..bytes.len() - 1]
 }
 
 /// A line for each call that is kept, with the reason why.

@@ -1,7 +1,5 @@
-mod AlikeLemmas
 mod ReportLemmas
 mod OwnLemmas
-mod SmallLemmas
 pub mod StreamLemmas
 mod OverlapLemmas
 mod FirstLemmas

@@ -1,5 +1,5 @@
 -- What the program answers to the lines of a stream.
-use Rattle.std.specs.Prelude.{◌≡◌, ◌⊎◌, ℕ, ◌+◌, List, [], ◌∷◌, ◌++◌, length, MatchOption}
+use Rattle.std.specs.Prelude.{◌≡◌, ◌⊎◌, ℕ, ◌+◌, ◌<◌, List, [], ◌∷◌, ◌++◌, length, MatchOption}
 use Rattle.serde_json.specs.Written.{compact_text}
 use Rattle.events.specs.HistoryView.{HistoryView}
 use Rattle.events.specs.declared.event.Reply.{Reply}
@@ -7,13 +7,12 @@ use Rattle.events.specs.declared.event.Event.{Event}
 use Rattle.events.specs.declared.event.Event.TheVariants.{Answer}
 use Rattle.events.specs.declared.operation.Operation.{Operation}
 use Rattle.events.specs.Events.{IsWellFormed}
-use Rattle.events.specs.Histories.{IsHistory}
 use Rattle.events.specs.Operations.{operations}
 use Rattle.orders.specs.Orders.{IsLinearizable}
 use Rattle.map_object.specs.MapObject.{Contents}
-use Rattle.quiet_cuts.specs.Groups.{AreAlike}
 use Rattle.history_text.specs.declared.version.TextVersion.{TextVersion}
-use Rattle.history_text.specs.Texts.{Spells}
+use Rattle.history_text.specs.Limits.{text_limit}
+use Rattle.small_histories.specs.SmallHistories.{AreOfNoHistory, IsSmallHistory, IsWrittenAs, text_of}
 use Rattle.stream_text.specs.Cuts.{lines_of}
 use Rattle.stream_text.specs.Lines.{SpellsEvent}
 use Rattle.follower.specs.declared.answered.Doubt.{Doubt}
@@ -68,18 +67,16 @@ abbrev pub IsDoubtedHere : ℕ → List (List ℕ) → ℕ → ℕ → Doubt →
 IsDoubtedHere budget lines event number doubt =
     IsJudgedAnswer lines (λ start events process reply. IsSpent events process budget event number doubt)
 
--- the text is that of a history with these calls, at other places and by other processes, from these pairs; and it has no order
-pub record IsSmallHistory (start : Contents) (calls : List Operation) (text : List ℕ) : Type 0 where
-  pub history : HistoryView
-  pub spelled : Spells text history
-  pub is_history : IsHistory history
-  pub start_is : history.start ≡ start
-  pub alike : AreAlike calls (operations history.events)
-  pub refuted : IsLinearizable history.start (operations history.events) → ⊥
+-- the line of the text of a history; nothing where that would be too long
+abbrev pub IsHistoryLine : HistoryView → List ℕ → Type 0
+IsHistoryLine history bytes =
+    ((bytes ≡ []) × (text_limit < length (text_of history))) ⊎ ((text : List ℕ) × (bytes ≡ line text) × IsWrittenAs history text)
 
--- the line of such a text, or nothing where the calls fit no history
+-- that of a history with calls that have no order; nothing where no history has them
 abbrev pub IsSmallLine : Contents → List Operation → List ℕ → Type 0
-IsSmallLine start calls bytes = (bytes ≡ []) ⊎ ((text : List ℕ) × (bytes ≡ line text) × IsSmallHistory start calls text)
+IsSmallLine start calls bytes =
+    ((bytes ≡ []) × AreOfNoHistory start calls)
+    ⊎ ((history : HistoryView) × IsSmallHistory start calls history × IsHistoryLine history bytes)
 
 -- what is told where the events go wrong; a small history only where one value alone goes wrong
 abbrev pub IsLostText : Loss → List ℕ → Type 0

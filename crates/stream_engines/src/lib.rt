@@ -2,7 +2,6 @@
 //! ends at the first that goes wrong.
 #![tactic(auto)]
 
-mod alike;
 mod followed;
 mod handed;
 mod own_parts;
@@ -10,9 +9,8 @@ mod progress;
 mod reading;
 mod refusals;
 mod reports;
-mod small_history;
+mod small_lines;
 
 pub use handed::{LineFollower, follow_text};
 pub use progress::{Progress, Unshown};
 pub use reading::{follow_outcome, run_follow};
-pub use small_history::small_line;

@@ -15,7 +15,7 @@ ghost use Rattle.stream_engines.specs.Reports.{yes_data, numbers_data, value_dat
 ghost use Rattle.stream_engines.specs.Reports.{reason_word, doubted_keys, spent_data};
 
 use crate::own_parts::own_part;
-use crate::small_history::small_line;
+use crate::small_lines::small_line;
 use events::Memory;
 use follower::{Doubt, Loss};
 use kept_keys::Configuration;

@@ -1,0 +1,9 @@
+mod PartLemmas
+mod OpenLemmas
+mod BeginLemmas
+mod EndLemmas
+mod OwnerLemmas
+mod OtherLemmas
+mod SeatedLemmas
+mod StepLemmas
+mod OrderLemmas

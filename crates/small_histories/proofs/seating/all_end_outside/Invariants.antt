@@ -1,0 +1,8 @@
+use Rattle.std.proofs.Common.{take}
+use Rattle.std.specs.Prelude.{All}
+use Rattle.small_histories.specs.Seats.{EndsOutside}
+use Rattle.small_histories.proofs.seating.all_end_outside.Given as goal
+
+-- the calls so far end outside
+abbrev pub invariant-loop-call : goal.invariant-loop-call
+invariant-loop-call l = All (EndsOutside l.low l.high) (take l.call-index l.calls)

@@ -1,0 +1,2 @@
+pub mod SmallHistories
+pub mod Seats

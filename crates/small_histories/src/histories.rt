@@ -1,0 +1,89 @@
+// A history with some calls, and its text.
+ghost use Rattle.std.specs.Prelude.{◌≡◌, ◌≢◌, ◌<◌, ◌↔◌, List, length, IfOk, IfSome, MatchOption, string_bytes};
+ghost use Rattle.events.specs.declared.fault.HistoryFault.TheVariants as faults;
+ghost use Rattle.events.specs.declared.operation.Operation.{Operation};
+ghost use Rattle.events.specs.Operations.{operations};
+ghost use Rattle.history_text.specs.Limits.{text_limit};
+ghost use Rattle.orders.specs.Orders.{IsLinearizable};
+ghost use Rattle.small_histories.specs.Seats.{NoEventsHave, AreEventsWith};
+ghost use Rattle.small_histories.specs.SmallHistories.{IsHistoryWith, AreOfNoHistory, IsWrittenAs, text_of};
+
+use crate::seating::seat_all;
+use crate::seats::Seats;
+use events::{Event, History, HistoryFault, Memory, Operation};
+use history_text::{MAX_TEXT, write_history};
+use quiet_cuts::places_do_not_matter;
+use std::alloc::Global;
+
+/// A history with these calls, from these pairs. Its events stand as those of the calls do, an invocation before the responses at its
+/// place, and each call is of the process that was free last. It has an order exactly where the calls have one. There is none where no
+/// history has them: where there are too many calls or pairs, the keys of the pairs do not rise, a scan has no range, an answer lists too
+/// many pairs, more than 64 calls are open at once, a call ends before it begins, or they do not stand in an order of invocations.
+pub fn small_history(
+    alloc: Global,
+    start: &[(u64, u64)],
+    calls: &[Operation],
+) -> Result<Option<History>, Memory>
+    ensures history { IfOk result (λ found. MatchOption found (AreOfNoHistory start.now calls.now)
+        (λ history. IsHistoryWith start.now calls.now history)) }
+    ensures orders { IfOk result (λ found. IfSome found (λ history.
+        IsLinearizable start.now calls.now ↔ IsLinearizable history.start (operations history.events))) }
+{
+    places_do_not_matter();
+    match small_events(alloc, calls)? {
+        Some(events) => history_of(alloc, start, events),
+        None => Ok(None),
+    }
+}
+
+/// The text of a history; none where it would be longer than a text may be.
+pub fn small_text(alloc: Global, history: &History) -> Result<Option<String>, Memory>
+    ensures { IfOk result (λ found. MatchOption found (text_limit < length (text_of history.now))
+        (λ text. IsWrittenAs history.now (string_bytes text))) }
+{
+    let text = write_history(alloc, history)?;
+    if text.len() > MAX_TEXT {
+        Ok(None)
+    } else {
+        Ok(Some(text))
+    }
+}
+
+/// Events of a history that make these calls, at other places; none where those of no history do.
+fn small_events(alloc: Global, calls: &[Operation]) -> Result<Option<Vec<Event>>, Memory>
+    ensures { IfOk result (λ found. MatchOption found (NoEventsHave calls.now) (λ events. AreEventsWith calls.now events.items)) }
+{
+    let mut seats = Seats::new(alloc)?;
+    if seat_all(alloc, &mut seats, calls)? {
+        Ok(Some(seats.events))
+    } else {
+        Ok(None)
+    }
+}
+
+/// The history of events from some pairs; none where no history has their calls.
+fn history_of(
+    alloc: Global,
+    start: &[(u64, u64)],
+    events: Vec<Event>,
+) -> Result<Option<History>, Memory>
+    ensures { (calls : List Operation) → AreEventsWith calls events.items
+        → IfOk result (λ found. MatchOption found (AreOfNoHistory start.now calls)
+        (λ history. IsHistoryWith start.now calls history)) }
+{
+    let start = Vec::from_slice(alloc, start)?;
+    match History::with_start(alloc, start, events) {
+        Ok(history) => Ok(Some(history)),
+        Err(fault) => none_for(fault),
+    }
+}
+
+/// No history, where it is not for want of memory that there is none.
+fn none_for(fault: HistoryFault) -> Result<Option<History>, Memory>
+    ensures { IfOk result (λ found. (found ≡ None) × (fault ≢ faults.Memory)) }
+{
+    match fault {
+        HistoryFault::Memory => Err(Memory),
+        _ => Ok(None),
+    }
+}

@@ -1,0 +1,123 @@
+// All calls, one after another.
+ghost use Rattle.std.specs.Prelude.{◌≡◌, ℕ, ◌+◌, ◌<◌, ◌≤◌, ◌↔◌, max, length, All, IfOk, OnOk, IsTrue, MatchBool};
+ghost use Rattle.small_histories.specs.Seats.{begun_of, NoneEndsBefore, EndsBehind, EndsOutside};
+ghost use Rattle.small_histories.specs.Seats.{AreSeated, NoEventsHave, AreEventsWith};
+
+use crate::seats::{Seats, first_answer, first_before};
+use events::{Memory, Operation};
+use std::alloc::Global;
+
+/// Begins and ends all calls, from where none has begun. Answers whether some history has them. It takes time in proportion to the calls, for
+/// a fixed number of processes, where they lie by rising invocation.
+pub fn seat_all(alloc: Global, seats: &mut Seats, calls: &[Operation]) -> Result<bool, Memory>
+    ensures { AreSeated calls.now 0 0 seats.old
+        → IfOk result (λ all. MatchBool all (AreEventsWith calls.now seats.new.events.items) (NoEventsHave calls.now)) }
+{
+    let mut begun = 0;
+    for number in 0..calls.len() {
+        begun = later(begun, calls[number].inv);
+        let fits = seat(alloc, seats, calls, number, begun)?;
+        if !fits {
+            return Ok(false);
+        }
+    }
+    end_all(alloc, seats, calls)?;
+    Ok(true)
+}
+
+/// The later of two places.
+fn later(place: usize, other: usize) -> usize
+    ensures { result ≡ max place other }
+{
+    if place < other { other } else { place }
+}
+
+/// Begins the call with a number behind the answers that stand before it, where the last of the calls up to it begins at this place.
+/// Answers whether it may.
+fn seat(
+    alloc: Global,
+    seats: &mut Seats,
+    calls: &[Operation],
+    number: usize,
+    place: usize,
+) -> Result<bool, Memory>
+    requires within { number < length calls.now }
+    requires place { place ≡ begun_of calls.now (number + 1) }
+    ensures { AreSeated calls.now number (begun_of calls.now number) seats.old
+        → IfOk result (λ begun. MatchBool begun (AreSeated calls.now (number + 1) place seats.new) (NoEventsHave calls.now)) }
+{
+    if !may_follow(&calls[..number], &calls[number], place) {
+        return Ok(false);
+    }
+    end_before(alloc, seats, calls, place)?;
+    let begun = seats.begin(calls, number)?;
+    Ok(begun)
+}
+
+/// Whether a call that begins with the last of those before it, or behind it, may follow them.
+fn may_follow(before: &[Operation], call: &Operation, place: usize) -> bool
+    ensures { IsTrue result ↔ (EndsBehind place call.now × All (EndsOutside call.now.inv place) before.now) }
+{
+    ends_behind(place, call) && all_end_outside(call.inv, place, before)
+}
+
+/// Whether a call is answered at a place or behind it, if at all.
+fn ends_behind(place: usize, call: &Operation) -> bool
+    ensures { IsTrue result ↔ EndsBehind place call.now }
+{
+    match &call.response {
+        Some(response) => place <= response.res,
+        None => true,
+    }
+}
+
+/// Whether no call is answered from one place to another. Where there are no such places, no call is looked at.
+fn all_end_outside(low: usize, high: usize, calls: &[Operation]) -> bool
+    ensures { IsTrue result ↔ All (EndsOutside low high) calls.now }
+{
+    if high <= low {
+        return true;
+    }
+    for call in calls {
+        if !ends_outside(low, high, call) {
+            return false;
+        }
+    }
+    true
+}
+
+fn ends_outside(low: usize, high: usize, call: &Operation) -> bool
+    ensures { IsTrue result ↔ EndsOutside low high call.now }
+{
+    match &call.response {
+        Some(response) => response.res < low || high <= response.res,
+        None => true,
+    }
+}
+
+/// Ends the open calls that are answered before a place, in the order of their answers.
+fn end_before(
+    alloc: Global,
+    seats: &mut Seats,
+    calls: &[Operation],
+    place: usize,
+) -> Result<(), Memory>
+    ensures seated { (count : ℕ) → AreSeated calls.now count place seats.old → OnOk result (AreSeated calls.now count place seats.new) }
+    ensures none { OnOk result (NoneEndsBefore place seats.new.open_seats.items) }
+{
+    while let Some(at) = first_before(&seats.open_seats, place) {
+        seats.end(alloc, calls, at)?;
+    }
+    Ok(())
+}
+
+/// Ends the open calls that are answered, in the order of their answers, where all have begun.
+fn end_all(alloc: Global, seats: &mut Seats, calls: &[Operation]) -> Result<(), Memory>
+    ensures { (limit : ℕ) → AreSeated calls.now (length calls.now) limit seats.old
+        → OnOk result (AreEventsWith calls.now seats.new.events.items) }
+{
+    while let Some((at, _)) = first_answer(&seats.open_seats) {
+        seats.end(alloc, calls, at)?;
+    }
+    Ok(())
+}

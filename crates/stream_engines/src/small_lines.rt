@@ -1,0 +1,33 @@
+// The line of a history with calls that have no order.
+ghost use Rattle.std.specs.Prelude.{IfOk, string_bytes};
+ghost use Rattle.orders.specs.Orders.{IsLinearizable};
+ghost use Rattle.stream_engines.specs.Answers.{IsHistoryLine, IsSmallLine};
+
+use events::{History, Memory, Operation};
+use outcomes::line_of;
+use small_histories::{small_history, small_text};
+use std::alloc::Global;
+
+/// The line of the text of a history with these calls, from these pairs; nothing where no history has them, or the text is too long.
+pub(crate) fn small_line(
+    alloc: Global,
+    start: &[(u64, u64)],
+    calls: &[Operation],
+) -> Result<String, Memory>
+    ensures { (IsLinearizable start.now calls.now → ⊥) → IfOk result (λ text. IsSmallLine start.now calls.now (string_bytes text)) }
+{
+    match small_history(alloc, start, calls)? {
+        Some(history) => history_line(alloc, &history),
+        None => Ok(String::new(alloc)),
+    }
+}
+
+/// The line of the text of a history; nothing where the text is too long.
+fn history_line(alloc: Global, history: &History) -> Result<String, Memory>
+    ensures { IfOk result (λ text. IsHistoryLine history.now (string_bytes text)) }
+{
+    match small_text(alloc, history)? {
+        Some(text) => Ok(line_of(text)?),
+        None => Ok(String::new(alloc)),
+    }
+}
