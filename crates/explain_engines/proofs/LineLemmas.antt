@@ -1,8 +1,8 @@
 -- The line of a history with some calls.
-use Rattle.std.proofs.Common.{◌≡◌, ℕ, ◌≤◌, List, ◌++◌, length, ap, ◌∙◌, inr, arith}
+use Rattle.std.proofs.Common.{◌≡◌, ℕ, ◌≤◌, List, ◌++◌, length, ap, ◌∙◌, inr, arith, append_assoc}
 use Rattle.std.proofs.Common.{⊎_elim}
 use Rattle.serde_json.specs.Written.{compact_text}
-use Rattle.events.specs.declared.event.Event.{Event}
+use Rattle.events.specs.HistoryView.{HistoryView}
 use Rattle.events.specs.declared.operation.Operation.{Operation}
 use Rattle.map_object.specs.MapObject.{Contents}
 use Rattle.segments.specs.SegmentView.{SegmentView}
@@ -12,7 +12,7 @@ use Rattle.explaining.specs.declared.explanation.Explanation.{Explanation}
 use Rattle.explaining.specs.Explained.{IsExplanation}
 use Rattle.explain_engines.specs.Fronts.{front_data}
 use Rattle.explain_engines.specs.Reports.{rows}
-use Rattle.explain_engines.specs.Answers.{IsHistoryWith, IsFrontOfText, IsToldFront, AreHistoryLines, AreDetailsOf}
+use Rattle.explain_engines.specs.Answers.{IsHistoryWith, IsFrontOfText, IsToldFront, AreHistoryLines, AreOriginLines, AreDetailsOf}
 
 history_from : (start : Contents) (calls : List Operation) (text : List ℕ) → IsSmallHistory start calls text → IsHistoryWith start calls text
 history_from start calls text h = record {
@@ -55,14 +55,20 @@ two_lines budget start calls bytes told all some small (front, fronts, told_is) 
     }))
     small
 
--- few calls in a line each, with the line of a history with them
-pub few_from : (budget : ℕ) (events : List Event) (segment : SegmentView) (few : Explanation) (first small bytes : List ℕ)
-    → IsExplanation segment.start segment.calls budget few → first ≡ rows events few.calls.items few.reasons.items
-    → AreHistoryLines budget segment.start few.calls.items small → bytes ≡ first ++ small → AreDetailsOf budget events segment bytes
-few_from budget events segment few first small bytes explains is shown both = inr (record {
+-- few calls in a line each, with the lines of the values that come from outside of them, and that of a history with them
+pub few_from : (budget : ℕ) (history : HistoryView) (segment : SegmentView) (few : Explanation) (first outside small more bytes : List ℕ)
+    → IsExplanation segment.start segment.calls budget few → first ≡ rows history few.calls.items few.reasons.items
+    → AreOriginLines history segment.start few.calls.items outside
+    → AreHistoryLines budget segment.start few.calls.items small → more ≡ first ++ outside → bytes ≡ more ++ small
+    → AreDetailsOf budget history segment bytes
+few_from budget history segment few first outside small more bytes explains is origins shown before both = inr (record {
   few = few;
   explains = explains;
+  outside = outside;
+  origins = origins;
   small = small;
   shown = shown;
-  bytes_are = both ∙ ap (λ (l : List ℕ). l ++ small) is;
+  bytes_are =
+      both ∙ (ap (λ (l : List ℕ). l ++ small) before
+      ∙ (append_assoc first outside small ∙ ap (λ (l : List ℕ). l ++ (outside ++ small)) is));
 })
