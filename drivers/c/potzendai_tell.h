@@ -56,7 +56,7 @@ static inline void potzendai_tell_answer(FILE *out, const char *at)
 {
     static const char *const names[][2] = {
         {"null", "none"}, {"\"done\"", "that it was done"}, {"\"found\"", "that there was a value"}, {"\"other\"", "another value"},
-        {"\"refused\"", "that it was refused"}, {"\"open\"", "nothing that counts"}
+        {"\"refused\"", "that it was refused"}, {"\"open\"", "nothing"}, {"\"left out\"", "nothing that counts"}
     };
     for (size_t i = 0; i < sizeof names / sizeof *names; i++)
         if (strncmp(at, names[i][0], strlen(names[i][0])) == 0) {
@@ -117,6 +117,23 @@ static inline void potzendai_tell_writer(FILE *out, const char *text, const char
                 potzendai_is_at_start(text, value, digits) ? "was there at the start" : "is what nobody put");
 }
 
+/* Writes who put a value that the few calls read and none of them put. */
+static inline void potzendai_tell_origin(FILE *out, const char *line)
+{
+    const char *at = potzendai_member(line, "\"puts\":["), *comma = "";
+    fprintf(out, "  %" PRIu64 " at %" PRIu64 " is ", potzendai_number(line, "\"value\":"), potzendai_number(line, "\"key\":"));
+    if (potzendai_member(line, "\"start\":true")) {
+        fputs("what was there at the start", out);
+        comma = ", ";
+    }
+    for (; at && *at == '{'; at = strchr(at, '}') + 1, at += *at == ',') {
+        fprintf(out, "%swhat process %" PRIu64 " put (event %" PRIu64 ")", comma, potzendai_number(at, "\"process\":"),
+                potzendai_number(at, "\"event\":"));
+        comma = ", ";
+    }
+    fputs(*comma ? "\n" : "what nobody put\n", out);
+}
+
 /* How far an order of the few calls gets, and what the map would answer to each call that could come next. */
 static inline void potzendai_tell_front(FILE *out, const char *text, const char *line)
 {
@@ -152,6 +169,8 @@ static inline const char *potzendai_tell(FILE *out, const char *text, const char
             few = line;
         else if (strncmp(line, "{\"front\"", 8) == 0)
             potzendai_tell_front(out, text, line);
+        else if (strncmp(line, "{\"key\"", 6) == 0)
+            potzendai_tell_origin(out, line);
         else if (answer && call) {
             fprintf(out, "  event %-6" PRIu64 " process %-3" PRIu64 " ", potzendai_number(line, "\"event\":"),
                     potzendai_number(line, "\"process\":"));

@@ -1374,7 +1374,7 @@ func saidAnswer(answer interface{}) string {
 		return saidPairs(pairs)
 	}
 	said, is := map[interface{}]string{nil: "none", "done": "that it was done", "found": "that there was a value", "other": "another value",
-		"refused": "that it was refused", "open": "nothing that counts"}[answer]
+		"refused": "that it was refused", "open": "nothing", "left out": "nothing that counts"}[answer]
 	if !is {
 		said = fmt.Sprint(answer)
 	}
@@ -1414,11 +1414,26 @@ func saidWriter(r *round, answer interface{}) string {
 
 // A line of a report: what it is of is seen by its members.
 type reported struct {
-	Answer, Would      interface{}
-	Call, Front, Holds []interface{}
-	Event, Process     json.Number
-	Reason             string
-	Next               []reported
+	Answer, Would, Start       interface{}
+	Call, Front, Holds         []interface{}
+	Event, Process, Key, Value json.Number
+	Reason                     string
+	Next, Puts                 []reported
+}
+
+// Who put a value that the few calls read and none of them put.
+func saidOrigin(line reported) string {
+	var who []string
+	if line.Start == true {
+		who = append(who, "what was there at the start")
+	}
+	for _, put := range line.Puts {
+		who = append(who, fmt.Sprintf("what process %v put (event %v)", put.Process, put.Event))
+	}
+	if len(who) == 0 {
+		who = append(who, "what nobody put")
+	}
+	return fmt.Sprintf("  %v at %v is %s", line.Value, line.Key, strings.Join(who, ", "))
 }
 
 // A report of explain in words, and the line that is the few calls' history, if it is there.
@@ -1443,6 +1458,8 @@ func saidReport(report string, r *round) (said []string, few string) {
 		case line.Reason != "":
 			said = append(said, fmt.Sprintf("  event %-6d process %-3d %s, answered %s", event, process, saidCall(line.Call),
 				saidAnswer(line.Answer)+saidWriter(r, line.Answer)))
+		case line.Key != "":
+			said = append(said, saidOrigin(line))
 		case line.Front != nil:
 			front := strings.ReplaceAll(fmt.Sprint(line.Front), " ", ",")
 			said = append(said, "  an order of them gets as far as the events "+front+"; the map then holds "+saidPairs(line.Holds))

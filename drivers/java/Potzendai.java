@@ -1178,6 +1178,12 @@ public final class Potzendai {
                 case 'n':
                     at += 4;
                     return null;
+                case 't':
+                    at += 4;
+                    return true;
+                case 'f':
+                    at += 5;
+                    return false;
                 default: {
                     int from = at;
                     while (at < text.length() && Character.isDigit(text.charAt(at)))
@@ -1204,6 +1210,7 @@ public final class Potzendai {
             case "found" -> "that there was a value";
             case "other" -> "another value";
             case "refused" -> "that it was refused";
+            case "open" -> "nothing";
             default -> "nothing that counts";
         };
     }
@@ -1230,6 +1237,17 @@ public final class Potzendai {
         return "; " + saidAnswer(value) + (round.start.containsValue(value) ? " was there at the start" : " is what nobody put");
     }
 
+    /** Who put a value that the few calls read and none of them put. */
+    private static String saidOrigin(Map<?, ?> line) {
+        List<String> who = new ArrayList<>();
+        if (Boolean.TRUE.equals(line.get("start")))
+            who.add("what was there at the start");
+        for (Object put : (List<?>) line.get("puts"))
+            who.add("what process " + ((Map<?, ?>) put).get("process") + " put (event " + ((Map<?, ?>) put).get("event") + ")");
+        return "  " + saidAnswer(line.get("value")) + " at " + saidAnswer(line.get("key")) + " is "
+            + (who.isEmpty() ? "what nobody put" : String.join(", ", who));
+    }
+
     /** A report of `explain` in words. */
     private static List<String> saidReport(List<String> report, Round round) {
         List<String> said = new ArrayList<>(report.subList(0, 1));
@@ -1240,6 +1258,8 @@ public final class Potzendai {
             if (line.containsKey("reason"))
                 said.add(String.format("  event %-6d process %-3d %s, answered %s%s", line.get("event"), line.get("process"),
                     saidCall((List<?>) line.get("call")), saidAnswer(line.get("answer")), saidWriter(round, line.get("answer"))));
+            if (line.containsKey("puts"))
+                said.add(saidOrigin(line));
             if (!line.containsKey("front"))
                 continue;
             said.add("  an order of them gets as far as the events " + line.get("front").toString().replace(" ", "") + "; the map then holds "

@@ -952,7 +952,7 @@ def said_answer(answer):
     if isinstance(answer, list):
         return said_pairs(answer)
     return {None: "none", "done": "that it was done", "found": "that there was a value", "other": "another value",
-            "refused": "that it was refused", "open": "nothing that counts"}.get(answer, str(answer))
+            "refused": "that it was refused", "open": "nothing", "left out": "nothing that counts"}.get(answer, str(answer))
 
 
 def said_call(call):
@@ -975,6 +975,13 @@ def said_writer(one, value):
     return "; %d %s" % (value, "was there at the start" if value in one.start.values() else "is what nobody put")
 
 
+def said_origin(line):
+    """Who put a value that the few calls read and none of them put."""
+    start = ["what was there at the start"] if line["start"] else []
+    puts = ["what process %d put (event %d)" % (put["process"], put["event"]) for put in line["puts"]]
+    return "  %d at %d is %s" % (line["value"], line["key"], ", ".join(start + puts) or "what nobody put")
+
+
 def said_report(report, one):
     """A report of `explain` in words, and the line that is the few calls' history, or None."""
     texts = report.splitlines()
@@ -986,6 +993,8 @@ def said_report(report, one):
         elif "reason" in line:
             said.append("  event %-6d process %-3d %s, answered %s%s" % (
                 line["event"], line["process"], said_call(line["call"]), said_answer(line["answer"]), said_writer(one, line["answer"])))
+        elif "puts" in line:
+            said.append(said_origin(line))
         elif "front" in line:
             said.append("  an order of them gets as far as the events %s; the map then holds %s" % (
                 json.dumps(line["front"], separators=(",", ":")), said_pairs(line["holds"])))

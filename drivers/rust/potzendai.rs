@@ -1437,6 +1437,7 @@ fn smaller<M: Map>(run: &Run, make: &dyn Fn() -> M, program: &Program) -> Result
 #[derive(Debug, PartialEq)]
 enum Json {
     Null,
+    Bool(bool),
     Number(u64),
     Text(String),
     List(Vec<Json>),
@@ -1477,6 +1478,10 @@ impl Json {
                 *text = &text[end..];
                 Json::Number(read)
             }
+            b't' | b'f' => {
+                *text = text.get(if first == b't' { 4 } else { 5 }..).unwrap_or("");
+                Json::Bool(first == b't')
+            }
             _ => {
                 *text = text.get(4..).unwrap_or("");
                 Json::Null
@@ -1514,6 +1519,7 @@ fn said_answer(answer: &Json) -> String {
             "found" => "that there was a value",
             "other" => "another value",
             "refused" => "that it was refused",
+            "open" => "nothing",
             _ => "nothing that counts",
         }
         .to_string(),
@@ -1546,6 +1552,17 @@ fn said_writer(round: &Round, answer: &Json) -> String {
     format!("; {value} {}", if was_there { "was there at the start" } else { "is what nobody put" })
 }
 
+/// Who put a value that the few calls read and none of them put.
+fn said_origin(line: &Json) -> String {
+    let start = *line.member("start") == Json::Bool(true);
+    let mut who = if start { vec!["what was there at the start".to_string()] } else { vec![] };
+    for put in line.member("puts").items() {
+        who.push(format!("what process {} put (event {})", put.member("process").number(), put.member("event").number()));
+    }
+    let who = if who.is_empty() { "what nobody put".to_string() } else { who.join(", ") };
+    format!("  {} at {} is {who}", line.member("value").number(), line.member("key").number())
+}
+
 /// A report of `explain` in words, and the line that is the few calls' history, if it is there.
 fn said_report(report: &str, round: &Round) -> (Vec<String>, Option<String>) {
     let mut lines = report.lines();
@@ -1562,6 +1579,8 @@ fn said_report(report: &str, round: &Round) -> (Vec<String>, Option<String>) {
             let (call, writer) = (said_call(line.member("call")), said_writer(round, line.member("answer")));
             let answer = said_answer(line.member("answer"));
             said.push(format!("  event {event:<6} process {process:<3} {call}, answered {answer}{writer}"));
+        } else if *line.member("puts") != Json::Null {
+            said.push(said_origin(&line));
         } else if *line.member("front") != Json::Null {
             let front: Vec<String> = line.member("front").items().iter().map(|event| event.number().to_string()).collect();
             let holds = said_answer(line.member("holds"));

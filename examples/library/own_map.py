@@ -76,12 +76,14 @@ def main():
     assert status == YES, report
     print(len(recorded.notes) // 2, "calls have an order")
 
-    # A read of what nobody wrote: behind the report of the no stand few calls that show it, a history of them, and how far an order gets.
+    # A read of what nobody wrote: behind the report of the no stand few calls that show it, who put what they read, a history of them, and
+    # how far an order gets.
     recorded.get(4, 0, 1_000_000)
     status, report = potzendai.call("potzendai_explain", recorded.text())
     _, *rows, history, front = report.splitlines()
     assert status == NO and json.loads(history)["events"] and json.loads(front)["next"], report
-    print("with a wrong read", len(rows), "call has none")
+    calls = [row for row in rows if "reason" in json.loads(row)]
+    print("with a wrong read", len(calls), "call has none")
 
 
 if __name__ == "__main__":

@@ -5,8 +5,8 @@
 
 Histories are those of the examples that are not refused, and drawn ones as in tests/program/streams.py, half of them with answers that tell
 less, until so many of them have no order, 300 where no number is given. `explain` has to print the report of `judge` first; of a no then a line for each of few
-calls, each of them a call of the history with its answer, or without where it may tell what a call that is not named put; the
-history of these calls alone, of which `judge` says no; and how far an order of them gets. Without any one of them, and without the
+calls, each of them a call of the history with its answer, or without where it may tell what a call that is not named put; a line for each
+value that these read and none of them put, with each call of the history that put it; the history of these calls alone, of which `judge` says no; and how far an order of them gets. Without any one of them, and without the
 answers that tell what it put, `judge` says yes or undecided of the others, as the reason says. The front of the last line is a list of
 these calls that a map allows, each behind all that were answered before it began, and none is longer; behind it stand what the map then
 holds, and each call that could come next, with what it was answered, which is not what the map would answer. Then long ones: of 4,000
@@ -90,6 +90,43 @@ def tells(call, key, value):
 def precedes(first, second):
     """Whether a call is answered before another begins."""
     return "answer" in first and first["end"] < second["event"]
+
+
+def pairs_told(call):
+    """The pairs of a key and a value that a call's answer tells."""
+    name, low, *others = call["call"]
+    answer = call.get("answer")
+    if isinstance(answer, list):
+        return [tuple(pair) for pair in answer]
+    return [(low, answer)] if isinstance(answer, int) and (name != "scan" or others == [low]) else []
+
+
+def is_undone(call):
+    """Whether a call's answer says that it was not done."""
+    answer, (name, _, *values) = call.get("answer", "done"), call["call"]
+    return answer in ("refused", "other") or name == "replace" and (answer is None or isinstance(answer, int) and answer != values[0])
+
+
+def writes(call, pair):
+    """Whether a call puts a value at a key, unless its answer says that it was not done."""
+    name, key, *values = call["call"]
+    return name in ("insert", "replace") and (key, values[-1]) == pair and not is_undone(call)
+
+
+def origins_of(history, calls, left, start):
+    """The lines of the values that come from outside of what is left of calls, from some pairs."""
+    put = {(call["call"][1], value) for call in left for value in put_by(call)}
+    own = {tuple(pair) for pair in start if pair[0] not in {key for key, _ in put}}
+    outside = sorted({pair for call in left for pair in pairs_told(call)} - put - own)
+    return [
+        {
+            "key": pair[0],
+            "puts": [{"event": call["event"], "process": call["process"]} for call in calls if writes(call, pair)],
+            "start": list(pair) in history.get("start", []),
+            "value": pair[1],
+        }
+        for pair in outside
+    ]
 
 
 def rest_of(calls, kept):
@@ -202,7 +239,7 @@ def wrong_with_front(small, rows, line):
             return f"{line}, whose call {place} is not the first of the longest front"
         taken, held = taken | {number}, allowed[number]
     stuck = [
-        {"answer": rows[number]["answer"], "event": rows[number]["event"], "would": done(held, calls[number])[0]}
+        {"answer": calls[number].get("answer", "open"), "event": rows[number]["event"], "would": done(held, calls[number])[0]}
         for number in next_of(calls, taken)
     ]
     if len(taken) < most and len(known) <= int(BUDGET[1]):
@@ -212,8 +249,8 @@ def wrong_with_front(small, rows, line):
     return None
 
 
-def wrong_with_few(history, rows, small, front):
-    """What is wrong with few calls, their history and its front."""
+def wrong_with_few(history, rows, origins, small, front):
+    """What is wrong with few calls, who put what they read, their history and its front."""
     whole = calls_of(history["events"])
     known = {call["event"]: call for call in whole}
     calls = calls_of(small["events"])
@@ -227,8 +264,12 @@ def wrong_with_few(history, rows, small, front):
         said_of = known.get(row["event"], {})
         if (said_of.get("process"), said_of.get("call")) != (row["process"], row["call"]):
             return f"{row}, which is no call of the history"
-        if row["answer"] != call.get("answer", "open") or row["answer"] != left[row["event"]].get("answer", "open"):
+        word = "left out" if "answer" in said_of else "open"
+        if row["answer"] != call.get("answer", word) or row["answer"] != left[row["event"]].get("answer", word):
             return f"{row}, with an answer that it has not"
+    wanted = origins_of(history, whole, list(left.values()), small.get("start", []))
+    if origins != wanted:
+        return f"{origins}, and from outside come {wanted}"
     status, report = said("judge", text_of(small))
     if status != NO:
         return f"a history of which judge says {report}"
@@ -249,14 +290,16 @@ def explained(history):
     elif len(lines) < 4:
         wrong = f"too little: {lines}"
     else:
-        wrong = wrong_with_few(history, *parts_of(lines[1:]))
+        rows, origins, *others = parts_of(lines[1:])
+        in_order = lines[1:] == [*rows, *origins, *others]
+        wrong = wrong_with_few(history, rows, origins, *others) if in_order else f"lines in another order: {lines}"
     return status == NO, len(lines), wrong and f"explain says {wrong}: {text.decode()}"
 
 
 def parts_of(lines):
-    """The lines of few calls, the history behind them, and how far an order of it gets."""
+    """The lines of few calls, who put what they read, the history behind them, and how far an order of it gets."""
     behind = (next(line for line in lines if name in line) for name in ("events", "front"))
-    return [line for line in lines if "reason" in line], *behind
+    return [line for line in lines if "reason" in line], [line for line in lines if "puts" in line], *behind
 
 
 def less_told(seed):

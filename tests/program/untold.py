@@ -41,8 +41,8 @@ LEAVES = [
     ('["insert",5,9]', '"refused"', "7"),
 ]
 
-# Pairs at the start and calls of one process, each with its answer; which calls explain that they have no order, the event of each, a question
-# mark where its answer does not count, and the first letter of its reason; and what key 1 has before the last call, which goes wrong. None: they
+# Pairs at the start and calls of one process, each with its answer; which calls explain that they have no order, the event of each, an
+# exclamation mark where its answer is left out, and the first letter of its reason; and what key 1 has before the last call, which goes wrong. None: they
 # have an order.
 IN_TURN = [
     ("[1,0]", ['["insert",1,7]:"done"', '["replace",1,0,5]:"done"', '["replace",1,7,0]:"done"', '["get",1]:0'], None, None),
@@ -50,13 +50,18 @@ IN_TURN = [
     ("", ['["insert",1,7]:"done"', '["get",1]:null'], "0o 2o", "7"),
     ("", ['["insert",1,5]:"done"', '["insert",1,6]:"done"', '["get",1]:5'], "2o 4o", "6"),
     ("", ['["insert",1,5]:"done"', '["replace",1,5,6]:"done"', '["get",1]:5'], "0h 2o 4o", "6"),
-    ("", ['["insert",1,5]:"done"', '["replace",1,8,6]:"done"', '["get",1]:6'], "2?o 4o", "5"),
+    ("", ['["insert",1,5]:"done"', '["replace",1,8,6]:"done"', '["get",1]:6'], "2!o 4o", "5"),
     ("", ['["remove",1]:"done"', '["get",1]:"found"'], "2o", "null"),
     ("[1,4]", ['["remove",1]:"done"', '["get",1]:"found"'], "0o 2o", "null"),
     ("[1,4]", ['["replace",1,4,5]:"other"'], "0o", "4"),
     ("", ['["insert",1,4]:"done"', '["replace",1,4,5]:"other"'], "0o 2o", "4"),
     ("", ['["insert",1,9]:"done"', '["insert",1,4]:"done"', '["replace",1,4,5]:"other"'], "2h 4o", "4"),
 ]
+
+# Of some of them the values that come from outside of the calls that explain, and who put them.
+ORIGINS = {
+    ('["insert",1,5]:"done"', '["insert",1,6]:"done"', '["get",1]:5'): '{"key":1,"puts":[{"event":0,"process":0}],"start":false,"value":5}\n',
+}
 
 # Two puts that tell nothing overlap, so each of their values can be read behind them, and nothing else.
 PUTS_OVERLAP = (
@@ -233,9 +238,10 @@ def explained(start, calls, wanted, _value):
     status, output, faults = answer(["explain"], text)
     lines = output.splitlines(keepends=True)
     named = [json.loads(line) for line in lines if line.startswith(b'{"answer"')]
-    found = " ".join(f"{call['event']}{'?' * (call['answer'] == 'open')}{call['reason'][0]}" for call in named)
-    # Behind the calls stand their history and how far an order of them gets.
-    complete = wanted is None or len(lines) == len(named) + 3
+    found = " ".join(f"{call['event']}{'!' * (call['answer'] == 'left out')}{call['reason'][0]}" for call in named)
+    # Behind the calls stand who put what they read, their history and how far an order of them gets.
+    origins = b"".join(line for line in lines if line.startswith(b'{"key"')).decode()
+    complete = wanted is None or len(lines) == len(named) + origins.count("\n") + 3 and origins == ORIGINS.get(tuple(calls), "")
     if status != int(wanted is not None) or found != (wanted or "") or faults or not complete:
         return f"{output}, and wanted is {wanted} of {text}"
     return None

@@ -393,22 +393,23 @@ def overwrites(count):
     return ",".join([*events, f'{{"invoke":["get",5],"process":0}},{{"answer":{count // 2},"process":0}}'])
 
 
-# Events, a budget, and the calls that explain them: of each the event of its invocation, a question mark where its answer does not
-# count, or it has none, and a letter for the reason.
+# Events, a budget, and the calls that explain them: of each the event of its invocation, a question mark where it has no answer, an
+# exclamation mark where its answer is left out, and a letter for the reason; and the values that come from outside of these calls, by key,
+# each with the events of the calls that put it.
 EXPLANATIONS = [
-    (GET_SEES_ANSWERED_INSERT, 1000, None),
-    (GET_MISSES_ANSWERED_INSERT, 1000, "0o 2o"),
+    (GET_SEES_ANSWERED_INSERT, 1000, None, ""),
+    (GET_MISSES_ANSWERED_INSERT, 1000, "0o 2o", ""),
     # Two configurations are met with both calls, and one without one of them.
-    (GET_MISSES_ANSWERED_INSERT, 2, "0o 2o"),
-    (GET_SEES_WHAT_NOBODY_INSERTED, 1000, "4o"),
-    (LATER_GET_MISSES_WHAT_WAS_SEEN, 1000, "0?o 1o 3o"),
+    (GET_MISSES_ANSWERED_INSERT, 2, "0o 2o", ""),
+    (GET_SEES_WHAT_NOBODY_INSERTED, 1000, "4o", "9: 1 []"),
+    (LATER_GET_MISSES_WHAT_WAS_SEEN, 1000, "0?o 1o 3o", ""),
     # Two inserts that are open or beside, and two scans that cannot both be right.
-    (SCANS_SEE_TWO_INSERTS_IN_DIFFERENT_ORDER, 1000, "0o 1o 2o 3o"),
+    (SCANS_SEE_TWO_INSERTS_IN_DIFFERENT_ORDER, 1000, "0o 1o 2o 3o", ""),
     # The insert of 7 overwrites what comes before it, whatever it found.
-    (READ_OF_AN_OVERWRITTEN_VALUE, 1000, "10?o 12o"),
-    (READ_OF_A_VALUE_THAT_CAME_BACK, 1000, "0o 2o 4?o 5o 7o"),
+    (READ_OF_AN_OVERWRITTEN_VALUE, 1000, "10!o 12o", "1: 5 [2]"),
+    (READ_OF_A_VALUE_THAT_CAME_BACK, 1000, "0o 2o 4?o 5o 7o", ""),
     # Of three hundred inserts the last stays, as it overwrites what is read behind it, and the read.
-    (overwrites(300), 100_000, "598?o 600o"),
+    (overwrites(300), 100_000, "598!o 600o", "5: 150 [300]"),
 ]
 
 # A scan that misses a pair in the middle of those that are held, and its explanation, from the pairs within its keys.
@@ -784,14 +785,17 @@ def by_each_part(events):
     return None
 
 
-def explained(events, budget, wanted):
-    """What is wrong with the calls that explain a no."""
+def explained(events, budget, wanted, outside):
+    """What is wrong with the calls that explain a no, and with who put what they read."""
     status, output, told = answer(["explain", "--budget", str(budget)], history(events))
     judged = answer(["judge", "--budget", str(budget)], history(events))
     report, *lines = output.splitlines(keepends=True)
     calls = [json.loads(line) for line in lines if line.startswith(b'{"answer"')]
-    found = " ".join(f"{call['event']}{'?' * (call['answer'] == 'open')}{call['reason'][0]}" for call in calls)
-    if (status, report, told) != judged or status != int(wanted is not None) or found != (wanted or ""):
+    marks = {"open": "?", "left out": "!"}
+    found = " ".join(f"{call['event']}{marks.get(str(call['answer']), '')}{call['reason'][0]}" for call in calls)
+    origins = [json.loads(line) for line in lines if line.startswith(b'{"key"')]
+    put = ", ".join(f"{origin['key']}: {origin['value']} {[call['event'] for call in origin['puts']]}" for origin in origins)
+    if (status, report, told) != judged or status != int(wanted is not None) or (found, put) != (wanted or "", outside):
         return f"{output} at {budget}, and wanted is {wanted} of {events[:300]}"
     return None
 

@@ -2,6 +2,7 @@ mod FrontLemmas
 mod LineLemmas
 mod LongestLemmas
 mod NoneLemmas
+mod OriginLemmas
 mod OutcomeLemmas
 mod RowLemmas
 mod StuckLemmas

@@ -1,20 +1,27 @@
--- Few calls in a line each, with the lines of a history with them.
-use Rattle.std.proofs.Common.{◌≡◌, ℕ, List, ◌++◌, ap, ◌∙◌, inr}
-use Rattle.events.specs.declared.event.Event.{Event}
+-- Few calls in a line each, with the lines of the values that come from outside of them and those of a history with them.
+use Rattle.std.proofs.Common.{◌≡◌, ℕ, List, ◌++◌, ap, ◌∙◌, inr, append_assoc}
+use Rattle.events.specs.HistoryView.{HistoryView}
 use Rattle.segments.specs.SegmentView.{SegmentView}
 use Rattle.explaining.specs.declared.explanation.Explanation.{Explanation}
 use Rattle.explaining.specs.Explained.{IsExplanation}
 use Rattle.explain_engines.specs.Reports.{rows}
-use Rattle.explain_engines.specs.Answers.{AreHistoryLines, AreDetailsOf}
+use Rattle.explain_engines.specs.Answers.{AreHistoryLines, AreOriginLines, AreDetailsOf}
 
--- few calls in a line each, with the line of a history with them
-pub few_from : (budget : ℕ) (events : List Event) (segment : SegmentView) (few : Explanation) (first small bytes : List ℕ)
-    → IsExplanation segment.start segment.calls budget few → first ≡ rows events few.calls.items few.reasons.items
-    → AreHistoryLines budget segment.start few.calls.items small → bytes ≡ first ++ small → AreDetailsOf budget events segment bytes
-few_from budget events segment few first small bytes explains is shown both = inr (record {
+
+-- few calls in a line each, with the lines of the values that come from outside of them, and that of a history with them
+pub few_from : (budget : ℕ) (history : HistoryView) (segment : SegmentView) (few : Explanation) (first outside small more bytes : List ℕ)
+    → IsExplanation segment.start segment.calls budget few → first ≡ rows history few.calls.items few.reasons.items
+    → AreOriginLines history segment.start few.calls.items outside
+    → AreHistoryLines budget segment.start few.calls.items small → more ≡ first ++ outside → bytes ≡ more ++ small
+    → AreDetailsOf budget history segment bytes
+few_from budget history segment few first outside small more bytes explains is origins shown before both = inr (record {
   few = few;
   explains = explains;
+  outside = outside;
+  origins = origins;
   small = small;
   shown = shown;
-  bytes_are = both ∙ ap (λ (l : List ℕ). l ++ small) is;
+  bytes_are =
+      both ∙ (ap (λ (l : List ℕ). l ++ small) before
+      ∙ (append_assoc first outside small ∙ ap (λ (l : List ℕ). l ++ (outside ++ small)) is));
 })

@@ -1,18 +1,26 @@
 -- The line of a call has no float.
-use Rattle.std.proofs.Common.{◌≡◌, false, List, Option, Some, None, refl}
+use Rattle.std.proofs.Common.{◌≡◌, Bool, true, false, Option, Some, None, refl}
 use Rattle.serde_json.specs.Written.{has_float}
-use Rattle.events.specs.declared.event.Event.{Event}
 use Rattle.events.specs.declared.operation.Operation.{Operation}
 use Rattle.events.specs.declared.operation.Response.{Response}
+use Rattle.events.specs.HistoryView.{HistoryView}
+use Rattle.events.specs.Operations.{operations}
 use Rattle.history_text.proofs.WrittenLemmas.{has_float-call, has_float-reply}
 use Rattle.explaining.specs.declared.explanation.Reason.{Reason}
-use Rattle.explain_engines.specs.Reports.{answer_data, row_data}
+use Rattle.explain_engines.specs.Reports.{answer_data, kept_data, was_answered, row_data}
 
--- what counts of an answer has no float
+-- the answer of a call among few has no float
 pub has_float-answer : (response : Option Response) → has_float (answer_data response) ≡ false
 has_float-answer None = refl
 has_float-answer (Some response) = has_float-reply response.reply
 
+-- nor has what counts of that of a call that is kept
+has_float-kept : (answered : Bool) (response : Option Response) → has_float (kept_data answered response) ≡ false
+has_float-kept true None = refl
+has_float-kept false None = refl
+has_float-kept answered (Some response) = has_float-reply response.reply
+
 -- so has no line of a call
-pub has_float-row : (events : List Event) (a : Operation) (reason : Reason) → has_float (row_data events a reason) ≡ false
-has_float-row events a reason = rw (has_float-answer a.response, has_float-call a.call) refl
+pub has_float-row : (history : HistoryView) (a : Operation) (reason : Reason) → has_float (row_data history a reason) ≡ false
+has_float-row history a reason =
+    rw (has_float-kept (was_answered (operations history.events) a.inv) a.response, has_float-call a.call) refl

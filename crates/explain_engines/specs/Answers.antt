@@ -2,7 +2,6 @@
 use Rattle.std.specs.Prelude.{◌≡◌, ◌⊎◌, ℕ, ◌<◌, List, [], ◌++◌, length}
 use Rattle.serde_json.specs.Written.{compact_text}
 use Rattle.events.specs.HistoryView.{HistoryView}
-use Rattle.events.specs.declared.event.Event.{Event}
 use Rattle.events.specs.declared.operation.Operation.{Operation}
 use Rattle.events.specs.Operations.{operations}
 use Rattle.map_object.specs.MapObject.{Contents}
@@ -22,7 +21,9 @@ use Rattle.explaining.specs.Explained.{IsExplanation}
 use Rattle.outcomes.specs.declared.outcome.Answer.{Answer}
 use Rattle.outcomes.specs.Lines.{line}
 use Rattle.history_engines.specs.Answers.{IsTextOf, answer_of}
+use Rattle.origins.specs.External.{AreExternal}
 use Rattle.explain_engines.specs.Reports.{rows}
+use Rattle.explain_engines.specs.Origins.{origin_lines}
 use Rattle.explain_engines.specs.Fronts.{front_data}
 
 -- the longest front that a search at the budget meets of the calls of a history, by their numbers
@@ -50,13 +51,22 @@ AreHistoryLines budget start calls bytes =
     ((bytes ≡ []) × AreOfNoHistory start calls)
     ⊎ ((history : HistoryView) × IsSmallHistory start calls history × AreLinesOf budget start calls history bytes)
 
--- few calls of a segment that have no order, which is why it has none, in a line each, and behind them a history with them and its front
-pub record AreFew (budget : ℕ) (events : List Event) (segment : SegmentView) (bytes : List ℕ) : Type 0 where
+-- a line for each pair that calls tell from outside of them, from some pairs on: which calls of the history put it
+pub record AreOriginLines (history : HistoryView) (start : Contents) (calls : List Operation) (bytes : List ℕ) : Type 0 where
+  pub pairs : List (ℕ × ℕ)
+  pub external : AreExternal start calls pairs
+  pub bytes_are : bytes ≡ origin_lines history.start history.events (operations history.events) pairs
+
+-- few calls of a segment that have no order, which is why it has none, in a line each; behind them who put what they tell from outside, and a
+-- history with them and its front
+pub record AreFew (budget : ℕ) (history : HistoryView) (segment : SegmentView) (bytes : List ℕ) : Type 0 where
   pub few : Explanation
   pub explains : IsExplanation segment.start segment.calls budget few
+  pub outside : List ℕ
+  pub origins : AreOriginLines history segment.start few.calls.items outside
   pub small : List ℕ
   pub shown : AreHistoryLines budget segment.start few.calls.items small
-  pub bytes_are : bytes ≡ rows events few.calls.items few.reasons.items ++ small
+  pub bytes_are : bytes ≡ rows history few.calls.items few.reasons.items ++ (outside ++ small)
 
 -- nothing, where more configurations of the segment are reachable than the budget
 pub record AreNone (budget : ℕ) (segment : SegmentView) (bytes : List ℕ) : Type 0 where
@@ -64,14 +74,14 @@ pub record AreNone (budget : ℕ) (segment : SegmentView) (bytes : List ℕ) : T
   pub reaches : ReachesMoreThan segment.start segment.calls budget
 
 -- what stands behind the report of a no that names a segment
-abbrev pub AreDetailsOf : ℕ → List Event → SegmentView → List ℕ → Type 0
-AreDetailsOf budget events segment bytes = AreNone budget segment bytes ⊎ AreFew budget events segment bytes
+abbrev pub AreDetailsOf : ℕ → HistoryView → SegmentView → List ℕ → Type 0
+AreDetailsOf budget history segment bytes = AreNone budget segment bytes ⊎ AreFew budget history segment bytes
 
--- and behind that of each verdict on these events
-abbrev pub AreDetails : ℕ → List Event → Verdict → List ℕ → Type 0
-AreDetails budget events (Yes order) bytes = bytes ≡ []
-AreDetails budget events (No segment) bytes = AreDetailsOf budget events segment bytes
-AreDetails budget events (Undecided segment) bytes = bytes ≡ []
+-- and behind that of each verdict on this history
+abbrev pub AreDetails : ℕ → HistoryView → Verdict → List ℕ → Type 0
+AreDetails budget history (Yes order) bytes = bytes ≡ []
+AreDetails budget history (No segment) bytes = AreDetailsOf budget history segment bytes
+AreDetails budget history (Undecided segment) bytes = bytes ≡ []
 
 -- what is told of a history: the report of its exact verdict, which is this answer, and of a no what shows it
 pub record IsExplaining (budget : ℕ) (history : HistoryView) (answer : Answer) (bytes : List ℕ) : Type 0 where
@@ -79,7 +89,7 @@ pub record IsExplaining (budget : ℕ) (history : HistoryView) (answer : Answer)
   pub details : List ℕ
   pub shown : IsShown history.start budget (operations history.events) verdict
   pub exact : IsExactVerdict history.start budget (operations history.events) verdict
-  pub shows : AreDetails budget history.events verdict details
+  pub shows : AreDetails budget history verdict details
   pub answer_is : answer ≡ answer_of verdict
   pub bytes_are : bytes ≡ line (compact_text (verdict_data verdict)) ++ details
 

@@ -1,4 +1,5 @@
 pub mod Reports
+pub mod Origins
 pub mod Fronts
 pub mod Answers
 pub mod Laws

@@ -18,7 +18,7 @@ ghost use Rattle.explain_engines.specs.Answers.{IsExplainAnswer, IsExplaining, A
 ghost use Rattle.explain_engines.specs.Outcomes.{IsExplainOutcome};
 
 use crate::reports::few_lines;
-use events::{Event, History, Memory};
+use events::{History, Memory};
 use explaining::{Explained, explain};
 use history_engines::{answer_of, refused_text};
 use history_text::{MAX_TEXT, read_history};
@@ -103,7 +103,7 @@ fn verdict_lines(
 ) -> Result<String, Memory>
     requires budget { (1 ≤ budget) × (budget ≤ budget_limit) }
     requires shown { IsShown history.now.start budget (operations history.now.events) verdict.now }
-    ensures { IfOk result (λ text. (details : List ℕ) × AreDetails budget history.now.events verdict.now details
+    ensures { IfOk result (λ text. (details : List ℕ) × AreDetails budget history.now verdict.now details
         × (string_bytes text ≡ line (compact_text (verdict_data verdict.now)) ++ details)) }
 {
     let mut lines = line_of(report(alloc, verdict)?)?;
@@ -121,10 +121,10 @@ fn details_of(
 ) -> Result<String, Memory>
     requires budget { (1 ≤ budget) × (budget ≤ budget_limit) }
     requires shown { IsShown history.now.start budget (operations history.now.events) verdict.now }
-    ensures { IfOk result (λ text. AreDetails budget history.now.events verdict.now (string_bytes text)) }
+    ensures { IfOk result (λ text. AreDetails budget history.now verdict.now (string_bytes text)) }
 {
     match verdict {
-        Verdict::No(segment) => segment_details(alloc, history.events(), segment, budget),
+        Verdict::No(segment) => segment_details(alloc, history, segment, budget),
         Verdict::Yes(_) | Verdict::Undecided(_) => Ok(String::new(alloc)),
     }
 }
@@ -132,17 +132,17 @@ fn details_of(
 /// Few calls of a segment that show that it has no order.
 fn segment_details(
     alloc: Global,
-    events: &[Event],
+    history: &History,
     segment: &Segment,
     budget: u32,
 ) -> Result<String, Memory>
     requires budget { (1 ≤ budget) × (budget ≤ budget_limit) }
     requires none { HasNoOrder segment.now }
-    ensures { IfOk result (λ text. AreDetailsOf budget events.now segment.now (string_bytes text)) }
+    ensures { IfOk result (λ text. AreDetailsOf budget history.now segment.now (string_bytes text)) }
 {
     let start = SortedMap::of(alloc, segment.start())?;
     match explain(alloc, &start, segment.calls(), budget)? {
-        Explained::Few(few) => few_lines(alloc, events, segment, few, budget),
+        Explained::Few(few) => few_lines(alloc, history, segment, few, budget),
         Explained::Order(_) | Explained::Spent => Ok(String::new(alloc)),
     }
 }

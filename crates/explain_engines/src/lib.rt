@@ -6,6 +6,7 @@ mod explained;
 mod fronts;
 mod laws;
 mod reports;
+mod writers;
 
 pub use explained::{explain_outcome, run_explain};
 pub use laws::{no_front_is_longer, no_next_call_is_legal};

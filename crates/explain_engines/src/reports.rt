@@ -13,9 +13,10 @@ ghost use Rattle.explaining.specs.Explained.{IsExplanation};
 ghost use Rattle.orders.specs.Orders.{IsLinearizable};
 ghost use Rattle.small_histories.specs.SmallHistories.{IsWrittenAs};
 ghost use Rattle.explain_engines.specs.Answers.{AreDetailsOf, AreHistoryLines, AreLinesOf, AreTwoLines, IsFrontOf};
-ghost use Rattle.explain_engines.specs.Reports.{answer_data, process_at, reason_word, row_data, rows};
+ghost use Rattle.explain_engines.specs.Reports.{answer_data, was_answered, kept_data, process_at, reason_word, row_data, rows};
 
 use crate::fronts::front_line;
+use crate::writers::outside_lines;
 use events::{Event, History, Memory, Operation, Response};
 use explaining::{Explanation, Reason};
 use history_text::{call_value, reply_value};
@@ -26,20 +27,25 @@ use serde_json::{Map, Value, put};
 use small_histories::{small_history, small_text};
 use std::alloc::{AllocError, Global};
 
-/// A line for each of few calls, that of a history with them, and that of a front of these.
+/// A line for each of few calls, those of the values that come from outside of them, that of a history with them, and that of a front of
+/// these.
 pub(crate) fn few_lines(
     alloc: Global,
-    events: &[Event],
+    history: &History,
     segment: &Segment,
     few: Explanation,
     budget: u32,
 ) -> Result<String, Memory>
     requires { (1 ≤ budget) × (budget ≤ budget_limit) }
     ensures { IsExplanation segment.now.start segment.now.calls budget few
-        → IfOk result (λ text. AreDetailsOf budget events.now segment.now (string_bytes text)) }
+        → IfOk result (λ text. AreDetailsOf budget history.now segment.now (string_bytes text)) }
 {
-    let mut text = row_lines(alloc, events, &few)?;
-    let small = history_lines(alloc, segment.start(), &few.calls, budget)?;
+    let start = segment.start();
+    let calls = few.calls.as_slice();
+    let mut text = row_lines(alloc, history, &few)?;
+    let outside = outside_lines(alloc, history, start, calls)?;
+    text.push_str(outside.as_str())?;
+    let small = history_lines(alloc, start, calls, budget)?;
     text.push_str(small.as_str())?;
     Ok(text)
 }
@@ -119,8 +125,8 @@ fn front_of(alloc: Global, history: &History, budget: u32) -> Result<Vec<u32>, M
 }
 
 /// A line for each call that is kept, with the reason why.
-fn row_lines(alloc: Global, events: &[Event], few: &Explanation) -> Result<String, Memory>
-    ensures { IfOk result (λ text. string_bytes text ≡ rows events.now few.now.calls.items few.now.reasons.items) }
+fn row_lines(alloc: Global, history: &History, few: &Explanation) -> Result<String, Memory>
+    ensures { IfOk result (λ text. string_bytes text ≡ rows history.now few.now.calls.items few.now.reasons.items) }
 {
     let calls = few.calls.as_slice();
     let reasons = few.reasons.as_slice();
@@ -129,7 +135,7 @@ fn row_lines(alloc: Global, events: &[Event], few: &Explanation) -> Result<Strin
         let Some(reason) = reasons.get(number) else {
             return Ok(text);
         };
-        let row = row_line(alloc, events, call, reason)?;
+        let row = row_line(alloc, history, call, reason)?;
         text.push_str(row.as_str())?;
     }
     Ok(text)
@@ -137,26 +143,26 @@ fn row_lines(alloc: Global, events: &[Event], few: &Explanation) -> Result<Strin
 
 fn row_line(
     alloc: Global,
-    events: &[Event],
+    history: &History,
     call: &Operation,
     reason: &Reason,
 ) -> Result<String, AllocError>
-    ensures { IfOk result (λ text. string_bytes text ≡ line (compact_text (row_data events.now call.now reason.now))) }
+    ensures { IfOk result (λ text. string_bytes text ≡ line (compact_text (row_data history.now call.now reason.now))) }
 {
-    let value = row_value(alloc, events, call, reason)?;
+    let value = row_value(alloc, history, call, reason)?;
     line_of(value.to_string(alloc)?)
 }
 
 fn row_value(
     alloc: Global,
-    events: &[Event],
+    history: &History,
     call: &Operation,
     reason: &Reason,
 ) -> Result<Value, AllocError>
-    ensures { IfOk result (λ value. view value ≡ row_data events.now call.now reason.now) }
+    ensures { IfOk result (λ value. view value ≡ row_data history.now call.now reason.now) }
 {
     let mut members = Map::new(alloc);
-    put_row(alloc, &mut members, events, call, reason)?;
+    put_row(alloc, &mut members, history, call, reason)?;
     Ok(Value::Object(members))
 }
 
@@ -164,15 +170,16 @@ fn row_value(
 fn put_row(
     alloc: Global,
     members: &mut Map<String, Value>,
-    events: &[Event],
+    history: &History,
     call: &Operation,
     reason: &Reason,
 ) -> Result<(), AllocError>
     requires { members.old.entries ≡ [] }
-    ensures { OnOk result (object (members_view members.new.entries) ≡ row_data events.now call.now reason.now) }
+    ensures { OnOk result (object (members_view members.new.entries) ≡ row_data history.now call.now reason.now) }
 {
-    put_call(alloc, members, call)?;
-    let process = process_at(events, call.inv);
+    let answered = was_answered(history.calls(), call.inv);
+    put_call(alloc, members, answered, call)?;
+    let process = process_at(history.events(), call.inv);
     put(members, alloc, "process", Value::from(process))?;
     put(
         members,
@@ -186,23 +193,57 @@ fn put_row(
 fn put_call(
     alloc: Global,
     members: &mut Map<String, Value>,
+    answered: bool,
     call: &Operation,
 ) -> Result<(), AllocError>
     ensures { OnOk result (members_view members.new.entries
         ≡ with_member (codes "event") (number_data call.now.inv) (with_member (codes "call") (call_data call.now.call)
-        (with_member (codes "answer") (answer_data call.now.response) (members_view members.old.entries)))) }
+        (with_member (codes "answer") (kept_data answered call.now.response) (members_view members.old.entries)))) }
 {
     put(
         members,
         alloc,
         "answer",
-        answer_value(alloc, &call.response)?,
+        kept_value(alloc, answered, &call.response)?,
     )?;
     put(members, alloc, "call", call_value(alloc, &call.call)?)?;
     put(members, alloc, "event", Value::from(call.inv))
 }
 
-/// What counts of a call's answer: the reply, or a word where there is none.
+/// Whether the call that was invoked at a place was answered.
+fn was_answered(calls: &[Operation], place: usize) -> bool
+    ensures { result ≡ was_answered calls.now place }
+{
+    for call in calls {
+        if call.inv == place && call.response.is_some() {
+            return true;
+        }
+    }
+    false
+}
+
+/// What counts of the answer of a call that is kept: the reply, or a word.
+fn kept_value(
+    alloc: Global,
+    answered: bool,
+    response: &Option<Response>,
+) -> Result<Value, AllocError>
+    ensures { IfOk result (λ value. view value ≡ kept_data answered response.now) }
+{
+    match response {
+        Some(response) => reply_value(alloc, &response.reply),
+        None => Value::try_from_str(alloc, absent_word(answered)),
+    }
+}
+
+/// Why no answer of a call counts, in a word.
+fn absent_word(answered: bool) -> &'static str
+    ensures { result.now ≡ (if answered then codes "left out" else codes "open") }
+{
+    if answered { "left out" } else { "open" }
+}
+
+/// The answer of a call among few: the reply, or a word where it has none there.
 pub(crate) fn answer_value(alloc: Global, response: &Option<Response>) -> Result<Value, AllocError>
     ensures { IfOk result (λ value. view value ≡ answer_data response.now) }
 {
@@ -213,7 +254,7 @@ pub(crate) fn answer_value(alloc: Global, response: &Option<Response>) -> Result
 }
 
 /// The process of the event at a place, and 0 where there is none.
-fn process_at(events: &[Event], place: usize) -> u8
+pub(crate) fn process_at(events: &[Event], place: usize) -> u8
     ensures { result ≡ process_at events.now place }
 {
     match events.get(place) {

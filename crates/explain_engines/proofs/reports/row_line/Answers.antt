@@ -7,6 +7,6 @@ use Rattle.explain_engines.proofs.reports.row_line.Goals as goal
 pub returns : goal.returns
 returns c =
     let is = c.in_ok-value.ensures in
-    let text = c.in_ok-to_string.ensures.text (ap has_float is ∙ has_float-row c.args.events.now c.args.call.now c.args.reason.now)
+    let text = c.in_ok-to_string.ensures.text (ap has_float is ∙ has_float-row c.args.history.now c.args.call.now c.args.reason.now)
     ∙ ap compact_text is in
     rw text at c.line_of.ensures

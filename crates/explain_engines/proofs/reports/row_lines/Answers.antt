@@ -2,43 +2,43 @@ use Rattle.std.proofs.Common.{◌≡◌, ℕ, ◌+◌, ◌<◌, ◌≤◌, List,
 use Rattle.std.proofs.Common.{append_assoc, append-nil, string_bytes}
 use Rattle.std.specs.List.{slice_index_or}
 use Rattle.std.proofs.lemmas.List.{drop_more, drop_all}
-use Rattle.events.specs.declared.event.Event.{Event}
 use Rattle.events.specs.declared.operation.Operation.{Operation}
+use Rattle.events.specs.HistoryView.{HistoryView}
 use Rattle.explaining.specs.declared.explanation.Reason.{Reason}
 use Rattle.serde_json.specs.Written.{compact_text}
 use Rattle.outcomes.specs.Lines.{line}
 use Rattle.explain_engines.specs.Reports.{row_data, rows}
 use Rattle.explain_engines.proofs.reports.row_lines.Goals as goal
 
-module _ (events : List Event) (calls : List Operation) (reasons : List Reason) (i : ℕ) where
+module _ (history : HistoryView) (calls : List Operation) (reasons : List Reason) (i : ℕ) where
   -- the lines to come begin with that of the next call, which goes behind the text
   next_row : (a : Operation) (reason : Reason) (text row new all : List ℕ) → i < length calls → a ≡ slice_index_or calls i a
-      → i < length reasons → reason ≡ slice_index_or reasons i reason → row ≡ line (compact_text (row_data events a reason))
-      → new ≡ text ++ row → text ++ rows events (drop i calls) (drop i reasons) ≡ all
-      → new ++ rows events (drop (i + 1) calls) (drop (i + 1) reasons) ≡ all
+      → i < length reasons → reason ≡ slice_index_or reasons i reason → row ≡ line (compact_text (row_data history a reason))
+      → new ≡ text ++ row → text ++ rows history (drop i calls) (drop i reasons) ≡ all
+      → new ++ rows history (drop (i + 1) calls) (drop (i + 1) reasons) ≡ all
   next_row a reason text row new all call_below call_is reason_below reason_is row_is new_is so_far =
-      let left = rows events (drop (i + 1) calls) (drop (i + 1) reasons) in
+      let left = rows history (drop (i + 1) calls) (drop (i + 1) reasons) in
       let calls_left : drop i calls ≡ a ∷ drop (i + 1) calls =
       drop_more calls i a call_below ∙ ap (λ b. b ∷ drop (i + 1) calls) (sym call_is) in
       let reasons_left : drop i reasons ≡ reason ∷ drop (i + 1) reasons =
       drop_more reasons i reason reason_below ∙ ap (λ r. r ∷ drop (i + 1) reasons) (sym reason_is) in
       ap (λ t. t ++ left) (new_is ∙ ap (λ t. text ++ t) row_is)
-      ∙ (append_assoc text (line (compact_text (row_data events a reason))) left
-      ∙ (sym (λ j. text ++ rows events (calls_left j) (reasons_left j)) ∙ so_far))
+      ∙ (append_assoc text (line (compact_text (row_data history a reason))) left
+      ∙ (sym (λ j. text ++ rows history (calls_left j) (reasons_left j)) ∙ so_far))
 
   -- behind the last call no line is to come
-  no_call : (text all : List ℕ) → length calls ≤ i → text ++ rows events (drop i calls) (drop i reasons) ≡ all → text ≡ all
+  no_call : (text all : List ℕ) → length calls ≤ i → text ++ rows history (drop i calls) (drop i reasons) ≡ all → text ≡ all
   no_call text all end so_far =
-      sym (ap (λ l. text ++ rows events l (drop i reasons)) (drop_all i calls end) ∙ append-nil text) ∙ so_far
+      sym (ap (λ l. text ++ rows history l (drop i reasons)) (drop_all i calls end) ∙ append-nil text) ∙ so_far
 
   -- nor behind the last reason
-  no_rows : (l : List Operation) → rows events l [] ≡ []
+  no_rows : (l : List Operation) → rows history l [] ≡ []
   no_rows [] = refl
   no_rows (a ∷ l) = refl
 
-  no_reason : (text all : List ℕ) → length reasons ≤ i → text ++ rows events (drop i calls) (drop i reasons) ≡ all → text ≡ all
+  no_reason : (text all : List ℕ) → length reasons ≤ i → text ++ rows history (drop i calls) (drop i reasons) ≡ all → text ≡ all
   no_reason text all end so_far =
-      sym (ap (λ l. text ++ rows events (drop i calls) l) (drop_all i reasons end)
+      sym (ap (λ l. text ++ rows history (drop i calls) l) (drop_all i reasons end)
       ∙ (ap (λ l. text ++ l) (no_rows (drop i calls)) ∙ append-nil text)) ∙ so_far
 
 pub loop-number-preserved : goal.loop-number-preserved
@@ -48,19 +48,19 @@ loop-number-preserved c =
     let number = c.loop-number.number in
     let call = c.index-calls-number.result in
     let found = c.in-Some.ensures.lookup in
-    next_row c.args.events.now calls reasons number call c.in-Some.reason.now (string_bytes c.loop-number.text)
-    (string_bytes c.in_ok-row.row) (string_bytes c.push_str.new.self) (rows c.args.events.now calls reasons) c.loop-number-test.true
+    next_row c.args.history.now calls reasons number call c.in-Some.reason.now (string_bytes c.loop-number.text)
+    (string_bytes c.in_ok-row.row) (string_bytes c.push_str.new.self) (rows c.args.history.now calls reasons) c.loop-number-test.true
     c.index-calls-number.is found.3.0 found.1 c.in_ok-row.ensures
     (c.in_ok-push_str.ensures.bytes ∙ ap (λ t. string_bytes c.loop-number.text ++ t) c.as_str.ensures.value) c.loop-number.invariant
 
 pub returns-in_default : goal.returns-in_default
 returns-in_default c =
-    no_reason c.args.events.now c.as_slice-calls.result.now c.as_slice-reasons.result.now c.loop-number.number
+    no_reason c.args.history.now c.as_slice-calls.result.now c.as_slice-reasons.result.now c.loop-number.number
     (string_bytes c.loop-number.text) _ c.in_default.ensures.lookup.3 c.loop-number.invariant
-    ∙ (λ j. rows c.args.events.now (c.as_slice-calls.ensures.value j) (c.as_slice-reasons.ensures.value j))
+    ∙ (λ j. rows c.args.history.now (c.as_slice-calls.ensures.value j) (c.as_slice-reasons.ensures.value j))
 
 pub returns : goal.returns
 returns c =
-    no_call c.args.events.now c.as_slice-calls.result.now c.as_slice-reasons.result.now c.loop-number.number
+    no_call c.args.history.now c.as_slice-calls.result.now c.as_slice-reasons.result.now c.loop-number.number
     (string_bytes c.loop-number.text) _ c.loop-number-test.false c.loop-number.invariant
-    ∙ (λ j. rows c.args.events.now (c.as_slice-calls.ensures.value j) (c.as_slice-reasons.ensures.value j))
+    ∙ (λ j. rows c.args.history.now (c.as_slice-calls.ensures.value j) (c.as_slice-reasons.ensures.value j))

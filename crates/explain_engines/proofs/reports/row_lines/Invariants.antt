@@ -5,4 +5,4 @@ use Rattle.explain_engines.proofs.reports.row_lines.Given as goal
 
 abbrev pub invariant-loop-number : goal.invariant-loop-number
 invariant-loop-number l =
-    string_bytes l.text ++ rows l.events (drop l.number l.calls) (drop l.number l.reasons) ≡ rows l.events l.calls l.reasons
+    string_bytes l.text ++ rows l.history (drop l.number l.calls) (drop l.number l.reasons) ≡ rows l.history l.calls l.reasons

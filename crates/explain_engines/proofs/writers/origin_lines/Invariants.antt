@@ -1,0 +1,9 @@
+-- The lines so far and those of the pairs left are all lines.
+use Rattle.std.proofs.Common.{◌≡◌, ◌++◌, drop, string_bytes}
+use Rattle.explain_engines.specs.Origins.{origin_lines}
+use Rattle.explain_engines.proofs.writers.origin_lines.Given as goal
+
+abbrev pub invariant-loop-pair : goal.invariant-loop-pair
+invariant-loop-pair l =
+    string_bytes l.text ++ origin_lines l.start l.events l.calls (drop l.pair-index l.pairs)
+    ≡ origin_lines l.start l.events l.calls l.pairs
