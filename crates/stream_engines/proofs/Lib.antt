@@ -3,7 +3,6 @@ mod ReportLemmas
 mod OwnLemmas
 mod SmallLemmas
 pub mod StreamLemmas
-mod OverlapLemmas
 mod FirstLemmas
 mod FollowedLemmas
 mod RefusalLemmas
