@@ -76,10 +76,12 @@ fn own_line(alloc: Global, loss: &Loss) -> Result<String, Memory>
 fn yes_line(alloc: Global, calls: usize, overlap: u64) -> Result<String, AllocError>
     ensures { IfOk result (λ text. string_bytes text ≡ yes_line calls overlap) }
 {
-    let mut line = format!(in alloc; "{{\"calls\":{calls},\"overlap\":")?;
+    let mut line = String::from_str(alloc, "{\"calls\":")?;
+    line.push_str(format!(in alloc; "{calls}")?.as_str())?;
+    line.push_str(",\"overlap\":")?;
     line.push_str(average_text(alloc, calls, overlap)?.as_str())?;
-    line.push_str(",\"verdict\":\"yes\"}")?;
-    line_of(line)
+    line.push_str(",\"verdict\":\"yes\"}\n")?;
+    Ok(line)
 }
 
 /// The line of a stream that goes wrong.
