@@ -34,7 +34,7 @@ static inline void potzendai_count_calls(struct potzendai_following *f)
 
 #ifndef POTZENDAI_NO_LIBRARY
 
-/* What the follower says so far has the overlap of all calls that it has. */
+/* What the follower says so far has the overlap a call of all calls that it has. */
 static inline void potzendai_follow_progress(struct potzendai_following *f)
 {
     size_t length;
@@ -42,7 +42,7 @@ static inline void potzendai_follow_progress(struct potzendai_following *f)
         return;
     potzendai_follow_verdict(&f->follower, f->report, sizeof f->report, &length);
     potzendai_count_calls(f);
-    f->tester->overlap = potzendai_number(f->report, "\"overlap\":");
+    f->tester->overlap_a_call = potzendai_decimal(f->report, "\"overlap\":");
     potzendai_progress(f->tester);
 }
 
@@ -99,7 +99,7 @@ static inline int potzendai_end_stream(struct potzendai_following *f)
 {
     struct potzendai_run *run = f->tester->run;
     enum potzendai_status status = potzendai_stream_verdict(f);
-    f->tester->overlap = potzendai_number(f->told.report ? f->told.report : "", "\"overlap\":");
+    f->tester->overlap_a_call = potzendai_decimal(f->told.report ? f->told.report : "", "\"overlap\":");
     if (atomic_load(&run->fault))
         return -1;
     if (status == POTZENDAI_IS_YES && f->written)

@@ -20,7 +20,7 @@ struct potzendai_tester {
     struct recording_pair *start, *next_start;
     size_t pairs_at_start, pairs_next;
     uint64_t rounds, calls, refused, undecided, overlap;
-    double began, told;
+    double began, told, overlap_a_call;
     bool has_terminal;
 };
 
@@ -258,6 +258,12 @@ static inline int potzendai_keep(const struct potzendai_tester *tester, const ch
     return is_kept ? 0 : -1;
 }
 
+/* How many other calls were open at an invocation, on average: of a stream the follower counts them. */
+static inline double potzendai_overlap_a_call(const struct potzendai_tester *tester)
+{
+    return tester->options->is_stream ? tester->overlap_a_call : (double)tester->overlap / (double)(tester->calls ? tester->calls : 1);
+}
+
 /* Says each second how far this is, where somebody looks. */
 static inline void potzendai_progress(struct potzendai_tester *tester)
 {
@@ -268,7 +274,7 @@ static inline void potzendai_progress(struct potzendai_tester *tester)
     for (uint64_t key = 0; key < tester->options->keys; key++)
         met += atomic_load_explicit(&tester->run->keys[key].is_met, POTZENDAI_RELAXED);
     fprintf(stderr, "%" PRIu64 " calls, %.0f a second, overlap %.1f a call, %.1f%% refused, ", tester->calls,
-            (double)tester->calls / seconds, (double)tester->overlap / (double)tester->calls,
+            (double)tester->calls / seconds, potzendai_overlap_a_call(tester),
             100.0 * (double)tester->refused / (double)tester->calls);
     fprintf(stderr, "two writers met on %" PRIu64 " of %" PRIu64 " keys\n", met, tester->options->keys);
     tester->told = now;

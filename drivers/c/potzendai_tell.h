@@ -24,6 +24,13 @@ static inline uint64_t potzendai_number(const char *line, const char *name)
     return at ? strtoull(at, NULL, 10) : 0;
 }
 
+/* The same of one that may have decimals. */
+static inline double potzendai_decimal(const char *line, const char *name)
+{
+    const char *at = potzendai_member(line, name);
+    return at ? strtod(at, NULL) : 0;
+}
+
 /* The next line, or NULL. */
 static inline const char *potzendai_next_line(const char *line)
 {

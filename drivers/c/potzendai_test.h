@@ -30,12 +30,11 @@ static const char *const potzendai_verdicts[] = {"yes", "no", "undecided"};
 static inline void potzendai_tell_all(FILE *out, const struct potzendai_tester *tester, const char *verdict)
 {
     const char *comma = ": ";
-    double calls = (double)(tester->calls ? tester->calls : 1);
     fprintf(out, "%s: ", verdict);
     if (!tester->options->is_stream)
         fprintf(out, "%" PRIu64 " rounds, ", tester->rounds);
     fprintf(out, "%" PRIu64 " calls in %.1f seconds, overlap %.2f a call", tester->calls, potzendai_now() - tester->began,
-            (double)tester->overlap / calls);
+            potzendai_overlap_a_call(tester));
     for (int said = 0; said < POTZENDAI_SAYINGS; said++)
         if (tester->run->sayings[said] > 0) {
             fprintf(out, "%s%" PRIu64 " %s", comma, tester->run->sayings[said], potzendai_sayings[said]);

@@ -17,7 +17,7 @@ import tempfile
 
 sys.dont_write_bytecode = True
 from rows import (  # noqa: E402
-    INSERT_THEN_GET, NO_PLAN, OTHER_TOP_LEVEL, TOO_MANY_CALLS, TOP, answer, compare, on_terminal, without_hints,
+    APART, INSERT_THEN_GET, NO_PLAN, OTHER_TOP_LEVEL, TOO_MANY_CALLS, TOP, answer, compare, on_terminal, without_hints,
 )
 
 MISSED_INSERT = """{"events":[
@@ -54,7 +54,7 @@ ANSWERED = [
     ("judge --workers 2", MISSED_INSERT, 1, REFUTED),
     ("locate", MISSED_INSERT, 1, '{"call":1,"event":3,"verdict":"no"}\n'),
     ("explain", MISSED_INSERT, 1, REFUTED + EXPLAINED),
-    ("follow", STREAM, 0, '{"calls":2,"overlap":1,"verdict":"yes"}\n'),
+    ("follow", STREAM, 0, '{"calls":2,"overlap":0.50,"verdict":"yes"}\n'),
     ("drive", PLAN, 0, DONE),
     ("drive --tree locked", PLAN, 0, DONE),
     ("replay", REPLAY, 0, DONE),
@@ -102,7 +102,7 @@ THREADS = [
 
 # Words, a text, the status and the output, and the note that a terminal shows.
 NOTED = ("follow", '{"invoke":["insert",5,7],"process":0}\n{"answer":null,"process":0}\n{"invoke":["get",5],"process":0}\n', 0,
-         '{"calls":2,"overlap":0,"verdict":"yes"}\n', "note: no two calls overlap, and of such a history a yes says little\n")
+         '{"calls":2,"overlap":0.00,"verdict":"yes"}\n', APART)
 
 
 def failing(library, end, number, words, text, ask=answer):

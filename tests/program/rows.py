@@ -18,8 +18,11 @@ INSERT_THEN_GET = """{"events":[
     {"invoke":["insert",5,7],"process":0},{"answer":null,"process":0},
     {"invoke":["get",5],"process":0},{"answer":7,"process":0}],"version":1}"""
 
-# What a terminal shows of a yes that says little; of a fault, or its second line, a hint.
-NOTE = "note: no two calls overlap, and of such a history a yes says little\n"
+# What a terminal shows of a yes that says little, of such calls apart, of a no and of an undecided; of a fault, or its second line, a hint.
+RARE = "note: {} other calls were open at an invocation on average, and of calls that hardly overlap a yes says little\n"
+APART = RARE.format("0.00")
+EXPLAIN = "note: bench explain names a few of the calls that have no order by themselves\n"
+LOCATE = "note: bench locate may decide it\n"
 JSON = "wanted JSON in UTF-8\n"
 LENGTH = "wanted at most 16777216 bytes\n"
 OTHER_TOP_LEVEL = 'history: 3 Version\nwanted {"version":1,"events":[..]} or {"version":V,"start":[..],"events":[..]}; V is 2 or 3\n'

@@ -299,7 +299,8 @@ def wrong_with_event(history, lines, wanted):
 def wrong_with_count(history, lines):
     """What is wrong with a yes."""
     calls, overlap = overlap_of(history["events"])
-    return None if lines == [{"calls": calls, "overlap": overlap, "verdict": "yes"}] else f"a yes as {lines}"
+    hundredths = 100 * overlap // max(calls, 1)
+    return None if lines == [{"calls": calls, "overlap": hundredths / 100, "verdict": "yes"}] else f"a yes as {lines}"
 
 
 def wrong_with_keys(history, report):

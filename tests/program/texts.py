@@ -12,7 +12,7 @@ import sys
 
 sys.dont_write_bytecode = True
 from rows import (  # noqa: E402
-    INSERT_THEN_GET, JSON, LENGTH, LONGEST_TEXT, MOST_CALLS, NOTE, OTHER_TOP_LEVEL, compare, gets, history, pairs_listed, spaced, stream,
+    APART, INSERT_THEN_GET, JSON, LENGTH, LONGEST_TEXT, MOST_CALLS, OTHER_TOP_LEVEL, compare, gets, history, pairs_listed, spaced, stream,
 )
 
 # What is said behind the line of a fault.
@@ -337,12 +337,12 @@ def rows():
         yield ["follow"], text, 3, "", told
     # The longest lines that spell an event, and starting pairs.
     longest = spaced(ONE_EVENT, LONGEST_LINE) + "\n" + spaced('{"answer":null,"process":9}', LONGEST_LINE)
-    yield ["follow"], longest, 0, '{"calls":1,"overlap":0,"verdict":"yes"}\n', ""
+    yield ["follow"], longest, 0, '{"calls":1,"overlap":0.00,"verdict":"yes"}\n', ""
     for version in (2, 3):
         longest = spaced(f'{{"start":[[5,7]],"version":{version}}}', LONGEST_LINE) + f'\n{ONE_EVENT}\n{{"answer":7,"process":9}}\n'
-        yield ["follow"], longest, 0, '{"calls":1,"overlap":0,"verdict":"yes"}\n', ""
+        yield ["follow"], longest, 0, '{"calls":1,"overlap":0.00,"verdict":"yes"}\n', ""
     noted = json.dumps(json.loads(NOTED)["events"])[1:-1]
-    yield ["follow"], stream(noted, "[5,7]"), 0, '{"calls":4,"overlap":0,"verdict":"yes"}\n', NOTE
+    yield ["follow"], stream(noted, "[5,7]"), 0, '{"calls":4,"overlap":0.00,"verdict":"yes"}\n', APART
 
 
 def main():

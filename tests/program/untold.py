@@ -187,7 +187,7 @@ def rows():
     yield ["explain"], told(LOST_PUT), 1, LOST_PUT_EXPLAINED, ""
     for reply in ("null", '"done"'):
         text = stream(SEEN_PUT + f'{{"answer":{reply},"process":9}}', "")
-        yield ["follow"], text, 0, '{"calls":17,"overlap":16,"verdict":"yes"}\n', ""
+        yield ["follow"], text, 0, '{"calls":17,"overlap":0.94,"verdict":"yes"}\n', ""
     # A refused call is left no longer.
     for reply, left in (('"found"', [0]), ("99", [0]), ('"other"', [0]), ('"refused"', [])):
         text = stream(SEEN_PUT + f'{{"answer":{reply},"process":9}}', "")

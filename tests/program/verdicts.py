@@ -13,7 +13,7 @@ import sys
 
 sys.dont_write_bytecode = True
 from rows import (  # noqa: E402
-    LONG, MOST_CALLS, NOTE, answer, compare, gets, history, numbers, pairs_listed, report_of, scans_of_inserts, started, stream,
+    APART, LONG, MOST_CALLS, answer, compare, gets, history, numbers, pairs_listed, report_of, scans_of_inserts, started, stream,
 )
 
 STATUSES = {"yes": 0, "no": 1, "undecided": 2}
@@ -500,27 +500,29 @@ def many_readers(last):
     return ",".join([*begun, *missed, f'{{"answer":{last},"process":61}}'])
 
 
-# Events and what following them comes to: how many calls there are, and how many others were open at their invocations.
+# Events and what following them comes to: how many calls there are, and how many others were open at an invocation on average, rounded
+# down to hundredths.
 FOLLOWED = [
-    (NO_EVENTS, 0, 0),
-    (INSERT_THEN_GET, 2, 0),
-    (GET_SEES_PENDING_INSERT, 2, 1),
-    (GET_MISSES_PENDING_INSERT, 2, 1),
-    (TWO_KEYS_AND_A_PENDING_SCAN, 4, 3),
-    (SCAN_OF_ALL_KEYS, 3, 0),
-    (GET_MISSES_REFUSED_INSERT, 2, 0),
-    (EFFECT_LATER_THAN_THE_INVOCATION, 3, 2),
-    (PENDING_GET_AND_SCAN, 2, 1),
-    (OPEN_INSERT_HOLDS_A_GET, 3, 1),
-    (OPEN_INSERT_BESIDE_MANY_GETS, 302, 300),
-    (many_readers("7"), 62, sum(range(62))),
-    # All 13^3 ways are kept.
-    (many_ways(3, 6), 10, 1 + 2 + 3 + 6 * 4),
+    (NO_EVENTS, 0, "0.00"),
+    (INSERT_THEN_GET, 2, "0.00"),
+    (GET_SEES_PENDING_INSERT, 2, "0.50"),
+    (GET_MISSES_PENDING_INSERT, 2, "0.50"),
+    (TWO_KEYS_AND_A_PENDING_SCAN, 4, "0.75"),
+    (SCAN_OF_ALL_KEYS, 3, "0.00"),
+    (GET_MISSES_REFUSED_INSERT, 2, "0.00"),
+    (EFFECT_LATER_THAN_THE_INVOCATION, 3, "0.66"),
+    (PENDING_GET_AND_SCAN, 2, "0.50"),
+    (OPEN_INSERT_HOLDS_A_GET, 3, "0.33"),
+    (OPEN_INSERT_BESIDE_MANY_GETS, 302, "0.99"),
+    # 61 * 62 / 2 of 62 calls.
+    (many_readers("7"), 62, "30.50"),
+    # All 13^3 ways are kept. 1 + 2 + 3 + 6 * 4 of 10 calls.
+    (many_ways(3, 6), 10, "3.00"),
     # The insert of a dead process is found, or not, or is answered after all by what it found.
-    (dead_writer(16, 16, None) + get_of_five(16), 18, 17),
-    (dead_writer(99, 16, 99) + ',{"answer":1,"process":9}', 17, 16),
-    (dead_writer(99, 16, None) + get_of_five(99) + get_of_five(99), 19, 18),
-    (gets(60_000), 60_000, 0),
+    (dead_writer(16, 16, None) + get_of_five(16), 18, "0.94"),
+    (dead_writer(99, 16, 99) + ',{"answer":1,"process":9}', 17, "0.94"),
+    (dead_writer(99, 16, None) + get_of_five(99) + get_of_five(99), 19, "0.94"),
+    (gets(60_000), 60_000, "0.00"),
 ]
 
 # Events, a budget, and what is written of those that go wrong, or where it is not known: the report, and a small history.
@@ -650,18 +652,18 @@ SPELLED_STREAM = r""" { "invoke" : [ "get" , 5 ] , "process" : 1 }
 
 # Streams, and the status, the output and the faults.
 STREAMS = [
-    (OVERLAPPING_STREAM, 0, '{"calls":2,"overlap":1,"verdict":"yes"}\n', ""),
-    (OVERLAPPING_STREAM.rstrip(), 0, '{"calls":2,"overlap":1,"verdict":"yes"}\n', ""),
+    (OVERLAPPING_STREAM, 0, '{"calls":2,"overlap":0.50,"verdict":"yes"}\n', ""),
+    (OVERLAPPING_STREAM.rstrip(), 0, '{"calls":2,"overlap":0.50,"verdict":"yes"}\n', ""),
     (
         MISSED_STREAM, 1,
         '{"call":2,"event":4,"keys":[{"invoked":[3],"key":5,"values":[7]}],"verdict":"no"}\n'
         '{"events":[{"invoke":["get",5],"process":0},{"answer":1,"process":0}],"start":[[5,7]],"version":2}\n', "",
     ),
-    ("", 0, '{"calls":0,"overlap":0,"verdict":"yes"}\n', ""),
-    ('{"start":[],"version":2}', 0, '{"calls":0,"overlap":0,"verdict":"yes"}\n', ""),
-    (APART_STREAM, 0, '{"calls":2,"overlap":0,"verdict":"yes"}\n', NOTE),
-    (SPELLED_STREAM, 0, '{"calls":4,"overlap":0,"verdict":"yes"}\n', NOTE),
-    ('{"invoke":["get",5],"process":70}', 0, '{"calls":1,"overlap":0,"verdict":"yes"}\n', ""),
+    ("", 0, '{"calls":0,"overlap":0.00,"verdict":"yes"}\n', ""),
+    ('{"start":[],"version":2}', 0, '{"calls":0,"overlap":0.00,"verdict":"yes"}\n', ""),
+    (APART_STREAM, 0, '{"calls":2,"overlap":0.00,"verdict":"yes"}\n', APART),
+    (SPELLED_STREAM, 0, '{"calls":4,"overlap":0.00,"verdict":"yes"}\n', APART),
+    ('{"invoke":["get",5],"process":70}', 0, '{"calls":1,"overlap":0.00,"verdict":"yes"}\n', ""),
 ]
 
 
@@ -761,7 +763,7 @@ def rows():
         yield words.split(), history(events), status_of(report), report + "\n", ""
     for events, calls, overlap in FOLLOWED:
         report = f'{{"calls":{calls},"overlap":{overlap},"verdict":"yes"}}\n'
-        yield ["follow"], stream(events), 0, report, NOTE if calls > 1 and overlap == 0 else ""
+        yield ["follow"], stream(events), 0, report, APART if calls > 1 and overlap == "0.00" else ""
     for events, budget, report, small in LOST:
         output = "".join(line + "\n" for line in (report, small) if line)
         yield ["follow", "--budget", str(budget)], stream(events), status_of(report), output, ""

@@ -227,7 +227,7 @@ def runs(folder):
 
     with open(OVERLAPPING, "rb") as source:
         lines = source.read().splitlines(keepends=True)
-    yes = rb'\{"calls":2,"overlap":1,"verdict":"yes"\}\n'
+    yes = rb'\{"calls":2,"overlap":0\.50,"verdict":"yes"\}\n'
     yield "a slow stream", on_terminal(["follow"], lines, 1.1), (0, yes, rb"2 calls, [0-2] a second\n")
     yield "a fast stream", on_terminal(["follow"], lines, 0), (0, yes, NOTHING)
 
@@ -246,7 +246,7 @@ def runs(folder):
         yield f"a fault and its hint on a terminal: {words}", on_terminal(words.split(), cut_short, 0), (3, NOTHING, line + more)
     with open(APART, "rb") as source:
         apart = source.readlines()
-    yes = rb'\{"calls":2,"overlap":0,"verdict":"yes"\}\n'
+    yes = rb'\{"calls":2,"overlap":0\.00,"verdict":"yes"\}\n'
     with open(APART, "rb") as source:
         yield "a yes that says little", run(["follow"], source), (0, yes, NOTHING)
     yield "a note on a terminal", on_terminal(["follow"], apart, 0), (0, yes, rb"note: [^\n]+\n")

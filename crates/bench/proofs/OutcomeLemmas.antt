@@ -1,12 +1,11 @@
--- The outcome of a line that reads nothing, or of one that follows a stream, is an outcome of the words that ask for it.
-use Rattle.std.proofs.Common.{ℕ, List, inl, inr}
+-- The outcome of a line that reads nothing is an outcome of the words that ask for it.
+use Rattle.std.proofs.Common.{ℕ, List}
 use Rattle.clap.specs.Words.{Text}
 use Rattle.workload.specs.declared.mix.Mix.{Mix}
 use Rattle.outcomes.specs.declared.outcome.Outcome.{Outcome}
 use Rattle.outcomes.specs.declared.outcome.Outcome.TheVariants.{Answered, Noted, Refused, Memory, Words, Failed}
 use Rattle.outcomes.specs.Ends.{Change, IsSound}
 use Rattle.plan_engines.specs.Outcomes.{IsGenerateOutcome}
-use Rattle.stream_engines.specs.Outcomes.{IsFollowOutcome}
 use Rattle.line_outcomes.specs.Outcomes.{IsAskedOutcome, IsWordsOutcome}
 use Rattle.bench.specs.Outcomes.{IsLineOutcome}
 
@@ -19,15 +18,3 @@ drawn-words seed mix processes calls words source (Refused bytes hint) ask sound
 drawn-words seed mix processes calls words source Memory ask sound comes = sound
 drawn-words seed mix processes calls words source (Words text) ask sound comes = absurd comes
 drawn-words seed mix processes calls words source Failed ask sound comes = absurd comes
-
-pub followed-words : (budget : ℕ) (words : List Text) (source : Change) (outcome : Outcome)
-    → (IsFollowOutcome budget source outcome → IsAskedOutcome IsLineOutcome words source outcome) → IsFollowOutcome budget source outcome
-    → IsWordsOutcome IsLineOutcome words source outcome
-followed-words budget words source (Answered answer bytes) ask comes = ask comes
-followed-words budget words source (Noted answer bytes note) ask comes = ask comes
-followed-words budget words source (Refused bytes hint) ask comes = ask comes
-followed-words budget words source Memory ask (inl unread) = unread
-followed-words budget words source Memory ask (inr read) = read.0
-followed-words budget words source (Words text) ask (inl unread) = absurd unread
-followed-words budget words source (Words text) ask (inr read) = absurd read.1
-followed-words budget words source Failed ask comes = ask comes

@@ -1,2 +1,4 @@
 pub mod WholeHistories
 pub mod PassedTexts
+mod JudgedTexts
+mod FirstLines

@@ -11,8 +11,8 @@ use Rattle.judge.specs.Judged.{IsJudged}
 use Rattle.outcomes.specs.declared.outcome.Answer.{Answer}
 use Rattle.outcomes.specs.declared.outcome.Answer.TheVariants.{Yes, No, Undecided}
 use Rattle.outcomes.proofs.WholeText.{same_text}
-use Rattle.history_engines.specs.Refusals.{found_in, IsTextOfFound}
-use Rattle.history_engines.specs.Answers.{IsTextOf, IsHistoryRefusal, IsCheckAnswer, IsJudgeAnswer}
+use Rattle.history_engines.specs.Refusals.{found_in, IsTextOfFound, IsFaultHint}
+use Rattle.history_engines.specs.Answers.{IsTextOf, IsHistoryRefusal, IsCheckAnswer, IsJudgeAnswer, IsHintedJudgeAnswer}
 
 -- a history that the text read spells is the one of the whole
 pub IsTextOf-whole : (text : List ℕ) (history : HistoryView) → IsTextOf (take (text_limit + 1) text) history → IsTextOf text history
@@ -55,13 +55,31 @@ found-whole text (faults.NotWellFormed place) h = ap (λ t. found_in t (faults.N
 found-whole text (faults.Start pair) h = ap (λ t. found_in t (faults.Start pair)) (same_text text_limit text h.1.fits)
 found-whole text faults.Memory h = refl
 
+-- the hint on a fault of the text read is one on it in the whole
+hint-whole : (text : List ℕ) (fault : HistoryFault) (found : Option (List ℕ)) (hint : List ℕ) → IsTextFault (take (text_limit + 1) text) fault
+    → IsFaultHint (take (text_limit + 1) text) fault found hint → IsFaultHint text fault found hint
+hint-whole text faults.TooLong found hint h is = is
+hint-whole text faults.NotJson found hint h is =
+    subst (λ (t : List ℕ). IsFaultHint t faults.NotJson found hint) (same_text text_limit text h.0) is
+hint-whole text faults.Version found hint h is = is
+hint-whole text (faults.Shape place) found hint h is = is
+hint-whole text faults.TooMany found hint h is = is
+hint-whole text (faults.NotWellFormed place) found hint h is = is
+hint-whole text (faults.Start pair) found hint h is = is
+hint-whole text faults.Memory found hint h is = is
+
 -- a refusal of the text read is one of the whole
 pub IsHistoryRefusal-whole : (text bytes hint : List ℕ) → IsHistoryRefusal (take (text_limit + 1) text) bytes hint
     → IsHistoryRefusal text bytes hint
 IsHistoryRefusal-whole text bytes hint h = (
   h.0,
   record { refused = IsTextFault-whole text h.0 h.1.refused; not_memory = h.1.not_memory },
-  (h.2.0, subst (λ (d : Option Data). IsTextOfFound d h.2.0) (found-whole text h.0 h.1.refused) h.2.1, h.2.2, h.2.3),
+  (
+    h.2.0,
+    subst (λ (d : Option Data). IsTextOfFound d h.2.0) (found-whole text h.0 h.1.refused) h.2.1,
+    h.2.2,
+    hint-whole text h.0 h.2.0 hint h.1.refused h.2.3,
+  ),
 )
 
 -- an answer of `check` to the text read is one to the whole
@@ -91,4 +109,14 @@ IsJudgeAnswer-whole budget text answer bytes h = record {
   judged = IsJudged-whole text budget h.verdict h.report h.judged;
   answer_is = h.answer_is;
   bytes_are = h.bytes_are;
+}
+
+pub IsHintedJudgeAnswer-whole : (budget : ℕ) (text : List ℕ) (answer : Answer) (bytes hint : List ℕ)
+    → IsHintedJudgeAnswer budget (take (text_limit + 1) text) answer bytes hint
+    → IsHintedJudgeAnswer budget text answer bytes hint
+IsHintedJudgeAnswer-whole budget text answer bytes hint h = record {
+  history = h.history;
+  is_text = IsTextOf-whole text h.history h.is_text;
+  answered = IsJudgeAnswer-whole budget text answer bytes h.answered;
+  hint_is = h.hint_is;
 }

@@ -17,6 +17,7 @@ use Rattle.judge.specs.Judged.{IsJudged}
 use Rattle.outcomes.specs.declared.outcome.Answer.{Answer}
 use Rattle.outcomes.specs.declared.outcome.Answer.TheVariants.{Yes, No, Undecided}
 use Rattle.outcomes.specs.Lines.{line, ok_line, order_fault_line}
+use Rattle.answer_hints.specs.Hints.{verdict_hint}
 use Rattle.history_engines.specs.Refusals.{IsToldFault}
 
 -- the text spells this, and it is a history
@@ -63,3 +64,10 @@ pub record IsJudgeAnswer (budget : ℕ) (text : List ℕ) (answer : Answer) (byt
   pub judged : IsJudged budget text verdict report
   pub answer_is : answer ≡ answer_of verdict
   pub bytes_are : bytes ≡ line report
+
+-- the same on standard output, and beside it the hint on the answer to this history
+pub record IsHintedJudgeAnswer (budget : ℕ) (text : List ℕ) (answer : Answer) (bytes hint : List ℕ) : Type 0 where
+  pub history : HistoryView
+  pub is_text : IsTextOf text history
+  pub answered : IsJudgeAnswer budget text answer bytes
+  pub hint_is : hint ≡ verdict_hint answer history.events

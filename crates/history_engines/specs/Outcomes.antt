@@ -3,12 +3,13 @@ use Rattle.std.specs.Prelude.{ℕ, List}
 use Rattle.outcomes.specs.declared.outcome.Outcome.{Outcome}
 use Rattle.outcomes.specs.Ends.{Change}
 use Rattle.outcomes.specs.Outcomes.{IsReadOutcome}
-use Rattle.history_engines.specs.Answers.{IsHistoryRefusal, IsCheckAnswer, IsJudgeAnswer}
+use Rattle.answer_hints.specs.Outcomes.{IsHintedRead}
+use Rattle.history_engines.specs.Answers.{IsHistoryRefusal, IsCheckAnswer, IsHintedJudgeAnswer}
 
 -- the outcome of `check` with this order
 abbrev pub IsCheckOutcome : List ℕ → Change → Outcome → Type 0
 IsCheckOutcome order source outcome = IsReadOutcome (IsCheckAnswer order) IsHistoryRefusal source outcome
 
--- the outcome of `judge` at this budget
+-- the outcome of `judge` at this budget, with the hint on its answer
 abbrev pub IsJudgeOutcome : ℕ → Change → Outcome → Type 0
-IsJudgeOutcome budget source outcome = IsReadOutcome (IsJudgeAnswer budget) IsHistoryRefusal source outcome
+IsJudgeOutcome budget source outcome = IsHintedRead (IsHintedJudgeAnswer budget) IsHistoryRefusal source outcome

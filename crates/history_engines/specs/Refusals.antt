@@ -1,11 +1,15 @@
 -- What is told of a text that spells no history: its first fault, what stands there, and what was wanted.
-use Rattle.std.specs.Prelude.{◌≡◌, ◌≢◌, ⊤, ℕ, false, List, Option, Some, None, option_and_then, codes, string_bytes}
+use Rattle.std.specs.Prelude.{◌≡◌, ◌≢◌, ◌⊎◌, ⊤, ℕ, ◌==◌, if◌then◌else◌, false, List, [], ◌∷◌, Option, Some, None, option_and_then, codes}
+use Rattle.std.specs.Prelude.{string_bytes}
 use Rattle.serde_json.specs.Data.{Data}
 use Rattle.serde_json.specs.Find.{get, at}
 use Rattle.serde_json.specs.Read.{read}
 use Rattle.serde_json.specs.Written.{compact_text, has_float, IsInOrder}
 use Rattle.events.specs.declared.fault.HistoryFault.{HistoryFault}
 use Rattle.events.specs.declared.fault.HistoryFault.TheVariants as histories
+use Rattle.stream_text.specs.Cuts.{line_feed}
+use Rattle.stream_text.specs.Lines.{SpellsFirst}
+use Rattle.stream_text.specs.declared.event.FirstLine.{FirstLine}
 use Rattle.outcomes.specs.declared.outcome.Outcome.{Outcome}
 use Rattle.outcomes.specs.declared.outcome.Outcome.TheVariants.{Refused, Memory}
 use Rattle.outcomes.specs.Lines.{history_fault_line}
@@ -42,15 +46,35 @@ IsTextOfFound None None = ⊤
 IsTextOfFound (Some d) (Some text) = IsTextOfValue d text
 IsTextOfFound found text = ⊥
 
+-- the bytes before the first line feed, or all where there is none
+abbrev pub first_line : List ℕ → List ℕ
+first_line [] = []
+first_line (byte ∷ bytes) = if byte == line_feed then [] else byte ∷ first_line bytes
+
+-- a stream may begin with the first line of a text: it spells an event, or starting pairs
+abbrev pub BeginsStream : List ℕ → Type 0
+BeginsStream text = (first : FirstLine) × SpellsFirst (first_line text) first
+
+-- what is wanted in the place of a text that begins so
+abbrev pub stream_elsewhere : List ℕ
+stream_elsewhere = codes "JSON in UTF-8; bench follow reads streams of events"
+
 -- the hint on a fault: what stands in its place, where that is known, and what was wanted
 abbrev pub fault_hint : HistoryFault → Option (List ℕ) → List ℕ
 fault_hint fault None = wanted_hint (history_wanted fault)
 fault_hint fault (Some text) = found_hint text (history_wanted fault)
 
+-- the same of a text: where it is no JSON, and begins as a stream, which subcommand reads those
+abbrev pub IsFaultHint : List ℕ → HistoryFault → Option (List ℕ) → List ℕ → Type 0
+IsFaultHint text histories.NotJson found hint =
+    (BeginsStream text × (hint ≡ wanted_hint stream_elsewhere))
+    ⊎ ((BeginsStream text → ⊥) × (hint ≡ fault_hint histories.NotJson found))
+IsFaultHint text fault found hint = hint ≡ fault_hint fault found
+
 -- these are the line of this fault in a text, and the hint on it
 abbrev pub IsToldFault : List ℕ → HistoryFault → List ℕ → List ℕ → Type 0
 IsToldFault text fault bytes hint = (found : Option (List ℕ)) × IsTextOfFound (found_in text fault) found
-    × (bytes ≡ history_fault_line fault) × (hint ≡ fault_hint fault found)
+    × (bytes ≡ history_fault_line fault) × IsFaultHint text fault found hint
 
 -- the outcome of a text with this fault
 abbrev pub IsRefusedText : List ℕ → HistoryFault → Outcome → Type 0

@@ -1,19 +1,22 @@
 // How a text that spells no history is refused.
-ghost use Rattle.std.specs.Prelude.{◌≡◌, IfOk, option_map, string_bytes};
+ghost use Rattle.std.specs.Prelude.{◌≡◌, ◌≢◌, ◌↔◌, IsTrue, IfOk, option_map, string_bytes};
 ghost use Rattle.serde_json.specs.Data.{Data};
 ghost use Rattle.serde_json.specs.View.{view};
 ghost use Rattle.history_text.specs.Texts.{IsJson};
 ghost use Rattle.history_text.specs.TextFaults.{IsTextFault};
+ghost use Rattle.events.specs.declared.fault.HistoryFault.TheVariants as histories;
 ghost use Rattle.history_engines.specs.Refusals.{item_of, item_in, found_in, fault_hint, IsTextOfFound, IsRefusedText};
+ghost use Rattle.history_engines.specs.Refusals.{first_line, stream_elsewhere, BeginsStream, IsFaultHint};
 
 use events::{HistoryFault, Memory};
 use history_text::{JsonFault, json_of};
 use outcomes::{Outcome, found_hint, history_fault_line, history_wanted, wanted_hint};
 use serde_json::Value;
 use std::alloc::{AllocError, Global};
+use stream_text::{LineFault, first_line_feed, read_first_line};
 
 /// The refusal of a text that spells no history, for its first fault, or want of memory. A text with a faulty event or starting pair
-/// is read once more.
+/// is read once more, and of one that is no JSON the first line.
 pub fn refused_text(alloc: Global, text: &[u8], fault: &HistoryFault) -> Outcome
     ensures { IsTextFault text.now fault.now → IsRefusedText text.now fault.now result }
 {
@@ -21,12 +24,79 @@ pub fn refused_text(alloc: Global, text: &[u8], fault: &HistoryFault) -> Outcome
         return Outcome::Memory;
     }
     match found_in(alloc, text, fault) {
-        Ok(found) => Outcome::refused(
-            history_fault_line(alloc, fault),
-            fault_hint(alloc, fault, &found),
-        ),
+        Ok(found) => refused_as(alloc, text, fault, &found),
         Err(_) => Outcome::Memory,
     }
+}
+
+/// The refusal, with the text of what stands in the place of the fault.
+fn refused_as(alloc: Global, text: &[u8], fault: &HistoryFault, found: &Option<String>) -> Outcome
+    requires { fault.now ≢ histories.Memory }
+    ensures { IsTextOfFound (found_in text.now fault.now) (option_map string_bytes found.now)
+        → IsRefusedText text.now fault.now result }
+{
+    match hint_on(alloc, text, fault, found) {
+        Ok(hint) => Outcome::refused(history_fault_line(alloc, fault), Ok(hint)),
+        Err(_) => Outcome::Memory,
+    }
+}
+
+/// The hint on the fault of a text, with the text of what stands in its place.
+fn hint_on(
+    alloc: Global,
+    text: &[u8],
+    fault: &HistoryFault,
+    found: &Option<String>,
+) -> Result<String, Memory>
+    ensures { IfOk result (λ hint. IsFaultHint text.now fault.now (option_map string_bytes found.now) (string_bytes hint)) }
+{
+    match fault {
+        HistoryFault::NotJson => no_json_hint(alloc, text, found),
+        _ => Ok(fault_hint(alloc, fault, found)?),
+    }
+}
+
+/// The hint on a text that is no JSON.
+fn no_json_hint(alloc: Global, text: &[u8], found: &Option<String>) -> Result<String, Memory>
+    ensures { IfOk result (λ hint. IsFaultHint text.now histories.NotJson (option_map string_bytes found.now) (string_bytes hint)) }
+{
+    if begins_stream(alloc, text)? {
+        Ok(wanted_hint(alloc, stream_elsewhere())?)
+    } else {
+        Ok(fault_hint(alloc, &HistoryFault::NotJson, found)?)
+    }
+}
+
+/// Whether a stream may begin with the first line of a text.
+fn begins_stream(alloc: Global, text: &[u8]) -> Result<bool, Memory>
+    ensures { IfOk result (λ begins. IsTrue begins ↔ BeginsStream text.now) }
+{
+    match read_first_line(alloc, first_line(text)) {
+        Ok(_) => Ok(true),
+        Err(fault) => {
+            if matches!(fault, LineFault::Memory) {
+                return Err(Memory);
+            }
+            Ok(false)
+        }
+    }
+}
+
+/// The bytes before the first line feed, or all where there is none.
+fn first_line(text: &[u8]) -> &[u8]
+    ensures { result.now ≡ first_line text.now }
+{
+    match first_line_feed(text) {
+        Some(count) => &text[..count],
+        None => text,
+    }
+}
+
+/// What is wanted in the place of a text that begins as a stream.
+fn stream_elsewhere() -> &'static str
+    ensures { result.now ≡ stream_elsewhere }
+{
+    "JSON in UTF-8; bench follow reads streams of events"
 }
 
 /// The hint on a fault, with the text of what stands in its place.

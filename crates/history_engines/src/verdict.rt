@@ -1,9 +1,14 @@
 // `bench judge`: whether the history on the input has an order at all.
 ghost use Rattle.std.specs.Prelude.{◌≡◌, ℕ, ◌<◌, ◌≤◌, List, Some, IfOk, IfErr, IfSome, IsOk, string_bytes};
-ghost use Rattle.history_engines.specs.Answers.{IsHistoryRefusal, IsJudgeAnswer, answer_of};
+ghost use Rattle.answer_hints.specs.Hints.{verdict_hint};
+ghost use Rattle.answer_hints.specs.Outcomes.{IsHintedBy, IsHintedOutcome};
+ghost use Rattle.events.specs.Operations.{operations};
+ghost use Rattle.history_engines.specs.Answers.{IsHistoryRefusal, IsHintedJudgeAnswer, IsJudgeAnswer, IsTextOf, answer_of};
 ghost use Rattle.history_text.specs.Limits.{text_limit};
+ghost use Rattle.judge.specs.Exact.{IsExactVerdict};
 ghost use Rattle.judge.specs.Gates.{WasPassedForText};
 ghost use Rattle.judge.specs.Judged.{IsJudged, IsUnjudged};
+ghost use Rattle.judge.specs.Shown.{IsShown};
 ghost use Rattle.outcomes.specs.Ends.{change};
 ghost use Rattle.history_engines.specs.Outcomes.{IsJudgeOutcome};
 ghost use Rattle.outcomes.specs.Outcomes.{IsTextOutcome, OnAnswered};
@@ -14,11 +19,13 @@ ghost use Rattle.pool.specs.Limits.{worker_limit};
 ghost use Rattle.search.specs.Limits.{budget_limit};
 
 use crate::refusals::refused_text;
-use history_text::MAX_TEXT;
-use judge::{JudgeFault, Verdict, judge_text, judge_text_alone};
+use answer_hints::{hinted_no, hinted_undecided, hinted_yes, overlap_of};
+use events::{History, Memory};
+use history_text::{MAX_TEXT, read_history};
+use judge::{JudgeFault, Verdict, judge, judge_text_alone, report};
 use outcomes::{Answer, Outcome, line_of, text_from, write_outcome};
 use pool::Gate;
-use std::alloc::Global;
+use std::alloc::{AllocError, Global};
 use std::thread::Threads;
 use streams::{Sink, Source};
 
@@ -59,7 +66,7 @@ pub fn run_judge<R: Threads + Sync, S: Source, O: Sink, F: Sink, H: Sink, G: Gat
     }
 }
 
-/// The verdict on the history that the text spells, as its report.
+/// The verdict on the history that the text spells, as its report, with a hint on it, where it has one.
 pub fn judge_outcome<R: Threads + Sync, G: Gate + Sync>(
     rt: &R,
     alloc: Global,
@@ -70,17 +77,58 @@ pub fn judge_outcome<R: Threads + Sync, G: Gate + Sync>(
 ) -> Outcome
     requires budget { (1 ≤ budget) × (budget ≤ budget_limit) }
     requires workers { (1 ≤ workers) × (workers ≤ worker_limit) }
-    ensures outcome { IsTextOutcome (IsJudgeAnswer budget) IsHistoryRefusal (Some text.now) result }
+    ensures outcome { IsHintedOutcome (IsHintedJudgeAnswer budget) IsHistoryRefusal (Some text.now) result }
     ensures passed { OnAnswered result (WasPassedForText (G.was_passed gate.now) text.now) }
 {
-    outcome_of(
-        alloc,
-        text,
-        judge_text(rt, alloc, text, budget, workers, gate),
-    )
+    match read_history(alloc, text) {
+        Ok(history) => {
+            let judged = judge(rt, alloc, &history, budget, workers, gate);
+            hinted_outcome_of(alloc, &history, judged)
+        }
+        Err(fault) => refused_text(alloc, text, &fault),
+    }
 }
 
-/// The same as `judge_outcome`, found by one thread: it starts no thread and waits for nobody.
+/// How a verdict on a history comes out, or want of memory for it.
+fn hinted_outcome_of(alloc: Global, history: &History, judged: Result<Verdict, Memory>) -> Outcome
+    ensures outcome { (budget : ℕ) (text : List ℕ) → IsTextOf text history.now
+        → IfOk judged (IsShown history.now.start budget (operations history.now.events))
+        → IfOk judged (IsExactVerdict history.now.start budget (operations history.now.events))
+        → IsHintedOutcome (IsHintedJudgeAnswer budget) IsHistoryRefusal (Some text) result }
+    ensures answered { OnAnswered result (IsOk judged) }
+{
+    let Ok(verdict) = judged else {
+        return Outcome::Memory;
+    };
+    match report(alloc, &verdict) {
+        Ok(report) => hinted(alloc, history, &verdict, line_of(report)),
+        Err(_) => Outcome::Memory,
+    }
+}
+
+/// The answer that a verdict on a history is, with this line, and with its hint.
+fn hinted(
+    alloc: Global,
+    history: &History,
+    verdict: &Verdict,
+    line: Result<String, AllocError>,
+) -> Outcome
+    ensures { (bytes : List ℕ) → IfOk line (λ text. string_bytes text ≡ bytes)
+        → IsHintedBy (answer_of verdict.now) bytes (verdict_hint (answer_of verdict.now) history.now.events) result }
+{
+    match verdict {
+        Verdict::Yes(_) => hinted_yes(
+            alloc,
+            line,
+            history.calls().len(),
+            overlap_of(history.events()),
+        ),
+        Verdict::No(_) => hinted_no(alloc, line),
+        Verdict::Undecided(_) => hinted_undecided(alloc, line),
+    }
+}
+
+/// The same as `judge_outcome` without hints on answers, found by one thread: it starts no thread and waits for nobody.
 pub fn judge_outcome_alone(alloc: Global, text: &[u8], budget: u32) -> Outcome
     requires { (1 ≤ budget) × (budget ≤ budget_limit) }
     ensures { IsTextOutcome (IsJudgeAnswer budget) IsHistoryRefusal (Some text.now) result }
@@ -90,10 +138,9 @@ pub fn judge_outcome_alone(alloc: Global, text: &[u8], budget: u32) -> Outcome
 
 /// How the judge's answer to a text comes out.
 fn outcome_of(alloc: Global, text: &[u8], judged: Result<(Verdict, String), JudgeFault>) -> Outcome
-    ensures outcome { (budget : ℕ) → IfOk judged (λ answer. IsJudged budget text.now answer.0 (string_bytes answer.1))
+    ensures { (budget : ℕ) → IfOk judged (λ answer. IsJudged budget text.now answer.0 (string_bytes answer.1))
         → IfErr judged (IsUnjudged text.now)
         → IsTextOutcome (IsJudgeAnswer budget) IsHistoryRefusal (Some text.now) result }
-    ensures answered { IfErr judged (IsUnjudged text.now) → OnAnswered result (IsOk judged) }
 {
     match judged {
         Ok((verdict, report)) => Outcome::answered(answer_of(&verdict), line_of(report)),

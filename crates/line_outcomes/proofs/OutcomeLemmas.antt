@@ -7,6 +7,7 @@ use Rattle.outcomes.specs.declared.outcome.Outcome.{Outcome}
 use Rattle.outcomes.specs.declared.outcome.Outcome.TheVariants.{Answered, Noted, Refused, Memory, Words, Failed}
 use Rattle.outcomes.specs.Ends.{Change, IsSound}
 use Rattle.outcomes.specs.Outcomes.{IsReadOutcome}
+use Rattle.answer_hints.specs.Outcomes.{IsHintedRead}
 use Rattle.line_outcomes.specs.Outcomes.{IsAskedOutcome, IsFaultOutcome, IsWordsOutcome}
 
 -- of a subcommand that reads a text
@@ -22,6 +23,20 @@ read-words L A R words source Memory ask (inr read) = read.0
 read-words L A R words source (Words text) ask (inl unread) = absurd unread
 read-words L A R words source (Words text) ask (inr read) = absurd read.1
 read-words L A R words source Failed ask comes = ask comes
+
+-- of one whose answers may have hints
+pub hinted-words : (L : Line → Change → Outcome → Type 0) (A : List ℕ → Answer → List ℕ → List ℕ → Type 0)
+    (R : List ℕ → List ℕ → List ℕ → Type 0) (words : List Text) (source : Change) (outcome : Outcome)
+    → (IsHintedRead A R source outcome → IsAskedOutcome L words source outcome) → IsHintedRead A R source outcome
+    → IsWordsOutcome L words source outcome
+hinted-words L A R words source (Answered answer bytes) ask comes = ask comes
+hinted-words L A R words source (Noted answer bytes note) ask comes = ask comes
+hinted-words L A R words source (Refused bytes hint) ask comes = ask comes
+hinted-words L A R words source Memory ask (inl unread) = unread
+hinted-words L A R words source Memory ask (inr read) = read.0
+hinted-words L A R words source (Words text) ask (inl unread) = absurd unread
+hinted-words L A R words source (Words text) ask (inr read) = absurd read.1
+hinted-words L A R words source Failed ask comes = ask comes
 
 -- of words that ask for no line
 pub fault-words : (L : Line → Change → Outcome → Type 0) (words : List Text) (source : Change) (outcome : Outcome)

@@ -1,9 +1,8 @@
 -- What an event makes of a stream that is followed.
 use Rattle.follower.specs.declared.fault.FollowFault.TheVariants as turns
-use Rattle.std.proofs.Common.{◌≡◌, ℕ, ◌+◌, ◌-◌, ◌^◌, ◌<◌, ◌≤◌, min, Bool, true, false, List, [], ◌∷◌, ◌++◌, length, Option, Some}
-use Rattle.std.proofs.Common.{None, cond, refl, sym, ap, ◌∙◌, inl, inr, arith}
-use Rattle.std.proofs.Math.Nat.{min-eq_left, min_comm}
-use Rattle.std.proofs.lemmas.Bool.{cases_lt, false≢true}
+use Rattle.std.proofs.Common.{◌≡◌, ℕ, ◌+◌, ◌-◌, ◌^◌, ◌<◌, min, Bool, true, false, List, [], ◌∷◌, ◌++◌, length, Option, Some}
+use Rattle.std.proofs.Common.{None, cond, refl, sym, ap, ◌∙◌, arith}
+use Rattle.std.proofs.lemmas.Bool.{false≢true}
 use Rattle.std.proofs.lemmas.Bool.Decides.{nat_tests}
 use Rattle.std.specs.Prelude.{is_some, nat_lt, nat_le}
 use Rattle.events.specs.declared.event.Call.{Call}
@@ -13,6 +12,7 @@ use Rattle.events.specs.declared.event.Event.TheVariants.{Invoke, Answer}
 use Rattle.events.specs.HistoryView.{with_event}
 use Rattle.events.specs.HistoryFaults.{has_open_call}
 use Rattle.events.specs.Keys.{low_key, high_key}
+use Rattle.answer_hints.proofs.OverlapLemmas.{pending-room, overlap-room, pending-kept, overlap-kept}
 use Rattle.stream_text.specs.Lines.{SpellsEvent}
 use Rattle.follower.specs.Faults.{event_limit, invocation_fault}
 use Rattle.follower.specs.FollowerView.{FollowerView}
@@ -20,20 +20,7 @@ use Rattle.follower.specs.Following.{IsFollowing}
 use Rattle.follower.specs.declared.fault.FollowFault.{FollowFault}
 use Rattle.stream_engines.specs.declared.followed.Followed.{Followed}
 use Rattle.stream_engines.specs.Followed.{IsFollowed}
-use Rattle.stream_engines.specs.Overlaps.{pending_after, overlap_after, overlap_of}
 use Rattle.stream_engines.proofs.StreamLemmas.{SpellStream-push}
-use Rattle.stream_engines.proofs.OverlapLemmas.{pending-invoke, pending-answer, pending_le, overlap-invoke, overlap-answer}
-
-min_right : (a b : ℕ) → b ≤ a → min a b ≡ b
-min_right a b le = min_comm a b ∙ min-eq_left le
-
--- sums that stop at a limit
-min_sum : (a b limit : ℕ) → min (min a limit + b) limit ≡ min (a + b) limit
-min_sum a b limit = elim (cases_lt limit a) [
-  | inl less ↦ ap (λ (x : ℕ). min (x + b) limit) (min_right a limit (omega arith))
-      ∙ (min_right (limit + b) limit (omega arith) ∙ sym (min_right (a + b) limit (omega arith)))
-  | inr le ↦ ap (λ (x : ℕ). min (x + b) limit) (min-eq_left (let this : a ≤ limit = omega arith in this))
-]
 
 -- where no test fails, the last one does not
 none_of : (x y z : Bool) (s n t : FollowFault) → cond x (Some s) (cond y (Some n) (cond z (Some t) None)) ≡ None → z ≡ false
@@ -61,18 +48,12 @@ invoked read line f g process call pending overlap followed spelled follows acce
     let events = followed.stream.events in
     let below = room events process call accepted in
     let few : length events < 2 ^ 64 - 1 = omega (arith, below) in
-    let bound = pending_le 0 events in
-    let small : pending_after 0 events + 1 ≤ 2 ^ 64 - 1 = omega arith in
     record {
       stream = with_event followed.stream (Invoke process call);
       spelled = SpellStream-push f.version read followed.stream line (Invoke process call) followed.spelled spelled;
       follows = follows;
-      pending = pending_is ∙ (ap (λ (n : ℕ). min (n + 1) (2 ^ 64 - 1)) followed.pending ∙ (min-eq_left small ∙ sym
-          (pending-invoke 0 events process call)));
-      overlap = overlap_is ∙ (ap (λ (n : ℕ). min (n + f.pending) (2 ^ 64 - 1)) followed.overlap
-          ∙ (ap (λ (n : ℕ). min (overlap_of events + n) (2 ^ 64 - 1)) followed.pending
-          ∙ (min_sum (overlap_after 0 events) (pending_after 0 events) (2 ^ 64 - 1)
-          ∙ ap (λ (n : ℕ). min n (2 ^ 64 - 1)) (sym (overlap-invoke 0 events process call)))));
+      pending = pending_is ∙ pending-room events process call f.pending few followed.pending;
+      overlap = overlap_is ∙ overlap-room events process call f.pending f.overlap followed.pending followed.overlap;
     }
 
 pub answered : (read : List (List ℕ)) (line : List ℕ) (f : Followed) (g : FollowerView) (process : ℕ) (reply : Reply) (pending : ℕ)
@@ -85,6 +66,6 @@ answered read line f g process reply pending followed spelled follows pending_is
       stream = with_event followed.stream (Answer process reply);
       spelled = SpellStream-push f.version read followed.stream line (Answer process reply) followed.spelled spelled;
       follows = follows;
-      pending = pending_is ∙ (ap (λ (n : ℕ). n - 1) followed.pending ∙ sym (pending-answer 0 events process reply));
-      overlap = followed.overlap ∙ ap (λ (n : ℕ). min n (2 ^ 64 - 1)) (sym (overlap-answer 0 events process reply));
+      pending = pending_is ∙ pending-kept events process reply f.pending followed.pending;
+      overlap = overlap-kept events process reply f.overlap followed.overlap;
     }

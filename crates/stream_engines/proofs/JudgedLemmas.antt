@@ -17,9 +17,9 @@ use Rattle.outcomes.specs.Lines.{line}
 use Rattle.stream_engines.specs.declared.followed.Followed.{Followed}
 use Rattle.stream_engines.specs.Followed.{IsFollowed}
 use Rattle.stream_engines.specs.StreamTexts.{SpellStream, BeginsWith}
-use Rattle.stream_engines.specs.Overlaps.{overlap_of}
-use Rattle.stream_engines.specs.Reports.{yes_data, spent_data}
-use Rattle.stream_engines.specs.Notes.{note_of}
+use Rattle.answer_hints.specs.Overlaps.{overlap_of}
+use Rattle.stream_engines.specs.Reports.{yes_line, spent_data}
+use Rattle.answer_hints.specs.Hints.{yes_hint}
 use Rattle.stream_engines.specs.Reading.{AreLinesOf}
 use Rattle.stream_engines.specs.Leaves.{IsAnsweredBy, IsYesOutcome, IsLostOutcome}
 use Rattle.stream_engines.specs.Answers.{IsWholeAnswer, Judgement, IsJudgedAnswer, IsFollowAnswer}
@@ -91,7 +91,7 @@ spent_at budget (Some text) read next f process reply event number doubt (Answer
 
 -- what is said of a yes, by its calls and how much they overlap
 abbrev IsSaid : ℕ → ℕ → List ℕ → List ℕ → Type 0
-IsSaid calls overlap bytes note = (bytes ≡ line (compact_text (yes_data calls overlap))) × (note ≡ note_of calls overlap)
+IsSaid calls overlap bytes hint = (bytes ≡ yes_line calls overlap) × (hint ≡ yes_hint calls overlap)
 
 -- all lines were read
 whole_of : (text : List ℕ) (read : List (List ℕ)) (f : Followed) (bytes note : List ℕ) (followed : IsFollowed read f)
@@ -104,7 +104,7 @@ whole_of text read f bytes note followed lines is = record {
   well_formed = followed.follows.well_formed;
   linearizable = followed.follows.linearizable;
   bytes_are = is.0;
-  note_is = is.1;
+  hint_is = is.1;
 }
 
 -- a yes that was given

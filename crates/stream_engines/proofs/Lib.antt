@@ -1,7 +1,6 @@
 mod ReportLemmas
 mod OwnLemmas
 pub mod StreamLemmas
-mod OverlapLemmas
 mod FirstLemmas
 mod FollowedLemmas
 mod RefusalLemmas

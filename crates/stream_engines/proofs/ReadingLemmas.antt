@@ -15,7 +15,7 @@ use Rattle.stream_engines.specs.declared.followed.Followed.{Followed}
 use Rattle.stream_engines.specs.Followed.{IsFollowed}
 use Rattle.stream_engines.specs.StreamTexts.{BeginsWith}
 use Rattle.stream_engines.specs.Reading.{HasRead, AreLinesOf}
-use Rattle.stream_engines.specs.Refusals.{line_fault_name, too_many_name, IsLineFaultAfter, stream_fault_line, most_lines}
+use Rattle.stream_engines.specs.Refusals.{line_fault_name, line_fault_hint, too_many_name, IsLineFaultAfter, IsHintAfter, stream_fault_line, most_lines}
 use Rattle.stream_engines.specs.Leaves.{IsLineRefusal, IsManyRefusal}
 use Rattle.stream_engines.specs.Outcomes.{IsStreamOutcome, IsFollowOutcome}
 use Rattle.stream_engines.proofs.RefusalLemmas.{refusal_of}
@@ -129,6 +129,11 @@ is_too_long : (read : List (List ℕ)) (version : TextVersion) (next : List ℕ)
 is_too_long [] version next long = inl long
 is_too_long (line ∷ read) version next long = inl long
 
+-- the hint on it, after whichever lines
+long_hint : (read : List (List ℕ)) (next hint : List ℕ) → hint ≡ line_fault_hint next faults.TooLong → IsHintAfter read next faults.TooLong hint
+long_hint [] next hint is = is
+long_hint (line ∷ read) next hint is = is
+
 pub long_at : (budget : ℕ) (told : Option (List ℕ)) (read : List (List ℕ)) (f : Followed) (number : ℕ) (old : Option (List ℕ))
     (outcome : Outcome) → IsFollowed read f
     → length read + 1 ≡ number → HasRead told read old → BeginsTooLong old → IsLineRefusal number [] faults.TooLong outcome
@@ -152,7 +157,7 @@ long_at budget (Some text) read f number old (Refused bytes hint) followed count
       is_fault = is_too_long read f.version begins.next (omega arith);
       not_memory = is.0;
       name_is = refl;
-      hint_is = is.2;
+      hint_is = long_hint read begins.next (string_bytes hint) is.2;
     })) (is.1 ∙ ap (λ (n : ℕ). stream_fault_line n (line_fault_name faults.TooLong)) (sym count))
 
 -- ---- too many lines

@@ -18,7 +18,7 @@ use Rattle.stream_engines.specs.StreamTexts.{BeginsWith}
 use Rattle.stream_engines.specs.Refusals.{line_fault_name, turn_fault_name}
 use Rattle.stream_engines.specs.Refusals.{turn_fault, stream_fault_line, IsLineFaultAfter, StopsFor}
 use Rattle.stream_engines.specs.Answers.{IsStreamRefusal}
-use Rattle.stream_engines.specs.Leaves.{IsLineRefusal, IsTurnRefusal}
+use Rattle.stream_engines.specs.Leaves.{IsLineRefusal, IsRefusalAfter, IsTurnRefusal}
 use Rattle.stream_engines.specs.Outcomes.{IsStreamOutcome}
 
 -- a text that begins with lines that are followed, and stops behind them
@@ -53,7 +53,7 @@ numbered count number name bytes same is = is ∙ ap (λ (n : ℕ). stream_fault
 pub refused_at : (budget : ℕ) (told : Option (List ℕ)) (read : List (List ℕ)) (line : List ℕ) (f : Followed) (number : ℕ)
     (fault : LineFault) (outcome : Outcome)
     → IsFollowed read f → length read + 1 ≡ number → IsLineFaultAfter read f.version line fault → BeginsWith told (read ++ line ∷ [])
-    → IsLineRefusal number line fault outcome → IsStreamOutcome budget told outcome
+    → IsRefusalAfter read number line fault outcome → IsStreamOutcome budget told outcome
 refused_at budget told read line f number fault Memory followed count wrong begins is = tt
 refused_at budget told read line f number fault (Answered answer bytes) followed count wrong begins is = absurd is
 refused_at budget told read line f number fault (Noted answer bytes note) followed count wrong begins is = absurd is
@@ -114,3 +114,14 @@ pub later_fault : (read : List (List ℕ)) (version : TextVersion) (line : List 
     → IsLineFaultAfter read version line fault
 later_fault [] version line fault some wrong = absurd (omega arith)
 later_fault (first ∷ read) version line fault some wrong = wrong
+
+-- so its refusal is that of a line after others
+pub later_refusal : (read : List (List ℕ)) (number : ℕ) (line : List ℕ) (fault : LineFault) (outcome : Outcome) → 0 < length read
+    → IsLineRefusal number line fault outcome → IsRefusalAfter read number line fault outcome
+later_refusal [] number line fault outcome some is = absurd (omega arith)
+later_refusal (first ∷ read) number line fault (Refused bytes hint) some is = is
+later_refusal (first ∷ read) number line fault Memory some is = tt
+later_refusal (first ∷ read) number line fault (Answered answer bytes) some is = absurd is
+later_refusal (first ∷ read) number line fault (Noted answer bytes note) some is = absurd is
+later_refusal (first ∷ read) number line fault (Words bytes) some is = absurd is
+later_refusal (first ∷ read) number line fault Failed some is = absurd is

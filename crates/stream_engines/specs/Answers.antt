@@ -22,21 +22,21 @@ use Rattle.outcomes.specs.declared.outcome.Answer as outcomes
 use Rattle.outcomes.specs.declared.outcome.Answer.TheVariants as verdicts
 use Rattle.outcomes.specs.Lines.{line}
 use Rattle.stream_engines.specs.StreamTexts.{SpellStream}
-use Rattle.stream_engines.specs.Overlaps.{overlap_of}
+use Rattle.answer_hints.specs.Overlaps.{overlap_of}
+use Rattle.answer_hints.specs.Hints.{yes_hint}
 use Rattle.stream_engines.specs.Refusals.{stream_fault_line, StopsFor}
-use Rattle.stream_engines.specs.Reports.{yes_data, lost_data, spent_data}
+use Rattle.stream_engines.specs.Reports.{yes_line, lost_data, spent_data}
 use Rattle.stream_engines.specs.OwnParts.{own_part}
-use Rattle.stream_engines.specs.Notes.{note_of}
 
--- all lines spell a stream, whose events have an order; the note is that on its calls and how much they overlap
-pub record IsWholeAnswer (lines : List (List ℕ)) (bytes note : List ℕ) : Type 0 where
+-- all lines spell a stream, whose events have an order; the hint is that on its calls and how much they overlap
+pub record IsWholeAnswer (lines : List (List ℕ)) (bytes hint : List ℕ) : Type 0 where
   pub stream : HistoryView
   pub version : TextVersion
   pub spelled : SpellStream version lines stream
   pub well_formed : IsWellFormed stream.events
   pub linearizable : IsLinearizable stream.start (operations stream.events)
-  pub bytes_are : bytes ≡ line (compact_text (yes_data (length (operations stream.events)) (overlap_of stream.events)))
-  pub note_is : note ≡ note_of (length (operations stream.events)) (overlap_of stream.events)
+  pub bytes_are : bytes ≡ yes_line (length (operations stream.events)) (overlap_of stream.events)
+  pub hint_is : hint ≡ yes_hint (length (operations stream.events)) (overlap_of stream.events)
 
 -- what an answer of a process comes to, behind events from some pairs
 abbrev pub Judgement : Type 1
@@ -83,14 +83,14 @@ abbrev pub IsLostText : Loss → List ℕ → Type 0
 IsLostText loss bytes = (small : List ℕ) × MatchOption (own_part loss) (small ≡ []) (λ part. IsSmallLine part.start part.calls small)
     × (bytes ≡ line (compact_text (lost_data loss)) ++ small)
 
--- `follow` answers the lines at the budget so, with this note, which only a yes may have
+-- `follow` answers the lines at the budget so, with this hint, which only a yes may have
 abbrev pub IsLinesAnswer : ℕ → List (List ℕ) → outcomes.Answer → List ℕ → List ℕ → Type 0
-IsLinesAnswer budget lines verdicts.Yes bytes note = IsWholeAnswer lines bytes note
-IsLinesAnswer budget lines verdicts.No bytes note =
-    (loss : Loss) × GoesWrongHere lines loss × IsLostText loss bytes × (note ≡ [])
-IsLinesAnswer budget lines verdicts.Undecided bytes note =
+IsLinesAnswer budget lines verdicts.Yes bytes hint = IsWholeAnswer lines bytes hint
+IsLinesAnswer budget lines verdicts.No bytes hint =
+    (loss : Loss) × GoesWrongHere lines loss × IsLostText loss bytes × (hint ≡ [])
+IsLinesAnswer budget lines verdicts.Undecided bytes hint =
     (event : ℕ) × (number : ℕ) × (doubt : Doubt) × IsDoubtedHere budget lines event number doubt
-    × (bytes ≡ line (compact_text (spent_data event number doubt))) × (note ≡ [])
+    × (bytes ≡ line (compact_text (spent_data event number doubt))) × (hint ≡ [])
 
 -- with this line and this hint `follow` refuses the lines: those before are followed, and there it stops
 pub record IsLinesRefusal (lines : List (List ℕ)) (bytes hint : List ℕ) : Type 0 where
@@ -108,7 +108,7 @@ pub record IsLinesRefusal (lines : List (List ℕ)) (bytes hint : List ℕ) : Ty
 
 -- the same of a text
 abbrev pub IsFollowAnswer : ℕ → List ℕ → outcomes.Answer → List ℕ → List ℕ → Type 0
-IsFollowAnswer budget text answer bytes note = IsLinesAnswer budget (lines_of text) answer bytes note
+IsFollowAnswer budget text answer bytes hint = IsLinesAnswer budget (lines_of text) answer bytes hint
 
 abbrev pub IsStreamRefusal : List ℕ → List ℕ → List ℕ → Type 0
 IsStreamRefusal text bytes hint = IsLinesRefusal (lines_of text) bytes hint

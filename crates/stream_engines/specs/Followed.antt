@@ -4,7 +4,7 @@ use Rattle.events.specs.HistoryView.{HistoryView}
 use Rattle.follower.specs.Following.{IsFollowing}
 use Rattle.stream_engines.specs.declared.followed.Followed.{Followed}
 use Rattle.stream_engines.specs.StreamTexts.{SpellStream}
-use Rattle.stream_engines.specs.Overlaps.{pending_after, overlap_of}
+use Rattle.answer_hints.specs.Overlaps.{pending_after, overlap_of}
 
 -- these lines were read and spell a stream, which is followed
 pub record IsFollowed (read : List (List ℕ)) (f : Followed) : Type 0 where

@@ -1,20 +1,19 @@
 -- How single answers and refusals come out.
 use Rattle.stream_text.specs.declared.line_fault.LineFault.TheVariants as lines
 use Rattle.follower.specs.declared.fault.FollowFault.TheVariants as turns
-use Rattle.std.specs.Prelude.{◌≡◌, ◌≢◌, ℕ, List, [], ⊤, string_bytes}
-use Rattle.serde_json.specs.Written.{compact_text}
+use Rattle.std.specs.Prelude.{◌≡◌, ◌≢◌, ℕ, List, ⊤, string_bytes}
 use Rattle.stream_text.specs.declared.line_fault.LineFault.{LineFault}
 use Rattle.follower.specs.declared.answered.Loss.{Loss}
 use Rattle.follower.specs.declared.fault.FollowFault.{FollowFault}
 use Rattle.outcomes.specs.declared.outcome.Answer.{Answer}
 use Rattle.outcomes.specs.declared.outcome.Answer.TheVariants.{Yes, No}
 use Rattle.outcomes.specs.declared.outcome.Outcome.{Outcome}
-use Rattle.outcomes.specs.declared.outcome.Outcome.TheVariants.{Answered, Noted, Refused, Memory}
-use Rattle.outcomes.specs.Lines.{line}
+use Rattle.outcomes.specs.declared.outcome.Outcome.TheVariants.{Answered, Refused, Memory}
+use Rattle.answer_hints.specs.Hints.{yes_hint}
+use Rattle.answer_hints.specs.Outcomes.{IsHintedBy}
 use Rattle.stream_engines.specs.Refusals.{line_fault_name, turn_fault_name, too_many_name, stream_fault_line}
-use Rattle.stream_engines.specs.Refusals.{line_fault_hint, turn_fault_hint, too_many_hint}
-use Rattle.stream_engines.specs.Reports.{yes_data}
-use Rattle.stream_engines.specs.Notes.{note_of}
+use Rattle.stream_engines.specs.Refusals.{line_fault_hint, turn_fault_hint, too_many_hint, IsHintAfter}
+use Rattle.stream_engines.specs.Reports.{yes_line}
 use Rattle.stream_engines.specs.Answers.{IsLostText}
 
 -- the outcome of the line of this number, which has this fault
@@ -24,7 +23,14 @@ IsLineRefusal number next fault (Refused bytes hint) = (fault ≢ lines.Memory)
 IsLineRefusal number next fault Memory = ⊤
 IsLineRefusal number next fault outcome = ⊥
 
--- the same of its event
+-- the same of the line after these, of which a first one may be a history
+abbrev pub IsRefusalAfter : List (List ℕ) → ℕ → List ℕ → LineFault → Outcome → Type 0
+IsRefusalAfter read number next fault (Refused bytes hint) = (fault ≢ lines.Memory)
+    × (string_bytes bytes ≡ stream_fault_line number (line_fault_name fault)) × IsHintAfter read next fault (string_bytes hint)
+IsRefusalAfter read number next fault Memory = ⊤
+IsRefusalAfter read number next fault outcome = ⊥
+
+-- and of its event
 abbrev pub IsTurnRefusal : ℕ → List ℕ → FollowFault → Outcome → Type 0
 IsTurnRefusal number next fault (Refused bytes hint) = (fault ≢ turns.Memory)
     × (string_bytes bytes ≡ stream_fault_line number (turn_fault_name fault)) × (string_bytes hint ≡ turn_fault_hint next fault)
@@ -44,14 +50,9 @@ IsAnsweredBy answer bytes (Answered given text) = (given ≡ answer) × (string_
 IsAnsweredBy answer bytes Memory = ⊤
 IsAnsweredBy answer bytes outcome = ⊥
 
--- the outcome of so many calls that have an order, with so much overlap in all: a yes with its note, where it has one
+-- the outcome of so many calls that have an order, with so much overlap in all: a yes with its hint, where it has one
 abbrev pub IsYesOutcome : ℕ → ℕ → Outcome → Type 0
-IsYesOutcome calls overlap (Answered given text) = (given ≡ Yes) × (string_bytes text ≡ line (compact_text (yes_data calls overlap)))
-    × (note_of calls overlap ≡ [])
-IsYesOutcome calls overlap (Noted given text note) = (given ≡ Yes)
-    × (string_bytes text ≡ line (compact_text (yes_data calls overlap))) × (string_bytes note ≡ note_of calls overlap)
-IsYesOutcome calls overlap Memory = ⊤
-IsYesOutcome calls overlap outcome = ⊥
+IsYesOutcome calls overlap outcome = IsHintedBy Yes (yes_line calls overlap) (yes_hint calls overlap) outcome
 
 -- the outcome where an answer was judged and the events go wrong
 abbrev pub IsLostOutcome : Loss → Outcome → Type 0

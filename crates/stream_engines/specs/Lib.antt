@@ -1,10 +1,8 @@
 pub mod StreamTexts
-pub mod Overlaps
 pub mod Wanted
 pub mod Refusals
 pub mod Reports
 pub mod OwnParts
-pub mod Notes
 pub mod Followed
 pub mod Answers
 pub mod Leaves

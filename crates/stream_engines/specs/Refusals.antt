@@ -4,6 +4,9 @@ use Rattle.follower.specs.declared.fault.FollowFault.TheVariants as turns
 use Rattle.std.specs.Prelude.{◌≡◌, ◌≢◌, ◌⊎◌, ℕ, ◌-◌, ◌^◌, List, [], ◌∷◌, ◌++◌, length, Option, Some, codes, decimal}
 use Rattle.events.specs.declared.event.Event.{Event}
 use Rattle.events.specs.declared.event.Event.TheVariants.{Invoke, Answer}
+use Rattle.events.specs.HistoryView.{HistoryView}
+use Rattle.events.specs.Histories.{IsHistory}
+use Rattle.history_text.specs.Texts.{Spells}
 use Rattle.history_text.specs.declared.version.TextVersion.{TextVersion}
 use Rattle.stream_text.specs.declared.line_fault.LineFault.{LineFault}
 use Rattle.stream_text.specs.Lines.{SpellsEvent}
@@ -13,7 +16,7 @@ use Rattle.follower.specs.Faults.{invocation_fault, answer_fault}
 use Rattle.outcomes.specs.Lines.{line}
 use Rattle.outcomes.specs.Found.{found_hint}
 use Rattle.outcomes.specs.Wanted.{wanted_hint}
-use Rattle.stream_engines.specs.Wanted.{too_many_wanted, line_wanted, turn_wanted_for}
+use Rattle.stream_engines.specs.Wanted.{too_many_wanted, history_elsewhere, line_wanted, turn_wanted_for}
 
 -- how many lines are read at most
 abbrev pub most_lines : ℕ
@@ -43,6 +46,22 @@ turn_fault_name turns.Memory = codes "7 Memory"
 abbrev pub line_fault_hint : List ℕ → LineFault → List ℕ
 line_fault_hint next lines.TooLong = wanted_hint (line_wanted lines.TooLong)
 line_fault_hint next fault = found_hint next (line_wanted fault)
+
+-- the line is the text of a history
+abbrev pub IsHistoryLine : List ℕ → Type 0
+IsHistoryLine next = (history : HistoryView) × Spells next history × IsHistory history
+
+-- the hint on a first line with a fault: where it has no shape of a line, and is a history, which subcommands read those
+abbrev pub IsFirstHint : List ℕ → LineFault → List ℕ → Type 0
+IsFirstHint next lines.Shape hint =
+    (IsHistoryLine next × (hint ≡ found_hint next history_elsewhere))
+    ⊎ ((IsHistoryLine next → ⊥) × (hint ≡ line_fault_hint next lines.Shape))
+IsFirstHint next fault hint = hint ≡ line_fault_hint next fault
+
+-- and on a line after these
+abbrev pub IsHintAfter : List (List ℕ) → List ℕ → LineFault → List ℕ → Type 0
+IsHintAfter [] next fault hint = IsFirstHint next fault hint
+IsHintAfter (line ∷ lines) next fault hint = hint ≡ line_fault_hint next fault
 
 abbrev pub turn_fault_hint : List ℕ → FollowFault → List ℕ
 turn_fault_hint next fault = found_hint next (turn_wanted_for fault)
@@ -74,7 +93,7 @@ pub record IsFaulty (read : List (List ℕ)) (version : TextVersion) (more : Lis
   pub is_fault : IsLineFaultAfter read version next fault
   pub not_memory : fault ≢ lines.Memory
   pub name_is : name ≡ line_fault_name fault
-  pub hint_is : hint ≡ line_fault_hint next fault
+  pub hint_is : IsHintAfter read next fault hint
 
 -- the next line spells an event that is not in its turn
 pub record IsOutOfTurn (version : TextVersion) (events : List Event) (more : List (List ℕ)) (name hint : List ℕ) : Type 0 where

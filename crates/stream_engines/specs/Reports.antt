@@ -1,5 +1,5 @@
 -- The reports of a stream: JSON, with members by rising bytes.
-use Rattle.std.specs.Prelude.{ℕ, List, [], ◌∷◌, Option, Some, None, map, flat_map, codes}
+use Rattle.std.specs.Prelude.{ℕ, List, [], ◌∷◌, ◌++◌, Option, Some, None, map, flat_map, codes, decimal}
 use Rattle.serde_json.specs.Data.{Data, null, string, object, no_members, member}
 use Rattle.history_text.specs.Texts.{number_data, list_data}
 use Rattle.following.specs.keys.KeyStates.{Configuration}
@@ -7,12 +7,13 @@ use Rattle.kept_rows.specs.declared.outcomes.KeyLoss.{KeyLoss}
 use Rattle.follower.specs.declared.answered.Loss.{Loss}
 use Rattle.follower.specs.declared.answered.Doubt.{Doubt}
 use Rattle.follower.specs.declared.answered.Doubt.TheVariants.{Budget, Rows}
+use Rattle.outcomes.specs.Lines.{line}
+use Rattle.answer_hints.specs.Averages.{average_text}
 
--- all events have an order: how many calls there were, and how many other calls were open at their invocations, in all
-abbrev pub yes_data : ℕ → ℕ → Data
-yes_data calls overlap =
-    object (member (codes "calls") (number_data calls) (member (codes "overlap") (number_data overlap)
-    (member (codes "verdict") (string (codes "yes")) no_members)))
+-- all events have an order: how many calls there were, and how many other calls were open at an invocation, on average, of so many in all
+abbrev pub yes_line : ℕ → ℕ → List ℕ
+yes_line calls overlap =
+    line (codes "{\"calls\":" ++ decimal calls ++ codes ",\"overlap\":" ++ average_text calls overlap ++ codes ",\"verdict\":\"yes\"}")
 
 -- numbers of events
 abbrev pub numbers_data : List ℕ → Data

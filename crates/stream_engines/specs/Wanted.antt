@@ -9,6 +9,10 @@ use Rattle.outcomes.specs.Wanted.{json_wanted, event_wanted, turn_wanted, pair_w
 abbrev pub too_many_wanted : List ℕ
 too_many_wanted = codes "processes from 0 to 65535, and at most 17592186044414 events"
 
+-- for a first line that is a history
+abbrev pub history_elsewhere : List ℕ
+history_elsewhere = codes "an event in a line of its own; bench judge and bench locate read histories"
+
 -- for the fault of a line
 abbrev pub line_wanted : LineFault → List ℕ
 line_wanted lines.TooLong = codes "at most 1048576 bytes"

@@ -8,7 +8,7 @@ ghost use Rattle.stream_engines.specs.Outcomes.{IsStreamOutcome};
 ghost use Rattle.stream_engines.specs.Reading.{AreLinesOf};
 ghost use Rattle.stream_engines.specs.StreamTexts.{BeginsWith};
 
-use crate::refusals::{refused_event, refused_line};
+use crate::refusals::{refused_event, refused_first, refused_line};
 use crate::reports::{lost_outcome, spent_outcome, yes_outcome};
 use events::{Call, Memory, Pairs, Reply};
 use follower::{Answered, Follower};
@@ -92,7 +92,7 @@ impl Followed {
             Ok(FirstLine::Start { version, pairs }) => {
                 Followed::from_start(alloc, version, &pairs)
             }
-            Err(fault) => Err(refused_line(alloc, 1, line, fault)),
+            Err(fault) => Err(refused_first(alloc, line, fault)),
         }
     }
 

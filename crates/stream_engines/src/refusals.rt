@@ -1,10 +1,13 @@
 // Why a line of a stream is refused, as an outcome.
-ghost use Rattle.std.specs.Prelude.{◌≡◌, IfOk, string_bytes};
-ghost use Rattle.stream_engines.specs.Leaves.{IsLineRefusal, IsTurnRefusal, IsManyRefusal};
-ghost use Rattle.stream_engines.specs.Refusals.{line_fault_name, turn_fault_name, line_fault_hint, stream_fault_line};
-ghost use Rattle.stream_engines.specs.Wanted.{too_many_wanted, line_wanted, turn_wanted_for};
+ghost use Rattle.std.specs.Prelude.{◌≡◌, ◌↔◌, [], IsTrue, IfOk, string_bytes};
+ghost use Rattle.stream_text.specs.declared.line_fault.LineFault.TheVariants as lines;
+ghost use Rattle.stream_engines.specs.Leaves.{IsLineRefusal, IsRefusalAfter, IsTurnRefusal, IsManyRefusal};
+ghost use Rattle.stream_engines.specs.Refusals.{line_fault_name, turn_fault_name, line_fault_hint, stream_fault_line, IsHistoryLine};
+ghost use Rattle.stream_engines.specs.Wanted.{too_many_wanted, history_elsewhere, line_wanted, turn_wanted_for};
 
+use events::{HistoryFault, Memory};
 use follower::FollowFault;
+use history_text::read_history;
 use outcomes::{
     Outcome, event_wanted, found_hint, json_wanted, pair_wanted, turn_wanted, wanted_hint,
 };
@@ -22,6 +25,45 @@ pub fn refused_line(alloc: Global, number: u64, line: &[u8], fault: LineFault) -
         line_fault_line(alloc, number, fault),
         line_fault_hint(alloc, line, fault),
     )
+}
+
+/// The refusal of the first line, or want of memory. Where it is a history the hint says what reads those.
+pub fn refused_first(alloc: Global, line: &[u8], fault: LineFault) -> Outcome
+    ensures { IsRefusalAfter [] 1 line.now fault result }
+{
+    match fault {
+        LineFault::Shape => refused_shape(alloc, line),
+        _ => refused_line(alloc, 1, line, fault),
+    }
+}
+
+/// The refusal of a first line that spells neither starting pairs nor an event.
+fn refused_shape(alloc: Global, line: &[u8]) -> Outcome
+    ensures { IsRefusalAfter [] 1 line.now lines.Shape result }
+{
+    match is_history(alloc, line) {
+        Ok(true) => Outcome::refused(
+            fault_line(alloc, 1, "4 Shape"),
+            found_hint(alloc, line, history_elsewhere()),
+        ),
+        Ok(false) => refused_line(alloc, 1, line, LineFault::Shape),
+        Err(_) => Outcome::Memory,
+    }
+}
+
+/// Whether a line is the text of a history.
+fn is_history(alloc: Global, line: &[u8]) -> Result<bool, Memory>
+    ensures { IfOk result (λ found. IsTrue found ↔ IsHistoryLine line.now) }
+{
+    match read_history(alloc, line) {
+        Ok(_) => Ok(true),
+        Err(fault) => {
+            if matches!(fault, HistoryFault::Memory) {
+                return Err(Memory);
+            }
+            Ok(false)
+        }
+    }
 }
 
 /// The refusal of the event of the line of this number, or want of memory.
@@ -101,6 +143,13 @@ fn turn_fault_name(fault: &FollowFault) -> &'static str
         FollowFault::TooMany => "5 TooMany",
         FollowFault::Memory => "7 Memory",
     }
+}
+
+/// What was wanted in the place of a first line that is a history.
+fn history_elsewhere() -> &'static str
+    ensures { result.now ≡ history_elsewhere }
+{
+    "an event in a line of its own; bench judge and bench locate read histories"
 }
 
 /// What was wanted in the place of a line with this fault.

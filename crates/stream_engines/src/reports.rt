@@ -9,13 +9,13 @@ ghost use Rattle.serde_json.specs.View.{view, members_view};
 ghost use Rattle.serde_json.specs.Written.{compact_text};
 ghost use Rattle.stream_engines.specs.Answers.{IsLostText, IsSmallLine};
 ghost use Rattle.stream_engines.specs.Leaves.{IsAnsweredBy, IsLostOutcome, IsYesOutcome};
-ghost use Rattle.stream_engines.specs.Notes.{overlap_note};
 ghost use Rattle.stream_engines.specs.OwnParts.{own_part};
-ghost use Rattle.stream_engines.specs.Reports.{yes_data, numbers_data, value_data, values_data, key_data, keys_data, lost_data};
+ghost use Rattle.stream_engines.specs.Reports.{yes_line, numbers_data, value_data, values_data, key_data, keys_data, lost_data};
 ghost use Rattle.stream_engines.specs.Reports.{reason_word, doubted_keys, spent_data};
 
 use crate::own_parts::own_part;
 use crate::small_lines::small_line;
+use answer_hints::{average_text, hinted_yes};
 use events::Memory;
 use follower::{Doubt, Loss};
 use kept_keys::Configuration;
@@ -24,25 +24,11 @@ use outcomes::{Answer, Outcome, line_of};
 use serde_json::{Map, Value, put};
 use std::alloc::{AllocError, Global};
 
-/// The answer to a stream whose events have an order. Where there are two calls at least, and none overlaps another, a note says so.
+/// The answer to a stream whose events have an order, with its hint, where it has one.
 pub fn yes_outcome(alloc: Global, calls: usize, overlap: u64) -> Outcome
     ensures { IsYesOutcome calls overlap result }
 {
-    let line = yes_line(alloc, calls, overlap);
-    if calls < 2 || overlap > 0 {
-        return Outcome::answered(Answer::Yes, line);
-    }
-    Outcome::noted(Answer::Yes, line, overlap_note(alloc))
-}
-
-/// What is told of a yes where no call was open while another one began.
-fn overlap_note(alloc: Global) -> Result<String, AllocError>
-    ensures { IfOk result (λ text. string_bytes text ≡ overlap_note) }
-{
-    String::from_str(
-        alloc,
-        "note: no two calls overlap, and of such a history a yes says little\n",
-    )
+    hinted_yes(alloc, yes_line(alloc, calls, overlap), calls, overlap)
 }
 
 /// The answer where it is not known whether the events go wrong at this one, which answers the call of this number.
@@ -85,40 +71,17 @@ fn own_line(alloc: Global, loss: &Loss) -> Result<String, Memory>
     }
 }
 
-/// The line of a stream whose events have an order: how many calls there were, and how much they overlap.
+/// The line of a stream whose events have an order: how many calls there were, and how many other calls were open at an invocation, on
+/// average.
 fn yes_line(alloc: Global, calls: usize, overlap: u64) -> Result<String, AllocError>
-    ensures { IfOk result (λ text. string_bytes text ≡ line (compact_text (yes_data calls overlap))) }
+    ensures { IfOk result (λ text. string_bytes text ≡ yes_line calls overlap) }
 {
-    let value = yes_value(alloc, calls, overlap)?;
-    line_of(value.to_string(alloc)?)
-}
-
-fn yes_value(alloc: Global, calls: usize, overlap: u64) -> Result<Value, AllocError>
-    ensures { IfOk result (λ value. view value ≡ yes_data calls overlap) }
-{
-    let mut members = Map::new(alloc);
-    put_yes(alloc, &mut members, calls, overlap)?;
-    Ok(Value::Object(members))
-}
-
-/// Puts what is told of a yes into an object without members.
-fn put_yes(
-    alloc: Global,
-    members: &mut Map<String, Value>,
-    calls: usize,
-    overlap: u64,
-) -> Result<(), AllocError>
-    requires { members.old.entries ≡ [] }
-    ensures { OnOk result (object (members_view members.new.entries) ≡ yes_data calls overlap) }
-{
-    put(members, alloc, "calls", Value::from(calls))?;
-    put(members, alloc, "overlap", Value::from(overlap))?;
-    put(
-        members,
-        alloc,
-        "verdict",
-        Value::try_from_str(alloc, "yes")?,
-    )
+    let mut line = String::from_str(alloc, "{\"calls\":")?;
+    line.push_str(format!(in alloc; "{calls}")?.as_str())?;
+    line.push_str(",\"overlap\":")?;
+    line.push_str(average_text(alloc, calls, overlap)?.as_str())?;
+    line.push_str(",\"verdict\":\"yes\"}\n")?;
+    Ok(line)
 }
 
 /// The line of a stream that goes wrong.

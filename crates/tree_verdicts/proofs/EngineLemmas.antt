@@ -22,7 +22,8 @@ use Rattle.outcomes.specs.Ends.{Change, IsSound}
 use Rattle.outcomes.specs.Outcomes.{IsTextOutcome, IsUnread, IsReadOutcome}
 use Rattle.outcomes.specs.Runs.{Leaves, IsRun}
 use Rattle.outcomes.specs.Statuses.{answer_status}
-use Rattle.history_engines.specs.Answers.{IsJudgeAnswer, IsHistoryRefusal, answer_of}
+use Rattle.answer_hints.specs.Outcomes.{IsHintedOutcome, IsHintedRead}
+use Rattle.history_engines.specs.Answers.{IsJudgeAnswer, IsHintedJudgeAnswer, IsHistoryRefusal, answer_of}
 use Rattle.tree_verdicts.specs.Laws.{IsNoRefutation, LinearizableTextsAreNeverRefuted}
 use Rattle.tree_verdicts.specs.Writes.{output_of, IsNotNo, AreNeverRefuted, AreRefutedByNoRun, WasWritten}
 
@@ -97,10 +98,19 @@ pub run_never : (bytes : List ℕ) → AreNeverRefuted bytes → AreRefutedByNoR
 run_never bytes never before behind h k budget source output faults hints status reads run =
     no_status run.outcome output faults hints status (by_read run.comes) run.leaves
   where
-    by_read : IsReadOutcome (IsJudgeAnswer budget) IsHistoryRefusal source run.outcome → IsNotNo run.outcome
+    by_outcome : (outcome : Outcome)
+        → IsHintedOutcome (IsHintedJudgeAnswer budget) IsHistoryRefusal (Some (before ++ (bytes ++ behind))) outcome → IsNotNo outcome
+    by_outcome (Answered answer report) c = never before behind h k budget (Answered answer report) c.answered
+    by_outcome (Noted answer report note) c = never before behind h k budget (Answered answer report) c.answered
+    by_outcome (Refused report hint) c = tt
+    by_outcome Memory c = tt
+    by_outcome (Words report) c = tt
+    by_outcome Failed c = tt
+
+    by_read : IsHintedRead (IsHintedJudgeAnswer budget) IsHistoryRefusal source run.outcome → IsNotNo run.outcome
     by_read (inl u) = unread source run.outcome u
-    by_read (inr t) = never before behind h k budget run.outcome
-        (subst (λ told. IsTextOutcome (IsJudgeAnswer budget) IsHistoryRefusal told run.outcome) reads t.1)
+    by_read (inr t) = by_outcome run.outcome
+        (subst (λ told. IsHintedOutcome (IsHintedJudgeAnswer budget) IsHistoryRefusal told run.outcome) reads t.1)
 
 -- ---- what a run has written
 

@@ -1,15 +1,16 @@
 use Rattle.std.specs.Prelude.{refl}
 use Rattle.clap.specs.Walk.{texts}
-use Rattle.history_engines.specs.Answers.{IsCheckAnswer, IsHistoryRefusal, IsJudgeAnswer}
+use Rattle.history_engines.specs.Answers.{IsCheckAnswer, IsHistoryRefusal, IsHintedJudgeAnswer}
 use Rattle.location_engines.specs.Answers.{IsLocateAnswer}
 use Rattle.explain_engines.specs.Answers.{IsExplainAnswer}
 use Rattle.picture_engines.specs.Drawings.{IsViewAnswer}
+use Rattle.stream_engines.specs.Answers.{IsFollowAnswer, IsStreamRefusal}
 use Rattle.plan_engines.specs.Answers.{IsReplayAnswer, IsReplayRefusal}
 use Rattle.plan_engines.specs.Drives.{IsDriveAnswer, IsDriveRefusal}
 use Rattle.outcomes.specs.Ends.{change}
-use Rattle.line_outcomes.proofs.OutcomeLemmas.{read-words, fault-words}
+use Rattle.line_outcomes.proofs.OutcomeLemmas.{read-words, hinted-words, fault-words}
 use Rattle.bench.specs.Outcomes.{IsLineOutcome}
-use Rattle.bench.proofs.OutcomeLemmas.{drawn-words, followed-words}
+use Rattle.bench.proofs.OutcomeLemmas.{drawn-words}
 use Rattle.bench.proofs.command.run.Goals as goal
 
 pub returns-in-Check-clause-run : goal.returns-in-Check-clause-run
@@ -31,7 +32,7 @@ returns-in-Check-clause-run g c = record {
 pub returns-in-Judge-clause-run : goal.returns-in-Judge-clause-run
 returns-in-Judge-clause-run g c = record {
   outcome = c.run_judge.ensures.run.outcome;
-  comes = read-words IsLineOutcome (IsJudgeAnswer c.in-Judge.budget) IsHistoryRefusal (texts c.args.words.now)
+  comes = hinted-words IsLineOutcome (IsHintedJudgeAnswer c.in-Judge.budget) IsHistoryRefusal (texts c.args.words.now)
       (change g.S.Source.remaining g.S.Source.failures c.args.source.now c.run_judge.new.source) c.run_judge.ensures.run.outcome
       (λ comes. record {
         line = c.in-Ok.line;
@@ -96,7 +97,7 @@ returns-in-Draw-clause-run g c = record {
 pub returns-in-Follow-clause-run : goal.returns-in-Follow-clause-run
 returns-in-Follow-clause-run g c = record {
   outcome = c.run_follow.ensures.outcome;
-  comes = followed-words c.in-Follow.budget (texts c.args.words.now)
+  comes = hinted-words IsLineOutcome (IsFollowAnswer c.in-Follow.budget) IsStreamRefusal (texts c.args.words.now)
       (change g.S.Source.remaining g.S.Source.failures c.args.source.now c.run_follow.new.source) c.run_follow.ensures.outcome
       (λ comes. record {
         line = c.in-Ok.line;

@@ -1,8 +1,8 @@
 use Rattle.std.proofs.Common.{refl, inl}
 use Rattle.clap.specs.Walk.{texts}
-use Rattle.history_engines.specs.Answers.{IsCheckAnswer, IsHistoryRefusal, IsJudgeAnswer}
+use Rattle.history_engines.specs.Answers.{IsCheckAnswer, IsHistoryRefusal, IsHintedJudgeAnswer}
 use Rattle.outcomes.specs.Ends.{change}
-use Rattle.line_outcomes.proofs.OutcomeLemmas.{read-words, fault-words}
+use Rattle.line_outcomes.proofs.OutcomeLemmas.{read-words, hinted-words, fault-words}
 use Rattle.history_bench.specs.Outcomes.{IsHistoryLineOutcome}
 use Rattle.history_bench.proofs.command.run.Goals as goal
 
@@ -25,7 +25,7 @@ returns-in-Check-clause-run g c = record {
 pub returns-in-Judge-clause-run : goal.returns-in-Judge-clause-run
 returns-in-Judge-clause-run g c = record {
   outcome = c.run_judge.ensures.run.outcome;
-  comes = inl (read-words IsHistoryLineOutcome (IsJudgeAnswer c.in-Judge.budget) IsHistoryRefusal (texts c.args.words.now)
+  comes = inl (hinted-words IsHistoryLineOutcome (IsHintedJudgeAnswer c.in-Judge.budget) IsHistoryRefusal (texts c.args.words.now)
       (change g.S.Source.remaining g.S.Source.failures c.args.source.now c.run_judge.new.source) c.run_judge.ensures.run.outcome
       (λ comes. record {
         line = c.in-Ok.line;

@@ -21,8 +21,8 @@ IsTextOutcome-judged budget text verdict report answer (Ok f) outcome judged is 
 IsTextOutcome-judged budget text verdict report answer (Err e) outcome judged is full answered =
     subst (IsTextOutcome (IsJudgeAnswer budget) IsHistoryRefusal (Some text)) (sym answered) tt
 
-pub returns-in-Ok-clause-outcome : goal.returns-in-Ok-clause-outcome
-returns-in-Ok-clause-outcome c budget judged refused =
+pub returns-in-Ok : goal.returns-in-Ok
+returns-in-Ok c budget judged refused =
     IsTextOutcome-judged budget c.args.text.now c.in-Ok.verdict
     (string_bytes c.in-Ok.report) c.answer_of.result c.line_of.result c.answered.result (rw c.in-Ok.is at judged) c.answer_of.ensures
     c.line_of.ensures c.answered.ensures

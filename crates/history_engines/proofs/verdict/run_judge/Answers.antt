@@ -1,12 +1,12 @@
 use Rattle.std.specs.Prelude.{IfSome}
 use Rattle.history_text.specs.Limits.{text_limit}
-use Rattle.history_engines.specs.Answers.{IsJudgeAnswer, IsHistoryRefusal}
+use Rattle.history_engines.specs.Answers.{IsHintedJudgeAnswer, IsHistoryRefusal}
 use Rattle.judge.specs.Gates.{WasPassedForText}
 use Rattle.outcomes.specs.Ends.{change}
-use Rattle.outcomes.proofs.ReadText.{IsReadOutcome-read}
+use Rattle.answer_hints.proofs.ReadText.{IsHintedRead-read}
 use Rattle.outcomes.proofs.Reading.{IsTextRead-unread, told-status, unread-status}
 use Rattle.history_engines.proofs.PassedTexts.{passed-whole}
-use Rattle.history_engines.proofs.WholeHistories.{IsJudgeAnswer-whole, IsHistoryRefusal-whole}
+use Rattle.history_engines.proofs.WholeHistories.{IsHintedJudgeAnswer-whole, IsHistoryRefusal-whole}
 use Rattle.history_engines.proofs.verdict.run_judge.Goals as goal
 
 pub returns-in-Ok-clause-run : goal.returns-in-Ok-clause-run
@@ -15,8 +15,8 @@ returns-in-Ok-clause-run g c =
     let source = change g.S.Source.remaining g.S.Source.failures c.args.source.now c.text_from.new.source in
     record {
       outcome = c.judge_outcome-outcome.result;
-      comes = IsReadOutcome-read (IsJudgeAnswer budget) IsHistoryRefusal text_limit
-          (IsJudgeAnswer-whole budget) IsHistoryRefusal-whole source c.deref.result.now c.judge_outcome-outcome.result
+      comes = IsHintedRead-read (IsHintedJudgeAnswer budget) IsHistoryRefusal text_limit
+          (IsHintedJudgeAnswer-whole budget) IsHistoryRefusal-whole source c.deref.result.now c.judge_outcome-outcome.result
           (rw c.deref.ensures.value c.in-Ok.ensures.text) c.in-Ok.ensures.sound c.judge_outcome-outcome.ensures.outcome;
       leaves = c.write_outcome.ensures;
     }

@@ -25,9 +25,9 @@ returns-in-Ok-Event-clause-stopped c = λ told followed begins.
 
 pub returns-in-Err-clause-stopped : goal.returns-in-Err-clause-stopped
 returns-in-Err-clause-stopped c = λ told followed begins.
-    refused_at c.args.budget told [] c.args.line.now c.args.self 1 c.in-Err.fault c.refused_line.result followed refl
+    refused_at c.args.budget told [] c.args.line.now c.args.self 1 c.in-Err.fault c.refused_first.result followed refl
     c.in-Err.ensures.refused begins
-    c.refused_line.ensures
+    c.refused_first.ensures
 
 pub returns-in-Ok-Start-clause-stopped : goal.returns-in-Ok-Start-clause-stopped
 returns-in-Ok-Start-clause-stopped c = λ told followed begins. c.from_start.ensures.stopped told c.args.budget

@@ -1,4 +1,4 @@
--- How much the calls of a stream overlap.
+-- How much the calls of events overlap.
 use Rattle.std.specs.Prelude.{ℕ, ◌+◌, ◌-◌, ◌^◌, min, List, [], ◌∷◌}
 use Rattle.events.specs.declared.event.Event.{Event}
 use Rattle.events.specs.declared.event.Event.TheVariants.{Invoke, Answer}
@@ -15,6 +15,6 @@ overlap_after pending [] = 0
 overlap_after pending (Invoke process call ∷ events) = pending + overlap_after (pending + 1) events
 overlap_after pending (Answer process reply ∷ events) = overlap_after (pending - 1) events
 
--- the same of a whole stream, as far as 64 bits count
+-- the same of all events from the first on, as far as 64 bits count
 abbrev pub overlap_of : List Event → ℕ
 overlap_of events = min (overlap_after 0 events) (2 ^ 64 - 1)

@@ -1,0 +1,2 @@
+pub mod OverlapLemmas
+pub mod ReadText

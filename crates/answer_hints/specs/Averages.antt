@@ -1,0 +1,12 @@
+-- A number a call, as it is written.
+use Rattle.std.specs.Prelude.{ℕ, ◌*◌, ◌/◌, ◌%◌, max, List, ◌++◌, codes, decimal}
+
+-- how many hundredths a call there are of a sum over so many calls, rounded down; of no call as of one
+abbrev pub hundredths : ℕ → ℕ → ℕ
+hundredths calls total = total * 100 / max calls 1
+
+-- the same with two decimals
+abbrev pub average_text : ℕ → ℕ → List ℕ
+average_text calls total =
+    decimal (total / max calls 1) ++ codes "." ++ decimal (hundredths calls total / 10 % 10)
+    ++ decimal (hundredths calls total % 10)

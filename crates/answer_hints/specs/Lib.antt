@@ -1,0 +1,4 @@
+pub mod Overlaps
+pub mod Averages
+pub mod Hints
+pub mod Outcomes

@@ -1,0 +1,78 @@
+// Answers with what is told beside them.
+ghost use Rattle.std.specs.Prelude.{◌≡◌, if◌then◌else◌, ℕ, List, [], IfOk, string_bytes};
+ghost use Rattle.answer_hints.specs.Hints.{rare_hint, yes_hint, no_hint, undecided_hint};
+ghost use Rattle.answer_hints.specs.Outcomes.{IsHintedBy};
+ghost use Rattle.outcomes.specs.declared.outcome.Answer.TheVariants.{Yes, No, Undecided};
+
+use crate::average::{average_text, hundredths};
+use outcomes::{Answer, Outcome};
+use std::alloc::{AllocError, Global};
+
+/// An answer of yes with this line. Where there are two calls at least, and fewer than 0.1 other calls were open at an invocation on
+/// average, a hint tells how many.
+pub fn hinted_yes(
+    alloc: Global,
+    line: Result<String, AllocError>,
+    calls: usize,
+    overlap: u64,
+) -> Outcome
+    ensures { (bytes : List ℕ) → IfOk line (λ text. string_bytes text ≡ bytes)
+        → IsHintedBy Yes bytes (yes_hint calls overlap) result }
+{
+    if is_rare(calls, overlap) {
+        Outcome::noted(Answer::Yes, line, rare_hint(alloc, calls, overlap))
+    } else {
+        Outcome::answered(Answer::Yes, line)
+    }
+}
+
+/// An answer of no with this line, and the hint that `bench explain` names a few of the calls.
+pub fn hinted_no(alloc: Global, line: Result<String, AllocError>) -> Outcome
+    ensures { (bytes : List ℕ) → IfOk line (λ text. string_bytes text ≡ bytes) → IsHintedBy No bytes no_hint result }
+{
+    Outcome::noted(Answer::No, line, no_hint(alloc))
+}
+
+/// An answer that is undecided, with this line, and the hint that `bench locate` may decide it.
+pub fn hinted_undecided(alloc: Global, line: Result<String, AllocError>) -> Outcome
+    ensures { (bytes : List ℕ) → IfOk line (λ text. string_bytes text ≡ bytes)
+        → IsHintedBy Undecided bytes undecided_hint result }
+{
+    Outcome::noted(Answer::Undecided, line, undecided_hint(alloc))
+}
+
+/// Whether there are two calls at least, and fewer than 0.1 other calls were open at an invocation on average.
+fn is_rare(calls: usize, overlap: u64) -> bool
+    ensures { yes_hint calls overlap ≡ (if result then rare_hint calls overlap else []) }
+{
+    calls >= 2 && hundredths(calls, overlap) < 10
+}
+
+/// How few other calls were open at an invocation.
+fn rare_hint(alloc: Global, calls: usize, overlap: u64) -> Result<String, AllocError>
+    ensures { IfOk result (λ hint. string_bytes hint ≡ rare_hint calls overlap) }
+{
+    let mut hint = String::from_str(alloc, "note: ")?;
+    hint.push_str(average_text(alloc, calls, overlap)?.as_str())?;
+    hint.push_str(
+        " other calls were open at an invocation on average, and of calls that hardly overlap a yes says little\n",
+    )?;
+    Ok(hint)
+}
+
+/// What names a few of the calls.
+fn no_hint(alloc: Global) -> Result<String, AllocError>
+    ensures { IfOk result (λ hint. string_bytes hint ≡ no_hint) }
+{
+    String::from_str(
+        alloc,
+        "note: bench explain names a few of the calls that have no order by themselves\n",
+    )
+}
+
+/// What may decide it.
+fn undecided_hint(alloc: Global) -> Result<String, AllocError>
+    ensures { IfOk result (λ hint. string_bytes hint ≡ undecided_hint) }
+{
+    String::from_str(alloc, "note: bench locate may decide it\n")
+}
