@@ -1129,9 +1129,11 @@ func newProgram(o *options) *program {
 	}
 	p := &program{path, o.budget}
 	p.ask("explain", `{"events":[],"version":1}`+"\n", o.budget)
-	built := filepath.Join(filepath.Dir(path), "crates", "bench", "out", "bench") // by the repository's own bench
-	if _, err := os.Stat(built); err == nil {
-		p.path, _ = filepath.Abs(built)
+	for _, name := range []string{"judge_bench", "bench"} { // by the repository's own bench
+		built := filepath.Join(filepath.Dir(path), "crates", name, "out", name)
+		if _, err := os.Stat(built); err == nil {
+			p.path, _ = filepath.Abs(built)
+		}
 	}
 	return p
 }

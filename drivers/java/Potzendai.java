@@ -956,8 +956,11 @@ public final class Potzendai {
             String path = options.bench != null ? options.bench : System.getenv("POTZENDAI_BENCH");
             Program program = new Program(path != null ? path : Files.isExecutable(Path.of("bench")) ? "./bench" : "bench", options.budget);
             program.ask("explain", "{\"events\":[],\"version\":1}\n", options.budget);
-            Path built = Path.of(program.path).resolveSibling("crates/bench/out/bench"); // by the repository's own `bench`
-            return Files.isExecutable(built) ? new Program(built.toString(), options.budget) : program;
+            for (String name : List.of("bench", "judge_bench")) { // by the repository's own `bench`
+                Path built = Path.of(program.path).resolveSibling("crates/" + name + "/out/" + name);
+                if (Files.isExecutable(built)) return new Program(built.toString(), options.budget);
+            }
+            return program;
         }
 
         record Answer(int status, String text) { }

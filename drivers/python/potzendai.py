@@ -680,8 +680,9 @@ class Program(Judge):
     def __init__(self, options):
         self.path, self.budget = options.bench or os.environ.get("POTZENDAI_BENCH") or self.found(), options.budget
         self.ask("explain", '{"events":[],"version":1}\n', self.budget)
-        built = os.path.join(os.path.dirname(self.path), "crates", "bench", "out", "bench")
-        self.path = built if os.access(built, os.X_OK) else self.path  # what the repository's own `bench` has built by now
+        crates = os.path.join(os.path.dirname(self.path), "crates")
+        built = [os.path.join(crates, name, "out", name) for name in ("bench", "judge_bench")]  # by the repository's own `bench`
+        self.path = next((path for path in built if os.access(path, os.X_OK)), self.path)
 
     @staticmethod
     def found():

@@ -981,9 +981,12 @@ impl Program {
         let path = named.unwrap_or_else(|| if beside { "./bench" } else { "bench" }.to_string());
         let mut program = Program { path, budget: options.budget };
         program.ask("explain", "{\"events\":[],\"version\":1}\n", options.budget)?;
-        let built = std::path::Path::new(&program.path).with_file_name("crates/bench/out/bench");
-        if built.is_file() {
-            program.path = built.display().to_string(); // by the repository's own `bench`
+        let script = std::path::PathBuf::from(&program.path);
+        for name in ["judge_bench", "bench"] {
+            let built = script.with_file_name(format!("crates/{name}/out/{name}"));
+            if built.is_file() {
+                program.path = built.display().to_string(); // by the repository's own `bench`
+            }
         }
         Ok(program)
     }

@@ -19,7 +19,6 @@ import sys
 TOP = os.path.dirname(os.path.dirname(os.path.dirname(os.path.abspath(__file__))))
 PROGRAM = os.path.join(TOP, "crates", "bench", "out", "bench")
 EXAMPLES = os.path.join(TOP, "examples")
-ORDERED = os.path.join(EXAMPLES, "insert-then-get.json")
 SEED = 20_161_116
 TEXTS = 5000
 MOST_DAMAGES = 3
@@ -102,8 +101,8 @@ def fails(subcommand, text):
 
 def main():
     # Builds the program where that is still to do.
-    with open(ORDERED, "rb") as source:
-        subprocess.run([os.path.join(TOP, "bench"), "draw"], stdin=source, stdout=subprocess.DEVNULL, check=True)
+    with open(os.path.join(EXAMPLES, "kept-update-replay.json"), "rb") as source:
+        subprocess.run([os.path.join(TOP, "bench"), "replay"], stdin=source, stdout=subprocess.DEVNULL, check=True)
     chance = random.Random(SEED)
     examples = list(originals())
     texts = [(chance.choice(readers), damaged(text, chance)) for readers, text in chance.choices(examples, k=TEXTS)]

@@ -23,7 +23,7 @@ import resource
 import subprocess
 import sys
 
-from streams import BUDGET, ORDERED, PROGRAM, SEED, TOP, answer_of, drawn_history, examples, said, text_of
+from streams import BUDGET, PROGRAM, SEED, TOP, answer_of, drawn_history, examples, said, text_of
 
 HISTORIES = 300
 UNTOLD = ("done", "found", "other")
@@ -381,8 +381,8 @@ def long_explained(history):
 
 def main():
     # Builds the program where that is still to do.
-    with open(ORDERED, "rb") as source:
-        subprocess.run([os.path.join(TOP, "bench"), "draw"], stdin=source, stdout=subprocess.DEVNULL, check=True)
+    with open(os.path.join(TOP, "examples", "kept-update-replay.json"), "rb") as source:
+        subprocess.run([os.path.join(TOP, "bench"), "replay"], stdin=source, stdout=subprocess.DEVNULL, check=True)
     wanted = int(sys.argv[1]) if sys.argv[1:] else HISTORIES
     histories = list(examples())
     passed = failed = refuted = number = most = 0

@@ -234,8 +234,8 @@ def faults():
 
 def main():
     # Builds the program where that is still to do.
-    with open(os.path.join(TOP, "examples", "no-events.json"), "rb") as source:
-        subprocess.run([os.path.join(TOP, "bench"), "draw"], stdin=source, stdout=subprocess.DEVNULL, check=True)
+    with open(os.path.join(TOP, "examples", "kept-update-replay.json"), "rb") as source:
+        subprocess.run([os.path.join(TOP, "bench"), "replay"], stdin=source, stdout=subprocess.DEVNULL, check=True)
     passed = failed = 0
     for name, fault in faults():
         if fault is None:

@@ -76,8 +76,8 @@ def is_linearizable(words, got):
 
 def main():
     # Builds the program where that is still to do.
-    with open(os.path.join(EXAMPLES, "no-events.json"), "rb") as source:
-        subprocess.run([os.path.join(TOP, "bench"), "draw"], stdin=source, stdout=subprocess.DEVNULL, check=True)
+    with open(os.path.join(EXAMPLES, "kept-update-replay.json"), "rb") as source:
+        subprocess.run([os.path.join(TOP, "bench"), "replay"], stdin=source, stdout=subprocess.DEVNULL, check=True)
     passed = failed = runs = 0
     sweeps = []
     with tempfile.TemporaryDirectory() as folder:

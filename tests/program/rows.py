@@ -103,8 +103,8 @@ def difference(row):
 
 def build():
     """Builds the program where that is still to do."""
-    with open(os.path.join(EXAMPLES, "no-events.json"), "rb") as source:
-        subprocess.run([os.path.join(TOP, "bench"), "draw"], stdin=source, stdout=subprocess.DEVNULL, check=True)
+    with open(os.path.join(EXAMPLES, "kept-update-replay.json"), "rb") as source:
+        subprocess.run([os.path.join(TOP, "bench"), "replay"], stdin=source, stdout=subprocess.DEVNULL, check=True)
 
 
 def compare(rows, others=()):

@@ -28,7 +28,6 @@ import sys
 TOP = os.path.dirname(os.path.dirname(os.path.dirname(os.path.abspath(__file__))))
 PROGRAM = os.path.join(TOP, "crates", "bench", "out", "bench")
 EXAMPLES = os.path.join(TOP, "examples")
-ORDERED = os.path.join(EXAMPLES, "insert-then-get.json")
 SEED = 20_261_124
 STREAMS = 5000
 MOST_CALLS = 160
@@ -418,8 +417,8 @@ def examples():
 
 def main():
     # Builds the program where that is still to do.
-    with open(ORDERED, "rb") as source:
-        subprocess.run([os.path.join(TOP, "bench"), "draw"], stdin=source, stdout=subprocess.DEVNULL, check=True)
+    with open(os.path.join(EXAMPLES, "kept-update-replay.json"), "rb") as source:
+        subprocess.run([os.path.join(TOP, "bench"), "replay"], stdin=source, stdout=subprocess.DEVNULL, check=True)
     count = int(sys.argv[1]) if sys.argv[1:] else STREAMS
     failed = 0
     verdicts = {"yes": 0, "no": 0, "undecided": 0, "refused": 0}

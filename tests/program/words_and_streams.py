@@ -98,9 +98,9 @@ FAULTS = [
         "error: invalid value 'other' for '--tree <NAME>'\n  [possible values: locked, coupled, optimistic, read-unchecked, "
         "scan-unvalidated, lock-unchecked, early-release]",
     ),
-    ("help", "Judges recorded histories of a concurrent ordered map"),
-    ("--help", "Judges recorded histories of a concurrent ordered map"),
-    ("check --help", "Tells whether calls"),
+    ("help", "Tests whether recorded histories of a concurrent ordered map are linearizable"),
+    ("--help", "Tests whether recorded histories of a concurrent ordered map are linearizable"),
+    ("check --help", "Tells whether operations"),
 ]
 POINTER = "\n\nFor more information, try '--help'.\n"
 
@@ -123,8 +123,8 @@ JUDGE_HELP = """Tells whether the history on standard input is linearizable
 Usage: bench judge [OPTIONS]
 
 Options:
-      --budget <N>   How many configurations of each segment are searched at most, from 1 to 1000000 [default: 100000]
-      --workers <N>  How many workers search the segments side by side, from 1 to 64 [default: 1]
+      --budget <N>   How many states (configurations) the search of each partition meets at most, from 1 to 1000000 [default: 100000]
+      --workers <N>  How many workers search the partitions side by side, from 1 to 64 [default: 1]
   -h, --help         Print help
 """
 
@@ -272,8 +272,8 @@ def runs(folder):
 
 def main():
     # Builds the program where that is still to do.
-    with open(ORDERED, "rb") as source:
-        subprocess.run([os.path.join(TOP, "bench"), "draw"], stdin=source, stdout=subprocess.DEVNULL, check=True)
+    with open(os.path.join(EXAMPLES, "kept-update-replay.json"), "rb") as source:
+        subprocess.run([os.path.join(TOP, "bench"), "replay"], stdin=source, stdout=subprocess.DEVNULL, check=True)
     passed = failed = 0
     with tempfile.TemporaryDirectory() as folder:
         for shows, got, wanted in runs(folder):

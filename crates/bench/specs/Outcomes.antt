@@ -6,15 +6,11 @@ use Rattle.art_steps.specs.declared.variant.Variant.TheVariants as variants
 use Rattle.command_line.specs.declared.line.Tree.{Tree}
 use Rattle.command_line.specs.declared.line.Tree.TheVariants as trees
 use Rattle.command_line.specs.declared.line.Line.{Line}
-use Rattle.command_line.specs.declared.line.Line.TheVariants.{Check, Judge, Locate, Explain, Draw, Follow, Generate, Replay, Drive}
+use Rattle.command_line.specs.declared.line.Line.TheVariants.{Generate, Replay, Drive}
 use Rattle.locked_map.specs.Answers.{IsAnswerOf}
 use Rattle.outcomes.specs.declared.outcome.Outcome.{Outcome}
 use Rattle.outcomes.specs.Ends.{Change, IsUnused}
-use Rattle.history_engines.specs.Outcomes.{IsCheckOutcome, IsJudgeOutcome}
-use Rattle.location_engines.specs.Outcomes.{IsLocateOutcome}
-use Rattle.explain_engines.specs.Outcomes.{IsExplainOutcome}
-use Rattle.picture_engines.specs.Outcomes.{IsDrawOutcome}
-use Rattle.stream_engines.specs.Outcomes.{IsFollowOutcome}
+use Rattle.judge_lines.specs.Outcomes.{IsJudgeLineOutcome}
 use Rattle.plan_engines.specs.Outcomes.{IsDriveOutcome, IsGenerateOutcome, IsReplayOutcome, IsTreeDriveOutcome}
 
 -- the variant of a tree on shared words; the map under a lock is none
@@ -35,15 +31,9 @@ IsDrivenOutcome None shape limit source outcome = IsDriveOutcome IsAnswerOf sour
 
 -- the outcome of what a line asks for, whatever the number of workers
 abbrev pub IsLineOutcome : Line → Change → Outcome → Type 0
-IsLineOutcome (Check order) source outcome = IsCheckOutcome order.items source outcome
-IsLineOutcome (Judge budget workers) source outcome = IsJudgeOutcome budget source outcome
-IsLineOutcome (Locate budget) source outcome = IsLocateOutcome budget source outcome
-IsLineOutcome (Explain budget) source outcome = IsExplainOutcome budget source outcome
-IsLineOutcome (Draw budget workers around calls) source outcome =
-    IsDrawOutcome budget (record { around = around; calls = calls }) source outcome
-IsLineOutcome (Follow budget) source outcome = IsFollowOutcome budget source outcome
 IsLineOutcome (Generate seed processes calls get insert remove scan lo hi) source outcome = IsUnused source
     × IsGenerateOutcome seed (record { get = get; insert = insert; remove = remove; scan = scan; lo = lo; hi = hi }) processes calls outcome
 IsLineOutcome Replay source outcome = IsReplayOutcome source outcome
 IsLineOutcome (Drive tree rows4 rows16 rows48 rows256 limit) source outcome =
     IsDrivenOutcome (variant_of tree) (record { rows4 = rows4; rows16 = rows16; rows48 = rows48; rows256 = rows256 }) limit source outcome
+IsLineOutcome line source outcome = IsJudgeLineOutcome line source outcome

@@ -9,19 +9,15 @@ ghost use Rattle.bench.specs.Outcomes.{IsLineOutcome, variant_of};
 
 use art::{Shape, Variant};
 use command_line::{Line, Tree};
-use explain_engines::run_explain;
-use history_engines::{run_check, run_judge};
+use judge_lines::{Progress, run_line};
 use line_outcomes::asked_line;
-use location_engines::run_locate;
 use locked_map::LockedMap;
 use outcomes::write_outcome;
-use picture_engines::{View, run_draw};
 use plan_engines::{run_drive, run_generate, run_replay, run_tree_drive};
 use pool::OpenGate;
 use std::alloc::Global;
 use std::sync::Wait;
 use std::thread::Threads;
-use stream_engines::{Progress, run_follow};
 use streams::{Sink, Source};
 use workload::Mix;
 
@@ -58,28 +54,6 @@ pub fn run<R: Threads + Wait + Sync, S: Source, O: Sink, F: Sink, H: Sink, P: Pr
         Err(outcome) => return write_outcome(output, faults, hints, &outcome),
     };
     match line {
-        Line::Check { order } => run_check(alloc, source, output, faults, hints, &order),
-        Line::Judge { budget, workers } => {
-            run_judge(
-                rt, alloc, source, output, faults, hints, budget, workers, &OpenGate,
-            )
-        }
-        Line::Locate { budget } => run_locate(alloc, source, output, faults, hints, budget),
-        Line::Explain { budget } => run_explain(alloc, source, output, faults, hints, budget),
-        Line::Draw {
-            budget,
-            workers,
-            around,
-            calls,
-        } => {
-            let view = View { around, calls };
-            run_draw(
-                rt, alloc, source, output, faults, hints, budget, workers, view, &OpenGate,
-            )
-        }
-        Line::Follow { budget } => run_follow(
-            alloc, source, output, faults, hints, budget, progress,
-        ),
         Line::Generate {
             seed,
             processes,
@@ -124,6 +98,7 @@ pub fn run<R: Threads + Wait + Sync, S: Source, O: Sink, F: Sink, H: Sink, P: Pr
                 rt, alloc, source, output, faults, hints, shape, variant, limit, &OpenGate,
             )
         }
+        _ => run_line(rt, alloc, source, output, faults, hints, line, progress),
     }
 }
 

@@ -6,12 +6,11 @@
 #![tactic(auto)]
 
 mod command;
-mod progress;
 
 use command::run;
+use judge_lines::TerminalProgress;
 use line_outcomes::{texts_of, words_of};
 use outcomes::{Outcome, write_outcome};
-use progress::TerminalProgress;
 use std::process::ExitCode;
 use streams::{StandardError, StandardInput, StandardOutput, terminal_of};
 

@@ -98,7 +98,7 @@ fn calls_argument<'a>(alloc: Global) -> Arg<'a>
     ensures local { result.global ≡ false }
 {
     Arg::new(alloc, "CALL")
-        .help("The number of each call, in order")
+        .help("The number of each operation, by its invocation, from 0")
         .num_args(0..)
         .value_parser(ValueParser::unsigned(0, 4294967295))
 }

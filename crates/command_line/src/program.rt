@@ -5,7 +5,8 @@ use crate::table::{Subcommand, ValueOption, Values};
 pub(crate) const NAME: &str = "bench";
 
 /// What help says of the program.
-pub(crate) const ABOUT: &str = "Judges recorded histories of a concurrent ordered map";
+pub(crate) const ABOUT: &str =
+    "Tests whether recorded histories of a concurrent ordered map are linearizable";
 
 // An option with a default, which its help shows with the least number and the greatest.
 macro_rules! number_option {
@@ -45,10 +46,10 @@ macro_rules! budget_option {
 macro_rules! search_options {
     ($($other:expr),*) => {
         &[
-            budget_option!("How many configurations of each segment are searched at most"),
+            budget_option!("How many states (configurations) the search of each partition meets at most"),
             number_option!(
                 "workers",
-                "How many workers search the segments side by side",
+                "How many workers search the partitions side by side",
                 1 to 64,
                 default 1
             ),
@@ -61,7 +62,7 @@ macro_rules! search_options {
 pub(crate) static SUBCOMMANDS: [Subcommand<'static>; 9] = [
     Subcommand {
         name: "check",
-        about: "Tells whether calls, in this order, are an order of the history on standard input",
+        about: "Tells whether operations, in this order, are a linearization of the history on standard input",
         options: &[],
         takes_calls: true,
     },
@@ -73,15 +74,17 @@ pub(crate) static SUBCOMMANDS: [Subcommand<'static>; 9] = [
     },
     Subcommand {
         name: "locate",
-        about: "Tells at which event the history on standard input stops being linearizable",
-        options: &[budget_option!("How many positions each search at one key reaches at most")],
+        about: "Tells at which response the history on standard input stops being linearizable",
+        options: &[budget_option!(
+            "How many states (positions) each search at one key meets at most"
+        )],
         takes_calls: false,
     },
     Subcommand {
         name: "explain",
-        about: "Tells of few calls of the history on standard input that are not linearizable, and why",
+        about: "Shrinks the history on standard input to few operations that are not linearizable, and tells why",
         options: &[budget_option!(
-            "How many configurations of each segment are searched at most, and of some of its calls"
+            "How many states (configurations) the search of each partition, or of some of its operations, meets at most"
         )],
         takes_calls: false,
     },
@@ -97,7 +100,7 @@ pub(crate) static SUBCOMMANDS: [Subcommand<'static>; 9] = [
             ),
             number_option!(
                 "calls",
-                "For how many calls there is room; 0 draws the whole history",
+                "For how many operations there is room; 0 draws the whole history",
                 0 to 4096,
                 default 20
             )
@@ -106,23 +109,23 @@ pub(crate) static SUBCOMMANDS: [Subcommand<'static>; 9] = [
     },
     Subcommand {
         name: "follow",
-        about: "Tells as they come whether the events on standard input, one a line, are linearizable",
+        about: "Monitors the events on standard input, one a line: tells at each response whether they are linearizable",
         options: &[budget_option!(
-            "How many positions a search at one key may reach, from one value of it"
+            "How many states (positions) a search at one key meets at most, from one value of it"
         )],
         takes_calls: false,
     },
     Subcommand {
         name: "generate",
-        about: "Draws a plan: a script of calls for each process",
+        about: "Draws a workload (plan): a script of operations for each process",
         options: &[
-            required_option!("seed", "From what the calls are drawn", u64::MAX),
+            required_option!("seed", "From what the operations are drawn", u64::MAX),
             required_option!("processes", "How many processes there are"),
-            required_option!("calls", "How many calls each process has"),
-            required_option!("get", "How many of a hundred calls are gets"),
-            required_option!("insert", "How many of a hundred calls are inserts"),
-            required_option!("remove", "How many of a hundred calls are removes"),
-            required_option!("scan", "How many of a hundred calls are scans"),
+            required_option!("calls", "How many operations each process has"),
+            required_option!("get", "How many of a hundred operations are gets"),
+            required_option!("insert", "How many of a hundred operations are inserts"),
+            required_option!("remove", "How many of a hundred operations are removes"),
+            required_option!("scan", "How many of a hundred operations are scans"),
             required_option!("lo", "The least key"),
             required_option!("hi", "The greatest key"),
         ],
@@ -130,13 +133,13 @@ pub(crate) static SUBCOMMANDS: [Subcommand<'static>; 9] = [
     },
     Subcommand {
         name: "replay",
-        about: "Runs the replay on standard input, and writes the history that it records",
+        about: "Runs trees by the schedule (replay) on standard input, and writes the history that is recorded",
         options: &[],
         takes_calls: false,
     },
     Subcommand {
         name: "drive",
-        about: "Does the plan on standard input at a map, and writes the history that it records",
+        about: "Does the workload (plan) on standard input at a map, by threads, and writes the history that is recorded",
         options: &[
             ValueOption {
                 name: "tree",
@@ -152,11 +155,11 @@ pub(crate) static SUBCOMMANDS: [Subcommand<'static>; 9] = [
                 ]),
                 default: Some(2),
             },
-            number_option!("rows4", "How many rows with up to 4 children its table has", 0 to 4096, default 1024),
-            number_option!("rows16", "How many rows with up to 16 children its table has", 0 to 1024, default 256),
-            number_option!("rows48", "How many rows with up to 48 children its table has", 0 to 256, default 64),
-            number_option!("rows256", "How many rows with up to 256 children its table has", 1 to 64, default 16),
-            number_option!("limit", "How many steps a call has at most before it is left pending", 1 to 1_000_000, default 1_000_000),
+            number_option!("rows4", "How many nodes (rows) with up to 4 children its tree may have", 0 to 4096, default 1024),
+            number_option!("rows16", "How many nodes (rows) with up to 16 children its tree may have", 0 to 1024, default 256),
+            number_option!("rows48", "How many nodes (rows) with up to 48 children its tree may have", 0 to 256, default 64),
+            number_option!("rows256", "How many nodes (rows) with up to 256 children its tree may have", 1 to 64, default 16),
+            number_option!("limit", "How many steps an operation has at most before it is left pending", 1 to 1_000_000, default 1_000_000),
         ],
         takes_calls: false,
     },

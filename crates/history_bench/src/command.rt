@@ -4,12 +4,12 @@ ghost use Rattle.clap.specs.Walk.{texts};
 ghost use Rattle.outcomes.specs.Ends.{change};
 ghost use Rattle.outcomes.specs.Runs.{IsRun};
 ghost use Rattle.outcomes.specs.Statuses.{words_status};
-ghost use Rattle.history_bench.specs.Outcomes.{IsElsewhereOutcome, IsHistoryWordsOutcome};
+ghost use Rattle.history_bench.specs.Outcomes.{IsHistoryWordsOutcome};
 
 use command_line::Line;
 use history_engines::{run_check, run_judge};
-use line_outcomes::asked_line;
-use outcomes::{Outcome, write_outcome};
+use line_outcomes::{asked_line, elsewhere};
+use outcomes::write_outcome;
 use pool::OpenGate;
 use std::alloc::Global;
 use std::thread::Threads;
@@ -52,16 +52,9 @@ pub fn run<R: Threads + Sync, S: Source, O: Sink, F: Sink, H: Sink>(
                 rt, alloc, source, output, faults, hints, budget, workers, &OpenGate,
             )
         }
-        _ => write_outcome(output, faults, hints, &elsewhere(alloc)),
-    }
-}
-
-/// That the words ask for what this part of the program does not do.
-fn elsewhere(alloc: Global) -> Outcome
-    ensures { IsElsewhereOutcome result }
-{
-    match String::from_str(alloc, "error: this program checks and judges alone\n") {
-        Ok(text) => Outcome::Words(text),
-        Err(_) => Outcome::Memory,
+        _ => {
+            let outcome = elsewhere(alloc, "error: this program checks and judges alone\n");
+            write_outcome(output, faults, hints, &outcome)
+        }
     }
 }

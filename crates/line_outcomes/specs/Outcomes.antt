@@ -1,5 +1,5 @@
 -- How a run comes out, for the words of the command line and the text on the source.
-use Rattle.std.specs.Prelude.{⊤, List}
+use Rattle.std.specs.Prelude.{◌≡◌, ⊤, ◌⊎◌, ℕ, List, string_bytes}
 use Rattle.clap.specs.Words.{Text}
 use Rattle.command_line.specs.declared.line.Line.{Line}
 use Rattle.command_line.specs.declared.fault.LineFault.TheVariants as line_faults
@@ -7,7 +7,7 @@ use Rattle.command_line.specs.Lines.{IsLineOf}
 use Rattle.command_line.specs.LineFaults.{IsAccepted, IsFaultAt}
 use Rattle.outcomes.specs.declared.outcome.Outcome.{Outcome}
 use Rattle.outcomes.specs.declared.outcome.Outcome.TheVariants.{Memory, Words}
-use Rattle.outcomes.specs.Ends.{Change, IsSound}
+use Rattle.outcomes.specs.Ends.{Change, IsSound, IsUnused}
 
 -- the outcome of words that ask for no line: they have a fault, with this text; or memory was wanting
 abbrev pub IsFaultOutcome : List Text → Outcome → Type 0
@@ -29,3 +29,25 @@ abbrev pub IsWordsOutcome : (Line → Change → Outcome → Type 0) → List Te
 IsWordsOutcome IsLineOutcome words source (Words text) = IsFaultAt words (line_faults.Line text) × IsSound source
 IsWordsOutcome IsLineOutcome words source Memory = IsSound source
 IsWordsOutcome IsLineOutcome words source outcome = IsAskedOutcome IsLineOutcome words source outcome
+
+-- the outcome of a line that a part of the program does not do: it is told this, or memory was wanting
+abbrev pub IsElsewhereOutcome : List ℕ → Outcome → Type 0
+IsElsewhereOutcome told (Words text) = string_bytes text ≡ told
+IsElsewhereOutcome told Memory = ⊤
+IsElsewhereOutcome told outcome = ⊥
+
+-- the words ask for such a line, and nothing is read
+pub record AsksElsewhere (IsElsewhere : Line → Type 0) (told : List ℕ) (words : List Text) (source : Change) (outcome : Outcome)
+    : Type 0 where
+  pub line : Line
+  pub accepted : IsAccepted words
+  pub asked : IsLineOf words line
+  pub other : IsElsewhere line
+  pub comes : IsElsewhereOutcome told outcome
+  pub unused : IsUnused source
+
+-- the outcome of a run of a part of the program with these words: what they ask for, or the fault that they have, or that they ask for
+-- what the part does not do
+abbrev pub IsPartOutcome : (Line → Change → Outcome → Type 0) → (Line → Type 0) → List ℕ → List Text → Change → Outcome → Type 0
+IsPartOutcome IsLineOutcome IsElsewhere told words source outcome =
+    IsWordsOutcome IsLineOutcome words source outcome ⊎ AsksElsewhere IsElsewhere told words source outcome

@@ -3,7 +3,7 @@ ghost use Rattle.std.specs.Prelude.{◌≡◌, IfErr, IfOk, map, string_bytes};
 ghost use Rattle.clap.specs.Walk.{texts};
 ghost use Rattle.command_line.specs.LineFaults.{IsAccepted};
 ghost use Rattle.command_line.specs.Lines.{IsLineOf, IsWithinLimits};
-ghost use Rattle.line_outcomes.specs.Outcomes.{IsFaultOutcome};
+ghost use Rattle.line_outcomes.specs.Outcomes.{IsElsewhereOutcome, IsFaultOutcome};
 
 use command_line::{Line, LineFault, read_line};
 use outcomes::Outcome;
@@ -49,5 +49,15 @@ pub fn asked_line(alloc: Global, words: &[&str]) -> Result<Line, Outcome>
         Ok(line) => Ok(line),
         Err(LineFault::Line(text)) => Err(Outcome::Words(text)),
         Err(LineFault::Memory) => Err(Outcome::Memory),
+    }
+}
+
+/// That the words ask for what a part of the program does not do: it is told so.
+pub fn elsewhere(alloc: Global, told: &str) -> Outcome
+    ensures { IsElsewhereOutcome told.now result }
+{
+    match String::from_str(alloc, told) {
+        Ok(text) => Outcome::Words(text),
+        Err(_) => Outcome::Memory,
     }
 }

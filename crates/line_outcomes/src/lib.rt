@@ -5,4 +5,4 @@
 
 mod asking;
 
-pub use asking::{asked_line, texts_of, words_of};
+pub use asking::{asked_line, elsewhere, texts_of, words_of};

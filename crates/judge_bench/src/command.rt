@@ -1,0 +1,47 @@
+// What the words of the command line ask of a history or of a stream, done.
+ghost use Rattle.std.specs.Prelude.{◌≡◌, ◌<◌};
+ghost use Rattle.clap.specs.Walk.{texts};
+ghost use Rattle.outcomes.specs.Ends.{change};
+ghost use Rattle.outcomes.specs.Runs.{IsRun};
+ghost use Rattle.outcomes.specs.Statuses.{words_status};
+ghost use Rattle.judge_bench.specs.Outcomes.{IsJudgeWordsOutcome};
+
+use judge_lines::{Progress, run_line};
+use line_outcomes::asked_line;
+use outcomes::write_outcome;
+use std::alloc::Global;
+use std::thread::Threads;
+use streams::{Sink, Source};
+
+/// Does what the words of the command line ask of a history or of a stream, the program's name first, and answers the exit status. Words
+/// that ask for a plan or a tree are told that it has none. How far a stream was followed is shown.
+pub fn run<R: Threads + Sync, S: Source, O: Sink, F: Sink, H: Sink, P: Progress>(
+    rt: &R,
+    alloc: Global,
+    source: &mut S,
+    output: &mut O,
+    faults: &mut F,
+    hints: &mut H,
+    words: &[&str],
+    progress: &mut P,
+) -> u8
+    requires source { S.failures source.old < u64.MAX }
+    requires output { O.failures output.old < u64.MAX }
+    requires faults { F.failures faults.old < u64.MAX }
+    requires hints { H.failures hints.old < u64.MAX }
+
+    // What the words ask for comes out so, or the fault that they have, or that they ask for something else.
+    ensures run { IsRun
+        (IsJudgeWordsOutcome (texts words.entry.now) (change S.remaining S.failures source.old source.new))
+        (change O.written O.failures output.old output.new)
+        (change F.written F.failures faults.old faults.new)
+        (change H.written H.failures hints.old hints.new) result }
+
+    // For words with a fault, and for those that ask for something else, nothing is read.
+    ensures unread { result ≡ words_status → source.new ≡ source.old }
+{
+    match asked_line(alloc, words) {
+        Ok(line) => run_line(rt, alloc, source, output, faults, hints, line, progress),
+        Err(outcome) => write_outcome(output, faults, hints, &outcome),
+    }
+}

@@ -1,0 +1,44 @@
+//! The program's part that judges histories and streams, and tells where and why one goes wrong: it stands on no tree and on no
+//! plan, so that it is proved and built in a fraction of the time.
+//!
+//! It takes the words of the whole program, and what it does for them is what the whole program does. Words that ask for
+//! a plan or a tree are refused, and nothing is read for them.
+#![tactic(auto)]
+
+mod command;
+
+use command::run;
+use judge_lines::TerminalProgress;
+use line_outcomes::{texts_of, words_of};
+use outcomes::{Outcome, write_outcome};
+use std::process::ExitCode;
+use streams::{StandardError, StandardInput, StandardOutput, terminal_of};
+
+fn main(rt: HostRuntime) -> ExitCode {
+    let mut source = StandardInput::new(rt.stdin());
+    let mut output = StandardOutput::new(rt.stdout());
+    let mut faults = StandardError::new(rt.stderr());
+    let mut hints = terminal_of(rt.stderr());
+    let mut progress = TerminalProgress::new(&rt, rt.stderr());
+    let words = match words_of(&rt, rt.alloc()) {
+        Ok(words) => words,
+        Err(outcome) => {
+            let status = write_outcome(&mut output, &mut faults, &mut hints, &outcome);
+            return ExitCode::from(status);
+        }
+    };
+    let status = match texts_of(rt.alloc(), &words) {
+        Ok(texts) => run(
+            &rt,
+            rt.alloc(),
+            &mut source,
+            &mut output,
+            &mut faults,
+            &mut hints,
+            &texts,
+            &mut progress,
+        ),
+        Err(_) => write_outcome(&mut output, &mut faults, &mut hints, &Outcome::Memory),
+    };
+    ExitCode::from(status)
+}

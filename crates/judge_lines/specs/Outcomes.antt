@@ -1,0 +1,38 @@
+-- How a run comes out, for what a line asks of a history or of a stream.
+use Rattle.std.specs.Prelude.{⊤, ℕ, List, codes}
+use Rattle.command_line.specs.declared.line.Line.{Line}
+use Rattle.command_line.specs.declared.line.Line.TheVariants.{Check, Judge, Locate, Explain, Draw, Follow}
+use Rattle.outcomes.specs.declared.outcome.Outcome.{Outcome}
+use Rattle.outcomes.specs.Ends.{Change, IsUnused}
+use Rattle.outcomes.specs.Lines.{line}
+use Rattle.history_engines.specs.Outcomes.{IsCheckOutcome, IsJudgeOutcome}
+use Rattle.location_engines.specs.Outcomes.{IsLocateOutcome}
+use Rattle.explain_engines.specs.Outcomes.{IsExplainOutcome}
+use Rattle.picture_engines.specs.Outcomes.{IsDrawOutcome}
+use Rattle.stream_engines.specs.Outcomes.{IsFollowOutcome}
+use Rattle.line_outcomes.specs.Outcomes.{IsElsewhereOutcome}
+
+-- a line that asks for a plan or a tree
+abbrev pub AsksForTrees : Line → Type 0
+AsksForTrees (Check order) = ⊥
+AsksForTrees (Judge budget workers) = ⊥
+AsksForTrees (Locate budget) = ⊥
+AsksForTrees (Explain budget) = ⊥
+AsksForTrees (Draw budget workers around calls) = ⊥
+AsksForTrees (Follow budget) = ⊥
+AsksForTrees other = ⊤
+
+-- what is told for such a line
+abbrev pub no_trees_line : List ℕ
+no_trees_line = line (codes "error: this program has no plans and no trees")
+
+-- the outcome of what a line asks of a history or of a stream, whatever the number of workers; another is told that it has nothing here
+abbrev pub IsJudgeLineOutcome : Line → Change → Outcome → Type 0
+IsJudgeLineOutcome (Check order) source outcome = IsCheckOutcome order.items source outcome
+IsJudgeLineOutcome (Judge budget workers) source outcome = IsJudgeOutcome budget source outcome
+IsJudgeLineOutcome (Locate budget) source outcome = IsLocateOutcome budget source outcome
+IsJudgeLineOutcome (Explain budget) source outcome = IsExplainOutcome budget source outcome
+IsJudgeLineOutcome (Draw budget workers around calls) source outcome =
+    IsDrawOutcome budget (record { around = around; calls = calls }) source outcome
+IsJudgeLineOutcome (Follow budget) source outcome = IsFollowOutcome budget source outcome
+IsJudgeLineOutcome other source outcome = IsUnused source × IsElsewhereOutcome no_trees_line outcome

@@ -1,0 +1,79 @@
+// What a line asks of a history or of a stream, done.
+ghost use Rattle.std.specs.Prelude.{◌≡◌, ◌<◌};
+ghost use Rattle.command_line.specs.Lines.{IsWithinLimits};
+ghost use Rattle.outcomes.specs.Ends.{change};
+ghost use Rattle.outcomes.specs.Runs.{IsRun};
+ghost use Rattle.outcomes.specs.Statuses.{words_status};
+ghost use Rattle.judge_lines.specs.Outcomes.{IsJudgeLineOutcome};
+
+use command_line::Line;
+use explain_engines::run_explain;
+use history_engines::{run_check, run_judge};
+use line_outcomes::elsewhere;
+use location_engines::run_locate;
+use outcomes::write_outcome;
+use picture_engines::{View, run_draw};
+use pool::OpenGate;
+use std::alloc::Global;
+use std::thread::Threads;
+use stream_engines::{Progress, run_follow};
+use streams::{Sink, Source};
+
+/// Does what a line asks of a history or of a stream, and answers the exit status; a line that asks for a plan or a tree is told that it
+/// has none here. Its numbers are within their limits. Nothing stops workers before a segment that they search; how far a stream was
+/// followed is shown.
+pub fn run_line<R: Threads + Sync, S: Source, O: Sink, F: Sink, H: Sink, P: Progress>(
+    rt: &R,
+    alloc: Global,
+    source: &mut S,
+    output: &mut O,
+    faults: &mut F,
+    hints: &mut H,
+    line: Line,
+    progress: &mut P,
+) -> u8
+    requires source { S.failures source.old < u64.MAX }
+    requires output { O.failures output.old < u64.MAX }
+    requires faults { F.failures faults.old < u64.MAX }
+    requires hints { H.failures hints.old < u64.MAX }
+    requires limits { IsWithinLimits line }
+
+    // What the line asks for comes out so.
+    ensures run { IsRun
+        (IsJudgeLineOutcome line (change S.remaining S.failures source.old source.new))
+        (change O.written O.failures output.old output.new)
+        (change F.written F.failures faults.old faults.new)
+        (change H.written H.failures hints.old hints.new) result }
+
+    // For a line that has nothing here, nothing is read.
+    ensures unread { result ≡ words_status → source.new ≡ source.old }
+{
+    match line {
+        Line::Check { order } => run_check(alloc, source, output, faults, hints, &order),
+        Line::Judge { budget, workers } => {
+            run_judge(
+                rt, alloc, source, output, faults, hints, budget, workers, &OpenGate,
+            )
+        }
+        Line::Locate { budget } => run_locate(alloc, source, output, faults, hints, budget),
+        Line::Explain { budget } => run_explain(alloc, source, output, faults, hints, budget),
+        Line::Draw {
+            budget,
+            workers,
+            around,
+            calls,
+        } => {
+            let view = View { around, calls };
+            run_draw(
+                rt, alloc, source, output, faults, hints, budget, workers, view, &OpenGate,
+            )
+        }
+        Line::Follow { budget } => run_follow(
+            alloc, source, output, faults, hints, budget, progress,
+        ),
+        _ => {
+            let outcome = elsewhere(alloc, "error: this program has no plans and no trees\n");
+            write_outcome(output, faults, hints, &outcome)
+        }
+    }
+}
