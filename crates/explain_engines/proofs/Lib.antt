@@ -1,7 +1,6 @@
 mod FrontLemmas
 mod LineLemmas
 mod LongestLemmas
-mod NoneLemmas
 mod OriginLemmas
 mod OutcomeLemmas
 mod RowLemmas

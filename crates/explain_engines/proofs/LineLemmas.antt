@@ -7,7 +7,6 @@ use Rattle.explaining.specs.Explained.{IsExplanation}
 use Rattle.explain_engines.specs.Reports.{rows}
 use Rattle.explain_engines.specs.Answers.{AreHistoryLines, AreOriginLines, AreDetailsOf}
 
-
 -- few calls in a line each, with the lines of the values that come from outside of them, and that of a history with them
 pub few_from : (budget : ℕ) (history : HistoryView) (segment : SegmentView) (few : Explanation) (first outside small more bytes : List ℕ)
     → IsExplanation segment.start segment.calls budget few → first ≡ rows history few.calls.items few.reasons.items

@@ -28,7 +28,7 @@ judged-words L (Explain budget) words source outcome here ask comes =
     read-words L (IsExplainAnswer budget) IsHistoryRefusal words source outcome ask comes
 judged-words L (Draw budget workers around calls) words source outcome here ask comes =
     read-words L (IsViewAnswer budget (record { around = around; calls = calls })) IsHistoryRefusal words source outcome ask comes
-judged-words L (Follow budget) words source outcome here ask comes = 
+judged-words L (Follow budget) words source outcome here ask comes =
     hinted-words L (IsFollowAnswer budget) IsStreamRefusal words source outcome ask comes
 judged-words L (Generate seed processes calls get insert remove scan lo hi) words source outcome here ask comes = absurd (here tt)
 judged-words L Replay words source outcome here ask comes = absurd (here tt)

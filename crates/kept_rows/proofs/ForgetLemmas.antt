@@ -1,6 +1,6 @@
 -- Scans that are left at no key of a row may be forgotten, with their turns: what is said of them is said of forgotten scans from then on.
-use Rattle.std.proofs.Common.{◌≡◌, ℕ, ◌*◌, ◌<◌, ◌≤◌, ◌&&◌, not, Bool, true, false, List, [], ◌∷◌, ◌++◌, filter, zip, Option, Some}
-use Rattle.std.proofs.Common.{refl, sym, ap, ap₂, ◌∙◌, subst, ⊎_elim, inl, inr}
+use Rattle.std.proofs.Common.{◌≡◌, ℕ, ◌*◌, ◌<◌, ◌&&◌, not, Bool, true, false, List, [], ◌∷◌, ◌++◌, filter, zip, Some}
+use Rattle.std.proofs.Common.{refl, sym, ap, ◌∙◌, subst, ⊎_elim, inl, inr}
 use Rattle.std.specs.Prelude.{◌≢◌, ◌⊎◌, nat_le, nat_lt, All, AllPairs, Any, Contains}
 use Rattle.std.specs.List.{AllZip}
 use Rattle.std.proofs.lemmas.Bool.{and_parts, and_from, both_ways, not-true, not_from_false, false_from_ne_true, false≢true, leb-true}
@@ -8,7 +8,6 @@ use Rattle.std.proofs.lemmas.List.Elements.{All-append, All-cons, All-contains, 
 use Rattle.std.proofs.lemmas.List.Elements.{Contains-append_left, Contains-append_right, Contains-append_cases}
 use Rattle.events.specs.declared.event.Event.{Event}
 use Rattle.events.specs.declared.operation.Operation.{Operation}
-use Rattle.events.specs.declared.operation.Response.{Response}
 use Rattle.events.specs.Operations.{operations}
 use Rattle.list_laws.specs.Lists.{has_number}
 use Rattle.list_laws.proofs.FilterLemmas.{Contains-filter, Contains-from_filter, Contains-from_map}
@@ -24,7 +23,6 @@ use Rattle.following.specs.rows.Comparisons.{Comparison, Behind, Before, InTurn,
 use Rattle.following.specs.rows.ExactMoments.{SayExactly, HasRank, places_by}
 use Rattle.following.specs.rows.Fixed.{IsBefore, IsBehind, IsParted, ComesFirst}
 use Rattle.following.specs.rows.Rows.{Row, RowHolds, RowsStandFor, IsWithin}
-use Rattle.following.specs.rows.Twins.{IsTimingAt}
 use Rattle.following_reads.specs.Reads.{AreFixedUpToReads}
 use Rattle.following.proofs.keys.ChoiceLemmas.{any_from, any_to}
 use Rattle.following.proofs.moments.KindLemmas.{is_part}

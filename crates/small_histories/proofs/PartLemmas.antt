@@ -3,21 +3,17 @@ use Rattle.std.proofs.Common.{◌≡◌, ◌≢◌, ℕ, ◌<◌, ◌≤◌, tru
 use Rattle.std.proofs.Common.{⊎_elim, subst, arith}
 use Rattle.std.specs.Prelude.{All, AllPairs, Contains, IfSome, slice_get}
 use Rattle.std.proofs.lemmas.Bool.{cases_order, le-ltb, lt-ltb, ltb-true}
-use Rattle.std.proofs.lemmas.List.Elements.{All-append, All-contains, All-head, All-tail, All-weaker}
+use Rattle.std.proofs.lemmas.List.Elements.{All-contains, All-head, All-tail, All-weaker}
 use Rattle.std.proofs.lemmas.List.Elements.{Contains-append_left, Contains-append_right, Contains-append_cases}
 use Rattle.events.specs.declared.operation.Operation.{Operation}
 use Rattle.events.specs.declared.operation.Response.{Response}
 use Rattle.events.specs.Precedence.{is_before}
-use Rattle.list_laws.proofs.Lists.{All-front, All-back, AllPairs-append, AllPairs-front, AllPairs-back, AllPairs-across, AllPairs-at}
+use Rattle.list_laws.proofs.Lists.{All-back, AllPairs-append, AllPairs-front, AllPairs-back, AllPairs-across, AllPairs-at}
 use Rattle.list_laws.proofs.Lists.{AllPairs-head, AllPairs-tail, Contains-later, Contains-take}
 use Rattle.list_laws.proofs.NumberLemmas.{greatest_bound}
 use Rattle.small_histories.specs.Seats.{place_in, begun_of, IsAnsweredAs}
 
 -- ---- a list without one of its elements
-
-pub All-without : {X : Type 0} (P : X → Type 0) (front : List X) (x : X) (back : List X) → All P (front ++ x ∷ back) → All P (front ++ back)
-All-without P front x back h =
-    All-append P front back (All-front P front (x ∷ back) h) (All-tail P x back (All-back P front (x ∷ back) h))
 
 pub All-middle : {X : Type 0} (P : X → Type 0) (front : List X) (x : X) (back : List X) → All P (front ++ x ∷ back) → P x
 All-middle P front x back h = All-head P x back (All-back P front (x ∷ back) h)

@@ -1,7 +1,7 @@
 -- What events come to where all calls have begun and no open one is left that ends.
-use Rattle.std.proofs.Common.{◌≡◌, ◌≢◌, ℕ, ◌<◌, ◌≤◌, true, List, [], length, get_or, Option, Some, None, refl, sym, ap, ◌∙◌}
+use Rattle.std.proofs.Common.{◌≡◌, ℕ, ◌<◌, ◌≤◌, true, List, length, get_or, Option, Some, None, refl, sym, ap, ◌∙◌}
 use Rattle.std.proofs.Common.{⊎_elim, inl, inr, subst, arith}
-use Rattle.std.specs.Prelude.{All, AllPairs, Contains, IfSome, nat_lt, nat_le, slice_get}
+use Rattle.std.specs.Prelude.{All, Contains, IfSome, nat_lt, nat_le, slice_get}
 use Rattle.std.proofs.lemmas.Bool.{and_from, lt-ltb, le-leb}
 use Rattle.std.proofs.lemmas.List.Elements.{All-contains, All-weaker}
 use Rattle.std.proofs.lemmas.List.Sums.{list_all-from_AllPass}
@@ -21,26 +21,6 @@ use Rattle.small_histories.specs.Seats.{place_in, reply_at, IsSeat, IsAnsweredAs
 use Rattle.small_histories.specs.declared.seats.Seat.{Seat}
 use Rattle.small_histories.proofs.OtherLemmas.{all_shaped, all_small, few_calls}
 use Rattle.small_histories.proofs.PartLemmas.{answered_parts}
-
--- no call has begun
-pub none_seated : (calls : List Operation) (free : List ℕ) → All (λ p. p < process_limit) free → AllPairs (λ p q. p ≢ q) free
-    → length free ≡ process_limit → AreSeatedAs calls 0 0 free [] []
-none_seated calls free known apart all = record {
-  within = omega arith;
-  size = refl;
-  call = λ n a c a_at c_at. absurd (none-some c c_at);
-  status = λ n a c a_at c_at. absurd (none-some c c_at);
-  precedence = λ i j a b c d a_at b_at c_at d_at. absurd (none-some c c_at);
-  seats = λ k d within. absurd (omega (arith, within));
-  rising = λ i j d less within. absurd (omega (arith, within));
-  apart = λ i j d less within. absurd (omega (arith, within));
-  free_known = known;
-  free_idle = λ k d within. refl;
-  free_apart = apart;
-  all_processes = omega (arith, all);
-  well_formed = λ p. refl;
-  own = λ k d within. absurd (omega (arith, within));
-}
 
 -- what was answered before a limit was so before a higher one
 answered_higher : (limit higher : ℕ) (o q : Option Response) → limit ≤ higher → IsAnsweredAs limit o q → IsAnsweredAs higher o q
