@@ -48,14 +48,6 @@ noted_one value from to x p h =
 pub noted_none : (value : Option ℕ) (from to p : ℕ) → IsNoted value from to [] p → ⊥
 noted_none value from to p h = let (y, is, event) = any_to (IsEventAt value p) [] h.1 in Contains-nil y is
 
--- a call that has no such event has none
-pub noted_nothing : (value : Option ℕ) (from to : ℕ) (x : ℕ × Operation) (places : List ℕ) → ((p : ℕ) → IsEventAt value p x → ⊥)
-    → AreNoted value from to (x ∷ []) places places
-noted_nothing value from to x places none p = (
-  λ h. inl h,
-  λ h. ⊎_elim (λ before. before) (λ noted. absurd (none p (noted_one value from to x p noted).1)) h,
-)
-
 -- a call with no answer that ends at a place has the place of its invocation
 module _ (value : Option ℕ) (from to name : ℕ) (call : Operation) (old mid : List ℕ) (begun : call.inv ≡ width * name)
     (other : IsReadAt value call → ⊥) (first : (p : ℕ) → Contains mid p ↔ (Contains old p ⊎ IsPlaceBetween from to name p)) where
