@@ -24,3 +24,4 @@ mod windows;
 pub use explaining::explain;
 pub use explanation::{Explained, Explanation, Reason};
 pub use laws::{relaxed_calls_have_orders, rests_are_relaxed};
+pub use telling::{put_by, put_of};

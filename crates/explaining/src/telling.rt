@@ -44,7 +44,7 @@ fn is_replace(call: &Call) -> bool
 }
 
 /// What a call may put at its key: a value, or none in place of one; nothing where its response says that it changed nothing.
-fn put_of(call: &Call, response: &Option<Response>) -> Option<Option<u64>>
+pub fn put_of(call: &Call, response: &Option<Response>) -> Option<Option<u64>>
     ensures { result ≡ put_of call.now response.now }
 {
     match response {
@@ -54,7 +54,7 @@ fn put_of(call: &Call, response: &Option<Response>) -> Option<Option<u64>>
 }
 
 /// What a call may put at its key, whatever it is answered.
-fn put_by(call: &Call) -> Option<Option<u64>>
+pub fn put_by(call: &Call) -> Option<Option<u64>>
     ensures { result ≡ put_by call.now }
 {
     match call {

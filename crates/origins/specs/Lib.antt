@@ -1,0 +1,4 @@
+pub mod Told
+pub mod External
+pub mod Writers
+pub mod Laws
