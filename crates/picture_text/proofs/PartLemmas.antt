@@ -22,7 +22,7 @@ bar-whole text opened titled shaped striped numbered worded whole width columns 
 pub part-whole : (text before behind counts : List ℕ) (width bottom end many : ℕ) (picture : Picture) (part : Part)
     → picture.part ≡ Some part → many ≡ length picture.lanes.items → bottom ≡ y_of many → end ≡ x_of width picture.columns
     → before ≡ with_before text part.before bottom → behind ≡ with_behind before (end + 8) part.behind bottom
-    → counts ≡ with_counts behind (bottom + 36) picture.columns part picture.heading
+    → counts ≡ with_counts behind (bottom + 36) picture.columns part picture.is_few picture.heading
     → counts ≡ with_part_of text width picture picture.part
 part-whole text before behind counts width bottom end many picture part is m b e first second third =
     rw (third, second, first, b, e, m, is) refl
