@@ -2,10 +2,12 @@
 """Reads the pictures that the program draws of the examples, and of histories of 400 and 4,096 calls.
 
 Each is XML of the elements of SVG that a picture has, without a script and without a reference to anything outside. It has a lane for
-each process, one bar for each call, with the call and its answer in the bar's title, drawn as wrong where `locate` names the call, and
-one mark for each call of the order where the verdict is a yes. Its status is that of `judge`. Parts of the pictures have the lanes,
-bars and marks that a window over the columns has which is worked out here, and say what they leave out; a part with room for the whole
-picture is the picture. The last line counts what passed and failed.
+each process, one bar for each call, with the call and its answer in the bar's title, drawn as wrong, with stripes, where `locate` names
+the call, and one mark for each call of the order where the verdict is a yes, with its call in its title. Starting pairs that are cut stand
+whole in a title. Its status is that of `judge`. Parts of the pictures have the lanes, bars and marks that a window over the columns has
+which is worked out here, and say what they leave out; a part with room for the whole picture is the picture. Where nothing is asked for, a
+no shows the calls that `explain` names alone, with those that put what they read from outside, which are worked out here. Pictures of at
+most 12 such calls are at most 1,200 wide. The last line counts what passed and failed.
 """
 
 import glob
@@ -82,10 +84,13 @@ def lanes_in(groups):
     return [group.find(NAMESPACE + "text").text for group in groups.get("lane", []) if group.find(NAMESPACE + "rect") is not None]
 
 
-def window_of(history, verdict, located, marks, around, calls):
-    """The bars, marks and lanes of the part of a picture with these marks, and what it says of itself; none where all has room."""
-    events = history["events"]
-    shown = {"yes": range(len(events))}.get(verdict["verdict"], verdict.get("calls"))
+def places_in(groups):
+    """The places of the marks, each with the number of its call."""
+    return [(int(title.split()[1][:-1]), int(title.split()[3])) for title in titles_in(groups, "mark")]
+
+
+def spans_of(events):
+    """The process of each call, with the events at which it is invoked and answered; and the call of each event."""
     spans = []
     open_calls = {}
     call_at = []
@@ -97,12 +102,19 @@ def window_of(history, verdict, located, marks, around, calls):
         else:
             spans[open_calls[process]][2] = number
         call_at.append(open_calls[process])
+    return spans, call_at
+
+
+def window_of(history, verdict, located, marks, around, room, few=None):
+    """The bars, marks and lanes of the part of a picture with these marks, and what it says of itself; of these few calls, where there are
+    some.
+    """
+    events = history["events"]
+    shown = few or {"yes": range(len(events))}.get(verdict["verdict"], verdict.get("calls"))
+    spans, call_at = spans_of(events)
     points = []
     for call in marks:
         points.append(max([spans[call][1], *points]))
-    room = 3 * calls
-    if room == 0 or len(events) + len(marks) <= room:
-        return None
     wrong = located["event"] if verdict["verdict"] == located["verdict"] == "no" else points[-1] if points else 0
     middle_event = around if around < len(events) else wrong
     columns = []
@@ -112,7 +124,7 @@ def window_of(history, verdict, located, marks, around, calls):
             middle = len(columns)
         if call in shown:
             columns.append(("event", number))
-        columns += [("mark", place) for place, point in enumerate(points) if point == number]
+        columns += [("mark", place) for place, point in enumerate(points) if point == number and (few is None or marks[place] in few)]
     count = min(room, len(columns))
     first = min(max(middle - room // 2, 0), len(columns) - count)
     place_of = {column: place for place, column in enumerate(columns)}
@@ -123,12 +135,49 @@ def window_of(history, verdict, located, marks, around, calls):
     notes = [f"{count} of {len(columns)} columns, around event {middle_event}."]
     notes += [f"\u2190 {first} more columns"] if first else []
     notes += [f"{len(columns) - first - count} more columns \u2192"] if first + count < len(columns) else []
-    return bars, [f"place {place}: call {marks[place]}" for place in drawn], lanes, notes
+    every = titles(history)
+    return bars, [f"place {place}: {every[marks[place]]}" for place in drawn], lanes, notes
+
+
+def told_by(call, answer):
+    """The pairs that an answer tells."""
+    if isinstance(answer, list):
+        return {tuple(pair) for pair in answer}
+    return {(call[1], answer)} if isinstance(answer, int) and call[0] != "scan" else set()
+
+
+def is_undone(call, answer):
+    """Whether an answer says that a call was not done."""
+    other_found = call[0] == "replace" and (answer is None or isinstance(answer, int) and answer != call[2])
+    return answer in ("refused", "other") or other_found
+
+
+def may_change(call, answer):
+    """Whether a call, as far as its answer says, may change its key."""
+    is_same = {"insert": answer == call[-1], "remove": answer is None, "replace": answer not in ("open", "left out") and call[-1] == call[-2]}
+    return call[0] not in ("get", "scan") and not is_undone(call, answer) and not is_same[call[0]]
+
+
+def few_of(history, rows):
+    """The calls of a history, by number, of which the lines of an explanation tell, and those that put what these read from outside."""
+    named = [(row["call"], row["answer"], row["event"]) for row in rows]
+    changes = [(call[1], call[-1] if call[0] != "remove" else None) for call, answer, _ in named if may_change(call, answer)]
+    start = {tuple(pair) for pair in history.get("start", [])}
+    read = {pair for call, answer, _ in named for pair in told_by(call, answer)} - set(changes)
+    read -= {pair for pair in start if pair[0] not in {key for key, _ in changes}}
+    spans, call_at = spans_of(history["events"])
+    events = {event for _, _, event in named}
+    for _, inv, res in spans:
+        call = history["events"][inv]["invoke"]
+        answer = "open" if res is None else history["events"][res]["answer"]
+        if call[0] in ("insert", "replace") and (call[1], call[-1]) in read and not is_undone(call, answer):
+            events.add(inv)
+    return {call_at[event] for event in events}
 
 
 def fault_of_part(text, words, around, calls):
     """What is wrong with a part of the picture of a history, or nothing."""
-    asked = ["--calls", str(calls), *([] if around is None else ["--around", str(around)])]
+    asked = [*([] if calls is None else ["--calls", str(calls)]), *([] if around is None else ["--around", str(around)])]
     status, picture = bench(["draw", *words, *asked], text)
     wanted, whole = bench(["draw", *words, "--calls", "0"], text)
     if status != wanted:
@@ -140,11 +189,16 @@ def fault_of_part(text, words, around, calls):
         return fault
     history = json.loads(text)
     verdict, located = (json.loads(bench([word, *words], text)[1]) for word in ("judge", "locate"))
-    marks = [int(title.rsplit(" ", 1)[1]) for title in titles_in(groups_of(whole)[0], "mark")]
-    window = window_of(history, verdict, located, marks, 8192 if around is None else around, calls)
-    if window is None:
+    marks = [call for _, call in places_in(groups_of(whole)[0])]
+    explained = bench(["explain", *words], text)[1].decode().splitlines()[1:]
+    rows = [row for row in map(json.loads, explained) if "reason" in row]
+    few = few_of(history, rows) if verdict["verdict"] == "no" and rows and around is calls is None else None
+    room = 60 if calls is None else 3 * calls
+    if few is None and (room == 0 or len(history["events"]) + len(marks) <= room):
         return None if picture == whole else "not the whole picture, where all of it has room"
-    bars, places, lanes, notes = window
+    bars, places, lanes, notes = window_of(history, verdict, located, marks, 8192 if around is None else around, room, few)
+    if few is not None and len(bars) <= 12 and int(xml.etree.ElementTree.fromstring(picture).get("width")) > 1200:
+        return "more than 1,200 wide, of twelve calls"
     every = titles(history)
     if sorted(titles_in(groups, "call", "pale", "wrong")) != sorted(every[call] for call in bars):
         return "bars that are not those of the window"
@@ -181,13 +235,31 @@ def fault_of(text, words):
     wrong = [f"call {located['call']} of"] if verdict["verdict"] == located["verdict"] == "no" else []
     if [" ".join(title.split()[:3]) for title in titles_in(groups, "wrong")] != wrong:
         return "a bar drawn as wrong that is not of the call at which the history goes wrong"
-    places = titles_in(groups, "mark")
+    striped = [group.get("class") for group in groups.get("call", []) + groups.get("pale", []) + groups.get("wrong", [])
+               if any(path.get("class") == "stripes" for path in group.findall(NAMESPACE + "path"))]
+    if striped != ["wrong" for _ in wrong]:
+        return "stripes that are not on the bar that is drawn as wrong"
+    every = titles(history)
+    places = places_in(groups)
+    if titles_in(groups, "mark") != [f"place {place}: {every[call]}" for place, call in places]:
+        return "a mark with the title of another call"
     if verdict["verdict"] == "yes":
-        if places != [f"place {place}: call {call}" for place, call in enumerate(verdict["order"])]:
+        if places != list(enumerate(verdict["order"])):
             return "marks that are not those of the order"
-    elif not all(int(place.rsplit(" ", 1)[1]) in verdict["calls"] for place in places):
+    elif not all(call in verdict["calls"] for _, call in places):
         return "marks that are not of the named segment"
-    return None
+    return fault_of_start(history, groups)
+
+
+def fault_of_start(history, groups):
+    """What is wrong with the starting pairs of a picture, or nothing."""
+    words = json.dumps(history.get("start", []), separators=(",", ":"))
+    title, shown = (groups["start"][0].find(NAMESPACE + name) for name in ("title", "text"))
+    if shown.text == f"starts with {words}":
+        return None if title is None else "a title of starting pairs that are not cut"
+    if not shown.text.endswith("\u2026") or not f"starts with {words}".startswith(shown.text[:-1]):
+        return f"{shown.text} of {words}"
+    return None if title is not None and title.text == words else "starting pairs that are cut, and are not whole in a title"
 
 
 def overlapping(count):
@@ -213,6 +285,8 @@ def cases():
     for count in (8, 60, 400, 4096):
         yield f"{count} calls", overlapping(count), []
     yield "400 calls with a wrong answer", wronged(overlapping(400)), []
+    yield "400 calls with a wrong answer, and pairs", started(wronged(overlapping(400)), 4096), []
+    yield "a value that was overwritten is read", json.dumps({"events": STALE, "version": 1}).encode(), []
     yield "4096 calls at budget 100", overlapping(4096), ["--budget", "100"]
 
 
@@ -224,11 +298,25 @@ def wronged(text):
     return json.dumps(history).encode()
 
 
+def started(text, count):
+    """The same history, from so many pairs of other keys."""
+    return json.dumps({**json.loads(text), "start": [[100 + key, key] for key in range(count)], "version": 2}).encode()
+
+
+# A value is put and overwritten by a call that was answered; then it is read.
+STALE = [
+    {"process": 0, "invoke": ["insert", 5, 70]}, {"process": 0, "answer": None},
+    {"process": 1, "invoke": ["insert", 5, 71]}, {"process": 1, "answer": 70},
+    {"process": 2, "invoke": ["get", 9]}, {"process": 2, "answer": None},
+    {"process": 0, "invoke": ["get", 5]}, {"process": 0, "answer": 70},
+]
+
+
 def faults():
     """For each case and each part of it, its name and what is wrong."""
     for name, text, words in cases():
         yield name, fault_of(text, words)
-        for around, calls in ((None, 20), (0, 1), (5, 2), (11, 3), (300, 20), (8191, 7), (None, 4096)):
+        for around, calls in ((None, None), (None, 20), (0, 1), (5, 2), (11, 3), (300, 20), (8191, 7), (11, None), (None, 4096)):
             yield f"{name}, {calls} calls around event {around}", fault_of_part(text, words, around, calls)
 
 

@@ -66,7 +66,7 @@ FAULTS = [
     ("draw --workers 0", "error: invalid value '0' for '--workers <N>'"),
     ("draw --workers 65", "error: invalid value '65' for '--workers <N>'"),
     ("draw --around 8193", "error: invalid value '8193' for '--around <N>'"),
-    ("draw --calls 4097", "error: invalid value '4097' for '--calls <N>'"),
+    ("draw --calls 4098", "error: invalid value '4098' for '--calls <N>'"),
     ("draw --seed 1", "error: unexpected argument '--seed' found"),
     ("follow --workers 2", "error: unexpected argument '--workers' found"),
     ("generate", "error: the following required arguments were not provided"),

@@ -8,7 +8,7 @@ use Rattle.std.proofs.lemmas.List.Quantifiers.{position-Some}
 use Rattle.std.proofs.lemmas.Option.{same_Some}
 use Rattle.std.proofs.lemmas.Slice.Eq.{bytes_eq-Decides}
 use Rattle.clap.specs.Words.{Text}
-use Rattle.command_line.specs.Limits.{around_limit, shown_default, shown_limit}
+use Rattle.command_line.specs.Limits.{around_limit, shown_limit}
 use Rattle.command_line.specs.Limits.{budget_default, budget_limit, rows16_default, rows16_limit, rows256_default, rows256_limit}
 use Rattle.command_line.specs.Limits.{rows4_default, rows4_limit}
 use Rattle.command_line.specs.Limits.{rows48_default, rows48_limit, steps_limit, workers_default, workers_limit}
@@ -130,7 +130,7 @@ draws given (Draw budget workers around calls) gives =
       read_number (codes "budget") 1 budget_limit budget_default _ budget numbers.0.read,
       read_number (codes "workers") 1 workers_limit workers_default _ workers numbers.1.0.read,
       read_number (codes "around") 0 around_limit around_limit _ around numbers.1.1.0.read,
-      read_number (codes "calls") 0 shown_limit shown_default _ calls numbers.1.1.1.0.read,
+      read_number (codes "calls") 0 shown_limit shown_limit _ calls numbers.1.1.1.0.read,
     )
 draws given other gives = absurd (other_name _ _ gives.name refl)
 

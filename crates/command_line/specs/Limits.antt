@@ -21,12 +21,9 @@ workers_default = 1
 abbrev pub around_limit : ℕ
 around_limit = 8192
 
--- for how many calls a picture has room at most, and where no number of them is named
+-- the greatest number of calls for which a picture has room, which is past those of any history and is meant where none is named
 abbrev pub shown_limit : ℕ
-shown_limit = 4096
-
-abbrev pub shown_default : ℕ
-shown_default = 20
+shown_limit = 4097
 
 -- the most rows of each kind, by their children, that the table of a tree has
 abbrev pub rows4_limit : ℕ

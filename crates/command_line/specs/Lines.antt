@@ -6,7 +6,7 @@ use Rattle.std.specs.Option.{option_map_or}
 use Rattle.clap.specs.Words.{Text, subcommand_of}
 use Rattle.command_line.specs.Limits.{around_limit, budget_default, budget_limit, rows16_default, rows16_limit, rows256_default}
 use Rattle.command_line.specs.Limits.{rows256_limit, rows4_default, rows4_limit, rows48_default}
-use Rattle.command_line.specs.Limits.{rows48_limit, shown_default, shown_limit, steps_limit, workers_default, workers_limit}
+use Rattle.command_line.specs.Limits.{rows48_limit, shown_limit, steps_limit, workers_default, workers_limit}
 use Rattle.command_line.specs.Numbers.{IsNumber, IsNumberWithin, number_of}
 use Rattle.command_line.specs.Program.{bench_app, bench_table, draw_usage, drive_usage}
 use Rattle.command_line.specs.Requests.{Asked, Asks}
@@ -118,7 +118,7 @@ Draws given (Draw budget workers around calls) =
     (budget ≡ number_given given (codes "budget") budget_default)
     × (workers ≡ number_given given (codes "workers") workers_default)
     × (around ≡ number_given given (codes "around") around_limit)
-    × (calls ≡ number_given given (codes "calls") shown_default)
+    × (calls ≡ number_given given (codes "calls") shown_limit)
 Draws given other = ⊥
 
 -- the line is a drive at the tree, with the rows and with the limit that the options name

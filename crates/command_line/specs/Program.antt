@@ -4,7 +4,7 @@ use Rattle.clap.specs.Words.{App, Text}
 use Rattle.command_line.specs.Commands.{table_app}
 use Rattle.command_line.specs.Limits.{around_limit, budget_default, budget_limit, rows16_default, rows16_limit}
 use Rattle.command_line.specs.Limits.{rows256_default, rows256_limit, rows4_default, rows4_limit}
-use Rattle.command_line.specs.Limits.{rows48_default, rows48_limit, shown_default, shown_limit, steps_limit, u32_limit}
+use Rattle.command_line.specs.Limits.{rows48_default, rows48_limit, shown_limit, steps_limit, u32_limit}
 use Rattle.command_line.specs.Limits.{u64_limit, workers_default, workers_limit}
 use Rattle.command_line.specs.Tables.{Flag, Usage, among, within}
 use Rattle.command_line.specs.Trees.{name_of, place_of, trees}
@@ -47,7 +47,7 @@ draw_usage = record {
   flags = number_flag (codes "budget") 1 budget_limit budget_default
       ∷ number_flag (codes "workers") 1 workers_limit workers_default
       ∷ number_flag (codes "around") 0 around_limit around_limit
-      ∷ number_flag (codes "calls") 0 shown_limit shown_default ∷ [];
+      ∷ number_flag (codes "calls") 0 shown_limit shown_limit ∷ [];
   takes_calls = false;
 }
 

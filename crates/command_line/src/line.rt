@@ -26,7 +26,7 @@ pub enum Line {
     },
     /// A picture of the verdict that `Judge` asks for, within the same limits: its part around an event, with room for so many
     /// calls. An event that the history has not names none, and it may be one at most that no history has, 8,192. There is room
-    /// for 4,096 calls at most, and 0 asks for the whole picture.
+    /// for 4,096 calls at most, and 0 asks for the whole picture; 4,097 names no number.
     Draw {
         budget: u32,
         workers: u32,

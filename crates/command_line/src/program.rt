@@ -100,9 +100,9 @@ pub(crate) static SUBCOMMANDS: [Subcommand<'static>; 9] = [
             ),
             number_option!(
                 "calls",
-                "For how many operations there is room; 0 draws the whole history",
-                0 to 4096,
-                default 20
+                "For how many operations there is room; 0 draws the whole history, and 4097 names no number",
+                0 to 4097,
+                default 4097
             )
         ),
         takes_calls: false,

@@ -13,12 +13,13 @@ use Rattle.pictures.specs.declared.pictures_of.Picture.{Picture}
 use Rattle.pictures.specs.declared.windows.View.{View}
 use Rattle.pictures.specs.Fronts.{IsFrontShown}
 use Rattle.pictures.specs.Pictures.{IsPictureOf}
-use Rattle.pictures.specs.Windows.{IsShownOf}
 use Rattle.picture_text.specs.declared.svg_of.TheConstants.{STYLE}
 use Rattle.picture_text.specs.Svg.{IsSvgOf}
 use Rattle.outcomes.specs.declared.outcome.Answer.{Answer}
 use Rattle.outcomes.specs.Lines.{line}
 use Rattle.history_engines.specs.Answers.{IsTextOf, answer_of}
+use Rattle.picture_engines.specs.declared.choice.Choice.{Choice}
+use Rattle.picture_engines.specs.Choices.{IsChoiceOf, IsShownAs}
 
 -- the event at which a location says that the history goes wrong
 abbrev pub event_of : Location → Option ℕ
@@ -37,24 +38,26 @@ IsWrongEvent budget history (verdicts.Undecided segment) wrong = wrong ≡ None
 abbrev pub whole : View
 whole = record { around = 0; calls = 0 }
 
--- the part is what the view shows of a picture of the verdict with this front
-pub record IsPartShown (view : View) (history : HistoryView) (verdict : Verdict) (wrong : Option ℕ) (front : List ℕ)
+-- the part is what this choice shows of a picture of the verdict with this front
+pub record IsPartShown (choice : Choice) (view : View) (history : HistoryView) (verdict : Verdict) (wrong : Option ℕ) (front : List ℕ)
     (part : Picture) : Type 0 where
   pub picture : Picture
   pub pictured : IsPictureOf history verdict wrong front picture
-  pub viewed : IsShownOf (length history.events) wrong view picture part
+  pub viewed : IsShownAs choice (length history.events) wrong view picture part
 
 -- the text is that of such a part
-pub record IsDrawnText (view : View) (history : HistoryView) (verdict : Verdict) (wrong : Option ℕ) (front text : List ℕ) : Type 0 where
+pub record IsDrawnText (choice : Choice) (view : View) (history : HistoryView) (verdict : Verdict) (wrong : Option ℕ)
+    (front text : List ℕ) : Type 0 where
   pub part : Picture
-  pub shown : IsPartShown view history verdict wrong front part
+  pub shown : IsPartShown choice view history verdict wrong front part
   pub text_is : IsSvgOf STYLE.now part text
 
--- the text is one of what the view shows of a picture of the exact verdict on the history, which is this answer
+-- the text is one of what is shown of a picture of the exact verdict on the history, which is this answer
 pub record IsDrawing (budget : ℕ) (view : View) (history : HistoryView) (answer : Answer) (text : List ℕ) : Type 0 where
   pub verdict : Verdict
   pub wrong : Option ℕ
   pub front : List ℕ
+  pub choice : Choice
   pub picture : Picture
   pub part : Picture
   pub shown : IsShown history.start budget (operations history.events) verdict
@@ -62,11 +65,12 @@ pub record IsDrawing (budget : ℕ) (view : View) (history : HistoryView) (answe
   pub goes_wrong : IsWrongEvent budget history verdict wrong
   pub fronted : IsFrontShown budget verdict front
   pub pictured : IsPictureOf history verdict wrong front picture
-  pub viewed : IsShownOf (length history.events) wrong view picture part
+  pub chosen : IsChoiceOf budget view history verdict choice
+  pub viewed : IsShownAs choice (length history.events) wrong view picture part
   pub text_is : IsSvgOf STYLE.now part text
   pub answer_is : answer ≡ answer_of verdict
 
--- `draw` answers the text at the budget so: with what the view shows of a picture of the verdict on the history
+-- `draw` answers the text at the budget so: with what is shown of a picture of the verdict on the history where this view is asked for
 pub record IsViewAnswer (budget : ℕ) (view : View) (text : List ℕ) (answer : Answer) (bytes : List ℕ) : Type 0 where
   pub history : HistoryView
   pub drawing : List ℕ

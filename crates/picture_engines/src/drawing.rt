@@ -13,6 +13,7 @@ ghost use Rattle.outcomes.specs.Reads.{IsTextRead};
 ghost use Rattle.outcomes.specs.Runs.{IsRun};
 ghost use Rattle.outcomes.specs.Statuses.{OnAnswerStatus};
 ghost use Rattle.picture_engines.specs.Drawings.{event_of, whole, IsDrawAnswer, IsViewAnswer, IsDrawing, IsDrawnText, IsPartShown, IsWrongEvent};
+ghost use Rattle.picture_engines.specs.Choices.{IsShownAs};
 ghost use Rattle.picture_engines.specs.Outcomes.{IsDrawOutcome};
 ghost use Rattle.pictures.specs.Marks.{IsMarkable};
 ghost use Rattle.pictures.specs.Pictures.{marked};
@@ -20,6 +21,7 @@ ghost use Rattle.pictures.specs.declared.windows.View.{View};
 ghost use Rattle.pool.specs.Limits.{worker_limit};
 ghost use Rattle.search.specs.Limits.{budget_limit};
 
+use crate::choice::{Choice, choice_of};
 use events::{History, Memory};
 use history_engines::{answer_of, refused_text};
 use history_text::{MAX_TEXT, read_history};
@@ -27,7 +29,7 @@ use judge::{Verdict, judge, judge_alone};
 use locating::{Location, locate};
 use outcomes::{Answer, Outcome, line_of, text_from, write_outcome};
 use picture_text::svg;
-use pictures::{Picture, View, front_of, part_of, picture_of};
+use pictures::{Picture, View, few_of, front_of, part_of, picture_of};
 use pool::Gate;
 use std::alloc::Global;
 use std::thread::Threads;
@@ -36,7 +38,8 @@ use streams::{Sink, Source};
 /// Reads a history text to the end of the source, or until it is too long, and draws the verdict on it, which is found
 /// as `run_judge` finds it; for a no the event at which the history goes wrong is marked, where the budget suffices to
 /// locate it, and for a no or an undecided the longest front that a search of the named segment meets. Of the picture the part
-/// that the view asks for is drawn. Answers the exit status, that of the verdict.
+/// that the view asks for is drawn; where it asks for nothing, of a no few calls that show it, with those that put what they read,
+/// unless their search meets more configurations than the budget. Answers the exit status, that of the verdict.
 pub fn run_draw<R: Threads + Sync, S: Source, O: Sink, F: Sink, H: Sink, G: Gate + Sync>(
     rt: &R,
     alloc: Global,
@@ -183,42 +186,62 @@ fn drawing_with(
     ensures { IfOk result (λ drawn. IsDrawing budget view history.now drawn.0 (string_bytes drawn.1)) }
 {
     let front = front_of(alloc, history, verdict, budget)?;
-    let drawing = drawn_text(alloc, history, verdict, wrong, &front, view)?;
+    let choice = choice_of(alloc, history, verdict, budget, view)?;
+    let drawing = drawn_text(alloc, history, verdict, wrong, &front, &choice, view)?;
     Ok((answer_of(verdict), drawing))
 }
 
-/// The text of what a view shows of the picture with this front.
+/// The text of what is shown of the picture with this front.
 fn drawn_text(
     alloc: Global,
     history: &History,
     verdict: &Verdict,
     wrong: Option<usize>,
     front: &[u32],
+    choice: &Choice,
     view: View,
 ) -> Result<String, Memory>
     requires { IsMarkable (operations history.now.events) (marked verdict.now front.now) }
-    ensures { IfOk result (λ text. IsDrawnText view history.now verdict.now wrong front.now (string_bytes text)) }
+    ensures { IfOk result (λ text. IsDrawnText choice.now view history.now verdict.now wrong front.now (string_bytes text)) }
 {
-    let part = part_shown(alloc, history, verdict, wrong, front, view)?;
+    let part = part_shown(alloc, history, verdict, wrong, front, choice, view)?;
     let text = svg(alloc, &part)?;
     Ok(text)
 }
 
-/// What a view shows of the picture with this front.
+/// What is shown of the picture with this front.
 fn part_shown(
     alloc: Global,
     history: &History,
     verdict: &Verdict,
     wrong: Option<usize>,
     front: &[u32],
+    choice: &Choice,
     view: View,
 ) -> Result<Picture, Memory>
     requires { IsMarkable (operations history.now.events) (marked verdict.now front.now) }
-    ensures { IfOk result (IsPartShown view history.now verdict.now wrong front.now) }
+    ensures { IfOk result (IsPartShown choice.now view history.now verdict.now wrong front.now) }
 {
     let picture = picture_of(alloc, history, verdict, wrong, front)?;
-    let part = part_of(alloc, picture, history.events().len(), wrong, view)?;
+    let part = shown_as(alloc, choice, picture, history.events().len(), wrong, view)?;
     Ok(part)
+}
+
+/// What a choice shows of a picture of a history with so many events.
+fn shown_as(
+    alloc: Global,
+    choice: &Choice,
+    picture: Picture,
+    events: usize,
+    wrong: Option<usize>,
+    view: View,
+) -> Result<Picture, Memory>
+    ensures { IfOk result (IsShownAs choice.now events wrong view picture) }
+{
+    match choice {
+        Choice::Few(places) => few_of(alloc, picture, places, wrong),
+        Choice::Part => part_of(alloc, picture, events, wrong, view),
+    }
 }
 
 /// The event at which a history that the verdict refutes goes wrong, where the budget suffices to locate it.

@@ -1,6 +1,7 @@
 //! The engine that draws: from the text of a history, over any source and sinks, to the text of a picture of its verdict.
 #![tactic(auto)]
 
+mod choice;
 mod drawing;
 
 pub use drawing::{draw_outcome, draw_outcome_alone, run_draw};

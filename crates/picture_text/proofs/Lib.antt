@@ -1,3 +1,4 @@
 mod TextLemmas
 mod MarkupLemmas
 mod PartLemmas
+mod WidthLemmas

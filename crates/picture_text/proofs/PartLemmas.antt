@@ -3,26 +3,26 @@ use Rattle.std.proofs.Common.{◌≡◌, ℕ, ◌+◌, ◌-◌, [], ◌∷◌, �
 use Rattle.pictures.specs.declared.bars.Bar.{Bar}
 use Rattle.pictures.specs.declared.pictures_of.Part.{Part}
 use Rattle.pictures.specs.declared.pictures_of.Picture.{Picture}
-use Rattle.picture_text.specs.Bars.{number_text, opening_text, with_shape, with_title, with_words}
+use Rattle.picture_text.specs.Bars.{number_text, opening_text, with_shape, with_stripes, with_title, with_words}
 use Rattle.picture_text.specs.Frame.{has_wrong, with_legend}
 use Rattle.picture_text.specs.Layout.{x_of, y_of, column_width, screens_before, width_of}
 use Rattle.picture_text.specs.Parts.{with_before, with_behind, with_counts, with_part, with_part_of, with_screens}
 use Rattle.picture_text.specs.Svg.{top_text, with_bars, with_lanes, with_legend_of, with_marks, IsSvgOf}
 
 -- a bar
-pub bar-whole : (text opened titled shaped numbered worded whole : List ℕ) (width columns : ℕ) (bar : Bar)
+pub bar-whole : (text opened titled shaped striped numbered worded whole : List ℕ) (width columns : ℕ) (bar : Bar)
     → opened ≡ text ++ opening_text bar → titled ≡ with_title opened bar → shaped ≡ with_shape titled width columns bar
-    → numbered ≡ shaped ++ number_text width bar → worded ≡ with_words numbered width columns bar
-    → whole ≡ worded ++ (codes "</g>" ++ 10 ∷ [])
-    → whole ≡ with_words (with_shape (with_title (text ++ opening_text bar) bar) width columns bar ++ number_text width bar) width columns bar
-    ++ (codes "</g>" ++ 10 ∷ [])
-bar-whole text opened titled shaped numbered worded whole width columns bar o t s n w is = rw (is, w, n, s, t, o) refl
+    → striped ≡ with_stripes shaped width columns bar → numbered ≡ striped ++ number_text width bar
+    → worded ≡ with_words numbered width columns bar → whole ≡ worded ++ (codes "</g>" ++ 10 ∷ [])
+    → whole ≡ with_words (with_stripes (with_shape (with_title (text ++ opening_text bar) bar) width columns bar) width columns bar
+    ++ number_text width bar) width columns bar ++ (codes "</g>" ++ 10 ∷ [])
+bar-whole text opened titled shaped striped numbered worded whole width columns bar o t s r n w is = rw (is, w, n, r, s, t, o) refl
 
 -- what is said of a part
 pub part-whole : (text before behind counts : List ℕ) (width bottom end many : ℕ) (picture : Picture) (part : Part)
     → picture.part ≡ Some part → many ≡ length picture.lanes.items → bottom ≡ y_of many → end ≡ x_of width picture.columns
     → before ≡ with_before text part.before bottom → behind ≡ with_behind before (end + 8) part.behind bottom
-    → counts ≡ with_counts behind (bottom + 36) picture.columns part picture.heading
+    → counts ≡ with_counts behind (bottom + 36) picture.columns part picture.is_few picture.heading
     → counts ≡ with_part_of text width picture picture.part
 part-whole text before behind counts width bottom end many picture part is m b e first second third =
     rw (third, second, first, b, e, m, is) refl
@@ -37,7 +37,8 @@ legend-whole text legend many bottom picture bars red m b same r is = rw (is, r,
 pub svg-whole : (style top calls order text : List ℕ) (width all : ℕ) (picture : Picture)
     → width ≡ column_width picture.columns picture.bars.items → all ≡ width_of width picture.columns → top ≡ top_text style all picture
     → calls ≡ with_bars (with_lanes top (all - 16) 0 picture.lanes.items) width picture.columns picture.bars.items
-    → order ≡ with_marks (with_screens calls width picture.lanes.items 0 (screens_before width picture.columns)) width picture.marks.items
+    → order ≡ with_marks (with_screens calls width picture.lanes.items 0 (screens_before width picture.columns)) width picture.bars.items
+    picture.marks.items
     → text ≡ with_part (with_legend_of order picture) width picture ++ codes "</svg>"
     → IsSvgOf style picture text
 svg-whole style top calls order text width all picture w a t c o is = rw (is, o, c, t, a, w) refl

@@ -3,7 +3,7 @@ use Rattle.std.specs.Prelude.{ℕ, ◌+◌, ◌-◌, Bool, true, false, if◌the
 use Rattle.std.specs.Prelude.{decimal, string_bytes}
 use Rattle.pictures.specs.declared.bars.Bar.{Bar}
 use Rattle.picture_text.specs.Content.{escaped, shown}
-use Rattle.picture_text.specs.Layout.{x_of, y_of, room_of}
+use Rattle.picture_text.specs.Layout.{x_of, y_of, end_of, room_of}
 
 -- how a bar is drawn
 abbrev pub class_of : Bar → List ℕ
@@ -26,14 +26,17 @@ with_reply text (Some words) = text ++ codes ": " ++ escaped words
 -- a call with its process and the event at which it is invoked
 abbrev pub called_text : Bar → List ℕ
 called_text bar =
-    codes "<title>call " ++ (decimal bar.number ++ (codes " of process " ++ (decimal bar.process ++ (codes ", event " ++ decimal bar.inv))))
+    codes "call " ++ (decimal bar.number ++ (codes " of process " ++ (decimal bar.process ++ (codes ", event " ++ decimal bar.inv))))
 
--- the title of a bar: its call with its process and events, and all its words
-abbrev pub with_title : List ℕ → Bar → List ℕ
-with_title text bar =
+-- a call in full: its number with its process and events, and all its words
+abbrev pub with_call : List ℕ → Bar → List ℕ
+with_call text bar =
     with_reply (text ++ called_text bar ++ answered_text bar.res ++ codes ": "
     ++ escaped (string_bytes bar.call)) (option_map string_bytes bar.reply)
-    ++ codes "</title>"
+
+-- the title of a bar: its call in full
+abbrev pub with_title : List ℕ → Bar → List ℕ
+with_title text bar = with_call (text ++ codes "<title>") bar ++ codes "</title>"
 
 -- a rectangle, and one that is open at the right
 abbrev pub rectangle_text : ℕ → ℕ → ℕ → List ℕ
@@ -72,6 +75,16 @@ with_shape_from text width columns from y true None = with_both_open text (x_of 
 abbrev pub with_shape : List ℕ → ℕ → ℕ → Bar → List ℕ
 with_shape text width columns bar = with_shape_from text width columns bar.from (y_of bar.lane + 19) bar.is_cut bar.to
 
+-- stripes across a bar: a line as thick as it is, of dashes
+abbrev pub stripes_text : ℕ → ℕ → ℕ → List ℕ
+stripes_text x y end =
+    codes "<path class='stripes' d='M" ++ (decimal x ++ (codes " " ++ (decimal y ++ (codes "H" ++ (decimal end ++ codes "'/>")))))
+
+-- the bar of the call whose answer is where the history goes wrong is striped
+abbrev pub with_stripes : List ℕ → ℕ → ℕ → Bar → List ℕ
+with_stripes text width columns bar =
+    if bar.is_wrong then text ++ stripes_text (x_of width bar.from) (y_of bar.lane + 28) (x_of width (end_of columns bar)) else text
+
 -- the number of a bar's call
 abbrev pub number_text : ℕ → Bar → List ℕ
 number_text width bar =
@@ -99,6 +112,6 @@ with_words text width columns bar =
 -- a bar
 unfoldable pub with_bar : List ℕ → ℕ → ℕ → Bar → List ℕ
 with_bar text width columns bar =
-    with_words (with_shape (with_title (text ++ opening_text bar) bar) width columns bar
+    with_words (with_stripes (with_shape (with_title (text ++ opening_text bar) bar) width columns bar) width columns bar
     ++ number_text width bar)
     width columns bar ++ (codes "</g>" ++ 10 ∷ [])

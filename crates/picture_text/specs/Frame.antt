@@ -1,11 +1,11 @@
 -- What stands around the bars of a text.
-use Rattle.std.specs.Prelude.{ℕ, ◌+◌, Bool, true, false, List, [], ◌∷◌, ◌++◌, codes, decimal}
+use Rattle.std.specs.Prelude.{ℕ, ◌+◌, nat_le, Bool, true, false, if◌then◌else◌, List, [], ◌∷◌, ◌++◌, length, codes, decimal}
 use Rattle.std.specs.List.{list_any}
 use Rattle.pictures.specs.declared.bars.Bar.{Bar}
 use Rattle.pictures.specs.declared.pictures_of.Heading.{Heading}
 use Rattle.pictures.specs.declared.pictures_of.Heading.TheVariants.{Order, NoOrder, Undecided}
 use Rattle.pictures.specs.Words.{pairs_words}
-use Rattle.picture_text.specs.Content.{shown}
+use Rattle.picture_text.specs.Content.{escaped, shown}
 use Rattle.picture_text.specs.Layout.{y_of}
 
 -- the head of a text of this size
@@ -28,9 +28,15 @@ verdict_text (Undecided lo hi) = codes "Undecided: keys " ++ keys_text lo hi
 abbrev pub with_heading : List ℕ → Heading → List ℕ
 with_heading text heading = text ++ codes "<text class='title' x='16' y='28'>" ++ verdict_text heading ++ (codes "</text>" ++ 10 ∷ [])
 
--- the pairs at the start, in words
+-- words that have more letters than there is room for, whole
+abbrev pub whole_text : ℕ → List ℕ → List ℕ
+whole_text room words = if nat_le (length words) room then [] else codes "<title>" ++ escaped words ++ codes "</title>"
+
+-- the pairs at the start, in words; whole in a title where they are cut
 abbrev pub with_start_words : List ℕ → List ℕ → ℕ → List ℕ
-with_start_words text words room = text ++ codes "<text x='16' y='50'>starts with " ++ shown room words ++ (codes "</text>" ++ 10 ∷ [])
+with_start_words text words room =
+    text ++ codes "<g class='start'>" ++ whole_text room words ++ codes "<text x='16' y='50'>starts with " ++ shown room words
+    ++ (codes "</text></g>" ++ 10 ∷ [])
 
 abbrev pub with_start : List ℕ → List (ℕ × ℕ) → ℕ → List ℕ
 with_start text start room = with_start_words text (pairs_words start) room
@@ -53,10 +59,10 @@ with_lane text end lane process = text ++ ground_text end (y_of lane + 1) ++ nam
 abbrev pub has_wrong : List Bar → Bool
 has_wrong bars = list_any (λ bar. bar.is_wrong) bars
 
--- what a circle means, and a red bar where there is one
+-- what a circle means, and a red and striped bar where there is one
 abbrev pub marks_text : Heading → Bool → List ℕ
 marks_text Order red = codes "in a circle stands its place in the order."
-marks_text (NoOrder lo hi) true = codes "circles show how far an order gets, red where it goes wrong."
+marks_text (NoOrder lo hi) true = codes "circles show how far an order gets, red stripes where it goes wrong."
 marks_text (NoOrder lo hi) false = codes "circles show how far an order gets."
 marks_text (Undecided lo hi) red = codes "circles show how far an order got within the budget."
 

@@ -1,5 +1,5 @@
 -- Where things stand, in the units of the text, at a width of a column.
-use Rattle.std.specs.Prelude.{ℕ, ◌+◌, ◌-◌, ◌*◌, ◌/◌, max, min, List, length, map, Option, Some, None, option_map, string_bytes}
+use Rattle.std.specs.Prelude.{ℕ, ◌+◌, ◌-◌, ◌*◌, ◌/◌, ◌≤◌, nat_le, if◌then◌else◌, max, min, List, length, map, Option, Some, None, option_map, string_bytes}
 use Rattle.list_laws.specs.Lists.{greatest}
 use Rattle.pictures.specs.declared.bars.Bar.{Bar}
 use Rattle.pictures.specs.declared.pictures_of.Part.{Part}
@@ -52,9 +52,17 @@ letters_of bar = letters (string_bytes bar.call) (option_map string_bytes bar.re
 abbrev pub width_for : ℕ → Bar → ℕ
 width_for columns bar = (letters_of bar * 6 + 6) / (end_of columns bar - bar.from + 1) + 1
 
--- the width of a column: at it the words of all bars have room, where it is from 28 to 72
+-- the width of a column that the words of all bars ask for, from 28 to 72
+abbrev pub asked_width : ℕ → List Bar → ℕ
+asked_width columns bars = min 72 (max 28 (greatest (map (width_for columns) bars)))
+
+-- the greatest width of a column: 72, or where so many columns can stand on 1,200 units at 28, one at which they do
+abbrev pub widest : ℕ → ℕ
+widest columns = if nat_le columns 38 then min 72 (1072 / max columns 1) else 72
+
+-- the width of a column
 abbrev pub column_width : ℕ → List Bar → ℕ
-column_width columns bars = min 72 (max 28 (greatest (map (width_for columns) bars)))
+column_width columns bars = min (widest columns) (asked_width columns bars)
 
 -- what is said of a part has room below
 abbrev pub part_height : Option Part → ℕ
@@ -63,7 +71,13 @@ part_height (Some part) = 16
 
 -- how wide and how high a picture is: the words above and below its lanes have room
 abbrev pub width_of : ℕ → ℕ → ℕ
-width_of width columns = max (x_of width columns + 32) 640
+width_of width columns = max (x_of width columns + 32) 680
 
 abbrev pub height_of : ℕ → Option Part → ℕ
 height_of lanes part = y_of lanes + 34 + part_height part
+
+-- ---- laws
+
+-- few columns stand on 1,200 units
+abbrev pub FewColumnsFit : Type 0
+FewColumnsFit = (columns : ℕ) (bars : List Bar) → columns ≤ 38 → width_of (column_width columns bars) columns ≤ 1200

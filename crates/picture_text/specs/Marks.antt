@@ -1,12 +1,26 @@
 -- The marks of a text. The last definition gives the text so far with a mark more behind it.
-use Rattle.std.specs.Prelude.{ℕ, ◌+◌, List, [], ◌∷◌, ◌++◌, codes, decimal}
+use Rattle.std.specs.Prelude.{ℕ, ◌+◌, ◌==◌, List, [], ◌∷◌, ◌++◌, Option, Some, None, find, codes, decimal}
+use Rattle.pictures.specs.declared.bars.Bar.{Bar}
 use Rattle.pictures.specs.declared.marks.Mark.{Mark}
+use Rattle.picture_text.specs.Bars.{with_call}
 use Rattle.picture_text.specs.Layout.{x_of, y_of}
 
--- what a mark stands for
-abbrev pub mark_title : Mark → List ℕ
-mark_title mark =
-    codes "<g class='mark'><title>place " ++ (decimal mark.place ++ (codes ": call " ++ (decimal mark.number ++ codes "</title>")))
+-- how the text of a mark begins: its place in the order
+abbrev pub place_title : ℕ → List ℕ
+place_title place = codes "<g class='mark'><title>place " ++ (decimal place ++ codes ": ")
+
+-- the bar of the call with a number
+abbrev pub bar_of : List Bar → ℕ → Option Bar
+bar_of bars number = find (λ bar. bar.number == number) bars
+
+-- a call in full, where its bar is there, and else its number
+abbrev pub with_call_of : List ℕ → ℕ → Option Bar → List ℕ
+with_call_of text number None = text ++ (codes "call " ++ decimal number)
+with_call_of text number (Some bar) = with_call text bar
+
+-- the title of a mark: its place, and its call in full
+abbrev pub with_mark_title : List ℕ → List Bar → Mark → List ℕ
+with_mark_title text bars mark = with_call_of (text ++ place_title mark.place) mark.number (bar_of bars mark.number) ++ codes "</title>"
 
 -- a circle at a place
 abbrev pub circle_text : ℕ → ℕ → List ℕ
@@ -18,8 +32,8 @@ place_text x y place =
     codes "<text x='" ++ (decimal x ++ (codes "' y='" ++ (decimal y ++ (codes "'>" ++ (decimal place ++ (codes "</text></g>"
     ++ 10 ∷ []))))))
 
--- a mark: a circle at its column and in its lane, with its place
-unfoldable pub with_mark : List ℕ → ℕ → Mark → List ℕ
-with_mark text width mark =
-    text ++ mark_title mark ++ circle_text (x_of width mark.column) (y_of mark.lane + 28) ++ place_text (x_of width mark.column)
+-- a mark of a picture with these bars: a circle at its column and in its lane, with its place
+unfoldable pub with_mark : List ℕ → ℕ → List Bar → Mark → List ℕ
+with_mark text width bars mark =
+    with_mark_title text bars mark ++ circle_text (x_of width mark.column) (y_of mark.lane + 28) ++ place_text (x_of width mark.column)
     (y_of mark.lane + 31) mark.place

@@ -1,5 +1,5 @@
 -- What stands in a text where it is long, or shows a part of a picture.
-use Rattle.std.specs.Prelude.{ℕ, zero, suc, ◌+◌, ◌==◌, if◌then◌else◌, List, [], ◌∷◌, ◌++◌, length, Option, Some, None, codes, decimal}
+use Rattle.std.specs.Prelude.{ℕ, zero, suc, ◌+◌, ◌==◌, if◌then◌else◌, Bool, true, false, List, [], ◌∷◌, ◌++◌, length, Option, Some, None, codes, decimal}
 use Rattle.pictures.specs.declared.pictures_of.Heading.{Heading}
 use Rattle.pictures.specs.declared.pictures_of.Heading.TheVariants.{Order, NoOrder, Undecided}
 use Rattle.pictures.specs.declared.pictures_of.Part.{Part}
@@ -54,14 +54,16 @@ counts_text y columns part =
     codes "<text class='note' x='16' y='" ++ (decimal y ++ (codes "'>" ++ (decimal columns ++ (codes " of "
     ++ (decimal (part.before + columns + part.behind) ++ (codes " columns, around event " ++ (decimal part.event ++ codes ".")))))))
 
--- that a part of a no or an undecided shows the named segment alone
-abbrev pub alone_text : Heading → List ℕ
-alone_text Order = codes ""
-alone_text (NoOrder lo hi) = codes " Calls outside of the named segment are left out."
-alone_text (Undecided lo hi) = codes " Calls outside of the named segment are left out."
+-- that a part of a no or an undecided shows the named segment alone, or a few calls of it
+abbrev pub alone_text : Bool → Heading → List ℕ
+alone_text true heading = codes " Calls that have no order by themselves, and those that put what they read."
+alone_text false Order = codes ""
+alone_text false (NoOrder lo hi) = codes " Calls outside of the named segment are left out."
+alone_text false (Undecided lo hi) = codes " Calls outside of the named segment are left out."
 
-abbrev pub with_counts : List ℕ → ℕ → ℕ → Part → Heading → List ℕ
-with_counts text y columns part heading = text ++ counts_text y columns part ++ alone_text heading ++ (codes "</text>" ++ 10 ∷ [])
+abbrev pub with_counts : List ℕ → ℕ → ℕ → Part → Bool → Heading → List ℕ
+with_counts text y columns part few heading =
+    text ++ counts_text y columns part ++ alone_text few heading ++ (codes "</text>" ++ 10 ∷ [])
 
 -- what is said of a part
 abbrev pub with_part_of : List ℕ → ℕ → Picture → Option Part → List ℕ
@@ -69,7 +71,7 @@ with_part_of text width picture None = text
 with_part_of text width picture (Some part) =
     let bottom = y_of (length picture.lanes.items) in
     with_counts (with_behind (with_before text part.before bottom) (x_of width picture.columns + 8) part.behind bottom)
-    (bottom + 36) picture.columns part picture.heading
+    (bottom + 36) picture.columns part picture.is_few picture.heading
 
 unfoldable pub with_part : List ℕ → ℕ → Picture → List ℕ
 with_part text width picture = with_part_of text width picture picture.part

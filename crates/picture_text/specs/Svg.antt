@@ -19,9 +19,9 @@ abbrev pub with_bars : List ℕ → ℕ → ℕ → List Bar → List ℕ
 with_bars text width columns [] = text
 with_bars text width columns (bar ∷ bars) = with_bars (with_bar text width columns bar) width columns bars
 
-abbrev pub with_marks : List ℕ → ℕ → List Mark → List ℕ
-with_marks text width [] = text
-with_marks text width (mark ∷ marks) = with_marks (with_mark text width mark) width marks
+abbrev pub with_marks : List ℕ → ℕ → List Bar → List Mark → List ℕ
+with_marks text width bars [] = text
+with_marks text width bars (mark ∷ marks) = with_marks (with_mark text width bars mark) width bars marks
 
 -- what stands above the lanes
 unfoldable pub top_text : List ℕ → ℕ → Picture → List ℕ
@@ -41,7 +41,7 @@ svg_text style width picture =
     let lanes = with_lanes (top_text style all picture) (all - 16) 0 picture.lanes.items in
     let bars = with_bars lanes width picture.columns picture.bars.items in
     let names = with_screens bars width picture.lanes.items 0 (screens_before width picture.columns) in
-    let legend = with_legend_of (with_marks names width picture.marks.items) picture in
+    let legend = with_legend_of (with_marks names width picture.bars.items picture.marks.items) picture in
     with_part legend width picture ++ codes "</svg>"
 
 -- the text of a picture: at the width of a column at which its words have room

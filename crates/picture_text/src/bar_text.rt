@@ -1,8 +1,8 @@
 // The bars of a text.
 ghost use Rattle.std.specs.Prelude.{◌≡◌, ◌++◌, OnOk, option_map, string_bytes};
-ghost use Rattle.picture_text.specs.Bars.{class_of, opening_text, answered_text, with_reply, with_title, with_shape, rectangle_text, with_open};
+ghost use Rattle.picture_text.specs.Bars.{class_of, opening_text, called_text, answered_text, with_reply, with_call, with_title, with_shape, rectangle_text, with_open};
 ghost use Rattle.picture_text.specs.Bars.{number_text, with_label, reply_label, with_words, with_bar};
-ghost use Rattle.picture_text.specs.Bars.{turn_text, dashes_text, with_left_open, with_both_open};
+ghost use Rattle.picture_text.specs.Bars.{turn_text, dashes_text, with_left_open, with_both_open, stripes_text, with_stripes};
 
 use crate::content::{push_content, push_shown};
 use crate::layout::{end_of, room_of, x_of, y_of};
@@ -17,6 +17,7 @@ pub fn push_bar(out: &mut String, width: u8, columns: usize, bar: &Bar) -> Resul
     push_opening(out, bar)?;
     push_title(out, bar)?;
     push_shape(out, width, columns, bar)?;
+    push_stripes(out, width, columns, bar)?;
     push_number(out, width, bar)?;
     push_words(out, width, columns, bar)?;
     out.push_str("</g>\n")?;
@@ -45,20 +46,34 @@ fn class_of(bar: &Bar) -> &'static str
     }
 }
 
-/// Adds the title of a bar: its call with its process and events, and all its words.
+/// Adds the title of a bar: its call in full.
 fn push_title(out: &mut String, bar: &Bar) -> Result<(), Memory>
     ensures { OnOk result (string_bytes out.new ≡ with_title (string_bytes out.old) bar.now) }
 {
-    let (number, process, inv) = (bar.number, bar.process, bar.inv);
-    write!(
-        out,
-        "<title>call {number} of process {process}, event {inv}"
-    )?;
+    out.push_str("<title>")?;
+    push_call(out, bar)?;
+    out.push_str("</title>")?;
+    Ok(())
+}
+
+/// Adds the call of a bar in full: its number with its process and events, and all its words.
+pub fn push_call(out: &mut String, bar: &Bar) -> Result<(), Memory>
+    ensures { OnOk result (string_bytes out.new ≡ with_call (string_bytes out.old) bar.now) }
+{
+    push_called(out, bar)?;
     push_answered(out, bar)?;
     out.push_str(": ")?;
     push_content(out, bar.call.as_bytes())?;
     push_replied(out, bar)?;
-    out.push_str("</title>")?;
+    Ok(())
+}
+
+/// Adds the number of a call with its process, and the event at which it is invoked.
+fn push_called(out: &mut String, bar: &Bar) -> Result<(), Memory>
+    ensures { OnOk result (string_bytes out.new ≡ string_bytes out.old ++ called_text bar.now) }
+{
+    let (number, process, inv) = (bar.number, bar.process, bar.inv);
+    write!(out, "call {number} of process {process}, event {inv}")?;
     Ok(())
 }
 
@@ -149,6 +164,26 @@ fn push_turn(out: &mut String, x: u128, end: u128) -> Result<(), Memory>
     ensures { OnOk result (string_bytes out.new ≡ string_bytes out.old ++ turn_text x end) }
 {
     write!(out, "H{end}v18H{x}'/>")?;
+    Ok(())
+}
+
+/// Adds stripes across the bar of the call whose answer is where the history goes wrong.
+fn push_stripes(out: &mut String, width: u8, columns: usize, bar: &Bar) -> Result<(), Memory>
+    ensures { OnOk result (string_bytes out.new ≡ with_stripes (string_bytes out.old) width columns bar.now) }
+{
+    if !bar.is_wrong {
+        return Ok(());
+    }
+    let x = x_of(width, bar.from);
+    let end = x_of(width, end_of(columns, bar));
+    push_dashed(out, x, y_of(bar.lane) + 28, end)
+}
+
+/// Adds stripes: a line as thick as a bar, of dashes.
+fn push_dashed(out: &mut String, x: u128, y: u128, end: u128) -> Result<(), Memory>
+    ensures { OnOk result (string_bytes out.new ≡ string_bytes out.old ++ stripes_text x y end) }
+{
+    write!(out, "<path class='stripes' d='M{x} {y}H{end}'/>")?;
     Ok(())
 }
 

@@ -1,10 +1,10 @@
 // What stands around the bars of a text: its head, the words at its top, and its lanes.
 ghost use Rattle.std.specs.Prelude.{◌≡◌, ◌++◌, OnOk, string_bytes};
 ghost use Rattle.pictures.specs.declared.pictures_of.Heading.TheVariants.{NoOrder, Undecided};
-ghost use Rattle.picture_text.specs.Frame.{head_text, verdict_text, with_heading, with_start, with_start_words, ground_text, name_text, with_lane, has_wrong, marks_text};
+ghost use Rattle.picture_text.specs.Frame.{head_text, verdict_text, with_heading, whole_text, with_start, with_start_words, ground_text, name_text, with_lane, has_wrong, marks_text};
 ghost use Rattle.picture_text.specs.Frame.{with_legend};
 
-use crate::content::push_shown;
+use crate::content::{push_content, push_shown};
 use crate::layout::y_of;
 use events::Memory;
 use pictures::{Bar, Heading, pairs_words};
@@ -56,7 +56,7 @@ fn push_undecided(out: &mut String, lo: u64, hi: u64) -> Result<(), Memory>
     Ok(())
 }
 
-/// Adds the pairs that the map holds at the start, cut to the room that they have.
+/// Adds the pairs that the map holds at the start, cut to the room that they have; then they stand whole in a title.
 pub fn push_start(
     out: &mut String,
     alloc: Global,
@@ -73,9 +73,24 @@ pub fn push_start(
 fn push_start_words(out: &mut String, words: &[u8], room: u128) -> Result<(), Memory>
     ensures { OnOk result (string_bytes out.new ≡ with_start_words (string_bytes out.old) words.now room) }
 {
+    out.push_str("<g class='start'>")?;
+    push_whole(out, words, room)?;
     out.push_str("<text x='16' y='50'>starts with ")?;
     push_shown(out, words, room)?;
-    out.push_str("</text>\n")?;
+    out.push_str("</text></g>\n")?;
+    Ok(())
+}
+
+/// Adds words whole in a title, where they have more letters than there is room for.
+fn push_whole(out: &mut String, words: &[u8], room: u128) -> Result<(), Memory>
+    ensures { OnOk result (string_bytes out.new ≡ string_bytes out.old ++ whole_text room words.now) }
+{
+    if words.len() as u128 <= room {
+        return Ok(());
+    }
+    out.push_str("<title>")?;
+    push_content(out, words)?;
+    out.push_str("</title>")?;
     Ok(())
 }
 
@@ -130,14 +145,14 @@ pub fn push_legend(out: &mut String, y: u128, heading: &Heading, red: bool) -> R
     Ok(())
 }
 
-/// What a circle means, and a red bar where there is one.
+/// What a circle means, and a red and striped bar where there is one.
 fn marks_text(heading: &Heading, red: bool) -> &'static str
     ensures { result.now ≡ marks_text heading.now red }
 {
     match (heading, red) {
         (Heading::Order, _) => "in a circle stands its place in the order.",
         (Heading::NoOrder { .. }, true) =>
-            "circles show how far an order gets, red where it goes wrong.",
+            "circles show how far an order gets, red stripes where it goes wrong.",
         (Heading::NoOrder { .. }, false) => "circles show how far an order gets.",
         (Heading::Undecided { .. }, _) => "circles show how far an order got within the budget.",
     }

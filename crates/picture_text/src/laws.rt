@@ -1,5 +1,6 @@
-// Laws of what every text has: of contents, and of the style.
+// Laws of what every text has: of contents, of the style, and of its width.
 ghost use Rattle.picture_text.specs.Content.{EscapedHasNoMarkup};
+ghost use Rattle.picture_text.specs.Layout.{FewColumnsFit};
 ghost use Rattle.picture_text.specs.Style.{StyleIsLiteral};
 
 /// What is escaped has no byte that begins or ends a tag, or ends a value.
@@ -10,4 +11,9 @@ pub fn contents_have_no_markup()
 /// The style of a text is these lines, which have no script and refer to nothing outside.
 pub fn style_is_literal()
     ensures { StyleIsLiteral }
+{}
+
+/// A picture of at most 38 columns is at most 1,200 units wide.
+pub fn few_columns_fit()
+    ensures { FewColumnsFit }
 {}

@@ -1,6 +1,6 @@
 // Where things stand, in the units of the text.
 ghost use Rattle.std.specs.Prelude.{◌≡◌, ◌≤◌, ◌<◌, ◌^◌};
-ghost use Rattle.picture_text.specs.Layout.{x_of, y_of, end_of, room_of, height_of, width_of, letters_of, column_width};
+ghost use Rattle.picture_text.specs.Layout.{x_of, y_of, end_of, room_of, height_of, width_of, letters_of, asked_width, widest, column_width};
 ghost use Rattle.picture_text.specs.Layout.{per_screen, screens_before, screen_width, names_at, part_height};
 
 use pictures::{Bar, Part, Picture};
@@ -71,7 +71,7 @@ pub fn room_of(width: u8, columns: usize, bar: &Bar) -> u128
 pub fn width_of(width: u8, columns: usize) -> u128
     ensures { result ≡ width_of width columns }
 {
-    (x_of(width, columns) + 32).max(640)
+    (x_of(width, columns) + 32).max(680)
 }
 
 /// How high it is.
@@ -92,9 +92,27 @@ fn part_height(part: &Option<Part>) -> u128
     }
 }
 
-/// The width of a column at which the words of all bars have room, where it is from 28 to 72.
+/// The width of a column: that at which the words of all bars have room, where it is from 28 to 72; and less where up to 38
+/// columns then stand on 1,200 units.
 pub fn column_width(picture: &Picture) -> u8
     ensures { result ≡ column_width picture.now.columns picture.now.bars.items }
+{
+    asked_width(picture).min(widest(picture.columns))
+}
+
+/// The greatest width of so many columns.
+fn widest(columns: usize) -> u8
+    ensures { result ≡ widest columns }
+{
+    if columns > 38 {
+        return 72;
+    }
+    (1072 / columns.max(1)).min(72) as u8
+}
+
+/// The width of a column that the words of all bars ask for, from 28 to 72.
+fn asked_width(picture: &Picture) -> u8
+    ensures { result ≡ asked_width picture.now.columns picture.now.bars.items }
 {
     let mut width: u8 = 28;
     for bar in &picture.bars {

@@ -1,6 +1,7 @@
 //! The text of a picture: one SVG that names nothing outside of itself, without a script.
 //!
-//! What stands in it is a function of the picture: its columns are as wide as its words ask, from 28 to 72.
+//! What stands in it is a function of the picture: its columns are as wide as its words ask, from 28 to 72,
+//! and up to 38 of them stand on 1,200 units.
 #![tactic(auto)]
 
 mod bar_text;
@@ -13,5 +14,5 @@ mod part_text;
 mod svg_of;
 
 pub use content::push_content;
-pub use laws::{contents_have_no_markup, style_is_literal};
+pub use laws::{contents_have_no_markup, few_columns_fit, style_is_literal};
 pub use svg_of::{STYLE, svg};

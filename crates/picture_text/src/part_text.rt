@@ -51,7 +51,7 @@ pub fn push_part(out: &mut String, width: u8, picture: &Picture) -> Result<(), M
     let end = x_of(width, picture.columns) + 8;
     push_before(out, part.before, bottom)?;
     push_behind(out, end, part.behind, bottom)?;
-    push_counts(out, bottom + 36, picture.columns, part, &picture.heading)?;
+    push_counts(out, bottom + 36, part, picture)?;
     Ok(())
 }
 
@@ -97,33 +97,30 @@ fn push_line(out: &mut String, x: u128, bottom: u128) -> Result<(), Memory>
 }
 
 /// Adds how many columns are shown, of how many, and around which event.
-fn push_counts(
-    out: &mut String,
-    y: u128,
-    columns: usize,
-    part: Part,
-    heading: &Heading,
-) -> Result<(), Memory>
-    ensures { OnOk result (string_bytes out.new ≡ with_counts (string_bytes out.old) y columns part heading.now) }
+fn push_counts(out: &mut String, y: u128, part: Part, picture: &Picture) -> Result<(), Memory>
+    ensures { OnOk result (string_bytes out.new
+        ≡ with_counts (string_bytes out.old) y picture.now.columns part picture.now.is_few picture.now.heading) }
 {
+    let columns = picture.columns;
     let all = part.before as u128 + columns as u128 + part.behind as u128;
     let event = part.event;
     write!(
         out,
         "<text class='note' x='16' y='{y}'>{columns} of {all} columns, around event {event}."
     )?;
-    out.push_str(alone_text(heading))?;
+    out.push_str(alone_text(picture.is_few, &picture.heading))?;
     out.push_str("</text>\n")?;
     Ok(())
 }
 
-/// That a part of a no or an undecided shows the named segment alone.
-fn alone_text(heading: &Heading) -> &'static str
-    ensures { result.now ≡ alone_text heading.now }
+/// That a part of a no or an undecided shows the named segment alone, or a few calls of it.
+fn alone_text(is_few: bool, heading: &Heading) -> &'static str
+    ensures { result.now ≡ alone_text is_few heading.now }
 {
-    match heading {
-        Heading::Order => "",
-        Heading::NoOrder { .. } | Heading::Undecided { .. } => {
+    match (is_few, heading) {
+        (true, _) => " Calls that have no order by themselves, and those that put what they read.",
+        (false, Heading::Order) => "",
+        (false, Heading::NoOrder { .. } | Heading::Undecided { .. }) => {
             " Calls outside of the named segment are left out."
         }
     }

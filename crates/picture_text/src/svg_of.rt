@@ -22,6 +22,7 @@ svg{background:#fff}.lane rect{fill:#f7f9fa}
 .bar{fill:#d7e5f0;stroke:#5e87a8}.number{font-size:9px;fill:#5e87a8}
 .pale .bar{fill:#f3f4f5;stroke:#d3d9dd}.pale text{fill:#b3bcc3}
 .wrong .bar{fill:#f6d5d0;stroke:#b23a2e;stroke-width:1.5}.wrong text{fill:#b23a2e;font-weight:600}
+.stripes{stroke:#b23a2e;stroke-width:17;stroke-dasharray:2 6;opacity:.45}.wrong .number{stroke:#f6d5d0;stroke-width:3;paint-order:stroke}
 .mark circle{fill:#1f5673;stroke:#fff}.mark text{fill:#fff;font-size:7.5px;text-anchor:middle}
 </style>
 ";
@@ -85,11 +86,11 @@ fn push_calls(out: &mut String, width: u8, all: u128, picture: &Picture) -> Resu
 fn push_order(out: &mut String, width: u8, picture: &Picture) -> Result<(), Memory>
     ensures { OnOk result (string_bytes out.new
         ≡ with_marks (with_screens (string_bytes out.old) width picture.now.lanes.items 0 (screens_before width picture.now.columns))
-        width picture.now.marks.items) }
+        width picture.now.bars.items picture.now.marks.items) }
 {
     let screens = screens_before(width, picture.columns);
     push_screens(out, width, screens, &picture.lanes)?;
-    push_marks(out, width, &picture.marks)
+    push_marks(out, width, &picture.bars, &picture.marks)
 }
 
 /// Adds what stands below the lanes, and what is said of a part.
@@ -133,12 +134,12 @@ fn push_bars(out: &mut String, width: u8, columns: usize, bars: &[Bar]) -> Resul
     Ok(())
 }
 
-/// Adds the marks.
-fn push_marks(out: &mut String, width: u8, marks: &[Mark]) -> Result<(), Memory>
-    ensures { OnOk result (string_bytes out.new ≡ with_marks (string_bytes out.old) width marks.now) }
+/// Adds the marks of a picture with these bars.
+fn push_marks(out: &mut String, width: u8, bars: &[Bar], marks: &[Mark]) -> Result<(), Memory>
+    ensures { OnOk result (string_bytes out.new ≡ with_marks (string_bytes out.old) width bars.now marks.now) }
 {
     for mark in marks {
-        push_mark(out, width, mark)?;
+        push_mark(out, width, bars, mark)?;
     }
     Ok(())
 }

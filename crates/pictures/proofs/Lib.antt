@@ -8,3 +8,4 @@ mod RankLemmas
 mod WindowLemmas
 mod KeptLemmas
 mod InsideLemmas
+mod FewLemmas

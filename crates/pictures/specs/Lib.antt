@@ -6,3 +6,4 @@ pub mod Marks
 pub mod Pictures
 pub mod Fronts
 pub mod Windows
+pub mod Few

@@ -1,5 +1,5 @@
 -- The picture of a verdict on a history.
-use Rattle.std.specs.Prelude.{◌≡◌, ℕ, ◌+◌, List, Option, None, length}
+use Rattle.std.specs.Prelude.{◌≡◌, ℕ, ◌+◌, false, List, Option, None, length}
 use Rattle.events.specs.HistoryView.{HistoryView}
 use Rattle.events.specs.Operations.{operations}
 use Rattle.judge.specs.declared.verdict.Verdict.{Verdict}
@@ -33,3 +33,4 @@ pub record IsPictureOf (history : HistoryView) (verdict : Verdict) (wrong : Opti
   pub marks : AreMarksOf (operations history.events) (marked verdict front) picture.bars.items picture.marks.items
   pub columns : picture.columns ≡ length history.events + length (marked verdict front)
   pub whole : picture.part ≡ None
+  pub not_few : picture.is_few ≡ false

@@ -4,6 +4,7 @@ use Rattle.std.specs.Prelude.{List, ◌++◌, length, map, filter, count_by, pos
 use Rattle.std.specs.Prelude.{slice_get, MatchBool}
 use Rattle.std.specs.Prelude.{Contains, IfSome}
 use Rattle.std.specs.List.{filter_map, list_any}
+use Rattle.events.specs.Limits.{call_limit}
 use Rattle.pictures.specs.declared.bars.Bar.{Bar}
 use Rattle.pictures.specs.declared.marks.Mark.{Mark}
 use Rattle.pictures.specs.declared.pictures_of.Picture.{Picture}
@@ -16,9 +17,13 @@ use Rattle.pictures.specs.Marks.{IsInside}
 abbrev pub last_point : List Mark → ℕ
 last_point marks = unwrap_or (option_map (λ m. m.point) (slice_get marks (length marks - 1))) 0
 
--- the event that is asked for, where there is such an event; else the wrong one; else that of the last mark
+-- where none is asked for, the wrong event, and else that of the last mark
+abbrev pub event_meant : Option ℕ → List Mark → ℕ
+event_meant wrong marks = unwrap_or wrong (last_point marks)
+
+-- the event that is asked for, where there is such an event
 abbrev pub event_shown : ℕ → Option ℕ → ℕ → List Mark → ℕ
-event_shown events wrong around marks = if nat_lt around events then around else unwrap_or wrong (last_point marks)
+event_shown events wrong around marks = if nat_lt around events then around else event_meant wrong marks
 
 -- the column of an event in the whole picture: as many stand before it as there are earlier events, and marks whose points are before it
 abbrev pub column_of : List Mark → ℕ → ℕ
@@ -48,6 +53,14 @@ abbrev pub ranked_mark : List ℕ → Mark → Mark
 ranked_mark columns mark = record mark { column = rank columns mark.column }
 
 -- ---- a window
+
+-- for how many calls there is room: 20 where more are named than a history can have
+abbrev pub calls_shown : ℕ → ℕ
+calls_shown calls = if nat_lt call_limit calls then 20 else calls
+
+-- and for how many columns, three of each call
+abbrev pub room_for : ℕ → ℕ
+room_for calls = calls_shown calls * 3
 
 -- all columns have room; with no room all are asked for
 abbrev pub is_whole : ℕ → ℕ → Bool
@@ -117,18 +130,23 @@ pub record IsPartOf (among : List ℕ) (event from to : ℕ) (whole part : Pictu
   pub marks : part.marks.items ≡ map (cut_mark whole.lanes.items part.lanes.items from) (marks_in among from to whole.marks.items)
   pub columns : part.columns ≡ to - from
   pub leaves : part.part ≡ Some (record { before = from; behind = length among - to; event = event })
+  pub few : part.is_few ≡ whole.is_few
 
--- the window around an event that has so much room
-abbrev pub IsWindowOf : ℕ → ℕ → Picture → Picture → Type 0
-IsWindowOf room event whole part =
+-- the window that has so much room around a column, in which an event stands
+abbrev pub IsWindowAround : ℕ → ℕ → ℕ → Picture → Picture → Type 0
+IsWindowAround room column event whole part =
     let among = columns_of whole.bars.items whole.marks.items in
-    let from = window_from (length among) (rank among (column_of whole.marks.items event)) room in
+    let from = window_from (length among) (rank among column) room in
     IsPartOf among event from (from + min room (length among)) whole part
+
+-- the window around an event
+abbrev pub IsWindowOf : ℕ → ℕ → Picture → Picture → Type 0
+IsWindowOf room event whole part = IsWindowAround room (column_of whole.marks.items event) event whole part
 
 -- what a view shows of a picture of a history with so many events: the picture itself where all its columns have room, else a window
 abbrev pub IsShownOf : ℕ → Option ℕ → View → Picture → Picture → Type 0
-IsShownOf events wrong view whole part = MatchBool (is_whole (view.calls * 3) whole.columns) (part ≡ whole)
-    (IsWindowOf (view.calls * 3) (event_shown events wrong view.around whole.marks.items) whole part)
+IsShownOf events wrong view whole part = MatchBool (is_whole (room_for view.calls) whole.columns) (part ≡ whole)
+    (IsWindowOf (room_for view.calls) (event_shown events wrong view.around whole.marks.items) whole part)
 
 -- ---- laws of windows
 

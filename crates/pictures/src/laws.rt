@@ -1,4 +1,5 @@
-// Laws of windows.
+// Laws of windows, and of pictures of a few calls.
+ghost use Rattle.pictures.specs.Few.{FewHaveFewColumns};
 ghost use Rattle.pictures.specs.Windows.{MarksStayInside, RanksRise, WindowHoldsMiddle};
 
 /// A window does not pass the last column, and its middle is in it.
@@ -14,4 +15,9 @@ pub fn ranks_rise()
 /// A mark that is inside of a bar, and in a window, has the bar there, and is inside of it.
 pub fn marks_stay_inside()
     ensures { MarksStayInside }
+{}
+
+/// A picture of a few calls has at most three columns of each.
+pub fn few_have_few_columns()
+    ensures { FewHaveFewColumns }
 {}

@@ -8,6 +8,7 @@
 
 mod bars;
 mod columns;
+mod few;
 mod fronts;
 mod lanes;
 mod laws;
@@ -17,8 +18,9 @@ mod windows;
 mod words;
 
 pub use bars::Bar;
+pub use few::few_of;
 pub use fronts::front_of;
-pub use laws::{marks_stay_inside, ranks_rise, windows_hold_their_middle};
+pub use laws::{few_have_few_columns, marks_stay_inside, ranks_rise, windows_hold_their_middle};
 pub use marks::Mark;
 pub use pictures_of::{Heading, Part, Picture, picture_of};
 pub use windows::{View, part_of};

@@ -44,6 +44,8 @@ pub struct Picture {
     pub columns: usize,
     /// Where it shows a part of the columns of a picture, what it leaves out.
     pub part: Option<Part>,
+    /// Whether a few calls alone stand out.
+    pub is_few: bool,
 }
 
 /// What a part of a picture leaves out.
@@ -108,6 +110,7 @@ fn picture_at(
         marks,
         columns,
         part: None,
+        is_few: false,
     })
 }
 

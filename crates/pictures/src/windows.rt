@@ -3,12 +3,13 @@ ghost use Rattle.std.specs.Prelude.{◌≡◌, ◌==◌, ◌+◌, ◌++◌, ◌�
 ghost use Rattle.std.specs.List.{filter_map, list_any};
 ghost use Rattle.pictures.specs.Windows.{ranked_bar, ranked_mark, meets, is_within, cut_bar, cut_mark, cut_end};
 ghost use Rattle.pictures.specs.Windows.{columns_of, start_of, end_of, rank, place_of, lanes_kept, bar_in, bars_in, marks_in};
-ghost use Rattle.pictures.specs.Windows.{window_from, event_shown, last_point, column_of, is_whole, IsPartOf, IsShownOf};
+ghost use Rattle.pictures.specs.Windows.{window_from, event_meant, event_shown, last_point, column_of, is_whole, room_for};
+ghost use Rattle.pictures.specs.Windows.{IsPartOf, IsShownOf, IsWindowAround};
 
 use crate::bars::Bar;
 use crate::marks::Mark;
 use crate::pictures_of::{Part, Picture};
-use events::Memory;
+use events::{MAX_CALLS, Memory};
 use std::alloc::Global;
 
 /// What part of a picture is asked for.
@@ -16,7 +17,8 @@ use std::alloc::Global;
 pub struct View {
     /// The event in its middle. One that the history has not names none.
     pub around: u32,
-    /// For how many calls it has room, three columns each. 0 asks for the whole picture.
+    /// For how many calls it has room, three columns each. 0 asks for the whole picture, and more than a history can have for none,
+    /// which is for 20.
     pub calls: u32,
 }
 
@@ -32,22 +34,42 @@ pub fn part_of(
 ) -> Result<Picture, Memory>
     ensures { IfOk result (IsShownOf events wrong view picture) }
 {
-    let room = view.calls as usize * 3;
+    let room = room_for(view.calls);
     if is_whole(room, picture.columns) {
         return Ok(picture);
     }
     let event = event_shown(events, wrong, view.around as usize, &picture.marks);
+    let column = column_of(&picture.marks, event);
+    window_around(alloc, picture, room, column, event)
+}
+
+/// For how many columns there is room, where this is asked for: three for each call, and 20 calls where more are named than a history
+/// can have.
+fn room_for(calls: u32) -> usize
+    ensures { result ≡ room_for calls }
+{
+    if calls as usize > MAX_CALLS {
+        60
+    } else {
+        calls as usize * 3
+    }
+}
+
+/// The window that has so much room around a column, in which an event stands.
+pub(crate) fn window_around(
+    alloc: Global,
+    picture: Picture,
+    room: usize,
+    column: u128,
+    event: usize,
+) -> Result<Picture, Memory>
+    ensures { IfOk result (IsWindowAround room column event picture) }
+{
     let columns = columns_of(alloc, &picture.bars, &picture.marks)?;
-    let middle = rank(&columns, column_of(&picture.marks, event));
+    let middle = rank(&columns, column);
     let from = window_from(columns.len(), middle, room);
-    window_at(
-        alloc,
-        picture,
-        &columns,
-        event,
-        from,
-        from + room.min(columns.len()),
-    )
+    let to = from + room.min(columns.len());
+    window_at(alloc, picture, &columns, event, from, to)
 }
 
 /// Whether a picture with so many columns is shown whole.
@@ -57,14 +79,21 @@ fn is_whole(room: usize, columns: usize) -> bool
     room == 0 || columns <= room
 }
 
-/// The event in the middle: the one that is asked for, where there is such an event; else the wrong one; else that behind which
-/// the last mark stands.
+/// The event in the middle: the one that is asked for, where there is such an event.
 fn event_shown(events: usize, wrong: Option<usize>, around: usize, marks: &[Mark]) -> usize
     ensures { result ≡ event_shown events wrong around marks.now }
 {
     if around < events {
-        return around;
+        around
+    } else {
+        event_meant(wrong, marks)
     }
+}
+
+/// The event in the middle where none is asked for: the wrong one; else that behind which the last mark stands.
+pub(crate) fn event_meant(wrong: Option<usize>, marks: &[Mark]) -> usize
+    ensures { result ≡ event_meant wrong marks.now }
+{
     match wrong {
         Some(event) => event,
         None => last_point(marks),
@@ -82,7 +111,7 @@ fn last_point(marks: &[Mark]) -> usize
 }
 
 /// The column of an event in the whole picture.
-fn column_of(marks: &[Mark], event: usize) -> u128
+pub(crate) fn column_of(marks: &[Mark], event: usize) -> u128
     ensures { result ≡ column_of marks.now event }
 {
     event as u128 + marks.iter().filter(|mark| mark.point < event).count() as u128
@@ -201,6 +230,7 @@ fn window_at(
             behind: columns.len().saturating_sub(to),
             event,
         }),
+        is_few: picture.is_few,
     })
 }
 

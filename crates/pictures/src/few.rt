@@ -1,0 +1,101 @@
+// The picture of a few calls alone.
+ghost use Rattle.std.specs.Prelude.{◌≡◌, map, IfOk};
+ghost use Rattle.list_laws.specs.Lists.{has_number};
+ghost use Rattle.pictures.specs.Few.{named_bar, is_of_named, named_marks, IsNarrowedTo, IsFewOf};
+
+use crate::bars::Bar;
+use crate::marks::Mark;
+use crate::pictures_of::Picture;
+use crate::windows::{column_of, event_meant, window_around};
+use events::Memory;
+use std::alloc::Global;
+
+/// How many columns a picture of a few calls has at most.
+const FEW_ROOM: usize = 60;
+
+/// The calls of a picture that were invoked at these places alone, with their marks, in columns of their own events: all of them
+/// where there are at most 60, else those around the wrong event, and where there is none around the last mark of the picture. It
+/// takes time in proportion to the square of the columns, and to the bars times the places. `Err` is want of memory.
+pub fn few_of(
+    alloc: Global,
+    picture: Picture,
+    places: &[usize],
+    wrong: Option<usize>,
+) -> Result<Picture, Memory>
+    ensures { IfOk result (IsFewOf places.now wrong picture) }
+{
+    let event = event_meant(wrong, &picture.marks);
+    let column = column_of(&picture.marks, event);
+    let narrowed = narrowed_to(alloc, picture, places)?;
+    let part = window_around(alloc, narrowed, FEW_ROOM, column, event)?;
+    Ok(part)
+}
+
+/// The picture in which these calls alone stand out and are marked.
+fn narrowed_to(alloc: Global, picture: Picture, places: &[usize]) -> Result<Picture, Memory>
+    ensures { IfOk result (IsNarrowedTo places.now picture) }
+{
+    let marks = named_marks(alloc, places, &picture.bars, &picture.marks)?;
+    let bars = named_bars(alloc, places, picture.bars)?;
+    Ok(Picture {
+        heading: picture.heading,
+        start: picture.start,
+        lanes: picture.lanes,
+        bars,
+        marks,
+        columns: picture.columns,
+        part: picture.part,
+        is_few: true,
+    })
+}
+
+/// The bars, of which those of these calls alone stand out.
+fn named_bars(alloc: Global, places: &[usize], bars: Vec<Bar>) -> Result<Vec<Bar>, Memory>
+    ensures { IfOk result (λ v. v.items ≡ map (named_bar places.now) bars.items) }
+{
+    Ok(
+        bars.into_iter()
+            .map(|bar| named_bar(places, bar))
+            .collect(alloc)?,
+    )
+}
+
+/// A bar, which stands out where its call is one of these.
+fn named_bar(places: &[usize], bar: Bar) -> Bar
+    ensures { result ≡ named_bar places.now bar }
+{
+    let is_pale = !has_place(places, bar.inv);
+    Bar { is_pale, ..bar }
+}
+
+/// The marks of these calls.
+fn named_marks(
+    alloc: Global,
+    places: &[usize],
+    bars: &[Bar],
+    marks: &[Mark],
+) -> Result<Vec<Mark>, Memory>
+    ensures { IfOk result (λ v. v.items ≡ named_marks places.now bars.now marks.now) }
+{
+    Ok(
+        marks
+            .iter()
+            .copied()
+            .filter(|mark| is_of_named(places, bars, mark))
+            .collect(alloc)?,
+    )
+}
+
+/// Whether a mark is of one of these calls.
+fn is_of_named(places: &[usize], bars: &[Bar], mark: &Mark) -> bool
+    ensures { result ≡ is_of_named places.now bars.now mark.now }
+{
+    bars.iter().any(|bar| bar.number == mark.number as usize && has_place(places, bar.inv))
+}
+
+/// Whether a place is among some.
+fn has_place(places: &[usize], place: usize) -> bool
+    ensures { result ≡ has_number places.now place }
+{
+    places.iter().any(|other| *other == place)
+}
