@@ -15,6 +15,7 @@ mod EventNarrowLemmas
 mod EventOpenLemmas
 mod EventPartLemmas
 mod EventReplyLemmas
+mod GuessLemmas
 mod JoinLemmas
 mod JudgeFewLemmas
 mod JudgeLawLemmas

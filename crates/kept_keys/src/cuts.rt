@@ -89,8 +89,11 @@ fn later(latest: Option<usize>, answer: usize) -> Option<usize>
     }
 }
 
-/// So many calls open at a place may be few.
+/// So many calls open at a place may be counted.
 const FEW: usize = 32;
+
+/// Where more are open a key does not settle: there may be as many ways as sets of them.
+const MOST: usize = 12;
 
 /// A place, and how many calls were open there.
 #[derive(Clone, Copy)]
@@ -139,6 +142,9 @@ impl Opens {
             return found;
         }
         let count = self.count(number);
+        if count > MOST {
+            return found;
+        }
         match found {
             Some(at) if at.count < count => found,
             _ => Some(OpenAt {

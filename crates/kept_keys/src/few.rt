@@ -90,7 +90,7 @@ fn is_minimal(calls: &[Operation], taken: [bool; FEW], call: &Operation) -> bool
 }
 
 /// Whether a response stands before a place.
-fn is_before(response: &Option<Response>, place: usize) -> bool
+pub(crate) fn is_before(response: &Option<Response>, place: usize) -> bool
     ensures { result ≡ is_before response.now place }
 {
     match response {

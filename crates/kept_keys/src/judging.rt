@@ -27,9 +27,23 @@ pub enum Judged {
 }
 
 impl KeptKey {
-    /// Judges the calls left: from each value of each configuration they are searched for an order, until one is found. Each search meets at
-    /// most `budget` positions.
+    /// Judges the calls left: an order is guessed at from each value of each configuration, and where none is found so, they are searched for
+    /// one from each, until one is found. Each search meets at most `budget` positions.
     pub fn judge(&self, alloc: Global, key: u64, budget: u32) -> Result<Judged, Memory>
+        requires each { length self.now.names ≡ length self.now.calls }
+        requires rising { AllPairs (λ x y. x.inv < y.inv) self.now.calls }
+        requires apart { NonePrecedesItself self.now.calls }
+        ensures judged { IfOk result (IsJudged budget key self.now) }
+        ensures spent { IfOk result (λ verdict. verdict ≡ Judged.Spent → NoneWasFound budget key self.now) }
+    {
+        if self.is_guessed(alloc, key)? {
+            return Ok(Judged::Order);
+        }
+        self.search(alloc, key, budget)
+    }
+
+    /// Searches the calls left for an order from each value of each configuration.
+    fn search(&self, alloc: Global, key: u64, budget: u32) -> Result<Judged, Memory>
         requires each { length self.now.names ≡ length self.now.calls }
         requires rising { AllPairs (λ x y. x.inv < y.inv) self.now.calls }
         requires apart { NonePrecedesItself self.now.calls }
@@ -69,7 +83,7 @@ impl KeptKey {
 }
 
 /// Copies of the calls that are not taken.
-fn calls_but(
+pub(crate) fn calls_but(
     alloc: Global,
     taken: &[usize],
     names: &[usize],

@@ -10,6 +10,7 @@ mod due;
 mod few;
 mod gets;
 mod gone;
+mod guessing;
 mod joining;
 mod judging;
 mod kept;
@@ -17,6 +18,7 @@ mod laws;
 mod outcomes;
 mod reads;
 mod retiming;
+mod scout;
 mod settling;
 mod uniting;
 

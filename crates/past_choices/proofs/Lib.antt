@@ -5,7 +5,7 @@ mod EarliestLemmas
 mod GatherLemmas
 mod ItemLemmas
 mod PathLemmas
-mod PlaceLemmas
+pub mod PlaceLemmas
 mod StepLemmas
 mod TurnLemmas
 pub mod ValueLemmas

@@ -5,8 +5,8 @@ use Rattle.kept_keys.specs.Views.{KeptView}
 use Rattle.kept_keys.specs.declared.judging.Judged.{Judged}
 use Rattle.kept_keys.proofs.JudgeVerdictLemmas.{IsSoFar, HasSome, SomeBeyond, NoneFound, verdict_none, verdict_spent, verdict_all, none_any, none_found}
 use Rattle.kept_keys.proofs.JudgeVerdictLemmas.{judged_all, spent_all}
-use Rattle.kept_keys.proofs.kept.KeptKey.judge.Goals as goal
-use Rattle.kept_keys.proofs.kept.KeptKey.judge.Goals.{in-NoOrder, in-Spent}
+use Rattle.kept_keys.proofs.kept.KeptKey.search.Goals as goal
+use Rattle.kept_keys.proofs.kept.KeptKey.search.Goals.{in-NoOrder, in-Spent}
 
 pub loop-configuration-preserved : goal.loop-configuration-preserved
 loop-configuration-preserved c =

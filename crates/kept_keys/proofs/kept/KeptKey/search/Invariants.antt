@@ -1,6 +1,6 @@
 use Rattle.std.proofs.Common.{take}
 use Rattle.kept_keys.proofs.JudgeVerdictLemmas.{IsSoFar, HasSome, SomeBeyond, NoneFound}
-use Rattle.kept_keys.proofs.kept.KeptKey.judge.Given as goal
+use Rattle.kept_keys.proofs.kept.KeptKey.search.Given as goal
 
 -- the verdict on the configurations so far
 abbrev pub invariant-loop-configuration : goal.invariant-loop-configuration
