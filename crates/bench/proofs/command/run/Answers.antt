@@ -1,7 +1,6 @@
 use Rattle.std.specs.Prelude.{refl}
 use Rattle.clap.specs.Walk.{texts}
 use Rattle.plan_engines.specs.Answers.{IsReplayAnswer, IsReplayRefusal}
-use Rattle.plan_engines.specs.Drives.{IsDriveAnswer, IsDriveRefusal}
 use Rattle.outcomes.specs.Ends.{change}
 use Rattle.line_outcomes.proofs.OutcomeLemmas.{read-words, fault-words}
 use Rattle.judge_lines.specs.Outcomes.{AsksForTrees}
