@@ -1,22 +1,22 @@
 -- Orders that are guessed at, checked call by call.
-use Rattle.std.proofs.Common.{◌≡◌, ◌≢◌, ℕ, ◌+◌, ◌<◌, ◌≤◌, Bool, true, false, List, [], ◌∷◌, ◌++◌, length, get_or, replicate, Option, Some, None}
+use Rattle.std.proofs.Common.{◌≡◌, ◌≢◌, ℕ, ◌<◌, ◌≤◌, Bool, true, false, List, [], ◌∷◌, ◌++◌, length, get_or, Option, Some, None}
 use Rattle.std.proofs.Common.{refl, sym, ap, ◌∙◌, subst, ⊎_elim, inl, inr, arith}
 use Rattle.std.specs.Prelude.{◌⊎◌, ◌↔◌, slice_get, slice_set, All, Any, AllPairs, Contains}
-use Rattle.std.proofs.lemmas.Bool.{cases_order, false≢true, ltb-false, le-ltb}
-use Rattle.std.proofs.lemmas.List.{get_or_default, length-set, length-replicate}
-use Rattle.std.proofs.lemmas.List.Elements.{All-nil, All-push, All-contains, Contains-append_left, Contains-push, Contains-push_cases, Contains-get_or}
+use Rattle.std.proofs.lemmas.Bool.{cases_order, ltb-false, le-ltb}
+use Rattle.std.proofs.lemmas.List.{get_or_default, length-set}
+use Rattle.std.proofs.lemmas.List.Elements.{All-push, All-contains, Contains-append_left, Contains-push, Contains-push_cases, Contains-get_or}
 use Rattle.std.proofs.lemmas.List.Quantifiers.{all_pairs_push}
 use Rattle.std.proofs.lemmas.Option.{slice_get_within}
 use Rattle.events.specs.declared.operation.Operation.{Operation}
 use Rattle.events.specs.declared.operation.Response.{Response}
 use Rattle.events.specs.Precedence.{is_before, precedes}
-use Rattle.list_laws.proofs.Lists.{All-at, All-from_contains, AllPairs-nil, Contains-nil}
+use Rattle.list_laws.proofs.Lists.{All-at, All-from_contains}
 use Rattle.map_object.specs.MapObject.{Contents}
-use Rattle.orders.specs.Orders.{IsLegalCall, IsLegal, after_call, after_calls, calls_at, IsCompletedAt, IsLinearizable, KeepsPrecedence}
+use Rattle.orders.specs.Orders.{IsLegalCall, IsLegal, after_call, after_calls, calls_at, KeepsPrecedence}
 use Rattle.orders.proofs.OrderLemmas.{IsLegal-append, after_calls-push, calls_at-push}
 use Rattle.following.specs.keys.KeyStates.{one_key}
 use Rattle.past_choices.specs.Values.{IsCallOf, MayBeAnswered, value_behind_call}
-use Rattle.past_choices.proofs.PlaceLemmas.{set_here, set_elsewhere, replicate_only}
+use Rattle.past_choices.proofs.PlaceLemmas.{set_here, set_elsewhere}
 use Rattle.past_choices.proofs.ValueLemmas.{after_call_one, legal_one}
 
 -- some of a list, by place
@@ -34,23 +34,6 @@ pub record IsChecked (key : ℕ) (first : Option ℕ) (calls : List Operation) (
   pub leads : one_key key value ≡ after_calls (one_key key first) (calls_at calls path)
   pub size : length taken ≡ length calls
   pub marks : (n : ℕ) → slice_get taken n ≡ Some true ↔ Contains path n
-
--- no call
-pub checked_none : (key : ℕ) (first : Option ℕ) (calls : List Operation) (taken : List Bool) → taken ≡ replicate (length calls) false
-    → IsChecked key first calls [] first 0 taken
-checked_none key first calls taken is = record {
-  known = All-nil (λ n. n < length calls);
-  distinct = AllPairs-nil (λ m n. m ≢ n);
-  precedence = AllPairs-nil (λ a b. precedes b a ≡ false);
-  begun = All-nil (λ a. a.inv ≤ 0);
-  legal = tt;
-  leads = refl;
-  size = ap length is ∙ length-replicate (length calls) false;
-  marks = λ n. (
-    λ h. absurd (false≢true (replicate_only (length calls) false n true (sym (ap (λ (l : List Bool). slice_get l n) is) ∙ h)).1),
-    λ h. absurd (Contains-nil n h),
-  );
-}
 
 same_or_apart : (m n : ℕ) → (m ≡ n) ⊎ (m ≢ n)
 same_or_apart m n = ⊎_elim (λ is. inl is)
@@ -121,15 +104,3 @@ checked_more key first calls path more n a value latest later taken marked is ma
       size = length-set taken n true ∙ c.size;
       marks = λ m. ⊎_elim (λ same. marks_here m same) (λ apart. marks_elsewhere m apart) (same_or_apart m n);
     }
-
--- all completed ones
-pub checked_all : (key : ℕ) (first : Option ℕ) (calls : List Operation) (path : List ℕ) (value : Option ℕ) (latest : ℕ) (taken : List Bool)
-    → ((n : ℕ) → IsCompletedAt calls n → slice_get taken n ≡ Some true) → IsChecked key first calls path value latest taken
-    → IsLinearizable (one_key key first) calls
-checked_all key first calls path value latest taken all c = (
-  path,
-  record {
-    legal_order = record { known = c.known; distinct = c.distinct; precedence = c.precedence; legal = c.legal };
-    complete = λ n done. (c.marks n).0 (all n done);
-  },
-)

@@ -1,7 +1,7 @@
 -- The earliest answer of calls that are left, and the calls that may come next.
-use Rattle.std.proofs.Common.{◌≡◌, ◌≢◌, ℕ, ◌+◌, ◌<◌, ◌≤◌, min, Bool, true, false, List, length, Option, Some, None}
+use Rattle.std.proofs.Common.{◌≡◌, ◌≢◌, ℕ, ◌+◌, ◌<◌, ◌≤◌, min, true, false, List, length, Option, Some, None}
 use Rattle.std.proofs.Common.{refl, sym, ap, ◌∙◌, subst, ⊎_elim, inl, inr, arith}
-use Rattle.std.specs.Prelude.{◌⊎◌, ◌↔◌, IsTrue, IsSomeAnd, slice_get, AllPairs}
+use Rattle.std.specs.Prelude.{◌⊎◌, IsSomeAnd, slice_get, AllPairs}
 use Rattle.std.proofs.lemmas.Bool.{cases_lt, ltb-true, lt-ltb, both_ways}
 use Rattle.std.proofs.lemmas.Option.{none-some, same_Some, slice_get_within}
 use Rattle.events.specs.declared.operation.Operation.{Operation}
@@ -12,8 +12,7 @@ use Rattle.list_laws.proofs.NumberLemmas.{slice_get-below}
 use Rattle.past_choices.specs.declared.mark.Mark.{Mark}
 use Rattle.past_choices.specs.declared.mark.Mark.TheVariants.{Left}
 use Rattle.past_choices.specs.Positions.{Position}
-use Rattle.past_choices.specs.Steps.{earlier_of, NoneLeftPrecedes, MayCome, IsEnd}
-use Rattle.past_choices.specs.Values.{MayBeAnswered}
+use Rattle.past_choices.specs.Steps.{earlier_of, NoneLeftPrecedes, IsEnd}
 use Rattle.past_choices.proofs.GatherLemmas.{last_or_before}
 
 -- a call that is left, of the first ones, is answered at a place
@@ -251,13 +250,3 @@ end_all calls p size earliest all ends = record {
   before = λ n h. ends.before n (omega (arith, all, h));
   behind = λ n le within none. omega (arith, le, within);
 }
-
--- ---- calls that may come next
-
-pub may_come_is : (calls : List Operation) (p : Position) (n : ℕ) (a : Operation) (result : Bool) → slice_get calls n ≡ Some a
-    → slice_get p.marks n ≡ Some Left → NoneLeftPrecedes calls p n → IsTrue result ↔ MayBeAnswered p.value a.call a.response
-    → IsTrue result ↔ MayCome calls p n
-may_come_is calls p n a result here left preceded legal = (
-  λ h. record { call = a; here = here; left = left; preceded = preceded; legal = legal.0 h },
-  λ m. legal.1 (subst (λ (b : Operation). MayBeAnswered p.value b.call b.response) (same_Some m.call a (sym m.here ∙ here)) m.legal),
-)
