@@ -42,15 +42,30 @@ impl KeptKey {
         requires each { length self.now.names ≡ length self.now.calls }
         ensures { IfOk result (λ is. is ≡ true → Any (HasOrderFrom key self.now configuration.now) configuration.now.values) }
     {
-        let calls = calls_but(alloc, &configuration.taken, &self.names, &self.calls)?;
-        for value in &configuration.values {
-            let order = guessed_order(alloc, *value, &calls)?;
-            if is_order(alloc, key, *value, &calls, &order)? {
-                return Ok(true);
-            }
+        if configuration.taken.as_slice().is_empty() {
+            return is_guessed_of(alloc, key, &configuration.values, &self.calls);
         }
-        Ok(false)
+        let calls = calls_but(alloc, &configuration.taken, &self.names, &self.calls)?;
+        is_guessed_of(alloc, key, &configuration.values, &calls)
     }
+}
+
+/// Whether an order of calls is guessed from some of these values.
+fn is_guessed_of(
+    alloc: Global,
+    key: u64,
+    values: &[Option<u64>],
+    calls: &[Operation],
+) -> Result<bool, Memory>
+    ensures { IfOk result (λ is. is ≡ true → Any (λ value. IsLinearizable (one_key key value) calls.now) values.now) }
+{
+    for value in values {
+        let order = guessed_order(alloc, *value, calls)?;
+        if is_order(alloc, key, *value, calls, &order)? {
+            return Ok(true);
+        }
+    }
+    Ok(false)
 }
 
 /// Whether calls of a key, by their places, are an order of all from a value, or none.

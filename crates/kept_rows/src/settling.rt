@@ -36,10 +36,18 @@ pub(crate) fn settle_key(
     let Some(place) = clear_place(&kept, key, scans, limit, now) else {
         return Ok(kept);
     };
-    match kept.settled(alloc, key, place, budget)? {
+    match kept.settled(alloc, key, place, positions_for(&kept.calls, budget))? {
         Some(settled) => Ok(settled),
         None => Ok(kept),
     }
+}
+
+/// So many marks of calls may be kept where a key settles: each position has one for each call.
+const MARKS: usize = 1048576;
+
+/// How many positions may be met where a key settles.
+fn positions_for(calls: &[Operation], budget: u32) -> u32 {
+    budget.min((MARKS / calls.len().max(1)) as u32)
 }
 
 /// Where a key is to settle, as below, up to a limit and at a place that no scan over the key is around.
@@ -109,8 +117,8 @@ fn some_began(calls: &[Operation], place: usize) -> bool {
     }
 }
 
-/// So few calls are left as they are.
-const FEW: usize = 16;
+/// So few calls are left as they are: to judge them costs less than to settle often.
+const FEW: usize = 64;
 
 /// Whether there are many calls, also for those of them that are open: a key with more open calls keeps more that are completed, since to settle costs
 /// more there.
@@ -119,5 +127,5 @@ fn are_many(calls: &[Operation]) -> bool {
         return false;
     }
     let open = calls.iter().filter(|call| !call.is_completed()).count();
-    open <= (calls.len() - 9) / 3
+    open <= (calls.len() - 9) / 8
 }
