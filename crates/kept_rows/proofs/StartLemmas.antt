@@ -72,7 +72,7 @@ module _ (begin : KeptKeysBegin) (start : Contents) (rising : IsRising start) (b
         (begin start (class_of_row empty_row empty_ghost) (number_of []) key rising);
     answered = λ key a is. absurd (Contains-nil a is);
     fixed = λ key. record {
-      events = λ a b a_is. absurd (Contains-nil a a_is);
+      events = λ a b low high pairs a_is. absurd (Contains-nil a a_is);
       scans = λ a b low high other_low other_high pairs other a_is. absurd (Contains-nil a a_is);
     };
     left = λ key a low high pairs is. absurd (Contains-nil a is);
