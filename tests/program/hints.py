@@ -49,7 +49,7 @@ ANSWERS = [
         '{"events":[{"invoke":["get",5],"process":0},{"answer":null,"process":0}],"start":[[5,7]],"version":2}\n', "",
     ),
     (["check", "0", "1"], history(INSERT_THEN_GET), 0, "ok\n", ""),
-    (["check", "1", "0"], history(INSERT_THEN_GET), 1, "fault: 3 Precedence at place 0\n", ""),
+    (["check", "1", "0"], history(INSERT_THEN_GET), 1, "fault: 4 Reply at place 0\n", ""),
     (["locate"], history(INSERT_THEN_GET), 0, '{"verdict":"yes"}\n', ""),
 ]
 

@@ -192,7 +192,8 @@ def fault_of_part(text, words, around, calls):
     marks = [call for _, call in places_in(groups_of(whole)[0])]
     explained = bench(["explain", *words], text)[1].decode().splitlines()[1:]
     rows = [row for row in map(json.loads, explained) if "reason" in row]
-    few = few_of(history, rows) if verdict["verdict"] == "no" and rows and around is calls is None else None
+    is_free = calls is None and (around is None or around >= len(history["events"]))
+    few = few_of(history, rows) if verdict["verdict"] == "no" and rows and is_free else None
     room = 60 if calls is None else 3 * calls
     if few is None and (room == 0 or len(history["events"]) + len(marks) <= room):
         return None if picture == whole else "not the whole picture, where all of it has room"

@@ -16,6 +16,7 @@ from rows import (  # noqa: E402
 )
 
 # What is said behind the line of a fault.
+HISTORY = "wanted an event in a line of its own; bench judge and bench locate read histories\n"
 EVENT = (
     'wanted {"process":P,"invoke":C} or {"process":P,"answer":A}, in version 3 also with a "note"; C is ["get",K], ["insert",K,V], '
     '["remove",K], ["scan",LO,HI] with LO <= HI, or from version 2 on ["replace",K,OLD,NEW]; A is null, V, [[K,V],..], "refused", '
@@ -270,7 +271,7 @@ FIRST_LINES = [
     ('{"note":0,"start":[],"version":3}', "4 Shape", EVENT),
     ('{"start":[]}', "4 Shape", EVENT),
     ('{"version":2}', "4 Shape", EVENT),
-    ('{"events":[],"start":[],"version":2}', "4 Shape", EVENT),
+    ('{"events":[],"start":[],"version":2}', "4 Shape", HISTORY),
 ]
 
 # An event of a process that no other line names, and a line of starting pairs.

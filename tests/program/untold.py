@@ -95,14 +95,14 @@ SCAN_BEHIND_OVERLAPS = (
     INSERTS_OVERLAP + INSERT_AND_REMOVE_OVERLAP.replace(",5", ",8")
     + '{"invoke":["scan",0,9],"process":2},{"answer":[[5,9]],"process":2},'
 )
-# A put that is never answered, beside sixteen that tell nothing. It may have found what each of them found, or come behind them, or not yet.
+# A put that is never answered, beside sixty-four that tell nothing. It may have found what each of them found, or come behind them, or not yet.
 DEAD_PUT = '{"invoke":["insert",5,99],"process":9},' + "".join(
-    f'{{"invoke":["insert",5,{value}],"process":0}},{{"answer":"done","process":0}},' for value in range(1, 17)
+    f'{{"invoke":["insert",5,{value}],"process":0}},{{"answer":"done","process":0}},' for value in range(1, 65)
 )
 
-# A put that was read, so that it took effect before fifteen others that tell nothing, and found nothing. Then it is answered.
+# A put that was read, so that it took effect before sixty-three others that tell nothing, and found nothing. Then it is answered.
 SEEN_PUT = '{"invoke":["insert",5,99],"process":9},{"invoke":["get",5],"process":0},{"answer":99,"process":0},' + "".join(
-    f'{{"invoke":["insert",5,{value}],"process":0}},{{"answer":"done","process":0}},' for value in range(1, 16)
+    f'{{"invoke":["insert",5,{value}],"process":0}},{{"answer":"done","process":0}},' for value in range(1, 64)
 )
 
 # Events, the answer of a call of process 3 behind them, the call, and what its key may have had before it, where it goes wrong.
@@ -137,10 +137,10 @@ SEVERAL = [
     (SCAN_BEHIND_OVERLAPS, '["get",5]', "7", [9]),
     (SCAN_BEHIND_OVERLAPS, '["get",8]', "1", [None]),
     (SCAN_BEHIND_OVERLAPS, '["get",8]', "null", None),
-    (DEAD_PUT, '["get",5]', "16", None),
+    (DEAD_PUT, '["get",5]', "64", None),
     (DEAD_PUT, '["get",5]', "99", None),
-    (DEAD_PUT + '{"answer":3,"process":9},', '["get",5]', "16", None),
-    (DEAD_PUT + '{"answer":3,"process":9},', '["get",5]', "99", [16]),
+    (DEAD_PUT + '{"answer":3,"process":9},', '["get",5]', "64", None),
+    (DEAD_PUT + '{"answer":3,"process":9},', '["get",5]', "99", [64]),
 ]
 
 
@@ -187,11 +187,11 @@ def rows():
     yield ["explain"], told(LOST_PUT), 1, LOST_PUT_EXPLAINED, ""
     for reply in ("null", '"done"'):
         text = stream(SEEN_PUT + f'{{"answer":{reply},"process":9}}', "")
-        yield ["follow"], text, 0, '{"calls":17,"overlap":0.94,"verdict":"yes"}\n', ""
+        yield ["follow"], text, 0, '{"calls":65,"overlap":0.98,"verdict":"yes"}\n', ""
     # A refused call is left no longer.
     for reply, left in (('"found"', [0]), ("99", [0]), ('"other"', [0]), ('"refused"', [])):
         text = stream(SEEN_PUT + f'{{"answer":{reply},"process":9}}', "")
-        yield ["follow"], text, 1, report_of(0, 33, [(5, left, [])]) + "\n", ""
+        yield ["follow"], text, 1, report_of(0, 129, [(5, left, [])]) + "\n", ""
 
 
 def followed(start, events, key, values):
