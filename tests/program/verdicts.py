@@ -521,7 +521,7 @@ FOLLOWED = [
     # 61 * 62 / 2 of 62 calls.
     (many_readers("7"), 62, "30.50"),
     # All 13^3 ways are kept. 1 + 2 + 3 + 6 * 4 of 10 calls.
-    (many_ways(3, 6), 10, "3.00"),
+    (many_ways(3, 3), 10, "3.00"),
     # The insert of a dead process is found, or not, or is answered after all by what it found.
     (dead_writer(16, 16, None) + get_of_five(16), 18, "0.94"),
     (dead_writer(99, 16, 99) + ',{"answer":1,"process":9}', 17, "0.94"),
