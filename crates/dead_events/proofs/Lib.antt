@@ -1,5 +1,6 @@
 mod BackLemmas
 mod BlockLemmas
+mod DeadLemmas
 mod FreeLemmas
 mod HoldLemmas
 mod JumpLemmas

@@ -26,7 +26,7 @@ use Rattle.dead_events.proofs.JumpLemmas.{jump, jump_cases, room, moved, moved_c
 use Rattle.dead_events.proofs.PassLemmas.{IsBetween, IsAlone, GainsOnly}
 
 -- a response that comes later stands from the place on
-late_response : (place : ℕ) (now then : Option Response) (r : Response) → IsGrownResponse place now then → now ≡ None → then ≡ Some r → place ≤ r.res
+pub late_response : (place : ℕ) (now then : Option Response) (r : Response) → IsGrownResponse place now then → now ≡ None → then ≡ Some r → place ≤ r.res
 late_response place None None r grown pending is = cc
 late_response place None (Some s) r grown pending is =
     let same : s.res ≡ r.res = ap (λ (x : Response). x.res) (same_Some s r is) in omega arith

@@ -1,17 +1,17 @@
 -- Laws of events that the moment of a scan may pass.
-use Rattle.std.specs.Prelude.{◌≡◌, ℕ, ◌<◌, false, List, [], ◌∷◌, ◌++◌, Some, Contains}
+use Rattle.std.specs.Prelude.{◌≡◌, ℕ, ◌<◌, List, [], ◌∷◌, ◌++◌, Some, Contains}
 use Rattle.events.specs.declared.event.Event.{Event}
 use Rattle.events.specs.declared.operation.Operation.{Operation}
 use Rattle.events.specs.declared.operation.Response.{Response}
 use Rattle.events.specs.Operations.{operations}
 use Rattle.following.specs.moments.Timings.{IsToldScan}
 use Rattle.following.specs.keys.KeyStates.{KeyState}
-use Rattle.following.specs.rows.Blocks.{is_scan, IsOver}
+use Rattle.following.specs.rows.Blocks.{IsOver}
 use Rattle.following.specs.rows.Comparisons.{Comparison, Behind, Before, class_of}
 use Rattle.following.specs.rows.Steps.{HoldsWhere}
 use Rattle.following.specs.rows.Rows.{Row}
 use Rattle.dead_events.specs.Passing.{MayPassBack, MayPassOn}
-use Rattle.dead_events.specs.Standing.{IsDeadBegin, IsDeadEnd, IsLeftAt}
+use Rattle.dead_events.specs.Standing.{BeginsOnlyAt, EndsOnlyAt, IsDeadBegin, IsDeadEnd, IsLeftAt}
 
 -- a row with a scan behind one place and before another
 abbrev pub row_between : (ℕ → KeyState) → List Comparison → ℕ → ℕ → ℕ → Row
@@ -34,21 +34,20 @@ BeginsJoin =
     → MayPassOn events states kept tied a.inv before place
     → HoldsWhere events (row_between states kept a.inv before place) (row_between states kept a.inv place behind)
 
--- where no order has a call before the scan at its key, the row behind the call's beginning goes
+-- where a key needs no order with a call before the scan, the row behind the call's beginning goes
 abbrev pub DeadBeginsJoin : Type 0
 DeadBeginsJoin =
-    (events : List Event) (states : ℕ → KeyState) (kept : List Comparison) (tied : List ℕ) (a b : Operation) (key before place behind : ℕ)
-    → Contains (operations events) a → IsToldScan a → IsOver key a.call → IsLeftAt (states key) a.inv → Contains (operations events) b
-    → is_scan b.call ≡ false → IsOver key b.call → b.inv ≡ place → before < place → MayPassBack events states kept tied a.inv place behind
+    (events : List Event) (states : ℕ → KeyState) (kept : List Comparison) (tied : List ℕ) (a : Operation) (key before place behind : ℕ)
+    → Contains (operations events) a → IsToldScan a → IsOver key a.call → IsLeftAt (states key) a.inv → BeginsOnlyAt events key place
+    → before < place → MayPassBack events states kept tied a.inv place behind
     → IsDeadBegin events (class_of (kept ++ Behind a.inv place ∷ Before a.inv behind ∷ [])) key (states key) a.inv place
     → HoldsWhere events (row_between states kept a.inv place behind) (row_between states kept a.inv before place)
 
--- where none has it behind the scan, the row before the call's end
+-- where it needs none with a call behind the scan, the row before the call's end
 abbrev pub DeadEndsJoin : Type 0
 DeadEndsJoin =
-    (events : List Event) (states : ℕ → KeyState) (kept : List Comparison) (tied : List ℕ) (a b : Operation) (r : Response)
-    (key before place behind : ℕ) → Contains (operations events) a → IsToldScan a → IsOver key a.call → IsLeftAt (states key) a.inv
-    → Contains (operations events) b → is_scan b.call ≡ false → IsOver key b.call → b.response ≡ Some r → r.res ≡ place → place < behind
-    → MayPassOn events states kept tied a.inv before place
+    (events : List Event) (states : ℕ → KeyState) (kept : List Comparison) (tied : List ℕ) (a : Operation) (key before place behind : ℕ)
+    → Contains (operations events) a → IsToldScan a → IsOver key a.call → IsLeftAt (states key) a.inv → EndsOnlyAt events key place
+    → place < behind → MayPassOn events states kept tied a.inv before place
     → IsDeadEnd events (class_of (kept ++ Behind a.inv before ∷ Before a.inv place ∷ [])) key (states key) a.inv place
     → HoldsWhere events (row_between states kept a.inv before place) (row_between states kept a.inv place behind)

@@ -1,6 +1,6 @@
 -- Orders in which a call does not stand on one side of a scan. An event of a call is dead for a scan where no order has the call on the side on which it
 -- may stand by this event; less will do: where there is an order, one has the call elsewhere.
-use Rattle.std.specs.Prelude.{◌≡◌, ℕ, ◌<◌, true, List, ◌++◌, Option, Some, slice_get, Contains}
+use Rattle.std.specs.Prelude.{◌≡◌, ℕ, ◌<◌, true, false, List, ◌++◌, Option, Some, slice_get, Contains}
 use Rattle.events.specs.declared.event.Event.{Event}
 use Rattle.events.specs.declared.operation.Operation.{Operation}
 use Rattle.events.specs.declared.operation.Response.{Response}
@@ -10,6 +10,7 @@ use Rattle.orders.specs.Orders.{IsOrder, IsLinearizable}
 use Rattle.quiet_cuts.specs.Cells.{calls_left}
 use Rattle.following.specs.moments.KeyCalls.{at_key}
 use Rattle.following.specs.moments.Timings.{IsTiming}
+use Rattle.following.specs.rows.Blocks.{is_scan, IsOver}
 use Rattle.following.specs.keys.KeyStates.{one_key, Configuration, KeyState, Timings}
 
 -- a call is invoked at a place, or answered there
@@ -61,3 +62,12 @@ IsDeadEnd events allows key k scan place =
 -- a scan is left at a key, in each configuration
 abbrev pub IsLeftAt : KeyState → ℕ → Type 0
 IsLeftAt k scan = (c : Configuration) → Contains k.configurations c → Contains (k.gone ++ c.taken) scan → ⊥
+
+-- what begins at a place is of a key alone
+abbrev pub BeginsOnlyAt : List Event → ℕ → ℕ → Type 0
+BeginsOnlyAt events key place = (b : Operation) → Contains (operations events) b → b.inv ≡ place → (is_scan b.call ≡ false) × IsOver key b.call
+
+-- and what ends there
+abbrev pub EndsOnlyAt : List Event → ℕ → ℕ → Type 0
+EndsOnlyAt events key place = (b : Operation) (r : Response) → Contains (operations events) b → b.response ≡ Some r → r.res ≡ place
+    → (is_scan b.call ≡ false) × IsOver key b.call

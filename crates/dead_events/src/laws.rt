@@ -1,5 +1,5 @@
 // Laws of events that the moment of a scan may pass: each function only carries its clause, and calls what it rests on.
-ghost use Rattle.dead_events.specs.Laws.{BeginsJoin, EndsJoin};
+ghost use Rattle.dead_events.specs.Laws.{BeginsJoin, DeadBeginsJoin, DeadEndsJoin, EndsJoin};
 
 use following::operations_stand_apart;
 
@@ -16,3 +16,13 @@ pub fn begins_join()
 {
     operations_stand_apart();
 }
+
+/// Where a key needs no order with a call before the scan, the row with the scan behind the call's beginning holds only where the one with it before does.
+pub fn dead_begins_join()
+    ensures { DeadBeginsJoin }
+{}
+
+/// And where it needs none with a call behind the scan, the row with the scan before the call's end only where the one with it behind does.
+pub fn dead_ends_join()
+    ensures { DeadEndsJoin }
+{}
