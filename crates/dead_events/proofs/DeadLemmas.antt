@@ -1,6 +1,6 @@
 -- Nothing gains in an order that a key need not have otherwise, where a scan passes a dead event.
 use Rattle.std.proofs.Common.{◌≡◌, ℕ, ◌<◌, ◌≤◌, true, false, List, [], ◌∷◌, ◌++◌, length, Option, Some, None, is_some, IsTrue, refl, sym, ap, ◌∙◌, subst, ⊎_elim, arith, inl, inr}
-use Rattle.std.specs.Prelude.{◌≢◌, ◌⊎◌, slice_get, Contains}
+use Rattle.std.specs.Prelude.{slice_get, AllPairs, Contains}
 use Rattle.std.proofs.lemmas.Bool.{both_ways, cases_eq, cases_lt, cases_order, lt-ltb}
 use Rattle.std.proofs.lemmas.Option.{same_Some}
 use Rattle.std.proofs.lemmas.List.Elements.{All-contains}
@@ -15,7 +15,7 @@ use Rattle.events.proofs.TimeLemmas.{NonePrecedesItself-operations}
 use Rattle.list_laws.proofs.Lists.{AllPairs-at, Contains-at, Contains-from_filter, place_of-Contains}
 use Rattle.list_laws.proofs.FilterLemmas.{AreRelatedAs, AllPairs-from_filter_map, Contains-filter_map, Contains-from_filter_map}
 use Rattle.map_object.specs.MapObject.{Contents, value_at, value_reply}
-use Rattle.orders.specs.Orders.{IsOrder}
+use Rattle.orders.specs.Orders.{calls_at, IsOrder}
 use Rattle.quiet_cuts.specs.Cells.{is_left, calls_left}
 use Rattle.quiet_cuts.proofs.ContinueLemmas.{completed_stays}
 use Rattle.quiet_cuts.proofs.LeftLemmas.{in_left, left_from}
@@ -29,7 +29,7 @@ use Rattle.following.proofs.moments.TimedLemmas.{told_completed}
 use Rattle.following.proofs.keys.GrownLemmas.{IsGrown, in_now, grown_inv, same_completed}
 use Rattle.following.proofs.rows.EndLemmas.{grown_call, own_call, told_call}
 use Rattle.dead_events.specs.Laws.{DeadBeginsJoin, DeadEndsJoin}
-use Rattle.dead_events.specs.Standing.{BeginsAt, EndsAt, StandsBefore, NeedNotStand, BeginsOnlyAt, EndsOnlyAt, IsDeadBegin, IsDeadEnd, IsLeftAt}
+use Rattle.dead_events.specs.Standing.{BeginsAt, EndsAt, BeginsOnlyAt, EndsOnlyAt, IsDeadBegin, IsDeadEnd, IsLeftAt}
 use Rattle.dead_events.proofs.BackLemmas.{GainsBack, back_joins}
 use Rattle.dead_events.proofs.FreeLemmas.{still_back, still_on}
 use Rattle.dead_events.proofs.HoldLemmas.{HasStill, HaveStill}
@@ -68,28 +68,23 @@ module _ (start : Contents) (calls : List Operation) (order : List ℕ) (is : Is
   same_at p i j a b p_i p_j a_at b_at =
       let same = same_Some i j (sym p_i ∙ p_j) in same_Some a b (sym a_at ∙ (ap (slice_get calls) same ∙ b_at))
 
-  pub none_back : (here : ℕ) → here < last → (StandsBefore calls order (BeginsAt here) (BeginsAt last) → ⊥)
+  -- none of one kind stands before one of another
+  abbrev pub NoneBefore : (Operation → Type 0) → (Operation → Type 0) → Type 0
+  NoneBefore First Second = AllPairs (λ a b. First a → Second b → ⊥) (calls_at calls order)
+
+  never_at : (First Second : Operation → Type 0) → NoneBefore First Second → (p q i j : ℕ) (a b : Operation) → p < q → slice_get order p ≡ Some i
+      → slice_get order q ≡ Some j → slice_get calls i ≡ Some a → slice_get calls j ≡ Some b → First a → Second b → ⊥
+  never_at First Second none p q i j a b less p_at q_at a_at b_at =
+      let R = λ (a b : Operation). First a → Second b → ⊥ in
+      AllPairs-at (AreRelatedAs R (slice_get calls)) order p q i j (AllPairs-from_filter_map R (slice_get calls) order none) less p_at q_at a b
+      a_at b_at
+
+  pub none_back : (here : ℕ) → here < last → NoneBefore (BeginsAt here) (BeginsAt last)
       → ((b : Operation) (r : Response) → Contains calls b → b.response ≡ Some r → r.res ≡ last → b.inv ≡ last)
       → NoneGains (Gains (GainsBack here last)) calls order
-  none_back here less never begins_too p q i j a b before p_at q_at a_at b_at gain =
+  none_back here less none begins_too p q i j a b before p_at q_at a_at b_at gain =
       let (r, answered, (a_here, upto)) = gain in
       let (w, w_at) = stands in
-      let stand : (at : ℕ) (n : ℕ) (c : Operation) → p < at → slice_get order at ≡ Some n → slice_get calls n ≡ Some c → c.inv ≡ last → ⊥ =
-      λ at n c first at_is c_at c_last. never (record {
-        at = p;
-        later = at;
-        before = first;
-        one = i;
-        other = n;
-        one_at = p_at;
-        other_at = at_is;
-        call = a;
-        second = c;
-        call_at = a_at;
-        second_at = c_at;
-        first_is = a_here;
-        second_is = c_last;
-      }) in
       ⊎_elim
       (λ ends_before. ⊎_elim
       (λ same.
@@ -97,36 +92,20 @@ module _ (start : Contents) (calls : List Operation) (order : List ℕ) (is : Is
       let at = ap (λ (c : Operation). c.inv) one in
       let begins = get.begins in absurd (omega arith))
       (λ differ. ⊎_elim
-      (λ first. stand w get.number get.get first w_at get.get_at get.begins)
+      (λ first. never_at (BeginsAt here) (BeginsAt last) none p w i get.number a get.get first p_at w_at a_at get.get_at a_here get.begins)
       (λ second.
       let free = waits w q get.number j get.get b (omega arith) w_at q_at get.get_at b_at in
       let begins = get.begins in
       both_ways (precedes b get.get) free (rw answered (lt-ltb r.res get.get.inv (omega arith))))
       differ) (cases_order p w))
-      (λ ends_with. stand q j b before q_at b_at (begins_too b r (Contains-at calls j b b_at) answered (omega arith)))
+      (λ ends_with. never_at (BeginsAt here) (BeginsAt last) none p q i j a b before p_at q_at a_at b_at a_here
+      (begins_too b r (Contains-at calls j b b_at) answered (omega arith)))
       (cases_lt r.res last)
 
-  pub none_on : (here : ℕ) → last < here → (StandsBefore calls order (BeginsAt last) (EndsAt here) → ⊥)
-      → NoneGains (Gains (GainsOn here last)) calls order
-  none_on here less never p q i j a b before p_at q_at a_at b_at gain =
+  pub none_on : (here : ℕ) → last < here → NoneBefore (BeginsAt last) (EndsAt here) → NoneGains (Gains (GainsOn here last)) calls order
+  none_on here less none p q i j a b before p_at q_at a_at b_at gain =
       let (r, answered, (b_here, from)) = gain in
       let (w, w_at) = stands in
-      let stand : (at : ℕ) (n : ℕ) (c : Operation) → at < q → slice_get order at ≡ Some n → slice_get calls n ≡ Some c → c.inv ≡ last → ⊥ =
-      λ at n c first at_is c_at c_last. never (record {
-        at = at;
-        later = q;
-        before = first;
-        one = n;
-        other = j;
-        one_at = at_is;
-        other_at = q_at;
-        call = c;
-        second = b;
-        call_at = c_at;
-        second_at = b_at;
-        first_is = c_last;
-        second_is = (r, answered, b_here);
-      }) in
       ⊎_elim
       (λ begins_later. ⊎_elim
       (λ same.
@@ -139,9 +118,10 @@ module _ (start : Contents) (calls : List Operation) (order : List ℕ) (is : Is
       let free = waits p w i get.number a get.get (omega arith) p_at w_at a_at get.get_at in
       let (s, s_answered, s_at) = get.ends in
       both_ways (precedes get.get a) free (rw s_answered (lt-ltb s.res a.inv (omega arith))))
-      (λ first. stand w get.number get.get first w_at get.get_at get.begins)
+      (λ first. never_at (BeginsAt last) (EndsAt here) none w q get.number j get.get b first w_at q_at get.get_at b_at get.begins
+      (r, answered, b_here))
       differ) (cases_order q w))
-      (λ begins_with. stand p i a before p_at a_at (omega arith))
+      (λ begins_with. never_at (BeginsAt last) (EndsAt here) none p q i j a b before p_at q_at a_at b_at (omega arith) (r, answered, b_here))
       (cases_lt last a.inv)
 
 -- ---- at a key

@@ -1,12 +1,12 @@
 -- Orders in which a call does not stand on one side of a scan. An event of a call is dead for a scan where no order has the call on the side on which it
 -- may stand by this event; less will do: where there is an order, one has the call elsewhere.
-use Rattle.std.specs.Prelude.{◌≡◌, ℕ, ◌<◌, true, false, List, ◌++◌, Option, Some, slice_get, Contains}
+use Rattle.std.specs.Prelude.{◌≡◌, ℕ, true, false, List, ◌++◌, Option, Some, AllPairs, Contains}
 use Rattle.events.specs.declared.event.Event.{Event}
 use Rattle.events.specs.declared.operation.Operation.{Operation}
 use Rattle.events.specs.declared.operation.Response.{Response}
 use Rattle.events.specs.Operations.{operations}
 use Rattle.map_object.specs.MapObject.{Contents}
-use Rattle.orders.specs.Orders.{IsOrder, IsLinearizable}
+use Rattle.orders.specs.Orders.{calls_at, IsOrder, IsLinearizable}
 use Rattle.quiet_cuts.specs.Cells.{calls_left}
 use Rattle.following.specs.moments.KeyCalls.{at_key}
 use Rattle.following.specs.moments.Timings.{IsTiming}
@@ -20,26 +20,10 @@ BeginsAt place x = x.inv ≡ place
 abbrev pub EndsAt : ℕ → Operation → Type 0
 EndsAt place x = (r : Response) × (x.response ≡ Some r) × (r.res ≡ place)
 
--- in an order by number, some call of one kind stands before one of another
-pub record StandsBefore (calls : List Operation) (order : List ℕ) (First Second : Operation → Type 0) : Type 0 where
-  pub at : ℕ
-  pub later : ℕ
-  pub before : at < later
-  pub one : ℕ
-  pub other : ℕ
-  pub one_at : slice_get order at ≡ Some one
-  pub other_at : slice_get order later ≡ Some other
-  pub call : Operation
-  pub second : Operation
-  pub call_at : slice_get calls one ≡ Some call
-  pub second_at : slice_get calls other ≡ Some second
-  pub first_is : First call
-  pub second_is : Second second
-
 -- where calls have an order, they have one in which none of one kind stands before one of another
 abbrev pub NeedNotStand : (Operation → Type 0) → (Operation → Type 0) → Contents → List Operation → Type 0
 NeedNotStand First Second start calls = IsLinearizable start calls
-    → (order : List ℕ) × IsOrder start calls order × (StandsBefore calls order First Second → ⊥)
+    → (order : List ℕ) × IsOrder start calls order × AllPairs (λ a b. First a → Second b → ⊥) (calls_at calls order)
 
 -- what is kept of a key needs no such order, from any value of any configuration
 abbrev pub NeedsNone : ℕ → (ℕ → ℕ) → (ℕ → ℕ) → List Operation → KeyState → (Operation → Type 0) → (Operation → Type 0) → Type 0
