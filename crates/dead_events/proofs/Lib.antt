@@ -1,3 +1,4 @@
+mod AnsweredLemmas
 mod BackLemmas
 mod BlockLemmas
 mod DeadLemmas
@@ -7,3 +8,5 @@ mod JumpLemmas
 mod OnLemmas
 mod OrderLemmas
 mod PassLemmas
+mod PrefixLemmas
+mod StayLemmas

@@ -1,15 +1,17 @@
 -- Laws of events that the moment of a scan may pass.
-use Rattle.std.specs.Prelude.{◌≡◌, ℕ, ◌<◌, List, [], ◌∷◌, ◌++◌, Some, Contains}
+use Rattle.std.specs.Prelude.{◌≡◌, ℕ, ◌<◌, true, List, [], ◌∷◌, ◌++◌, Some, Contains}
 use Rattle.events.specs.declared.event.Event.{Event}
 use Rattle.events.specs.declared.operation.Operation.{Operation}
 use Rattle.events.specs.declared.operation.Response.{Response}
 use Rattle.events.specs.Operations.{operations}
+use Rattle.events.specs.Precedence.{is_completed}
 use Rattle.following.specs.moments.Timings.{IsToldScan}
 use Rattle.following.specs.keys.KeyStates.{KeyState}
 use Rattle.following.specs.rows.Blocks.{IsOver}
 use Rattle.following.specs.rows.Comparisons.{Comparison, Behind, Before, class_of}
 use Rattle.following.specs.rows.Steps.{HoldsWhere}
 use Rattle.following.specs.rows.Rows.{Row}
+use Rattle.dead_events.specs.Answered.{IsDeadBeginNow, IsNextTo}
 use Rattle.dead_events.specs.Passing.{MayPassBack, MayPassOn}
 use Rattle.dead_events.specs.Standing.{BeginsOnlyAt, EndsOnlyAt, IsDeadBegin, IsDeadEnd, IsLeftAt}
 
@@ -51,3 +53,11 @@ DeadEndsJoin =
     → place < behind → MayPassOn events states kept tied a.inv before place
     → IsDeadEnd events (class_of (kept ++ Behind a.inv before ∷ Before a.inv place ∷ [])) key (states key) a.inv place
     → HoldsWhere events (row_between states kept a.inv before place) (row_between states kept a.inv place behind)
+
+-- a beginning is dead with any further events where it is now, and the call is completed
+abbrev pub DeadBeginsStay : Type 0
+DeadBeginsStay =
+    (events : List Event) (comparisons : List Comparison) (key : ℕ) (k : KeyState) (a b : Operation) (place behind : ℕ)
+    → Contains (operations events) a → IsToldScan a → IsOver key a.call → IsLeftAt k a.inv → BeginsOnlyAt events key place
+    → Contains (operations events) b → b.inv ≡ place → is_completed b ≡ true → IsNextTo events comparisons key k a.inv place behind
+    → IsDeadBeginNow events (class_of comparisons) key k place → IsDeadBegin events (class_of comparisons) key k a.inv place

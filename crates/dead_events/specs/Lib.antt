@@ -1,3 +1,4 @@
+pub mod Answered
 pub mod Laws
 pub mod Passing
 pub mod Standing

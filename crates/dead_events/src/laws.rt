@@ -1,5 +1,5 @@
 // Laws of events that the moment of a scan may pass: each function only carries its clause, and calls what it rests on.
-ghost use Rattle.dead_events.specs.Laws.{BeginsJoin, DeadBeginsJoin, DeadEndsJoin, EndsJoin};
+ghost use Rattle.dead_events.specs.Laws.{BeginsJoin, DeadBeginsJoin, DeadBeginsStay, DeadEndsJoin, EndsJoin};
 
 use following::operations_stand_apart;
 
@@ -25,4 +25,10 @@ pub fn dead_begins_join()
 /// And where it needs none with a call behind the scan, the row with the scan before the call's end only where the one with it behind does.
 pub fn dead_ends_join()
     ensures { DeadEndsJoin }
+{}
+
+/// A beginning is dead for a scan that takes effect directly behind it, with any further events, where the call is completed, and the calls of the key have
+/// no order now with it answered as soon as it begins.
+pub fn dead_begins_stay()
+    ensures { DeadBeginsStay }
 {}
