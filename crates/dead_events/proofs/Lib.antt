@@ -6,6 +6,7 @@ mod FreeLemmas
 mod HoldLemmas
 mod JumpLemmas
 mod OnLemmas
+mod OneTimingLemmas
 mod OrderLemmas
 mod PassLemmas
 mod PrefixLemmas

@@ -310,7 +310,7 @@ stay events comparisons key k a b place behind a_is told over left only b_is b_a
     let here_now = subst (Contains (at_key key spread moment (calls_left dropped (operations events)))) (sym kept)
     (Contains-filter_map (part_at key spread moment) (calls_left dropped (operations events)) b x
     (in_left dropped (operations events) b b_is (left_from dropped b (λ is. d_out (subst (Contains dropped) (b_at ∙ sym d_at) is)))) b_shows) in
-    absurd (dead spread moment c value (timing_now events more spread moment timing) allowed c_is value_is
+    absurd (dead spread moment (timing_now events more spread moment timing) allowed c value c_is value_is
     (λ is. d_out (subst (Contains dropped) (sym d_at) is))
     (answered_now events more comparisons key k a place behind a_is told over next spread moment timing allowed c (left c c_is)
     (λ e e_is e_at. (only e e_is e_at).0) start (calls_at later_calls order) set x g x_is g_is x_at g_at never

@@ -31,13 +31,18 @@ with_answer_at place a = if a.inv == place then answered_at_once a else a
 abbrev pub with_answer : ℕ → List Operation → List Operation
 with_answer place calls = map (with_answer_at place) calls
 
--- in each timing of a class, a key has no order now with that, from any value of any configuration for which the call is left
+-- in a timing, a key has no order with that, from any value of any configuration for which the call is left
+abbrev pub HasNoneAnswered : List Operation → ℕ → KeyState → ℕ → (ℕ → ℕ) → (ℕ → ℕ) → Type 0
+HasNoneAnswered calls key k place spread moment =
+    (c : Configuration) (value : Option ℕ) → Contains k.configurations c → Contains c.values value
+    → (Contains (k.gone ++ c.taken) place → ⊥)
+    → IsLinearizable (one_key key value) (at_key key spread moment (calls_left (k.gone ++ c.taken) (with_answer place calls))) → ⊥
+
+-- it has none now in any timing of a class
 abbrev pub IsDeadBeginNow : List Event → Timings → ℕ → KeyState → ℕ → Type 0
 IsDeadBeginNow events allows key k place =
-    (spread moment : ℕ → ℕ) (c : Configuration) (value : Option ℕ) → IsTiming (operations events) spread moment
-    → allows spread moment ≡ true → Contains k.configurations c → Contains c.values value → (Contains (k.gone ++ c.taken) place → ⊥)
-    → IsLinearizable (one_key key value) (at_key key spread moment (calls_left (k.gone ++ c.taken) (with_answer place (operations events))))
-    → ⊥
+    (spread moment : ℕ → ℕ) → IsTiming (operations events) spread moment → allows spread moment ≡ true
+    → HasNoneAnswered (operations events) key k place spread moment
 
 -- A scan takes effect behind a place and before another, and at a key nothing that is left stands between but what may be anywhere: no call begins there,
 -- and another scan that was told pairs takes effect before the first place, behind the second, or behind the scan.

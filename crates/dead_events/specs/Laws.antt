@@ -5,13 +5,16 @@ use Rattle.events.specs.declared.operation.Operation.{Operation}
 use Rattle.events.specs.declared.operation.Response.{Response}
 use Rattle.events.specs.Operations.{operations}
 use Rattle.events.specs.Precedence.{is_completed}
+use Rattle.quiet_cuts.specs.Cells.{calls_left}
 use Rattle.following.specs.moments.Timings.{IsToldScan}
 use Rattle.following.specs.keys.KeyStates.{KeyState}
 use Rattle.following.specs.rows.Blocks.{IsOver}
 use Rattle.following.specs.rows.Comparisons.{Comparison, Behind, Before, class_of}
 use Rattle.following.specs.rows.Steps.{HoldsWhere}
 use Rattle.following.specs.rows.Rows.{Row}
-use Rattle.dead_events.specs.Answered.{IsDeadBeginNow, IsNextTo}
+use Rattle.following.specs.rows.Twins.{IsTimingAt}
+use Rattle.following_reads.specs.Reads.{AreFixedUpToReads}
+use Rattle.dead_events.specs.Answered.{with_answer, HasNoneAnswered, IsDeadBeginNow, IsNextTo}
 use Rattle.dead_events.specs.Passing.{MayPassBack, MayPassOn}
 use Rattle.dead_events.specs.Standing.{BeginsOnlyAt, EndsOnlyAt, IsDeadBegin, IsDeadEnd, IsLeftAt}
 
@@ -61,3 +64,11 @@ DeadBeginsStay =
     → Contains (operations events) a → IsToldScan a → IsOver key a.call → IsLeftAt k a.inv → BeginsOnlyAt events key place
     → Contains (operations events) b → b.inv ≡ place → is_completed b ≡ true → IsNextTo events comparisons key k a.inv place behind
     → IsDeadBeginNow events (class_of comparisons) key k place → IsDeadBegin events (class_of comparisons) key k a.inv place
+
+-- where comparisons fix the key up to reads, with the call answered at once, one timing at it tells that
+abbrev pub OneTimingTellsDead : Type 0
+OneTimingTellsDead =
+    (events : List Event) (comparisons : List Comparison) (key : ℕ) (k : KeyState) (place : ℕ) (spread moment : ℕ → ℕ)
+    → BeginsOnlyAt events key place → AreFixedUpToReads comparisons key (calls_left k.gone (with_answer place (operations events)))
+    → IsTimingAt key (calls_left k.gone (with_answer place (operations events))) spread moment → class_of comparisons spread moment ≡ true
+    → HasNoneAnswered (operations events) key k place spread moment → IsDeadBeginNow events (class_of comparisons) key k place

@@ -1,7 +1,8 @@
 // Laws of events that the moment of a scan may pass: each function only carries its clause, and calls what it rests on.
-ghost use Rattle.dead_events.specs.Laws.{BeginsJoin, DeadBeginsJoin, DeadBeginsStay, DeadEndsJoin, EndsJoin};
+ghost use Rattle.dead_events.specs.Laws.{BeginsJoin, DeadBeginsJoin, DeadBeginsStay, DeadEndsJoin, EndsJoin, OneTimingTellsDead};
 
 use following::operations_stand_apart;
+use following_reads::read_timings_hold;
 
 /// Of two rows that differ in the gap of a scan on both sides of the end of a call, the one with the scan behind it holds only where the other does.
 pub fn ends_join()
@@ -32,3 +33,10 @@ pub fn dead_ends_join()
 pub fn dead_begins_stay()
     ensures { DeadBeginsStay }
 {}
+
+/// And where comparisons fix the key up to reads, one timing at it tells that it has none.
+pub fn one_timing_tells_dead()
+    ensures { OneTimingTellsDead }
+{
+    read_timings_hold();
+}

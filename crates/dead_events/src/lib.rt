@@ -5,4 +5,4 @@
 
 mod laws;
 
-pub use laws::{begins_join, dead_begins_join, dead_begins_stay, dead_ends_join, ends_join};
+pub use laws::{begins_join, dead_begins_join, dead_begins_stay, dead_ends_join, ends_join, one_timing_tells_dead};
