@@ -10,4 +10,5 @@ mod OneTimingLemmas
 mod OrderLemmas
 mod PassLemmas
 mod PrefixLemmas
+mod RefusedLemmas
 mod StayLemmas

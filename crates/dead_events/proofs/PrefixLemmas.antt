@@ -35,7 +35,7 @@ use Rattle.following.proofs.keys.KeyCallLemmas.{picked_differ, front_begun}
 use Rattle.following.proofs.keys.RefuteLemmas.{from_not, told_changes_nothing, grown_ended}
 
 -- of two parts of a list an element of the first is one of the second too, or stands before it
-split_pairs : {X : Type 0} (R : X → X → Type 0) (front back : List X) (x y : X) → AllPairs R (front ++ back) → Contains front x → Contains back y
+pub split_pairs : {X : Type 0} (R : X → X → Type 0) (front back : List X) (x y : X) → AllPairs R (front ++ back) → Contains front x → Contains back y
     → R x y
 split_pairs R [] back x y pairs x_is y_is = absurd (Contains-nil x x_is)
 split_pairs R (z ∷ front) back x y pairs x_is y_is = ⊎_elim

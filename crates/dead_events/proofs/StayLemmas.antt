@@ -1,8 +1,8 @@
 -- A beginning that is dead now stays dead: an order with further events that has the call before the scan, cut to now, has it answered at once.
-use Rattle.std.proofs.Common.{◌≡◌, ℕ, ◌<◌, ◌≤◌, ◌==◌, Bool, true, false, cond, List, [], ◌∷◌, ◌++◌, length, Option, Some, None, is_some, map, refl, sym, ap}
+use Rattle.std.proofs.Common.{◌≡◌, ℕ, ◌<◌, ◌≤◌, ◌==◌, Bool, true, false, cond, List, [], ◌∷◌, ◌++◌, length, Option, Some, None, is_some, filter, map, refl, sym, ap}
 use Rattle.std.proofs.Common.{◌∙◌, subst, ⊎_elim, arith, inl, inr}
-use Rattle.std.specs.Prelude.{◌≢◌, ◌⊎◌, slice_get, AllPairs, Contains}
-use Rattle.std.proofs.lemmas.Bool.{both_ways, cases_eq, cases_lt, cases_order, lt-ltb, le-ltb, ltb-true}
+use Rattle.std.specs.Prelude.{◌≢◌, ◌⊎◌, not, slice_get, AllPairs, Contains}
+use Rattle.std.proofs.lemmas.Bool.{both_ways, cases_eq, cases_lt, cases_order, lt-ltb, le-ltb, ltb-true, ltb-false}
 use Rattle.std.proofs.lemmas.Option.{none-some, same_Some}
 use Rattle.std.proofs.lemmas.List.Elements.{All-contains}
 use Rattle.events.specs.declared.event.Event.{Event}
@@ -10,15 +10,14 @@ use Rattle.events.specs.declared.operation.Operation.{Operation}
 use Rattle.events.specs.declared.operation.Response.{Response}
 use Rattle.events.specs.Operations.{operations}
 use Rattle.events.specs.Precedence.{is_before, is_completed, precedes}
-use Rattle.events.proofs.TimeLemmas.{inv_rises}
-use Rattle.list_laws.proofs.Lists.{All-from_contains, AllPairs-at, AllPairs-from_at, Contains-at, Contains-from_filter, place_of-Contains}
+use Rattle.list_laws.proofs.Lists.{All-from_contains, AllPairs-at, AllPairs-from_at, Contains-at, Contains-from_filter, Contains-split, place_of-Contains}
 use Rattle.list_laws.proofs.FilterLemmas.{AllPairs-map, Contains-filter_map, Contains-from_filter_map, Contains-map, Contains-from_map}
 use Rattle.map_object.specs.MapObject.{Contents}
-use Rattle.orders.specs.Orders.{calls_at, IsLegal, IsLinearizable}
+use Rattle.orders.specs.Orders.{calls_at, IsLegalCall, IsLinearizable, IsOrder}
 use Rattle.quiet_cuts.specs.Cells.{is_left, calls_left}
 use Rattle.quiet_cuts.proofs.ContinueLemmas.{completed_stays}
 use Rattle.quiet_cuts.proofs.LeftLemmas.{left_from, in_left}
-use Rattle.quiet_cuts.proofs.SetLemmas.{IsOrderOfSet, Completed, same_call}
+use Rattle.quiet_cuts.proofs.SetLemmas.{IsOrderOfSet, Completed}
 use Rattle.following.specs.moments.KeyCalls.{Kind, OfKey, Told, Silent, kind_of, spread_response, part_at, at_key}
 use Rattle.following.specs.moments.Timings.{IsToldScan, IsTiming}
 use Rattle.following.specs.keys.KeyStates.{one_key, Configuration, KeyState}
@@ -30,9 +29,9 @@ use Rattle.following.proofs.moments.KindLemmas.{IsPart, part_is}
 use Rattle.following.proofs.moments.PartLemmas.{rising_upto}
 use Rattle.following.proofs.moments.TimedLemmas.{told_completed}
 use Rattle.following.proofs.keys.EarlyLemmas.{from_left_at, own_at}
-use Rattle.following.proofs.keys.GrownLemmas.{operation}
-use Rattle.following.proofs.keys.GrownPartLemmas.{timing_now}
-use Rattle.following.proofs.keys.InTurnLemmas.{is_refused_from, ended_not_refused, cut, cut_response}
+use Rattle.following.proofs.keys.GrownLemmas.{grown_inv}
+use Rattle.following.proofs.keys.GrownPartLemmas.{open_not_own, timing_now, to_now}
+use Rattle.following.proofs.keys.InTurnLemmas.{ChangesNothing, is_refused_from, refused_changes_nothing, refused_legal, refused_waits, cut, grown_cut}
 use Rattle.following.proofs.keys.RefuteLemmas.{later_differ, now_differ}
 use Rattle.following.proofs.rows.AlikeLemmas.{left_weaker}
 use Rattle.following.proofs.rows.BlockLemmas.{one_holds}
@@ -40,6 +39,7 @@ use Rattle.following.proofs.rows.EndLemmas.{own_call, told_call}
 use Rattle.dead_events.specs.Answered.{answered_at_once, with_answer_at, with_answer, IsDeadBeginNow, IsNextTo}
 use Rattle.dead_events.specs.Laws.{DeadBeginsStay}
 use Rattle.dead_events.proofs.PrefixLemmas.{cut_now, now_into}
+use Rattle.dead_events.proofs.RefusedLemmas.{EndsNotBefore, as_numbers, turned_order, turned_never}
 use Rattle.dead_events.proofs.DeadLemmas.{has_get}
 use Rattle.dead_events.proofs.AnsweredLemmas.{Distinct, NotBefore, as_calls, sides, same_inv, is_answered, is_same, listed, legal_answered}
 
@@ -214,6 +214,18 @@ module _ (events more : List Event) (comparisons : List Comparison) (key : ℕ) 
         behind = behind_get;
       }
 
+  -- what is invoked at the moment of the scan is answered there
+  pub get_ends : (g : Operation) → Contains later_calls g → g.inv ≡ last → (r : Response) × (g.response ≡ Some r) × (r.res ≡ last)
+  get_ends g g_is g_at =
+      let get = has_get (operations (events ++ more)) spread moment timing key dropped a
+      (completed_stays events more a a_is (told_completed a told)).0 told over out in
+      let same = same_invocation later_calls get.get g (later_differ events more key spread moment timing dropped)
+      (Contains-at later_calls get.number get.get get.get_at) g_is (get.begins ∙ sym g_at) in
+      subst (λ (d : Operation). (r : Response) × (d.response ≡ Some r) × (r.res ≡ last)) same get.ends
+
+  pub before_limit : last < spread (length events)
+  before_limit = let h = rising behind (length events) next.past in let less = last_less in omega arith
+
   -- an order that has the call before the scan gives one now with the call answered at once
   pub answered_now : (only : (b : Operation) → Contains (operations events) b → b.inv ≡ place → is_scan b.call ≡ false) (start : Contents)
       (order : List Operation) → IsOrderOfSet start (Contains later_calls) Completed order → (x g : Operation) → Contains order x
@@ -225,18 +237,9 @@ module _ (events more : List Event) (comparisons : List Comparison) (key : ℕ) 
       let answer = with_answer_at here in
       let differ = now_differ events more key spread moment timing dropped in
       let (cut_order, cut_is) = cut_now events more key spread moment timing dropped start order is in
-      let later_get = has_get (operations (events ++ more)) spread moment timing key dropped a
-      (completed_stays events more a a_is (told_completed a told)).0 told over out in
-      let same_get = same_invocation later_calls later_get.get g (later_differ events more key spread moment timing dropped)
-      (Contains-at later_calls later_get.number later_get.get later_get.get_at)
-      (All-contains (Contains later_calls) order g is.known g_is) (later_get.begins ∙ sym g_at) in
       let ended : is_before g.response limit ≡ true =
-      subst (λ (d : Operation). is_before d.response limit ≡ true) same_get (
-        let (r, r_is, r_at) = later_get.ends in
-        let h = rising behind (length events) next.past in
-        let less = last_less in
-        rw r_is (lt-ltb r.res limit (omega arith))
-      ) in
+      let (r, r_is, r_at) = get_ends g (All-contains (Contains later_calls) order g is.known g_is) g_at in
+      let h = before_limit in rw r_is (lt-ltb r.res limit (omega arith)) in
       let stays = cut_is.stays x g x_is g_is (now_into events more key spread moment timing dropped (cut limit x) here_now x refl) answered ended
       (subst (λ (m : ℕ). NotBefore m x.inv order) (sym g_at) (subst (λ (n : ℕ). NotBefore last n order) (sym x_at) never)) in
       let there = order_answered start now_calls cut_order differ cut_is.is_order here last here_less get_next (cut_is.pairs last here never)
@@ -249,70 +252,95 @@ module _ (events more : List Event) (comparisons : List Comparison) (key : ℕ) 
       (sym (listed (operations events) spread moment now_timing place key only dropped (operations events) (λ d d_is. d_is)))
       (linearizable_from_order start (map answer now_calls) apart (map answer cut_order, there))
 
--- what was answered by the end of the events is so at a key
-part_before : (events more : List Event) (key : ℕ) (spread moment : ℕ → ℕ) → IsTiming (operations (events ++ more)) spread moment → (b x : Operation)
-    → Contains (operations (events ++ more)) b → part_at key spread moment b ≡ Some x → is_before b.response (length events) ≡ true
-    → is_before x.response (spread (length events)) ≡ true
-part_before events more key spread moment timing b x b_is shows before =
-    by_kind (kind_of b.call b.response) refl (part_is key spread moment b x (kind_of b.call b.response) shows)
+-- what begins at a place now is there now
+begun_now : (events more : List Event) (key : ℕ) (spread moment : ℕ → ℕ) → IsTiming (operations (events ++ more)) spread moment
+    → (dropped : List ℕ) (place : ℕ) → place < length events → (d x : Operation) → Contains (operations (events ++ more)) d
+    → (Contains dropped d.inv → ⊥) → part_at key spread moment d ≡ Some x → d.inv ≡ place → x.inv ≡ spread place
+    → Contains (at_key key spread moment (calls_left dropped (operations events))) (cut (spread (length events)) x)
+begun_now events more key spread moment timing dropped place within d x d_is out shows d_at x_at =
+    by_kind (kind_of d.call d.response) refl (part_is key spread moment d x (kind_of d.call d.response) shows)
   where
-    spread_before : (r : Option Response) → is_before r (length events) ≡ true → is_before (spread_response spread r) (spread (length events)) ≡ true
-    spread_before None h = h
-    spread_before (Some r) h =
-        lt-ltb (spread r.res) (spread (length events)) (timing.rises r.res (length events) (ltb-true r.res (length events) h))
+    by_kind : (kind : Kind) → kind_of d.call d.response ≡ kind → IsPart key spread moment d x kind
+        → Contains (at_key key spread moment (calls_left dropped (operations events))) (cut (spread (length events)) x)
+    by_kind (OfKey own) kind part =
+        let (b, y, b_is, y_at, y_grown, grown) = to_now events more spread moment timing key d x d_is (omega arith) (λ b b_is grown over.
+        open_not_own key b.call b.response d.response own
+        (subst (λ (c : Operation). kind_of c.call c.response ≡ OfKey own) grown.same kind) over) shows in
+        let left = left_from dropped b (λ dropped_is. out (subst (Contains dropped) (grown_inv (length events) b d grown) dropped_is)) in
+        subst (Contains (at_key key spread moment (calls_left dropped (operations events)))) (sym (grown_cut (spread (length events)) y x y_grown))
+        (Contains-filter_map (part_at key spread moment) (calls_left dropped (operations events)) b y
+        (in_left dropped (operations events) b b_is left) y_at)
+    by_kind (Told low high pairs) kind part =
+        absurd (timing.between d place d_is (low, (high, (pairs, kind))) (ap (λ (y : Operation). y.inv) part.2 ∙ x_at))
+    by_kind Silent kind part = absurd part
 
-    get_before : (r : Option Response) → IsToldScan b → b.response ≡ r → is_before r (length events) ≡ true → moment b.inv < spread (length events)
-    get_before None told is h = cc
-    get_before (Some r) told is h =
-        let end = timing.ended b r b_is told is in
-        let later = timing.rises r.res (length events) (ltb-true r.res (length events) h) in omega arith
+-- what is not answered before a limit is not before an earlier place
+earlier_waits : (r : Option Response) (limit p : ℕ) → is_before r limit ≡ false → p ≤ limit → is_before r p ≡ false
+earlier_waits None limit p waits upto = refl
+earlier_waits (Some r) limit p waits upto = let h = ltb-false r.res limit waits in le-ltb r.res p (omega arith)
 
-    by_kind : (kind : Kind) → kind_of b.call b.response ≡ kind → IsPart key spread moment b x kind
-        → is_before x.response (spread (length events)) ≡ true
-    by_kind (OfKey own) is part =
-        subst (λ (y : Operation). is_before y.response (spread (length events)) ≡ true) part.1 (spread_before b.response before)
-    by_kind (Told low high pairs) is part =
-        subst (λ (y : Operation). is_before y.response (spread (length events)) ≡ true) part.2
-        (lt-ltb (moment b.inv) (spread (length events)) (get_before b.response (low, (high, (pairs, is))) refl before))
-    by_kind Silent is part = absurd part
-
--- and is not cut
-cut_ended : (limit : ℕ) (x : Operation) → is_before x.response limit ≡ true → cut limit x ≡ x
-cut_ended limit x ended = ap (operation x.call x.inv) (by_response x.response ended)
-  where
-    by_response : (r : Option Response) → is_before r limit ≡ true → cut_response limit r ≡ r
-    by_response None h = refl
-    by_response (Some r) h = rw h refl
+-- a call that was refused later is behind the scan in some order, where it is before it in one
+behind_too : (start : Contents) (calls order : List Operation) → Distinct calls → IsOrderOfSet start (Contains calls) Completed order
+    → (here last limit : ℕ) → here < last → last < limit → (x g : Operation) → Contains order x → Contains order g → x.inv ≡ here → g.inv ≡ last
+    → NotBefore last here order → is_refused_from limit x.response ≡ true
+    → (r : Response) × (g.response ≡ Some r) × (r.res ≡ last)
+    → (numbers : List ℕ) × IsOrder start calls numbers × NotBefore here last (calls_at calls numbers)
+behind_too start calls order apart is here last limit less within x g x_is g_is x_at g_at never refused ends =
+    let (front, back, parts) = Contains-split order g g_is in
+    let differ : x.inv ≢ g.inv = λ same. absurd (omega arith) in
+    let from : NotBefore g.inv x.inv order =
+    subst (λ (m : ℕ). NotBefore m x.inv order) (sym g_at) (subst (λ (n : ℕ). NotBefore last n order) (sym x_at) never) in
+    let free : ChangesNothing x = λ m. refused_changes_nothing limit x.call x.response m refused in
+    let legal : (m : Contents) → IsLegalCall m x.call x.response = λ m. refused_legal limit x.call x.response m refused in
+    let late : EndsNotBefore x g.inv =
+    λ p upto. earlier_waits x.response limit p (refused_waits limit x.response refused) (omega arith) in
+    let waits : (y : Operation) → precedes g y ≡ false → y.inv ≤ g.inv = λ y h.
+    let (r, answered, at) = ends in
+    let end = ltb-false r.res y.inv (subst (λ (o : Option Response). is_before o y.inv ≡ false) answered h) in omega arith in
+    let moved_behind = filter (λ (y : Operation). not (y.inv == x.inv)) front ++ g ∷ x ∷ back in
+    let there = turned_order start calls order is x g x_is g_is differ from free legal late waits front back parts in
+    let none = turned_never start calls order is x g x_is g_is differ from free legal late waits front back parts in
+    let (numbers, numbers_are, same) = as_numbers start calls moved_behind apart there in (
+      numbers,
+      numbers_are,
+      subst (NotBefore here last) (sym same)
+          (subst (λ (m : ℕ). NotBefore here m moved_behind) g_at (subst (λ (n : ℕ). NotBefore n g.inv moved_behind) x_at none)),
+    )
 
 pub stay : DeadBeginsStay
-stay events comparisons key k a b place behind a_is told over left only b_is b_at completed next dead more spread moment timing allowed c value
-    c_is value_is ordered =
+stay events comparisons key k a place behind a_is told over left only between next dead more spread moment timing allowed c value c_is value_is
+    ordered =
     let dropped = k.gone ++ c.taken in
-    let calls = operations (events ++ more) in
-    let later_calls = at_key key spread moment (calls_left dropped calls) in
+    let later_calls = at_key key spread moment (calls_left dropped (operations (events ++ more))) in
     let limit = spread (length events) in
     let start = one_key key value in
+    let apart = later_differ events more key spread moment timing dropped in
     let (order, is_order) = ordered in
-    let set = as_calls start later_calls order (later_differ events more key spread moment timing dropped) is_order in
-    let less = here_less events more comparisons key k a place behind a_is told over next spread moment timing allowed c (left c c_is) in
+    let list = calls_at later_calls order in
+    let set = as_calls start later_calls order apart is_order in
+    let out = left c c_is in
+    let less = here_less events more comparisons key k a place behind a_is told over next spread moment timing allowed c out in
+    let within = before_limit events more comparisons key k a place behind a_is told over next spread moment timing allowed c out in
     ⊎_elim
     (λ none. (order, is_order, none))
     (λ both.
     let (x, g, x_is, g_is, x_at, g_at, never) = both in
     let (d, d_is, d_out, shows) = from_left_at events more key spread moment timing dropped x
-    (All-contains (Contains later_calls) (calls_at later_calls order) x set.known x_is) in
+    (All-contains (Contains later_calls) list x set.known x_is) in
     let d_at = (own_at events more key spread moment timing d x place d_is shows x_at).0 in
-    let (b_stays, b_before) = completed_stays events more b b_is completed in
-    let same : d ≡ b = same_call calls d b (inv_rises (events ++ more)) d_is b_stays (d_at ∙ sym b_at) in
-    let b_shows = subst (λ (d : Operation). part_at key spread moment d ≡ Some x) same shows in
-    let ended = part_before events more key spread moment timing b x b_stays b_shows b_before in
-    let kept : cut limit x ≡ x = cut_ended limit x ended in
-    let here_now = subst (Contains (at_key key spread moment (calls_left dropped (operations events)))) (sym kept)
-    (Contains-filter_map (part_at key spread moment) (calls_left dropped (operations events)) b x
-    (in_left dropped (operations events) b b_is (left_from dropped b (λ is. d_out (subst (Contains dropped) (b_at ∙ sym d_at) is)))) b_shows) in
-    absurd (dead spread moment (timing_now events more spread moment timing) allowed c value c_is value_is
+    let past = next.past in
+    let here_now = begun_now events more key spread moment timing dropped place (omega arith) d x d_is d_out shows d_at x_at in
+    ⊎_elim
+    (λ refused. behind_too start later_calls list apart set (spread place) (moment a.inv) limit less within x g x_is g_is x_at g_at never refused
+    (get_ends events more comparisons key k a place behind a_is told over next spread moment timing allowed c out g
+    (All-contains (Contains later_calls) list g set.known g_is) g_at))
+    (λ answered. absurd (dead spread moment (timing_now events more spread moment timing) allowed c value c_is value_is
     (λ is. d_out (subst (Contains dropped) (sym d_at) is))
-    (answered_now events more comparisons key k a place behind a_is told over next spread moment timing allowed c (left c c_is)
-    (λ e e_is e_at. (only e e_is e_at).0) start (calls_at later_calls order) set x g x_is g_is x_at g_at never
-    (ended_not_refused limit x.response ended) here_now)))
-    (sides (calls_at later_calls order) (spread place) (moment a.inv) (λ same. absurd (omega arith)) set.distinct)
+    (answered_now events more comparisons key k a place behind a_is told over next spread moment timing allowed c out
+    (λ e e_is e_at. (only e e_is e_at).0) start list set x g x_is g_is x_at g_at never answered here_now)))
+    (either (is_refused_from limit x.response)))
+    (sides list (spread place) (moment a.inv) (λ same. absurd (omega arith)) set.distinct)
+  where
+    either : (t : Bool) → (t ≡ true) ⊎ (t ≡ false)
+    either true = inl refl
+    either false = inr refl

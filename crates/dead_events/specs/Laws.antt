@@ -4,7 +4,6 @@ use Rattle.events.specs.declared.event.Event.{Event}
 use Rattle.events.specs.declared.operation.Operation.{Operation}
 use Rattle.events.specs.declared.operation.Response.{Response}
 use Rattle.events.specs.Operations.{operations}
-use Rattle.events.specs.Precedence.{is_completed}
 use Rattle.quiet_cuts.specs.Cells.{calls_left}
 use Rattle.following.specs.moments.Timings.{IsToldScan}
 use Rattle.following.specs.keys.KeyStates.{KeyState}
@@ -57,13 +56,13 @@ DeadEndsJoin =
     → IsDeadEnd events (class_of (kept ++ Behind a.inv before ∷ Before a.inv place ∷ [])) key (states key) a.inv place
     → HoldsWhere events (row_between states kept a.inv before place) (row_between states kept a.inv place behind)
 
--- a beginning is dead with any further events where it is now, and the call is completed
+-- a beginning that is dead now is dead with any further events
 abbrev pub DeadBeginsStay : Type 0
 DeadBeginsStay =
-    (events : List Event) (comparisons : List Comparison) (key : ℕ) (k : KeyState) (a b : Operation) (place behind : ℕ)
-    → Contains (operations events) a → IsToldScan a → IsOver key a.call → IsLeftAt k a.inv → BeginsOnlyAt events key place
-    → Contains (operations events) b → b.inv ≡ place → is_completed b ≡ true → IsNextTo events comparisons key k a.inv place behind
-    → IsDeadBeginNow events (class_of comparisons) key k place → IsDeadBegin events (class_of comparisons) key k a.inv place
+    (events : List Event) (comparisons : List Comparison) (key : ℕ) (k : KeyState) (a : Operation) (place behind : ℕ)
+    → Contains (operations events) a → IsToldScan a → IsOver key a.call → IsLeftAt k a.inv → BeginsOnlyAt events key place → place < behind
+    → IsNextTo events comparisons key k a.inv place behind → IsDeadBeginNow events (class_of comparisons) key k place
+    → IsDeadBegin events (class_of comparisons) key k a.inv place
 
 -- where comparisons fix the key up to reads, with the call answered at once, one timing at it tells that
 abbrev pub OneTimingTellsDead : Type 0

@@ -28,8 +28,8 @@ pub fn dead_ends_join()
     ensures { DeadEndsJoin }
 {}
 
-/// A beginning is dead for a scan that takes effect directly behind it, with any further events, where the call is completed, and the calls of the key have
-/// no order now with it answered as soon as it begins.
+/// A beginning is dead for a scan that takes effect directly behind it, with any further events, where the calls of the key have no order now with the call
+/// answered as soon as it begins.
 pub fn dead_begins_stay()
     ensures { DeadBeginsStay }
 {}
