@@ -12,3 +12,4 @@ mod PassLemmas
 mod PrefixLemmas
 mod RefusedLemmas
 mod StayLemmas
+mod WiderLemmas

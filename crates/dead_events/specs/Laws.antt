@@ -14,6 +14,7 @@ use Rattle.following.specs.rows.Rows.{Row}
 use Rattle.following.specs.rows.Twins.{IsTimingAt}
 use Rattle.following_reads.specs.Reads.{AreFixedUpToReads}
 use Rattle.dead_events.specs.Answered.{with_answer, HasNoneAnswered, IsDeadBeginNow, IsNextTo}
+use Rattle.dead_events.specs.WiderDead.{StaysDeadBy, IsLostWithout, IsNextToCalls}
 use Rattle.dead_events.specs.Passing.{MayPassBack, MayPassOn}
 use Rattle.dead_events.specs.Standing.{BeginsOnlyAt, EndsOnlyAt, IsDeadBegin, IsDeadEnd, IsLeftAt}
 
@@ -58,11 +59,7 @@ DeadEndsJoin =
 
 -- a beginning that is dead now is dead with any further events
 abbrev pub DeadBeginsStay : Type 0
-DeadBeginsStay =
-    (events : List Event) (comparisons : List Comparison) (key : ℕ) (k : KeyState) (a : Operation) (place behind : ℕ)
-    → Contains (operations events) a → IsToldScan a → IsOver key a.call → IsLeftAt k a.inv → BeginsOnlyAt events key place → place < behind
-    → IsNextTo events comparisons key k a.inv place behind → IsDeadBeginNow events (class_of comparisons) key k place
-    → IsDeadBegin events (class_of comparisons) key k a.inv place
+DeadBeginsStay = StaysDeadBy IsNextTo IsDeadBeginNow
 
 -- where comparisons fix the key up to reads, with the call answered at once, one timing at it tells that
 abbrev pub OneTimingTellsDead : Type 0
@@ -71,3 +68,11 @@ OneTimingTellsDead =
     → BeginsOnlyAt events key place → AreFixedUpToReads comparisons key (calls_left k.gone (with_answer place (operations events)))
     → IsTimingAt key (calls_left k.gone (with_answer place (operations events))) spread moment → class_of comparisons spread moment ≡ true
     → HasNoneAnswered (operations events) key k place spread moment → IsDeadBeginNow events (class_of comparisons) key k place
+
+-- but it need not be dead where the calls of the key have no order now without the call
+abbrev pub LostIsNotDead : Type 0
+LostIsNotDead = StaysDeadBy IsNextTo IsLostWithout → ⊥
+
+-- nor where another scan stands next to the scan, so that the call is answered before it
+abbrev pub RivalsStandBetween : Type 0
+RivalsStandBetween = StaysDeadBy IsNextToCalls IsDeadBeginNow → ⊥

@@ -2,3 +2,4 @@ pub mod Answered
 pub mod Laws
 pub mod Passing
 pub mod Standing
+pub mod WiderDead

@@ -1,5 +1,6 @@
 // Laws of events that the moment of a scan may pass: each function only carries its clause, and calls what it rests on.
-ghost use Rattle.dead_events.specs.Laws.{BeginsJoin, DeadBeginsJoin, DeadBeginsStay, DeadEndsJoin, EndsJoin, OneTimingTellsDead};
+ghost use Rattle.dead_events.specs.Laws.{BeginsJoin, DeadBeginsJoin, DeadBeginsStay, DeadEndsJoin, EndsJoin, LostIsNotDead, OneTimingTellsDead};
+ghost use Rattle.dead_events.specs.Laws.{RivalsStandBetween};
 
 use following::operations_stand_apart;
 use following_reads::read_timings_hold;
@@ -40,3 +41,13 @@ pub fn one_timing_tells_dead()
 {
     read_timings_hold();
 }
+
+/// But a beginning need not be dead where the calls of the key have no order without the call: a scan is told what an insert that begins while it is open puts.
+pub fn lost_is_not_dead()
+    ensures { LostIsNotDead }
+{}
+
+/// Nor where another scan takes effect between the call's beginning and the scan: one that is told nothing, before the insert.
+pub fn rivals_stand_between()
+    ensures { RivalsStandBetween }
+{}
