@@ -1,26 +1,24 @@
 -- A call answered as soon as it begins, in an order that has it before a scan.
-use Rattle.events.specs.declared.event.Reply.TheVariants as replies
-use Rattle.std.proofs.Common.{◌≡◌, ℕ, ◌<◌, ◌≤◌, ◌==◌, Bool, true, false, cond, List, [], ◌∷◌, ◌++◌, Option, Some, None, is_some, filter, filter_map, map, refl, sym, ap}
+use Rattle.std.proofs.Common.{◌≡◌, ℕ, ◌==◌, Bool, true, false, cond, List, [], ◌∷◌, Option, Some, None, filter, filter_map, map, refl, sym, ap}
 use Rattle.std.proofs.Common.{◌∙◌, subst, ⊎_elim, arith, inl, inr}
 use Rattle.std.specs.Prelude.{◌≢◌, ◌⊎◌, not, slice_get, AllPairs, Contains}
-use Rattle.std.proofs.lemmas.Bool.{both_ways, cases_eq, cases_lt, cases_order, eqb-true, eq-eqb, ne_eqb, lt-ltb, le-ltb}
-use Rattle.std.proofs.lemmas.Option.{none-some, same_Some}
+use Rattle.std.proofs.lemmas.Bool.{both_ways, cases_eq, cases_order, eq-eqb, ne_eqb}
+use Rattle.std.proofs.lemmas.Option.{same_Some}
 use Rattle.events.specs.declared.event.Call.{Call}
 use Rattle.events.specs.declared.event.Call.TheVariants.{Get, Insert, Remove, Scan, Replace}
 use Rattle.events.specs.declared.event.Reply.{Reply}
 use Rattle.events.specs.declared.operation.Operation.{Operation}
 use Rattle.events.specs.declared.operation.Response.{Response}
-use Rattle.events.specs.Precedence.{is_before, precedes}
 use Rattle.list_laws.specs.Lists.{has_number}
 use Rattle.list_laws.proofs.Lists.{All-from_contains, AllPairs-at, AllPairs-from_at, Contains-at, Contains-first, Contains-later, place_of-Contains}
 use Rattle.list_laws.proofs.NumberLemmas.{has_number-Contains, has_number-from_Contains}
 use Rattle.list_laws.proofs.FilterLemmas.{AreRelatedAs, AllPairs-filter_map, AllPairs-weaker, Contains-filter_map, Contains-from_filter_map, Contains-map, Contains-from_map}
-use Rattle.map_object.specs.MapObject.{Contents, after_reply, IsLegalReply}
+use Rattle.map_object.specs.MapObject.{Contents}
 use Rattle.orders.specs.Orders.{after_call, calls_at, IsLegalCall, IsLegal, IsOrder}
 use Rattle.quiet_cuts.specs.Cells.{is_left, calls_left}
 use Rattle.quiet_cuts.proofs.SetLemmas.{IsOrderOfSet, Completed}
 use Rattle.following.specs.moments.KeyCalls.{Kind, OfKey, Told, Silent, kind_of, spread_response, spread_call, part_of, part_at, at_key}
-use Rattle.following.specs.moments.Timings.{IsToldScan, IsTiming}
+use Rattle.following.specs.moments.Timings.{IsTiming}
 use Rattle.following.specs.rows.Blocks.{is_scan}
 use Rattle.following.proofs.moments.KindLemmas.{part_is}
 use Rattle.following.proofs.moments.PartLemmas.{part_inv, rising_differs}
@@ -85,10 +83,18 @@ sides order one other differ apart = ⊎_elim
     ⊎_elim
     (λ same. absurd (differ (sym x_at ∙ (ap (λ (c : Operation). c.inv) (same_Some x g (sym p_at ∙ (ap (slice_get order) same ∙ w_at))) ∙ g_at))))
     (λ apart_at. ⊎_elim
-    (λ before. inr (x, g, x_is, g_is, x_at, g_at, AllPairs-from_at (λ a b. a.inv ≡ other → b.inv ≡ one → ⊥) order
-    (λ m n a b less m_at n_at a_other b_one.
-    let m_w = same_number order m w a g apart m_at w_at (a_other ∙ sym g_at) in
-    let n_p = same_number order n p b x apart n_at p_at (b_one ∙ sym x_at) in omega arith)))
+    (λ before. inr (
+      x,
+      g,
+      x_is,
+      g_is,
+      x_at,
+      g_at,
+      AllPairs-from_at (λ a b. a.inv ≡ other → b.inv ≡ one → ⊥) order
+          (λ m n a b less m_at n_at a_other b_one.
+          let m_w = same_number order m w a g apart m_at w_at (a_other ∙ sym g_at) in
+          let n_p = same_number order n p b x apart n_at p_at (b_one ∙ sym x_at) in omega arith),
+    ))
     (λ behind. inl (AllPairs-from_at (λ a b. a.inv ≡ one → b.inv ≡ other → ⊥) order
     (λ m n a b less m_at n_at a_one b_other.
     let m_p = same_number order m p a x apart m_at p_at (a_one ∙ sym x_at) in

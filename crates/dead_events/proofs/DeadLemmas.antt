@@ -1,5 +1,5 @@
 -- Nothing gains in an order that a key need not have otherwise, where a scan passes a dead event.
-use Rattle.std.proofs.Common.{◌≡◌, ℕ, ◌<◌, ◌≤◌, true, false, List, [], ◌∷◌, ◌++◌, length, Option, Some, None, is_some, IsTrue, refl, sym, ap, ◌∙◌, subst, ⊎_elim, arith, inl, inr}
+use Rattle.std.proofs.Common.{◌≡◌, ℕ, ◌<◌, false, List, ◌++◌, length, Option, Some, None, is_some, refl, sym, ap, ◌∙◌, subst, ⊎_elim, arith}
 use Rattle.std.specs.Prelude.{slice_get, AllPairs, Contains}
 use Rattle.std.proofs.lemmas.Bool.{both_ways, cases_eq, cases_lt, cases_order, lt-ltb}
 use Rattle.std.proofs.lemmas.Option.{same_Some}
@@ -10,18 +10,18 @@ use Rattle.events.specs.declared.event.Event.{Event}
 use Rattle.events.specs.declared.operation.Operation.{Operation}
 use Rattle.events.specs.declared.operation.Response.{Response}
 use Rattle.events.specs.Operations.{operations}
-use Rattle.events.specs.Precedence.{is_before, is_completed, precedes}
+use Rattle.events.specs.Precedence.{precedes}
 use Rattle.events.proofs.TimeLemmas.{NonePrecedesItself-operations}
-use Rattle.list_laws.proofs.Lists.{AllPairs-at, Contains-at, Contains-from_filter, place_of-Contains}
+use Rattle.list_laws.proofs.Lists.{AllPairs-at, Contains-at, place_of-Contains}
 use Rattle.list_laws.proofs.FilterLemmas.{AreRelatedAs, AllPairs-from_filter_map, Contains-filter_map, Contains-from_filter_map}
 use Rattle.map_object.specs.MapObject.{Contents, value_at, value_reply}
 use Rattle.orders.specs.Orders.{calls_at, IsOrder}
-use Rattle.quiet_cuts.specs.Cells.{is_left, calls_left}
+use Rattle.quiet_cuts.specs.Cells.{calls_left}
 use Rattle.quiet_cuts.proofs.ContinueLemmas.{completed_stays}
 use Rattle.quiet_cuts.proofs.LeftLemmas.{in_left, left_from}
 use Rattle.following.specs.moments.KeyCalls.{Kind, OfKey, Told, Silent, kind_of, get_at, part_of, part_at, at_key}
 use Rattle.following.specs.moments.Timings.{IsToldScan, IsTiming}
-use Rattle.following.specs.keys.KeyStates.{one_key, Configuration, KeyState}
+use Rattle.following.specs.keys.KeyStates.{one_key}
 use Rattle.following.specs.rows.Blocks.{is_scan, IsOver}
 use Rattle.following.proofs.moments.KindLemmas.{IsPart, part_is, is_part, response_spread}
 use Rattle.following.proofs.moments.PartLemmas.{waits_from}
@@ -29,10 +29,10 @@ use Rattle.following.proofs.moments.TimedLemmas.{told_completed}
 use Rattle.following.proofs.keys.GrownLemmas.{IsGrown, in_now, grown_inv, same_completed}
 use Rattle.following.proofs.rows.EndLemmas.{grown_call, own_call, told_call}
 use Rattle.dead_events.specs.Laws.{DeadBeginsJoin, DeadEndsJoin}
-use Rattle.dead_events.specs.Standing.{BeginsAt, EndsAt, BeginsOnlyAt, EndsOnlyAt, IsDeadBegin, IsDeadEnd, IsLeftAt}
+use Rattle.dead_events.specs.Standing.{BeginsAt, EndsAt, BeginsOnlyAt, EndsOnlyAt}
 use Rattle.dead_events.proofs.BackLemmas.{GainsBack, back_joins}
 use Rattle.dead_events.proofs.FreeLemmas.{still_back, still_on}
-use Rattle.dead_events.proofs.HoldLemmas.{HasStill, HaveStill}
+use Rattle.dead_events.proofs.HoldLemmas.{HaveStill}
 use Rattle.dead_events.proofs.OnLemmas.{GainsOn, late_response, on_joins}
 use Rattle.dead_events.proofs.OrderLemmas.{NoneGains}
 use Rattle.dead_events.proofs.PassLemmas.{Gains}
@@ -225,10 +225,13 @@ dead_begins events states kept tied a key before place behind a_is told over lef
     (λ same. subst (HaveStill (GainsBack (spread place) (moment a.inv)) calls states spread moment) (sym same) (λ c value c_is value_is ordered.
     let gone = (states key).gone ++ c.taken in
     let xs = at_key key spread moment (calls_left gone calls) in
-    let (order, is, never) = dead more spread moment timing allowed c value c_is value_is ordered in
-    (order, is, none_back (one_key key value) xs order is (moment a.inv)
-    (has_get calls spread moment timing key gone a later_is told over (left c c_is)) (spread place) from never
-    (begins_with calls spread moment timing key gone a later_is told))))
+    let (order, is, never) = dead more spread moment timing allowed c value c_is value_is ordered in (
+      order,
+      is,
+      none_back (one_key key value) xs order is (moment a.inv)
+          (has_get calls spread moment timing key gone a later_is told over (left c c_is)) (spread place) from never
+          (begins_with calls spread moment timing key gone a later_is told),
+    )))
     (λ differ. still_back calls states spread moment timing place (moment a.inv) other
     (only_begins events more key place (omega arith) only other spread moment differ))
     (cases_eq other key)) h
@@ -242,9 +245,12 @@ dead_ends events states kept tied a key before place behind a_is told over left 
     (λ same. subst (HaveStill (GainsOn (spread place) (moment a.inv)) calls states spread moment) (sym same) (λ c value c_is value_is ordered.
     let gone = (states key).gone ++ c.taken in
     let xs = at_key key spread moment (calls_left gone calls) in
-    let (order, is, never) = dead more spread moment timing allowed c value c_is value_is ordered in
-    (order, is, none_on (one_key key value) xs order is (moment a.inv)
-    (has_get calls spread moment timing key gone a later_is told over (left c c_is)) (spread place) upto never)))
+    let (order, is, never) = dead more spread moment timing allowed c value c_is value_is ordered in (
+      order,
+      is,
+      none_on (one_key key value) xs order is (moment a.inv)
+          (has_get calls spread moment timing key gone a later_is told over (left c c_is)) (spread place) upto never,
+    )))
     (λ differ. still_on calls states spread moment timing place (moment a.inv) other
     (only_ends events more key place may.past only other spread moment differ))
     (cases_eq other key)) h

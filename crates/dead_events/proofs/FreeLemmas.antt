@@ -1,19 +1,18 @@
 -- Nothing gains where a scan passes the end of a call back, or the beginning of one on.
-use Rattle.std.proofs.Common.{◌≡◌, ℕ, List, ◌++◌, length, Option, Some, None, is_some, refl, sym, ap, ◌∙◌, subst, ⊎_elim}
-use Rattle.std.specs.Prelude.{slice_get, Contains}
+use Rattle.std.proofs.Common.{◌≡◌, ℕ, List, ◌++◌, length, Some, is_some, refl, sym, ap, ◌∙◌, ⊎_elim}
+use Rattle.std.specs.Prelude.{Contains}
 use Rattle.std.proofs.lemmas.Bool.{cases_eq}
 use Rattle.std.proofs.lemmas.Option.{same_Some}
-use Rattle.events.specs.declared.event.Event.{Event}
 use Rattle.events.specs.declared.operation.Operation.{Operation}
 use Rattle.events.specs.declared.operation.Response.{Response}
 use Rattle.events.specs.Operations.{operations}
 use Rattle.list_laws.proofs.Lists.{Contains-at, Contains-from_filter}
 use Rattle.list_laws.proofs.FilterLemmas.{Contains-from_filter_map}
-use Rattle.map_object.specs.MapObject.{Contents, value_at, value_reply}
+use Rattle.map_object.specs.MapObject.{value_at, value_reply}
 use Rattle.quiet_cuts.specs.Cells.{is_left, calls_left}
 use Rattle.following.specs.moments.KeyCalls.{Kind, OfKey, Told, Silent, kind_of, part_at, at_key}
 use Rattle.following.specs.moments.Laws.{OperationsStandApart}
-use Rattle.following.specs.moments.Timings.{IsToldScan, IsTiming}
+use Rattle.following.specs.moments.Timings.{IsTiming}
 use Rattle.following.specs.keys.KeyStates.{KeyState}
 use Rattle.following.proofs.moments.KindLemmas.{IsPart, part_is, response_spread}
 use Rattle.following.proofs.moments.PartLemmas.{part_inv, rising_differs}

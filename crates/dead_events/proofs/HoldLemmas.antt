@@ -1,6 +1,6 @@
 -- What is kept of the keys holds where tied scans have passed one event, if some order at each key has no call that gains precedence over one before it.
-use Rattle.std.proofs.Common.{◌≡◌, ℕ, Bool, true, false, cond, List, [], ◌∷◌, ◌++◌, Option, Some, None, filter_map, refl, sym, ap, ◌∙◌, subst, ⊎_elim, inl, inr}
-use Rattle.std.specs.Prelude.{◌⊎◌, slice_get, Contains}
+use Rattle.std.proofs.Common.{◌≡◌, ℕ, List, [], ◌∷◌, ◌++◌, Option, Some, filter_map, sym, ◌∙◌, subst, ⊎_elim}
+use Rattle.std.specs.Prelude.{slice_get, Contains}
 use Rattle.std.specs.List.{AllZip}
 use Rattle.std.proofs.lemmas.Option.{same_Some}
 use Rattle.std.proofs.lemmas.List.Elements.{length_all_zip}
@@ -13,7 +13,7 @@ use Rattle.quiet_cuts.specs.Cells.{calls_left}
 use Rattle.following.specs.moments.KeyCalls.{kind_of, part_at, at_key}
 use Rattle.following.specs.keys.KeyStates.{one_key, Configuration, KeyState, Holds, SomeHolds}
 use Rattle.following.proofs.keys.ChoiceLemmas.{any_from, any_to}
-use Rattle.following.proofs.rows.AlikeLemmas.{IsSame, BothOrNone, both_of, AreOfOne, left_weaker}
+use Rattle.following.proofs.rows.AlikeLemmas.{BothOrNone, both_of, AreOfOne, left_weaker}
 use Rattle.dead_events.proofs.JumpLemmas.{room, moved}
 use Rattle.dead_events.proofs.OrderLemmas.{GainsAtMost, NoneGains, order_there}
 use Rattle.dead_events.proofs.PassLemmas.{IsAlone, GainsOnly, Gains, key_gains}

@@ -1,11 +1,10 @@
 -- One timing tells that a key has no order with a call answered at once, where the key is fixed up to reads.
-use Rattle.std.proofs.Common.{◌≡◌, ℕ, ◌≤◌, true, false, List, [], ◌∷◌, ◌++◌, Option, Some, None, map, refl, sym, ap, ◌∙◌, subst, ⊎_elim, arith}
-use Rattle.std.specs.Prelude.{◌<◌, AllPairs, Any, Contains}
+use Rattle.std.proofs.Common.{◌≡◌, ℕ, false, List, [], ◌∷◌, ◌++◌, Option, sym, ap, ◌∙◌, subst, ⊎_elim, arith}
+use Rattle.std.specs.Prelude.{◌<◌, Any, Contains}
 use Rattle.std.proofs.lemmas.Bool.{cases_eq, le-ltb}
 use Rattle.std.proofs.lemmas.List.Elements.{All-nil, All-contains}
 use Rattle.events.specs.declared.event.Event.{Event}
 use Rattle.events.specs.declared.operation.Operation.{Operation}
-use Rattle.events.specs.declared.operation.Response.{Response}
 use Rattle.events.specs.Operations.{operations}
 use Rattle.events.specs.Precedence.{precedes, NonePrecedesItself}
 use Rattle.events.proofs.TimeLemmas.{inv_rises, NonePrecedesItself-operations}
@@ -17,13 +16,13 @@ use Rattle.quiet_cuts.specs.TimeCuts.{InvocationsRise}
 use Rattle.following.specs.moments.KeyCalls.{at_key}
 use Rattle.following.specs.moments.Timings.{IsToldScan, IsTiming}
 use Rattle.following.specs.keys.KeyStates.{one_key, Configuration, KeyState, MayHaveFound, Holds}
-use Rattle.following.specs.rows.Blocks.{is_scan, IsOver}
+use Rattle.following.specs.rows.Blocks.{is_scan}
 use Rattle.following.specs.rows.Twins.{IsTimingAt}
 use Rattle.following.proofs.keys.ChoiceLemmas.{any_from, any_to}
 use Rattle.following.proofs.rows.EndLemmas.{told_call}
 use Rattle.following.proofs.rows.RowLemmas.{only}
 use Rattle.following_reads.specs.Laws.{ReadTimingsHold}
-use Rattle.dead_events.specs.Answered.{answered_at_once, with_answer_at, with_answer}
+use Rattle.dead_events.specs.Answered.{with_answer_at, with_answer}
 use Rattle.dead_events.specs.Laws.{OneTimingTellsDead}
 use Rattle.dead_events.specs.Standing.{BeginsOnlyAt}
 use Rattle.dead_events.proofs.AnsweredLemmas.{same_inv, is_answered, is_same}
@@ -87,9 +86,10 @@ one_tells law events comparisons key k place spread moment begins fixed timing h
     IsLinearizable (one_key key value) (at_key key other_spread other_moment (calls_left (k.gone ++ c.taken) calls)) in
     let there = law calls comparisons key one other_spread other_moment spread moment (answered_rise events place)
     (answered_alone events place) fixed (answered_timing events place key begins other_spread other_moment other_timing k.gone) other_hold timing
-    hold (any_from (Holds key other_spread other_moment calls k.gone) (d ∷ []) d (Contains-first d [])
-    (All-nil (λ entry. Any (MayHaveFound calls entry.0) entry.1),
-    any_from (Ordered other_spread other_moment) (value ∷ []) value (Contains-first value []) ordered)) in
+    hold (any_from (Holds key other_spread other_moment calls k.gone) (d ∷ []) d (Contains-first d []) (
+      All-nil (λ entry. Any (MayHaveFound calls entry.0) entry.1),
+      any_from (Ordered other_spread other_moment) (value ∷ []) value (Contains-first value []) ordered,
+    )) in
     let (e, e_is, holds) = any_to (Holds key spread moment calls k.gone) (d ∷ []) there in
     let here = subst (Holds key spread moment calls k.gone) (sym (only d e e_is)) holds in
     let (left, left_is, order) = any_to (Ordered spread moment) (value ∷ []) here.1 in

@@ -1,6 +1,6 @@
 -- An order of calls is one of others that differ in places alone, where these gain no precedence against it.
-use Rattle.std.proofs.Common.{◌≡◌, ℕ, ◌<◌, true, false, List, [], ◌∷◌, length, Option, Some, None, refl, sym, ap, ◌∙◌, subst, ⊎_elim, IsTrue, arith}
-use Rattle.std.specs.Prelude.{◌⊎◌, is_some, slice_get, All, Contains}
+use Rattle.std.proofs.Common.{◌≡◌, ℕ, ◌<◌, true, false, List, [], ◌∷◌, length, Option, Some, None, refl, sym, ap, ◌∙◌, subst, ⊎_elim, IsTrue}
+use Rattle.std.specs.Prelude.{◌⊎◌, is_some, slice_get, All}
 use Rattle.std.proofs.lemmas.Bool.{both_ways, false_from_ne_true}
 use Rattle.std.proofs.lemmas.Option.{none-some, same_Some, slice_get_within}
 use Rattle.std.proofs.lemmas.List.Elements.{All-head, All-tail, All-contains, All-weaker}
@@ -8,7 +8,7 @@ use Rattle.events.specs.declared.event.Call.{Call}
 use Rattle.events.specs.declared.operation.Operation.{Operation}
 use Rattle.events.specs.declared.operation.Response.{Response}
 use Rattle.events.specs.Precedence.{is_completed, precedes}
-use Rattle.list_laws.proofs.Lists.{AllPairs-at, AllPairs-from_at, Contains-at, place_of-Contains}
+use Rattle.list_laws.proofs.Lists.{AllPairs-at, AllPairs-from_at, Contains-at}
 use Rattle.list_laws.proofs.NumberLemmas.{slice_get-below, some_at}
 use Rattle.list_laws.proofs.FilterLemmas.{AreRelatedAs, AllPairs-filter_map, AllPairs-from_filter_map}
 use Rattle.map_object.specs.MapObject.{Contents, after_reply, IsLegalReply}

@@ -1,13 +1,12 @@
 -- An order at a key with further events, cut to the events so far: what stood before what, and which calls stay.
-use Rattle.std.proofs.Common.{◌≡◌, ℕ, ◌<◌, Bool, true, false, not, ◌&&◌, List, [], ◌∷◌, ◌++◌, length, Option, Some, None, filter, map, refl, sym, ap}
-use Rattle.std.proofs.Common.{◌∙◌, subst, ⊎_elim, arith, is_some}
+use Rattle.std.proofs.Common.{◌≡◌, ℕ, ◌<◌, Bool, true, false, not, ◌&&◌, List, [], ◌∷◌, ◌++◌, length, Some, filter, map, refl, sym, ap}
+use Rattle.std.proofs.Common.{◌∙◌, subst, ⊎_elim, arith}
 use Rattle.std.specs.Prelude.{◌≢◌, ◌⊎◌, AllPairs, Contains}
 use Rattle.std.proofs.lemmas.Bool.{both_ways, not-true, not_from_false, and_from, and_parts}
 use Rattle.std.proofs.lemmas.List.Elements.{All-contains, Contains-append_left, Contains-append_right, Contains-append_cases}
 use Rattle.std.proofs.lemmas.List.Kept.{AllPairs-filter}
 use Rattle.events.specs.declared.event.Event.{Event}
 use Rattle.events.specs.declared.operation.Operation.{Operation}
-use Rattle.events.specs.declared.operation.Response.{Response}
 use Rattle.events.specs.Operations.{operations}
 use Rattle.events.specs.Precedence.{is_before, precedes}
 use Rattle.events.proofs.TimeLemmas.{inv_rises, NonePrecedesItself-operations}
@@ -57,10 +56,6 @@ module _ (events more : List Event) (key : ℕ) (spread moment : ℕ → ℕ) (t
 
   pub later_differ : InvocationsDiffer later
   later_differ = left_differ events more key spread moment timing taken
-
-  pub now_differ : InvocationsDiffer now
-  now_differ = picked_differ (operations events) (inv_rises events) (NonePrecedesItself-operations events) key spread moment
-      (timing_now events more spread moment timing) (is_left taken)
 
   -- a call now is one later
   pub grown_later : (y : Operation) → Contains now y → (x : Operation) × Contains later x × IsGrown limit y x

@@ -1,5 +1,5 @@
 -- A call that was refused may stand directly behind a scan, where it stood before it.
-use Rattle.std.proofs.Common.{◌≡◌, ℕ, ◌<◌, ◌≤◌, ◌==◌, Bool, true, false, not, List, [], ◌∷◌, ◌++◌, length, Option, Some, None, IsTrue, filter, refl, sym, ap}
+use Rattle.std.proofs.Common.{◌≡◌, ℕ, ◌<◌, ◌≤◌, ◌==◌, Bool, true, false, not, List, [], ◌∷◌, ◌++◌, length, IsTrue, filter, refl, sym, ap}
 use Rattle.std.proofs.Common.{◌∙◌, subst, ⊎_elim, arith, inl, inr}
 use Rattle.std.specs.Prelude.{◌≢◌, ◌⊎◌, slice_get, All, AllPairs, Contains}
 use Rattle.std.proofs.lemmas.Bool.{cases_eq, eqb-true, eq-eqb, ne_eqb, not_from_false}
@@ -7,10 +7,9 @@ use Rattle.std.proofs.lemmas.Option.{slice_get_within}
 use Rattle.std.proofs.lemmas.List.Elements.{All-nil, All-cons, All-head, All-tail, All-contains, Contains-append_left, Contains-append_right, Contains-append_cases}
 use Rattle.std.proofs.lemmas.List.Kept.{AllPairs-cons, AllPairs-filter}
 use Rattle.events.specs.declared.operation.Operation.{Operation}
-use Rattle.events.specs.declared.operation.Response.{Response}
 use Rattle.events.specs.Precedence.{is_before, is_completed, precedes}
-use Rattle.list_laws.proofs.Lists.{All-from_contains, AllPairs-append, AllPairs-back, AllPairs-front, AllPairs-head, AllPairs-tail, AllPairs-at}
-use Rattle.list_laws.proofs.Lists.{Contains-at, Contains-cases, Contains-filter, Contains-first, Contains-from_filter, Contains-later, Contains-split, place_of-Contains}
+use Rattle.list_laws.proofs.Lists.{All-from_contains, AllPairs-append, AllPairs-back, AllPairs-front, AllPairs-head, AllPairs-tail}
+use Rattle.list_laws.proofs.Lists.{Contains-at, Contains-cases, Contains-filter, Contains-first, Contains-from_filter, Contains-later, place_of-Contains}
 use Rattle.list_laws.proofs.NumberLemmas.{slice_get-below, some_at}
 use Rattle.list_laws.proofs.FilterLemmas.{AreRelatedAs, AllPairs-from_filter_map, AllPairs-weaker, Contains-from_filter_map}
 use Rattle.map_object.specs.MapObject.{Contents}

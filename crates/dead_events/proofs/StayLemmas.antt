@@ -1,15 +1,15 @@
 -- A beginning that is dead now stays dead: an order with further events that has the call before the scan, cut to now, has it answered at once.
-use Rattle.std.proofs.Common.{◌≡◌, ℕ, ◌<◌, ◌≤◌, ◌==◌, Bool, true, false, cond, List, [], ◌∷◌, ◌++◌, length, Option, Some, None, is_some, filter, map, refl, sym, ap}
+use Rattle.std.proofs.Common.{◌≡◌, ℕ, ◌<◌, ◌≤◌, ◌==◌, Bool, true, false, List, ◌∷◌, ◌++◌, length, Option, Some, None, filter, map, refl, sym, ap}
 use Rattle.std.proofs.Common.{◌∙◌, subst, ⊎_elim, arith, inl, inr}
-use Rattle.std.specs.Prelude.{◌≢◌, ◌⊎◌, not, slice_get, AllPairs, Contains}
+use Rattle.std.specs.Prelude.{◌≢◌, ◌⊎◌, not, slice_get, Contains}
 use Rattle.std.proofs.lemmas.Bool.{both_ways, cases_eq, cases_lt, cases_order, lt-ltb, le-ltb, ltb-true, ltb-false}
-use Rattle.std.proofs.lemmas.Option.{none-some, same_Some}
+use Rattle.std.proofs.lemmas.Option.{same_Some}
 use Rattle.std.proofs.lemmas.List.Elements.{All-contains}
 use Rattle.events.specs.declared.event.Event.{Event}
 use Rattle.events.specs.declared.operation.Operation.{Operation}
 use Rattle.events.specs.declared.operation.Response.{Response}
 use Rattle.events.specs.Operations.{operations}
-use Rattle.events.specs.Precedence.{is_before, is_completed, precedes}
+use Rattle.events.specs.Precedence.{is_before, precedes}
 use Rattle.list_laws.proofs.Lists.{All-from_contains, AllPairs-at, AllPairs-from_at, Contains-at, Contains-from_filter, Contains-split, place_of-Contains}
 use Rattle.list_laws.proofs.FilterLemmas.{AllPairs-map, Contains-filter_map, Contains-from_filter_map, Contains-map, Contains-from_map}
 use Rattle.map_object.specs.MapObject.{Contents}
@@ -18,7 +18,7 @@ use Rattle.quiet_cuts.specs.Cells.{is_left, calls_left}
 use Rattle.quiet_cuts.proofs.ContinueLemmas.{completed_stays}
 use Rattle.quiet_cuts.proofs.LeftLemmas.{left_from, in_left}
 use Rattle.quiet_cuts.proofs.SetLemmas.{IsOrderOfSet, Completed}
-use Rattle.following.specs.moments.KeyCalls.{Kind, OfKey, Told, Silent, kind_of, spread_response, part_at, at_key}
+use Rattle.following.specs.moments.KeyCalls.{Kind, OfKey, Told, Silent, kind_of, part_at, at_key}
 use Rattle.following.specs.moments.Timings.{IsToldScan, IsTiming}
 use Rattle.following.specs.keys.KeyStates.{one_key, Configuration, KeyState}
 use Rattle.following.specs.rows.Blocks.{is_scan, IsOver}
@@ -36,7 +36,7 @@ use Rattle.following.proofs.keys.RefuteLemmas.{later_differ, now_differ}
 use Rattle.following.proofs.rows.AlikeLemmas.{left_weaker}
 use Rattle.following.proofs.rows.BlockLemmas.{one_holds}
 use Rattle.following.proofs.rows.EndLemmas.{own_call, told_call}
-use Rattle.dead_events.specs.Answered.{answered_at_once, with_answer_at, with_answer, IsDeadBeginNow, IsNextTo}
+use Rattle.dead_events.specs.Answered.{with_answer_at, with_answer, IsNextTo}
 use Rattle.dead_events.specs.Laws.{DeadBeginsStay}
 use Rattle.dead_events.proofs.PrefixLemmas.{cut_now, now_into}
 use Rattle.dead_events.proofs.RefusedLemmas.{EndsNotBefore, as_numbers, turned_order, turned_never}

@@ -1,6 +1,6 @@
 -- The wider rules do not tell that a beginning is dead.
 use Rattle.events.specs.declared.event.Reply.TheVariants as replies
-use Rattle.std.proofs.Common.{◌≡◌, ℕ, zero, suc, ◌*◌, ◌<◌, ◌≤◌, true, false, List, [], ◌∷◌, ◌++◌, Option, Some, None, inl, inr, refl, sym, ap, ◌∙◌, subst}
+use Rattle.std.proofs.Common.{◌≡◌, ℕ, zero, suc, ◌*◌, ◌<◌, ◌≤◌, false, List, [], ◌∷◌, ◌++◌, Option, Some, None, inl, inr, refl, sym, ap, ◌∙◌, subst}
 use Rattle.std.proofs.Common.{⊎_elim, arith}
 use Rattle.std.specs.Prelude.{◌≢◌, ◌⊎◌, nat_lt, slice_get, AllPairs, Contains}
 use Rattle.std.proofs.lemmas.Bool.{ltb-true, ltb-false}
@@ -13,7 +13,6 @@ use Rattle.events.specs.declared.event.Event.TheVariants.{Invoke, Answer}
 use Rattle.events.specs.declared.event.Reply.{Reply}
 use Rattle.events.specs.declared.operation.Operation.{Operation}
 use Rattle.events.specs.declared.operation.Response.{Response}
-use Rattle.events.specs.Operations.{operations}
 use Rattle.events.specs.Precedence.{precedes}
 use Rattle.list_laws.proofs.Lists.{AllPairs-nil, AllPairs-head, AllPairs-tail, Contains-nil, Contains-first, Contains-later, Contains-cases}
 use Rattle.list_laws.proofs.FilterLemmas.{Contains-filter_map}
@@ -326,12 +325,21 @@ two_begins = of_two (λ b. b.inv ≡ 2 → (is_scan b.call ≡ false) × IsOver 
 two_next : IsNextToCalls two_events two_class 0 state 1 2 3
 two_next = record {
   past = omega arith;
-  from = Contains-later (Behind 0 2) (InTurn 0 1 ∷ Behind 1 2 ∷ Before 1 3 ∷ []) (Behind 1 2) (Contains-later (InTurn 0 1) (Behind 1 2 ∷ Before 1 3 ∷ []) (Behind 1 2) (Contains-first (Behind 1 2) (Before 1 3 ∷ [])));
-  upto = Contains-later (Behind 0 2) (InTurn 0 1 ∷ Behind 1 2 ∷ Before 1 3 ∷ []) (Before 1 3) (Contains-later (InTurn 0 1) (Behind 1 2 ∷ Before 1 3 ∷ []) (Before 1 3)
-      (Contains-later (Behind 1 2) (Before 1 3 ∷ []) (Before 1 3) (Contains-first (Before 1 3) [])));
+  from = Contains-later (Behind 0 2) turned (Behind 1 2) (Contains-later (InTurn 0 1) gap (Behind 1 2) (Contains-first (Behind 1 2) last));
+  upto = Contains-later (Behind 0 2) turned (Before 1 3) (Contains-later (InTurn 0 1) gap (Before 1 3)
+      (Contains-later (Behind 1 2) last (Before 1 3) (Contains-first (Before 1 3) [])));
   calls = λ b b_is not_scan over. of_two (λ b. (b.inv ≤ 2) ⊎ (3 ≤ b.inv)) (inl (omega arith)) (inl (omega arith)) (inl (omega arith)) b
       (from_left [] two_calls b b_is).0;
 }
+  where
+    last : List Comparison
+    last = Before 1 3 ∷ []
+
+    gap : List Comparison
+    gap = Behind 1 2 ∷ last
+
+    turned : List Comparison
+    turned = InTurn 0 1 ∷ gap
 
 two_dead : IsDeadBeginNow two_events (class_of two_class) 0 state 2
 two_dead other_spread moment timing hold c value c_is value_is out =
