@@ -2,6 +2,7 @@ mod AnsweredLemmas
 mod BackLemmas
 mod BlockLemmas
 mod DeadLemmas
+mod EndLemmas
 mod FreeLemmas
 mod HoldLemmas
 mod JumpLemmas

@@ -9,7 +9,6 @@ use Rattle.events.specs.declared.event.Event.{Event}
 use Rattle.events.specs.declared.operation.Operation.{Operation}
 use Rattle.events.specs.Operations.{operations}
 use Rattle.events.specs.Precedence.{is_before, precedes}
-use Rattle.events.proofs.TimeLemmas.{inv_rises, NonePrecedesItself-operations}
 use Rattle.list_laws.specs.Lists.{has_number}
 use Rattle.list_laws.proofs.Lists.{All-from_contains, AllPairs-front, AllPairs-head, AllPairs-tail, Contains-cases, Contains-filter, Contains-from_filter, Contains-nil}
 use Rattle.list_laws.proofs.NumberLemmas.{has_number-Contains, has_number-from_Contains}
@@ -17,7 +16,7 @@ use Rattle.list_laws.proofs.FilterLemmas.{AllPairs-map, AllPairs-weaker, Contain
 use Rattle.map_object.specs.MapObject.{Contents}
 use Rattle.orders.specs.Orders.{IsLegal}
 use Rattle.orders.proofs.OrderLemmas.{IsLegal-front}
-use Rattle.quiet_cuts.specs.Cells.{is_left, calls_left}
+use Rattle.quiet_cuts.specs.Cells.{calls_left}
 use Rattle.quiet_cuts.proofs.LeftLemmas.{left_from, not_dropped, in_left, from_left}
 use Rattle.quiet_cuts.proofs.SetLemmas.{IsOrderOfSet, Completed}
 use Rattle.following.specs.moments.KeyCalls.{Kind, OfKey, Told, Silent, kind_of, part_at, at_key}
@@ -27,10 +26,10 @@ use Rattle.following.proofs.moments.DistinctLemmas.{InvocationsDiffer, same_invo
 use Rattle.following.proofs.moments.KindLemmas.{IsPart, part_is}
 use Rattle.following.proofs.keys.EarlyLemmas.{into_left, from_left_at, left_differ, left_alone}
 use Rattle.following.proofs.keys.GrownLemmas.{IsGrown, grown_inv, same_completed}
-use Rattle.following.proofs.keys.GrownPartLemmas.{open_not_own, timing_now, below_spread, to_later, to_now}
+use Rattle.following.proofs.keys.GrownPartLemmas.{open_not_own, below_spread, to_later, to_now}
 use Rattle.following.proofs.keys.InTurnLemmas.{ChangesNothing, legal_filter, is_refused_from, refused_changes_nothing, ended_not_refused, cut, grown_cut}
 use Rattle.following.proofs.keys.InTurnLemmas.{legal_cut, cut_waits}
-use Rattle.following.proofs.keys.KeyCallLemmas.{picked_differ, front_begun}
+use Rattle.following.proofs.keys.KeyCallLemmas.{front_begun}
 use Rattle.following.proofs.keys.RefuteLemmas.{from_not, told_changes_nothing, grown_ended}
 
 -- of two parts of a list an element of the first is one of the second too, or stands before it

@@ -15,6 +15,7 @@ use Rattle.following.specs.rows.Twins.{IsTimingAt}
 use Rattle.following_reads.specs.Reads.{AreFixedUpToReads}
 use Rattle.dead_events.specs.Answered.{with_answer, HasNoneAnswered, IsDeadBeginNow, IsNextTo}
 use Rattle.dead_events.specs.WiderDead.{StaysDeadBy, IsLostWithout, IsNextToCalls}
+use Rattle.dead_events.specs.Begun.{IsDeadEndNow, IsLastBefore}
 use Rattle.dead_events.specs.Passing.{MayPassBack, MayPassOn}
 use Rattle.dead_events.specs.Standing.{BeginsOnlyAt, EndsOnlyAt, IsDeadBegin, IsDeadEnd, IsLeftAt}
 
@@ -60,6 +61,16 @@ DeadEndsJoin =
 -- a beginning that is dead now is dead with any further events
 abbrev pub DeadBeginsStay : Type 0
 DeadBeginsStay = StaysDeadBy IsNextTo IsDeadBeginNow
+
+-- and so is an end, which is of one call
+abbrev pub DeadEndsStay : Type 0
+DeadEndsStay =
+    (events : List Event) (comparisons : List Comparison) (key : ℕ) (k : KeyState) (a b : Operation) (r : Response) (before place : ℕ)
+    → Contains (operations events) a → IsToldScan a → IsOver key a.call → IsLeftAt k a.inv → Contains (operations events) b
+    → b.response ≡ Some r → r.res ≡ place
+    → ((d : Operation) (s : Response) → Contains (operations events) d → d.response ≡ Some s → s.res ≡ place → d ≡ b)
+    → IsLastBefore events comparisons key k a.inv before place → IsDeadEndNow events (class_of comparisons) key k b.inv place
+    → IsDeadEnd events (class_of comparisons) key k a.inv place
 
 -- where comparisons fix the key up to reads, with the call answered at once, one timing at it tells that
 abbrev pub OneTimingTellsDead : Type 0

@@ -1,4 +1,5 @@
 pub mod Answered
+pub mod Begun
 pub mod Laws
 pub mod Passing
 pub mod Standing

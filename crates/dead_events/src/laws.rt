@@ -1,5 +1,5 @@
 // Laws of events that the moment of a scan may pass: each function only carries its clause, and calls what it rests on.
-ghost use Rattle.dead_events.specs.Laws.{BeginsJoin, DeadBeginsJoin, DeadBeginsStay, DeadEndsJoin, EndsJoin, LostIsNotDead, OneTimingTellsDead};
+ghost use Rattle.dead_events.specs.Laws.{BeginsJoin, DeadBeginsJoin, DeadBeginsStay, DeadEndsJoin, DeadEndsStay, EndsJoin, LostIsNotDead, OneTimingTellsDead};
 ghost use Rattle.dead_events.specs.Laws.{RivalsStandBetween};
 
 use following::operations_stand_apart;
@@ -35,7 +35,14 @@ pub fn dead_begins_stay()
     ensures { DeadBeginsStay }
 {}
 
-/// And where comparisons fix the key up to reads, one timing at it tells that it has none.
+/// And an end for one that takes effect directly before it, where they have none now with the call begun where it ends.
+pub fn dead_ends_stay()
+    ensures { DeadEndsStay }
+{
+    operations_stand_apart();
+}
+
+/// Where comparisons fix the key up to reads, one timing at it tells that it has no order with a call answered as soon as it begins.
 pub fn one_timing_tells_dead()
     ensures { OneTimingTellsDead }
 {

@@ -6,6 +6,6 @@
 mod laws;
 
 pub use laws::{
-    begins_join, dead_begins_join, dead_begins_stay, dead_ends_join, ends_join, lost_is_not_dead,
-    one_timing_tells_dead, rivals_stand_between,
+    begins_join, dead_begins_join, dead_begins_stay, dead_ends_join, dead_ends_stay, ends_join,
+    lost_is_not_dead, one_timing_tells_dead, rivals_stand_between,
 };
