@@ -1,0 +1,16 @@
+mod AnsweredLemmas
+mod BackLemmas
+mod BlockLemmas
+mod DeadLemmas
+mod EndLemmas
+mod FreeLemmas
+mod HoldLemmas
+mod JumpLemmas
+mod OnLemmas
+mod OneTimingLemmas
+mod OrderLemmas
+mod PassLemmas
+mod PrefixLemmas
+mod RefusedLemmas
+mod StayLemmas
+mod WiderLemmas

@@ -1,0 +1,6 @@
+pub mod Answered
+pub mod Begun
+pub mod Laws
+pub mod Passing
+pub mod Standing
+pub mod WiderDead
