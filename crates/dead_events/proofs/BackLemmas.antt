@@ -196,6 +196,7 @@ back_joins events more states kept tied scan before place behind earlier may sti
       timing = jumped_timing tied edge top h.spread h.moment calls h.timing
           (back_ends events more states kept tied scan before place behind earlier may h.spread h.moment h.timing from upto hold);
       allowed = back_class events more states kept tied scan before place behind earlier may h.spread h.moment h.timing from upto hold hold;
-      each_key = λ key. holds_there calls states tied (StandsElsewhere kept (λ n. InTurn scan n) place behind) edge top place behind place h.spread h.moment alone (GainsBack edge (h.moment scan))
+      each_key = λ key. holds_there calls states tied (StandsElsewhere kept (λ n. InTurn scan n) place behind) edge top place behind place
+          h.spread h.moment alone (GainsBack edge (h.moment scan))
           (gains_back edge (h.moment scan) from) key (still h.spread h.moment h.timing h.allowed from key) (h.each_key key);
     }

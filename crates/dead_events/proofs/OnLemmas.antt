@@ -219,6 +219,7 @@ on_joins events more states kept tied scan before place behind later may still h
       timing = jumped_timing tied edge top h.spread h.moment calls h.timing
           (on_ends events more states kept tied scan before place behind later may h.spread h.moment h.timing from upto hold);
       allowed = on_class events more states kept tied scan before place behind later may h.spread h.moment h.timing from upto hold hold;
-      each_key = λ key. holds_there calls states tied (StandsElsewhere kept (λ n. InTurn n scan) before place) edge top before place place h.spread h.moment alone (GainsOn (h.spread place) top)
+      each_key = λ key. holds_there calls states tied (StandsElsewhere kept (λ n. InTurn n scan) before place) edge top before place place
+          h.spread h.moment alone (GainsOn (h.spread place) top)
           (gains_on (h.spread place) top upto) key (still h.spread h.moment h.timing h.allowed upto key) (h.each_key key);
     }
