@@ -16,7 +16,7 @@ use Rattle.following.proofs.keys.GrownLemmas.{in_now, grown_inv}
 use Rattle.following.proofs.rows.BlockLemmas.{one_holds}
 use Rattle.following.proofs.rows.ComparisonLemmas.{hold_both, hold_front}
 use Rattle.dead_events.specs.Laws.{row_between}
-use Rattle.dead_events.specs.Passing.{StaysEarlier, MayPassBack}
+use Rattle.dead_events.specs.Passing.{StaysEarlier, StandsElsewhere, MayPassBack}
 use Rattle.dead_events.proofs.BlockLemmas.{grown_block}
 use Rattle.dead_events.proofs.HoldLemmas.{HaveStill, holds_there}
 use Rattle.dead_events.proofs.JumpLemmas.{jump, jump_cases, room, moved, moved_cases, KeepEnds, jumped_timing, keeps_holding, all_keep}
@@ -48,9 +48,13 @@ gains_back here last less u x v y first second before =
 module _ (events more : List Event) (states : ℕ → KeyState) (kept : List Comparison) (tied : List ℕ) (scan before place behind : ℕ)
     (earlier : before < place) (may : MayPassBack events states kept tied scan place behind) (spread moment : ℕ → ℕ)
     (timing : IsTiming (operations (events ++ more)) spread moment) (from : spread place < moment scan) (upto : moment scan < spread behind)
+    (hold : all_hold spread moment kept ≡ true)
   where
     abbrev later : List Operation
     later = operations (events ++ more)
+
+    abbrev Elsewhere : Operation → Type 0
+    Elsewhere = StandsElsewhere kept (λ n. InTurn scan n) place behind
 
     abbrev edge : ℕ
     edge = spread place
@@ -58,12 +62,32 @@ module _ (events more : List Event) (states : ℕ → KeyState) (kept : List Com
     abbrev top : ℕ
     top = suc (moment scan)
 
+    holds : (c : Comparison) → Contains kept c → holds_in spread moment c ≡ true
+    holds c c_is = one_holds spread moment c kept c_is hold
+
     rising : (p q : ℕ) → p ≤ q → spread p ≤ spread q
     rising = rising_upto spread timing.rises
 
-    pub back_alone : IsAlone later states tied edge top place behind place spread moment
+    pub back_alone : IsAlone later states tied Elsewhere edge top place behind place spread moment
     back_alone = record {
-      block = grown_block events more states tied place behind may.less may.past may.block;
+      elsewhere = λ a is told there between. ⊎_elim
+          (λ first. ⊎_elim
+          (λ ended. let (r, answered, within) = ended in
+          let h = rising r.res place within in
+          let end = timing.ended a r is told answered in ⊎_elim (λ one. omega arith) (λ one. omega arith) between)
+          (λ said. let (p, p_is, within) = said in
+          let h = rising p place within in
+          let end = ltb-true (moment a.inv) (spread p) (holds (Before a.inv p) p_is) in ⊎_elim (λ one. omega arith) (λ one. omega arith) between) first)
+          (λ others. ⊎_elim
+          (λ beyond. ⊎_elim
+          (λ begun. let h = rising behind a.inv begun in
+          let begins = timing.begun a is told in ⊎_elim (λ one. omega arith) (λ one. omega arith) between)
+          (λ said. let (p, p_is, within) = said in
+          let h = rising behind p within in
+          let begins = ltb-true (spread p) (moment a.inv) (holds (Behind a.inv p) p_is) in ⊎_elim (λ one. omega arith) (λ one. omega arith) between) beyond)
+          (λ turn. let h = ltb-true (moment scan) (moment a.inv) (holds (InTurn scan a.inv) turn) in ⊎_elim (λ one. omega arith) (λ one. omega arith) between) others)
+          there;
+      block = grown_block events more states tied Elsewhere place behind may.less may.past may.block;
       begun = λ a is told in_tied between. ⊎_elim
           (λ within. within)
           (λ beyond. let h = rising behind a.inv beyond in
@@ -84,7 +108,7 @@ module _ (events more : List Event) (states : ℕ → KeyState) (kept : List Com
     }
       where
         may_begin : (a : Operation) → Contains later a → Contains tied a.inv → (a.inv ≤ place) ⊎ (behind ≤ a.inv)
-        may_begin = (grown_block events more states tied place behind may.less may.past may.block).begun
+        may_begin = (grown_block events more states tied Elsewhere place behind may.less may.past may.block).begun
 
     none_begins_here : (a : Operation) → Contains later a → Contains tied a.inv → a.inv ≡ place → ⊥
     none_begins_here a is in_tied same =
@@ -163,15 +187,16 @@ back_joins events more states kept tied scan before place behind earlier may sti
     let upto = ltb-true (h.moment scan) (h.spread behind) (one_holds h.spread h.moment (Before scan behind) (kept ++ gap)
     (Contains-append_right kept gap (Before scan behind)
     (Contains-later (Behind scan place) (Before scan behind ∷ []) (Before scan behind) (Contains-first (Before scan behind) []))) h.allowed) in
+    let hold = hold_front h.spread h.moment kept gap h.allowed in
     let edge = h.spread place in
     let top = suc (h.moment scan) in
-    let alone = back_alone events more states kept tied scan before place behind earlier may h.spread h.moment h.timing from upto in record {
+    let alone = back_alone events more states kept tied scan before place behind earlier may h.spread h.moment h.timing from upto hold in record {
       spread = room tied edge top h.spread h.moment;
       moment = moved tied edge top h.spread h.moment;
       timing = jumped_timing tied edge top h.spread h.moment calls h.timing
-          (back_ends events more states kept tied scan before place behind earlier may h.spread h.moment h.timing from upto);
-      allowed = back_class events more states kept tied scan before place behind earlier may h.spread h.moment h.timing from upto
-          (hold_front h.spread h.moment kept gap h.allowed);
-      each_key = λ key. holds_there calls states tied edge top place behind place h.spread h.moment alone (GainsBack edge (h.moment scan))
+          (back_ends events more states kept tied scan before place behind earlier may h.spread h.moment h.timing from upto hold);
+      allowed = back_class events more states kept tied scan before place behind earlier may h.spread h.moment h.timing from upto hold hold;
+      each_key = λ key. holds_there calls states tied (StandsElsewhere kept (λ n. InTurn scan n) place behind) edge top place behind place
+          h.spread h.moment alone (GainsBack edge (h.moment scan))
           (gains_back edge (h.moment scan) from) key (still h.spread h.moment h.timing h.allowed from key) (h.each_key key);
     }

@@ -14,11 +14,14 @@ use Rattle.events.proofs.TimeLemmas.{NonePrecedesItself-operations}
 use Rattle.list_laws.specs.Lists.{has_number}
 use Rattle.list_laws.proofs.Lists.{Contains-filter, Contains-from_filter}
 use Rattle.quiet_cuts.specs.Cells.{is_left, calls_left}
+use Rattle.following.specs.moments.Timings.{IsToldScan}
 use Rattle.following.specs.keys.KeyStates.{KeyState}
-use Rattle.following.specs.rows.Blocks.{is_scan, IsOver, IsOutside, IsBlock}
+use Rattle.following.specs.rows.Blocks.{is_scan, IsOver, IsOutside}
 use Rattle.following.proofs.moments.PartLemmas.{waits_from}
-use Rattle.following.proofs.keys.GrownLemmas.{IsGrownResponse, IsGrown, in_now, grown_inv}
+use Rattle.following.proofs.moments.TimedLemmas.{told_completed}
+use Rattle.following.proofs.keys.GrownLemmas.{IsGrownResponse, IsGrown, in_now, grown_inv, same_completed}
 use Rattle.following.proofs.rows.EndLemmas.{grown_call}
+use Rattle.dead_events.specs.Passing.{IsCrossing}
 
 -- what was answered in the past stays, and what is answered later is so behind the block
 grown_outside : (low high place : ℕ) (now then : Option Response) → high ≤ place → IsGrownResponse place now then
@@ -32,8 +35,8 @@ grown_answered : (place : ℕ) (now then : Option Response) (r : Response) → I
 grown_answered place None then r grown is = cc
 grown_answered place (Some s) then r grown is = grown.0 ∙ is
 
-module _ (events more : List Event) (states : ℕ → KeyState) (tied : List ℕ) (low high : ℕ) (less : low < high) (upto : high ≤ length events)
-    (block : IsBlock (operations events) states tied low high) where
+module _ (events more : List Event) (states : ℕ → KeyState) (tied : List ℕ) (Elsewhere : Operation → Type 0) (low high : ℕ) (less : low < high)
+    (upto : high ≤ length events) (block : IsCrossing (operations events) states tied Elsewhere low high) where
   abbrev later : List Operation
   later = operations (events ++ more)
 
@@ -69,7 +72,7 @@ module _ (events more : List Event) (states : ℕ → KeyState) (tied : List ℕ
         ),
       )
 
-  pub grown_block : IsBlock later states tied low high
+  pub grown_block : IsCrossing later states tied Elsewhere low high
   grown_block = record {
     begun = λ b b_is b_tied. ⊎_elim
         (λ has. let (a, a_is, grown) = has in
@@ -103,12 +106,15 @@ module _ (events more : List Event) (states : ℕ → KeyState) (tied : List ℕ
         let call = grown_call (length events) a b grown in
         ⊎_elim
         (λ a_tied. inl (subst (Contains tied) place a_tied))
-        (λ apart. ⊎_elim
+        (λ apart. inr (⊎_elim
+        (λ was. inl (⊎_elim
         (λ ended. let (r, answered, within) = ended in
-        inr (inl (r, grown_answered (length events) a.response b.response r grown.response answered, within)))
-        (λ begins. inr (inr (subst (λ (n : ℕ). high ≤ n) place begins))) apart)
+        inl (r, grown_answered (length events) a.response b.response r grown.response answered, within))
+        (λ begins. inr (subst (λ (n : ℕ). high ≤ n) place begins)) was))
+        (λ there. inr (subst (λ (c : Operation). IsToldScan c × Elsewhere c)
+        (sym (same_completed (length events) a b grown (told_completed a there.0))) there)) apart))
         (block.scans key now a now_is now_tied now_low now_over (left_now (states key).gone a b a_is place b_is)
         (ap is_scan call ∙ scan) (subst (λ (c : Call). IsOver key c) (sym call) over)))
-        (λ behind. inr (inr behind))
+        (λ behind. inr (inl (inr behind)))
         (begun_or_later b in_later);
   }

@@ -46,8 +46,8 @@ HaveStill G calls states spread moment key =
     → IsLinearizable (one_key key value) (at_key key spread moment (calls_left ((states key).gone ++ c.taken) calls))
     → HasStill G (one_key key value) (at_key key spread moment (calls_left ((states key).gone ++ c.taken) calls))
 
-module _ (calls : List Operation) (states : ℕ → KeyState) (tied : List ℕ) (edge top low high place : ℕ) (spread moment : ℕ → ℕ)
-    (alone : IsAlone calls states tied edge top low high place spread moment) (G : ℕ → ℕ → Type 0)
+module _ (calls : List Operation) (states : ℕ → KeyState) (tied : List ℕ) (Elsewhere : Operation → Type 0)
+    (edge top low high place : ℕ) (spread moment : ℕ → ℕ) (alone : IsAlone calls states tied Elsewhere edge top low high place spread moment) (G : ℕ → ℕ → Type 0)
     (only : GainsOnly edge top (spread place) G) (key : ℕ) where
   abbrev there_room : ℕ → ℕ
   there_room = room tied edge top spread moment
@@ -70,7 +70,7 @@ module _ (calls : List Operation) (states : ℕ → KeyState) (tied : List ℕ) 
         precedence = λ i j x y z w x_at y_at z_at w_at h.
             let (a, a_is, ax, az, a_same) = at_both f g some xs zs i x z zip x_at z_at in
             let (b, b_is, by, bw, b_same) = at_both f g some xs zs j y w zip y_at w_at in
-            key_gains calls states tied edge top low high place spread moment alone G only key a b x y z w (within a a_is) (within b b_is) ax by
+            key_gains calls states tied Elsewhere edge top low high place spread moment alone G only key a b x y z w (within a a_is) (within b b_is) ax by
             az bw h;
       }
 

@@ -12,14 +12,13 @@ use Rattle.list_laws.proofs.Lists.{Contains-first, Contains-later}
 use Rattle.following.specs.moments.Timings.{IsTiming}
 use Rattle.following.specs.keys.KeyStates.{KeyState}
 use Rattle.following.specs.rows.Comparisons.{Comparison, Behind, Before, InTurn, holds_in, all_hold, class_of}
-use Rattle.following.specs.rows.Blocks.{IsBlock}
 use Rattle.following.specs.rows.Rows.{RowHolds}
 use Rattle.following.proofs.moments.PartLemmas.{rising_upto}
 use Rattle.following.proofs.keys.GrownLemmas.{IsGrownResponse, IsGrown, in_now, grown_inv, same_completed}
 use Rattle.following.proofs.rows.BlockLemmas.{one_holds}
 use Rattle.following.proofs.rows.ComparisonLemmas.{hold_both, hold_front}
 use Rattle.dead_events.specs.Laws.{row_between}
-use Rattle.dead_events.specs.Passing.{StaysLater, MayPassOn}
+use Rattle.dead_events.specs.Passing.{StaysLater, StandsElsewhere, IsCrossing, MayPassOn}
 use Rattle.dead_events.proofs.BlockLemmas.{grown_block}
 use Rattle.dead_events.proofs.HoldLemmas.{HaveStill, holds_there}
 use Rattle.dead_events.proofs.JumpLemmas.{jump, jump_cases, room, moved, moved_cases, KeepEnds, jumped_timing, keeps_holding, all_keep}
@@ -58,9 +57,13 @@ gains_on here start less u x v y first second before =
 module _ (events more : List Event) (states : ℕ → KeyState) (kept : List Comparison) (tied : List ℕ) (scan before place behind : ℕ)
     (later_place : place < behind) (may : MayPassOn events states kept tied scan before place) (spread moment : ℕ → ℕ)
     (timing : IsTiming (operations (events ++ more)) spread moment) (from : spread before < moment scan) (upto : moment scan < spread place)
+    (hold : all_hold spread moment kept ≡ true)
   where
     abbrev later : List Operation
     later = operations (events ++ more)
+
+    abbrev Elsewhere : Operation → Type 0
+    Elsewhere = StandsElsewhere kept (λ n. InTurn n scan) before place
 
     abbrev edge : ℕ
     edge = suc (spread place)
@@ -68,17 +71,37 @@ module _ (events more : List Event) (states : ℕ → KeyState) (kept : List Com
     abbrev top : ℕ
     top = moment scan
 
+    holds : (c : Comparison) → Contains kept c → holds_in spread moment c ≡ true
+    holds c c_is = one_holds spread moment c kept c_is hold
+
     rising : (p q : ℕ) → p ≤ q → spread p ≤ spread q
     rising = rising_upto spread timing.rises
 
     past : place ≤ length events
     past = let h = may.past in omega arith
 
-    on_block : IsBlock later states tied before place
-    on_block = grown_block events more states tied before place may.less past may.block
+    on_block : IsCrossing later states tied Elsewhere before place
+    on_block = grown_block events more states tied Elsewhere before place may.less past may.block
 
-    pub on_alone : IsAlone later states tied edge top before place place spread moment
+    pub on_alone : IsAlone later states tied Elsewhere edge top before place place spread moment
     on_alone = record {
+      elsewhere = λ a is told there between. ⊎_elim
+          (λ first. ⊎_elim
+          (λ ended. let (r, answered, within) = ended in
+          let h = rising r.res before within in
+          let end = timing.ended a r is told answered in ⊎_elim (λ one. omega arith) (λ one. omega arith) between)
+          (λ said. let (p, p_is, within) = said in
+          let h = rising p before within in
+          let end = ltb-true (moment a.inv) (spread p) (holds (Before a.inv p) p_is) in ⊎_elim (λ one. omega arith) (λ one. omega arith) between) first)
+          (λ others. ⊎_elim
+          (λ beyond. ⊎_elim
+          (λ begun. let h = rising place a.inv begun in
+          let begins = timing.begun a is told in ⊎_elim (λ one. omega arith) (λ one. omega arith) between)
+          (λ said. let (p, p_is, within) = said in
+          let h = rising place p within in
+          let begins = ltb-true (spread p) (moment a.inv) (holds (Behind a.inv p) p_is) in ⊎_elim (λ one. omega arith) (λ one. omega arith) between) beyond)
+          (λ turn. let h = ltb-true (moment a.inv) (moment scan) (holds (InTurn a.inv scan) turn) in ⊎_elim (λ one. omega arith) (λ one. omega arith) between) others)
+          there;
       block = on_block;
       begun = λ a is told in_tied between. ⊎_elim
           (λ within. within)
@@ -187,15 +210,16 @@ on_joins events more states kept tied scan before place behind later may still h
     let upto = ltb-true (h.moment scan) (h.spread place) (one_holds h.spread h.moment (Before scan place) (kept ++ gap)
     (Contains-append_right kept gap (Before scan place)
     (Contains-later (Behind scan before) (Before scan place ∷ []) (Before scan place) (Contains-first (Before scan place) []))) h.allowed) in
+    let hold = hold_front h.spread h.moment kept gap h.allowed in
     let edge = suc (h.spread place) in
     let top = h.moment scan in
-    let alone = on_alone events more states kept tied scan before place behind later may h.spread h.moment h.timing from upto in record {
+    let alone = on_alone events more states kept tied scan before place behind later may h.spread h.moment h.timing from upto hold in record {
       spread = room tied edge top h.spread h.moment;
       moment = moved tied edge top h.spread h.moment;
       timing = jumped_timing tied edge top h.spread h.moment calls h.timing
-          (on_ends events more states kept tied scan before place behind later may h.spread h.moment h.timing from upto);
-      allowed = on_class events more states kept tied scan before place behind later may h.spread h.moment h.timing from upto
-          (hold_front h.spread h.moment kept gap h.allowed);
-      each_key = λ key. holds_there calls states tied edge top before place place h.spread h.moment alone (GainsOn (h.spread place) top)
+          (on_ends events more states kept tied scan before place behind later may h.spread h.moment h.timing from upto hold);
+      allowed = on_class events more states kept tied scan before place behind later may h.spread h.moment h.timing from upto hold hold;
+      each_key = λ key. holds_there calls states tied (StandsElsewhere kept (λ n. InTurn n scan) before place) edge top before place place
+          h.spread h.moment alone (GainsOn (h.spread place) top)
           (gains_on (h.spread place) top upto) key (still h.spread h.moment h.timing h.allowed upto key) (h.each_key key);
     }

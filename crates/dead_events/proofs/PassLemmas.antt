@@ -11,9 +11,10 @@ use Rattle.quiet_cuts.specs.Cells.{is_left, calls_left}
 use Rattle.following.specs.moments.KeyCalls.{Kind, OfKey, Told, Silent, kind_of, part_at}
 use Rattle.following.specs.moments.Timings.{IsToldScan}
 use Rattle.following.specs.keys.KeyStates.{KeyState}
-use Rattle.following.specs.rows.Blocks.{is_scan, IsOver, IsOutside, IsBlock}
+use Rattle.following.specs.rows.Blocks.{is_scan, IsOver, IsOutside}
 use Rattle.following.proofs.moments.KindLemmas.{IsPart, part_is}
 use Rattle.following.proofs.rows.EndLemmas.{told_call, own_call, rising_keeps, Ends, EndsAs, precedes_same, ends_by_kind}
+use Rattle.dead_events.specs.Passing.{IsCrossing}
 use Rattle.dead_events.proofs.JumpLemmas.{jump, jump_cases, less_jump, room, moved, moved_cases}
 
 -- between two edges, in either order
@@ -32,9 +33,10 @@ between_cases edge top v = ⊎_elim
     (jump_cases edge top edge v)
 
 -- between two edges, and at the keys of the tied scans that take effect there, one event stands alone
-pub record IsAlone (calls : List Operation) (states : ℕ → KeyState) (tied : List ℕ) (edge top low high place : ℕ) (spread moment : ℕ → ℕ)
-    : Type 0 where
-  pub block : IsBlock calls states tied low high
+pub record IsAlone (calls : List Operation) (states : ℕ → KeyState) (tied : List ℕ) (Elsewhere : Operation → Type 0)
+    (edge top low high place : ℕ) (spread moment : ℕ → ℕ) : Type 0 where
+  pub block : IsCrossing calls states tied Elsewhere low high
+  pub elsewhere : (a : Operation) → Contains calls a → IsToldScan a → Elsewhere a → IsBetween edge top (moment a.inv) → ⊥
   pub begun : (a : Operation) → Contains calls a → IsToldScan a → Contains tied a.inv → IsBetween edge top (moment a.inv) → a.inv ≤ low
   pub places : (p : ℕ) → IsOutside low high p → IsBetween edge top (spread p) → p ≡ place
   pub ended : (a : Operation) (r : Response) → Contains calls a → IsToldScan a → a.response ≡ Some r → r.res ≤ low
@@ -51,8 +53,8 @@ GainsOnly edge top here G =
 abbrev pub Gains : (ℕ → ℕ → Type 0) → Operation → Operation → Type 0
 Gains G x y = (r : Response) × (x.response ≡ Some r) × G r.res y.inv
 
-module _ (calls : List Operation) (states : ℕ → KeyState) (tied : List ℕ) (edge top low high place : ℕ) (spread moment : ℕ → ℕ)
-    (alone : IsAlone calls states tied edge top low high place spread moment) (G : ℕ → ℕ → Type 0)
+module _ (calls : List Operation) (states : ℕ → KeyState) (tied : List ℕ) (Elsewhere : Operation → Type 0)
+    (edge top low high place : ℕ) (spread moment : ℕ → ℕ) (alone : IsAlone calls states tied Elsewhere edge top low high place spread moment) (G : ℕ → ℕ → Type 0)
     (only : GainsOnly edge top (spread place) G) where
   abbrev there_room : ℕ → ℕ
   there_room = room tied edge top spread moment
@@ -127,8 +129,10 @@ module _ (calls : List Operation) (states : ℕ → KeyState) (tied : List ℕ) 
         (λ within. absurd (⊎_elim
         (λ a_tied. out.0 a_tied)
         (λ apart. ⊎_elim
+        (λ was. ⊎_elim
         (λ over. let (r, answered, upto) = over in alone.ended a r in_calls told answered upto within)
-        (λ begins. alone.later a in_calls told begins within) apart)
+        (λ begins. alone.later a in_calls told begins within) was)
+        (λ there. alone.elsewhere a in_calls told there.1 within) apart)
         (alone.block.scans key t a t_is t_tied t_low t_over a_is (ap is_scan call)
         (subst (λ (c : Call). IsOver key c) (sym call) (from, to)))))
         (λ same. inl (out.1 ∙ same))
