@@ -72,35 +72,39 @@ fn calls_taken_come_no_more(rt: HostRuntime) -> Result<(), Fail> {
     Ok(())
 }
 
-/// Five calls that run at once, of which a get found this.
-fn five_calls(alloc: Global, found: u64) -> Result<KeptKey, Memory> {
-    let get = answered(Call::Get(7), 0, 10, Reply::Some(found));
+// Five calls run at once, and a get found what the last of them put there: such an order is guessed, and none is searched for.
+#[test]
+fn more_calls_are_guessed(rt: HostRuntime) -> Result<(), Fail> {
+    let alloc = rt.alloc();
+    let get = answered(Call::Get(7), 0, 10, Reply::Some(4));
     let first = answered(Call::Insert(7, 1), 1, 11, Reply::Done);
     let second = answered(Call::Insert(7, 2), 2, 12, Reply::Done);
     let third = answered(Call::Insert(7, 3), 3, 13, Reply::Done);
     let fourth = answered(Call::Insert(7, 4), 4, 14, Reply::Done);
-    Ok(KeptKey {
+    let key = KeptKey {
         configurations: vec![in alloc; chosen(alloc, &[], &[None])?]?,
         names: vec![in alloc; 0, 1, 2, 3, 4]?,
         calls: vec![in alloc; get, first, second, third, fourth]?,
-    })
-}
-
-// What the last of them put there: such an order is guessed, and none is searched for.
-#[test]
-fn more_calls_are_guessed(rt: HostRuntime) -> Result<(), Fail> {
-    let alloc = rt.alloc();
-    let key = five_calls(alloc, 4)?;
+    };
     assert!(rt; matches!(key.judge(alloc, 7, 1000)?, Judged::Order));
     assert!(rt; matches!(key.judge(alloc, 7, 1)?, Judged::Order));
     Ok(())
 }
 
-// What none of them put there: they are searched.
+// And a get found what none of them put there: they are searched.
 #[test]
 fn more_calls_are_searched(rt: HostRuntime) -> Result<(), Fail> {
     let alloc = rt.alloc();
-    let key = five_calls(alloc, 9)?;
+    let get = answered(Call::Get(7), 0, 10, Reply::Some(9));
+    let first = answered(Call::Insert(7, 1), 1, 11, Reply::Done);
+    let second = answered(Call::Insert(7, 2), 2, 12, Reply::Done);
+    let third = answered(Call::Insert(7, 3), 3, 13, Reply::Done);
+    let fourth = answered(Call::Insert(7, 4), 4, 14, Reply::Done);
+    let key = KeptKey {
+        configurations: vec![in alloc; chosen(alloc, &[], &[None])?]?,
+        names: vec![in alloc; 0, 1, 2, 3, 4]?,
+        calls: vec![in alloc; get, first, second, third, fourth]?,
+    };
     assert!(rt; matches!(key.judge(alloc, 7, 1000)?, Judged::NoOrder));
     assert!(rt; matches!(key.judge(alloc, 7, 1)?, Judged::Spent));
     Ok(())
