@@ -33,7 +33,7 @@ import (
 //	Session() Map                        what one thread calls in the place of the map, as a connection
 //	Close()                              of a session, at the end of a run
 //	Del(key uint64) Said                 the value before
-//	Scan(low, high uint64) Said          the pairs of one moment, both ends included
+//	Scan(low, high uint64) Said          the pairs of one moment, both ends included, by rising keys
 //	Replace(key, old, value uint64) Said the value found; or Done where it was replaced, Other where it was not
 //	PutIfAbsent(key, value uint64) Said  None where it was put; else the value found
 //	Floor(key uint64) Said               the greatest pair up to the key

@@ -61,7 +61,7 @@ public final class Potzendai {
         Said put(long key, long value) throws Exception;
         /** The value before. */
         default Said del(long key) throws Exception { throw new UnsupportedOperationException(); }
-        /** The pairs of one moment, both ends included. */
+        /** The pairs of one moment, both ends included, by rising keys. */
         default Said scan(long low, long high) throws Exception { throw new UnsupportedOperationException(); }
         /** The value found; or DONE where it was replaced, OTHER where it was not. */
         default Said replace(long key, long old, long value) throws Exception { throw new UnsupportedOperationException(); }

@@ -14,7 +14,7 @@ A function answers a value, a pair or pairs where it tells them, or one of the w
     get(self, key)                   the value [NONE or None, DONE, FOUND, REFUSED, UNKNOWN]
     put(self, key, value)            the value before [NONE, DONE, FOUND, REFUSED, UNKNOWN]
     delete(self, key)                the value before [NONE, DONE, FOUND, REFUSED, UNKNOWN]
-    scan(self, low, high)            the pairs of one moment, both ends included [NONE, DONE, REFUSED, UNKNOWN]
+    scan(self, low, high)            the pairs of one moment, both ends included, by rising keys [NONE, DONE, REFUSED, UNKNOWN]
     replace(self, key, old, new)     the value found [NONE, DONE: it was replaced, OTHER: it was not, FOUND, REFUSED, UNKNOWN]
     put_if_absent(self, key, value)  the value found [NONE: it was put, FOUND: it was not, REFUSED, UNKNOWN]
     floor, ceiling(self, key)        the greatest pair up to the key, the least one from it on [NONE or None, DONE, REFUSED, UNKNOWN]

@@ -79,7 +79,7 @@ pub trait Session {
     fn del(&mut self, _key: u64) -> Said {
         Said::Missing
     }
-    /// The pairs of one moment, both ends included.
+    /// The pairs of one moment, both ends included, by rising keys.
     fn scan(&mut self, _low: u64, _high: u64) -> Said {
         Said::Missing
     }
