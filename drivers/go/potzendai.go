@@ -33,7 +33,7 @@ import (
 //	Session() Map                        what one thread calls in the place of the map, as a connection
 //	Close()                              of a session, at the end of a run
 //	Del(key uint64) Said                 the value before
-//	Scan(low, high uint64) Said          the pairs of one moment, both ends included
+//	Scan(low, high uint64) Said          the pairs of one moment, both ends included, by rising keys
 //	Replace(key, old, value uint64) Said the value found; or Done where it was replaced, Other where it was not
 //	PutIfAbsent(key, value uint64) Said  None where it was put; else the value found
 //	Floor(key uint64) Said               the greatest pair up to the key
@@ -491,6 +491,7 @@ type worker struct {
 	has     functions
 	close   func()
 	sayings map[string]uint64
+	called  map[string]uint64
 	seen    map[uint64]uint64
 	memory  map[uint64]Said
 	draws   *draws
@@ -626,6 +627,7 @@ func (w *worker) make(kind string, words ...uint64) Said {
 	said := w.has.ask(kind, words...)
 	end := w.stamps.Add(1)
 	w.made++
+	w.called[kind]++
 	w.sayings[said.word]++
 	known := said
 	if writes(kind) && len(words) > 0 {
@@ -894,7 +896,8 @@ func newCrew(o *options, m Map) *crew {
 		locks = make([]keyLock, o.keys)
 	}
 	for number := uint64(0); number < o.threads; number++ {
-		c.workers = append(c.workers, &worker{number: number, options: o, stamps: &c.stamps, locks: locks, sayings: map[string]uint64{}})
+		c.workers = append(c.workers, &worker{number: number, options: o, stamps: &c.stamps, locks: locks, sayings: map[string]uint64{},
+			called: map[string]uint64{}})
 	}
 	c.each(func(w *worker) { w.open(m) })
 	session, closing := sessionOf(m)
@@ -1187,7 +1190,7 @@ type run struct {
 	options                            *options
 	make                               func() Map
 	program                            *program
-	sayings                            map[string]uint64
+	sayings, called                    map[string]uint64
 	met                                map[uint64]bool
 	began                              time.Time
 	rounds, calls, overlap, undecideds uint64
@@ -1205,6 +1208,7 @@ func newRun(o *options, make func() Map, p *program, number uint64) *run {
 	c.rest()
 	if o.isStream {
 		r.follow(c)
+		r.called = calledBy(c.workers)
 		return r
 	}
 	var pending []*call
@@ -1223,7 +1227,19 @@ func newRun(o *options, make func() Map, p *program, number uint64) *run {
 		r.take(one, c.workers)
 		pending = one.pending
 	}
+	r.called = calledBy(c.workers)
 	return r
+}
+
+// How often workers called each function.
+func calledBy(workers []*worker) map[string]uint64 {
+	called := map[string]uint64{}
+	for _, each := range workers {
+		for kind, count := range each.called {
+			called[kind] += count
+		}
+	}
+	return called
 }
 
 // One stream, until it has no order, or the time is over.
@@ -1500,7 +1516,7 @@ func (r *run) refutedStream() []string {
 			said = append(said, r.shown(small, explained, roundOf(small))...)
 		}
 	}
-	return append(said, "  again: "+r.options.again(0))
+	return append(said, saidAgain+r.options.again(0))
 }
 
 // What a report of explain says of a history, and the files that show it.
@@ -1527,7 +1543,7 @@ func (r *run) refuted() []string {
 	}
 	text := least.failed.text()
 	_, report := r.program.askTwice("explain", text)
-	return append(append(said, r.shown(text, report, least.failed)...), "  again: "+r.options.again(r.rounds))
+	return append(append(said, r.shown(text, report, least.failed)...), saidAgain+r.options.again(r.rounds))
 }
 
 // Words
@@ -1582,6 +1598,8 @@ func (o *options) less(how int) *options {
 	}
 	return &less
 }
+
+const saidAgain = "  again (draws the same calls; threads may interleave otherwise): "
 
 // The words that repeat the draws of a run of so many rounds.
 func (o *options) again(rounds uint64) string {
@@ -1696,15 +1714,17 @@ func (o *options) fit(has functions) {
 		o.shares = map[string]uint64{}
 	}
 	for _, kind := range kinds {
-		needed, why := kind, "no such function of the map"
+		needed := kind
 		if kind == "scan" && o.scan == "steps" {
-			needed, why = "ceiling", "steps need the function ceiling"
+			if needed = "ceiling"; has[needed] == nil {
+				fail(badWords, "--scan: steps need the function ceiling")
+			}
 		}
 		if isUsual && has[needed] != nil && !(kind == "pop_first" && isApart) {
 			o.shares[kind] = shares[kind]
 		}
 		if o.shares[kind] > 0 && has[needed] == nil {
-			fail(badWords, "%s: %s", kind, why)
+			fail(badWords, "%s: no such function of the map", kind)
 		}
 	}
 	if o.keys == 0 {
@@ -1741,6 +1761,23 @@ func (o *options) fit(has functions) {
 	}
 }
 
+// How often the threads called each function of the map, and which functions it does not have.
+func saidCalls(has functions, called map[string]uint64) string {
+	calls, missing := []string{}, []string{}
+	for _, kind := range kinds {
+		if has[kind] != nil {
+			calls = append(calls, fmt.Sprintf("%s %d", kind, called[kind]))
+		} else {
+			missing = append(missing, kind)
+		}
+	}
+	text := "calls: " + strings.Join(calls, ", ")
+	if len(missing) > 0 {
+		text += "; not there: " + strings.Join(missing, ", ")
+	}
+	return text
+}
+
 // How a run went: its status, what is to be told before the last line, and that. A run that goes wrong is told as a stop.
 func tested(name string, make func() Map, words []string) (status int, said []string, last string, wrong *stop) {
 	defer func() {
@@ -1754,7 +1791,8 @@ func tested(name string, make func() Map, words []string) (status int, said []st
 	}()
 	o := readWords(name, words)
 	session, closing := sessionOf(make())
-	o.fit(functionsOf(session))
+	has := functionsOf(session)
+	o.fit(has)
 	closing()
 	var p *program
 	if o.out != "-" {
@@ -1763,28 +1801,29 @@ func tested(name string, make func() Map, words []string) (status int, said []st
 		signal.Ignore(syscall.SIGPIPE) // a reader that has gone is told by a write that fails
 	}
 	if o.broken == "all" {
-		status, said, last = allBroken(o, make, p)
+		status, said, last = allBroken(o, make, p, has)
 		return status, said, last, nil
 	}
 	r := newRun(o, make, p, 0)
+	calls := saidCalls(has, r.called)
 	if r.failed != nil {
-		return no, r.refuted(), r.summary("no"), nil
+		return no, append(r.refuted(), calls), r.summary("no"), nil
 	}
 	if r.undecideds > 0 || len(r.cut) > 0 {
 		status = undecided
 	}
 	if p == nil {
-		return status, append(r.cut, r.summary("not judged")), "", nil
+		return status, append(r.cut, calls, r.summary("not judged")), "", nil
 	}
 	if o.broken != "" && status == yes {
 		r.cut = append(r.cut, fmt.Sprintf("--break %s: the map was wrong now and then, and these calls did not show it", o.broken))
 	}
-	return status, r.cut, r.summary(verdicts[status]), nil
+	return status, append(r.cut, calls), r.summary(verdicts[status]), nil
 }
 
 // Each way to go wrong that the drawn calls can show has to be refuted: then the status is that of a no.
-func allBroken(o *options, make func() Map, p *program) (int, []string, string) {
-	said, missed := []string{}, 0
+func allBroken(o *options, make func() Map, p *program, has functions) (int, []string, string) {
+	said, missed, called := []string{}, 0, map[string]uint64{}
 	for _, how := range breaks {
 		if o.broken = how; !o.isCalled(how) {
 			said = append(said, how+": what it makes wrong is not called")
@@ -1796,7 +1835,11 @@ func allBroken(o *options, make func() Map, p *program) (int, []string, string) 
 			missed++
 		}
 		said = append(said, how+": "+r.summary(verdict))
+		for kind, count := range r.called {
+			called[kind] += count
+		}
 	}
+	said = append(said, saidCalls(has, called))
 	if missed > 0 {
 		return yes, said, fmt.Sprintf("yes: %d of the broken maps were not refuted", missed)
 	}

@@ -61,7 +61,7 @@ public final class Potzendai {
         Said put(long key, long value) throws Exception;
         /** The value before. */
         default Said del(long key) throws Exception { throw new UnsupportedOperationException(); }
-        /** The pairs of one moment, both ends included. */
+        /** The pairs of one moment, both ends included, by rising keys. */
         default Said scan(long low, long high) throws Exception { throw new UnsupportedOperationException(); }
         /** The value found; or DONE where it was replaced, OTHER where it was not. */
         default Said replace(long key, long old, long value) throws Exception { throw new UnsupportedOperationException(); }
@@ -151,6 +151,7 @@ public final class Potzendai {
     private static final int STREAM_PROCESSES = 65536, STREAM_KEYS = 16384, AHEAD = 8192, BATCH = 65536;
     private static final int RUNNING = 0, OVER = 1, FAILED = 2;
     private static final int REPORT_SHOWN = 1000;
+    private static final String AGAIN = "  again (draws the same calls; threads may interleave otherwise): ";
     private static final Set<String> LESS = Set.of("\"done\"", "\"found\"", "\"other\"");
     private static final Map<String, Kind> BREAKS = new LinkedHashMap<>();
     static {
@@ -451,6 +452,7 @@ public final class Potzendai {
         final AtomicLong stamps;
         final KeyLock[] locks;
         final EnumMap<Word, Long> sayings = new EnumMap<>(Word.class);
+        final EnumMap<Kind, Long> called = new EnumMap<>(Kind.class);
         final Map<Long, Long> seen = new HashMap<>();
         final Map<Long, Said> memory = new HashMap<>();
         List<Event> log;
@@ -562,6 +564,7 @@ public final class Potzendai {
             Said said = ask(session, kind, words);
             long end = stamps.getAndIncrement();
             made++;
+            called.merge(kind, 1L, Long::sum);
             sayings.merge(said.word, 1L, Long::sum);
             boolean isWrite = kind.writes() && words.length > 0;
             KeyLock lock = locks != null && isWrite ? locks[(int) words[0]] : null;
@@ -1006,6 +1009,7 @@ public final class Potzendai {
         final Supplier<? extends Index> make;
         final Program program;
         final EnumMap<Word, Long> sayings = new EnumMap<>(Word.class);
+        final EnumMap<Kind, Long> called = new EnumMap<>(Kind.class);
         final Set<Long> met = new HashSet<>();
         final long began = System.nanoTime();
         final List<String> cut = new ArrayList<>();
@@ -1026,6 +1030,7 @@ public final class Potzendai {
                 crew.rest();
                 if (options.isStream) {
                     follow(crew);
+                    count(crew);
                     return this;
                 }
                 List<Call> pending = List.of();
@@ -1044,8 +1049,14 @@ public final class Potzendai {
                     for (Worker worker : crew.workers)
                         worker.sayings.forEach((word, count) -> sayings.merge(word, count, Long::sum));
                 }
+                count(crew);
             }
             return this;
+        }
+
+        private void count(Crew crew) {
+            for (Worker worker : crew.workers)
+                worker.called.forEach((kind, count) -> called.merge(kind, count, Long::sum));
         }
 
         /** One stream, until it has no order, or the time is over. */
@@ -1298,7 +1309,7 @@ public final class Potzendai {
         Program.Answer explained = small == null ? null : run.program.askTwice("explain", small);
         if (explained != null && explained.status == NO)
             said.addAll(shown(run, small, explained.text, new Round(small)));
-        said.add("  again: " + run.options.again(0));
+        said.add(AGAIN + run.options.again(0));
         return said;
     }
 
@@ -1324,7 +1335,7 @@ public final class Potzendai {
             + least.options.calls);
         String text = least.failed.text();
         said.addAll(shown(run, text, run.program.askTwice("explain", text).text, least.failed));
-        said.add("  again: " + run.options.again(run.rounds));
+        said.add(AGAIN + run.options.again(run.rounds));
         return said;
     }
 
@@ -1467,10 +1478,10 @@ public final class Potzendai {
             shares = isUsual ? new EnumMap<>(Kind.class) : shares;
             for (Kind kind : Kind.values()) {
                 boolean isThere = has.contains(kind == Kind.SCAN && isSteps ? Kind.CEILING : kind);
+                wrong(kind == Kind.SCAN && isSteps && !isThere, "--scan: steps need the function ceiling");
                 if (isUsual)
                     shares.put(kind, isThere && !(kind == Kind.POP_FIRST && isApart) ? kind.share : 0);
-                String why = kind == Kind.SCAN && isSteps ? ": steps need the function ceiling" : ": no such function of the map";
-                wrong(shares.get(kind) > 0 && !isThere, kind.name + why);
+                wrong(shares.get(kind) > 0 && !isThere, kind.name + ": no such function of the map");
             }
             wrong(total() == 0, "--mix: no share");
             wrong(shares.get(Kind.POP_FIRST) > 0 && isApart, "pop_first: takes keys of others, so not with --void own or lock");
@@ -1500,21 +1511,38 @@ public final class Potzendai {
         return has;
     }
 
+    /** How often the threads called each function of the map, and which functions it does not have. */
+    private static String saidCalls(Set<Kind> has, EnumMap<Kind, Long> called) {
+        List<String> calls = new ArrayList<>(), missing = new ArrayList<>();
+        for (Kind kind : Kind.values())
+            if (has.contains(kind))
+                calls.add(kind.name + " " + called.getOrDefault(kind, 0L));
+            else
+                missing.add(kind.name);
+        return "calls: " + String.join(", ", calls) + (missing.isEmpty() ? "" : "; not there: " + String.join(", ", missing));
+    }
+
     /** How a run went: its status, what is to be told before the last line, and that. */
     private record Outcome(int status, List<String> said, String last) { }
 
     private static Outcome tested(String name, Supplier<? extends Index> make, String... words) {
         Options options = new Options(name, words);
-        options.fit(functions(make.get()));
+        Set<Kind> has = functions(make.get());
+        options.fit(has);
         Program program = options.out.equals("-") ? null : Program.of(options);
         if ("all".equals(options.broken))
-            return allBroken(options, make, program);
+            return allBroken(options, make, program, has);
         Run run = new Run(options, make, program).go(0);
-        if (run.failed != null)
-            return new Outcome(NO, refuted(run), run.summary("no"));
+        String calls = saidCalls(has, run.called);
+        if (run.failed != null) {
+            List<String> said = refuted(run);
+            said.add(calls);
+            return new Outcome(NO, said, run.summary("no"));
+        }
         int status = run.undecided > 0 || !run.cut.isEmpty() ? UNDECIDED : YES;
         if (program != null && options.broken != null && status == YES)
             run.cut.add("--break " + options.broken + ": the map was wrong now and then, and these calls did not show it");
+        run.cut.add(calls);
         if (program != null)
             return new Outcome(status, run.cut, run.summary(VERDICTS.get(status)));
         run.cut.add(run.summary("not judged"));
@@ -1522,15 +1550,19 @@ public final class Potzendai {
     }
 
     /** Each way to go wrong that the drawn calls can show has to be refuted: then the status is that of a no. */
-    private static Outcome allBroken(Options options, Supplier<? extends Index> make, Program program) {
+    private static Outcome allBroken(Options options, Supplier<? extends Index> make, Program program, Set<Kind> has) {
         List<String> said = new ArrayList<>();
+        EnumMap<Kind, Long> called = new EnumMap<>(Kind.class);
         int missed = 0;
         for (String how : BREAKS.keySet()) {
             options.broken = how;
             Run run = options.isCalled(how) ? new Run(options, make, program).go(0) : null;
+            if (run != null)
+                run.called.forEach((kind, count) -> called.merge(kind, count, Long::sum));
             missed += run != null && run.failed == null ? 1 : 0;
             said.add(how + ": " + (run == null ? "what it makes wrong is not called" : run.summary(run.failed != null ? "no" : "yes")));
         }
+        said.add(saidCalls(has, called));
         return missed > 0 ? new Outcome(YES, said, "yes: " + missed + " of the broken maps were not refuted")
             : new Outcome(NO, said, "no: each broken map was refuted");
     }

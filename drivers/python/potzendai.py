@@ -14,7 +14,7 @@ A function answers a value, a pair or pairs where it tells them, or one of the w
     get(self, key)                   the value [NONE or None, DONE, FOUND, REFUSED, UNKNOWN]
     put(self, key, value)            the value before [NONE, DONE, FOUND, REFUSED, UNKNOWN]
     delete(self, key)                the value before [NONE, DONE, FOUND, REFUSED, UNKNOWN]
-    scan(self, low, high)            the pairs of one moment, both ends included [NONE, DONE, REFUSED, UNKNOWN]
+    scan(self, low, high)            the pairs of one moment, both ends included, by rising keys [NONE, DONE, REFUSED, UNKNOWN]
     replace(self, key, old, new)     the value found [NONE, DONE: it was replaced, OTHER: it was not, FOUND, REFUSED, UNKNOWN]
     put_if_absent(self, key, value)  the value found [NONE: it was put, FOUND: it was not, REFUSED, UNKNOWN]
     floor, ceiling(self, key)        the greatest pair up to the key, the least one from it on [NONE or None, DONE, REFUSED, UNKNOWN]
@@ -280,13 +280,13 @@ class Worker:
         if self.values_from is None:
             self.values_from = 1 + max(start.values(), default=0)  # each put has a value of its own, which was not in the map before
         self.draws, self.log, self.life, self.made, self.seen = Draws(options.seed, number, self.number), [], 0, 0, {}
-        self.sayings = dict.fromkeys(("told",) + SAYINGS, 0)
+        self.sayings, self.called = dict.fromkeys(("told",) + SAYINGS, 0), dict.fromkeys(ANSWERS, 0)
         self.memory = {key: start.get(key, NONE) for key in range(options.keys) if key not in doubtful} if options.void == "own" else {}
         _of_thread.often, _of_thread.draws = options.yields, copy.copy(self.draws)
         self.lives = lives
         while self.goes_on():
             self.draw()
-        return self.log, self.sayings
+        return self.log, self.sayings, self.called
 
     def goes_on(self):
         """Whether it may make one call more."""
@@ -350,6 +350,7 @@ class Worker:
         answer = self.ask(kind, *words)
         end = self.stamp()
         self.made += 1
+        self.called[kind] += 1
         self.sayings[answer if isinstance(answer, str) else "told"] += 1
         if self.locks and answer == UNKNOWN and words:
             self.doubts[words[0]] |= kind in WRITING  # it may still come between a get and the put behind it
@@ -441,6 +442,7 @@ def stamps(processes):
 
 
 RUNNING, OVER, FAILED = range(3)
+AGAIN = "  again (draws the same calls; threads may interleave otherwise): "
 REPORT_SHOWN = 1000  # characters of the report of a stream without order
 
 
@@ -819,7 +821,7 @@ class Run:
     def __init__(self, options, make, program):
         self.options, self.make, self.program = options, make, program
         self.rounds = self.calls = self.overlap = self.undecided = 0
-        self.cut = []
+        self.cut, self.called = [], dict.fromkeys(ANSWERS, 0)
         self.sayings, self.met, self.failed, self.began = dict.fromkeys(("told",) + SAYINGS, 0), set(), None, time.monotonic()
 
     def go(self, number=0):
@@ -836,8 +838,9 @@ class Run:
                     break
                 taken = crew.run(number + self.rounds, lives, start, {call[1] for call in pending})
                 gets, left = crew.contents()
-                one = Round([log for log, _ in taken] + [gets], start, pending)
-                self.take(one, [sayings for _, sayings in taken])
+                one = Round([log for log, _, _ in taken] + [gets], start, pending)
+                self.count(taken)
+                self.take(one, [sayings for _, sayings, _ in taken])
                 if self.failed:
                     break
                 start, pending = left, one.pending
@@ -857,7 +860,7 @@ class Run:
                 while stream.state.value == RUNNING and time.monotonic() - self.began < options.seconds and not crew.is_done():
                     time.sleep(0.01)
                 stream.state.value = max(stream.state.value, OVER)
-                crew.taken()
+                self.count(crew.taken())
             except BaseException:
                 stream.state.value = FAILED
                 raise
@@ -881,6 +884,11 @@ class Run:
         self.failed = report if status == NO else None
         if stream.next_process() >= STREAM_PROCESSES:
             self.cut = ["%s: calls without an answer leave no room for others" % self.options.name]
+
+    def count(self, taken):
+        for _, _, called in taken:
+            for kind, count in called.items():
+                self.called[kind] += count
 
     def take(self, one, sayings):
         self.rounds += 1
@@ -921,6 +929,13 @@ class Run:
         return "%s: %s%d calls in %.1f seconds, overlap %.2f a call: %s%s" % (
             verdict, rounds, self.calls, time.monotonic() - self.began, self.overlap / max(self.calls, 1), said,
             "; %d undecided" % self.undecided if self.undecided else "")
+
+
+def said_calls(has, runs):
+    """How often the threads of some runs called each function of the map, and which functions it does not have."""
+    calls = ", ".join("%s %d" % (kind, sum(run.called[kind] for run in runs)) for kind in ANSWERS if kind in has)
+    missing = ", ".join(kind for kind in ANSWERS if kind not in has)
+    return "calls: %s%s" % (calls, "; not there: " + missing if missing else "")
 
 
 def smaller(run):
@@ -1086,9 +1101,11 @@ def fit(options, has):
     apart = options.void in ("own", "lock")
     options.has_mix = options.mix is not None
     options.shares = options.mix or {kind: 0 if not able[kind] or kind == "pop_first" and apart else SHARES[kind] for kind in SHARES}
+    if options.scan == "steps" and not able["scan"]:
+        wrong("--scan", "steps need the function ceiling")
     for kind, share in options.shares.items():
         if share and not able[kind]:
-            wrong(word(kind), "steps need the function ceiling" if kind == "scan" and options.scan == "steps" else "no such function of the map")
+            wrong(word(kind), "no such function of the map")
     if not sum(options.shares.values()):
         wrong("--mix", "no share")
     if options.shares["pop_first"] and apart:
@@ -1136,23 +1153,26 @@ def functions(make):
 
 def tested(make, options):
     """A run by these words: its status, what is to be told before the last line, and the last line."""
-    fit(options, functions(make))
+    has = functions(make)
+    fit(options, has)
     options.name = getattr(make, "__name__", "map")
     program = None if options.out == "-" else Library(options) if options.library else Program(options)
     interval = sys.getswitchinterval()
     sys.setswitchinterval(1e-5)  # else a thread of Python goes on for 5 ms, and hardly a call overlaps another
     try:
         if options.broken == "all":
-            return all_broken(make, options, program)
+            return all_broken(make, options, program, has)
         run = Run(options, make, program).go()
+        calls = [said_calls(has, [run])]
         if run.failed:
-            return NO, refuted(run), run.summary("no")
+            return NO, refuted(run) + calls, run.summary("no")
     finally:
         sys.setswitchinterval(interval)
     status = UNDECIDED if run.undecided or run.cut else YES
     if program and options.broken and status == YES:
         run.cut = ["--break %s: the map was wrong now and then, and these calls did not show it" % options.broken]
-    return (status, run.cut, run.summary(VERDICTS[status])) if program else (status, run.cut + [run.summary("not judged")], None)
+    said = run.cut + calls
+    return (status, said, run.summary(VERDICTS[status])) if program else (status, said + [run.summary("not judged")], None)
 
 
 def refuted_stream(run):
@@ -1164,7 +1184,7 @@ def refuted_stream(run):
     if status == NO:
         whole = json.loads(small)
         said += shown(run, small, told_of, types.SimpleNamespace(events=whole["events"], start=dict(whole.get("start", []))))
-    return said + ["  again: " + words_again(run.options, 0)]
+    return said + [AGAIN + words_again(run.options, 0)]
 
 
 def shown(run, text, report, one):
@@ -1185,17 +1205,19 @@ def refuted(run):
         least.options.threads, least.options.keys, least.options.calls)]
     text = least.failed.text()
     said += shown(run, text, run.program.asked("explain", text)[1], least.failed)
-    return said + ["  again: " + words_again(options, run.rounds)]
+    return said + [AGAIN + words_again(options, run.rounds)]
 
 
-def all_broken(make, options, program):
+def all_broken(make, options, program, has):
     """Each way to go wrong that the drawn calls can show has to be refuted: then the status is that of a no."""
-    said, missed = [], 0
+    said, missed, runs = [], 0, []
     for how, is_called in options.shown_by.items():
         options.broken = how
         run = Run(options, make, program).go() if is_called else None
+        runs += [run] if run else []
         missed += run is not None and not run.failed
         said.append("%s: %s" % (how, run.summary("no" if run.failed else "yes") if run else "what it makes wrong is not called"))
+    said.append(said_calls(has, runs))
     return (YES, said, "yes: %d of the broken maps were not refuted" % missed) if missed else (NO, said, "no: each broken map was refuted")
 
 

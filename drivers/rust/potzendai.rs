@@ -79,7 +79,7 @@ pub trait Session {
     fn del(&mut self, _key: u64) -> Said {
         Said::Missing
     }
-    /// The pairs of one moment, both ends included.
+    /// The pairs of one moment, both ends included, by rising keys.
     fn scan(&mut self, _low: u64, _high: u64) -> Said {
         Said::Missing
     }
@@ -126,6 +126,7 @@ const SELDOM: u64 = 20;
 const STREAM_PROCESSES: usize = 65536;
 const STREAM_KEYS: u64 = 16384;
 const REPORT_SHOWN: usize = 1000;
+const AGAIN: &str = "  again (draws the same calls; threads may interleave otherwise): ";
 const AHEAD: u64 = 8192;
 const BATCH: usize = 65536;
 
@@ -586,6 +587,20 @@ impl Shared {
     }
 }
 
+/// How often the map said each word, and how often each function was called.
+#[derive(Clone, Copy, Default)]
+struct Counts {
+    sayings: [u64; 8],
+    called: [u64; 9],
+}
+
+impl Counts {
+    fn add(&mut self, more: &Counts) {
+        (0..8).for_each(|word| self.sayings[word] += more.sayings[word]);
+        (0..9).for_each(|kind| self.called[kind] += more.called[kind]);
+    }
+}
+
 /// One thread: draws calls, makes them, and notes them with the stamps of their beginning and their end.
 struct Worker<'a> {
     number: u64,
@@ -593,7 +608,7 @@ struct Worker<'a> {
     shared: &'a Shared,
     session: Box<dyn Session + 'a>,
     draws: Draws,
-    sayings: [u64; 8],
+    counts: Counts,
     seen: HashMap<u64, u64>,
     memory: HashMap<u64, Said>,
     log: Vec<Event>,
@@ -614,14 +629,14 @@ impl<'a> Worker<'a> {
             session = Box::new(Broken { truly: session, how, draws, keys: options.keys, once: HashMap::new(), late: None, style: None });
         }
         let (seen, memory) = (HashMap::new(), HashMap::new());
-        let (draws, values_from, log, sayings, process) = (Draws(0), None, vec![], [0; 8], number as usize);
+        let (draws, values_from, log, counts, process) = (Draws(0), None, vec![], Counts::default(), number as usize);
         Worker {
-            number, options, shared, session, draws, sayings, seen, memory, log, puts: 0, values_from, made: 0, life: 0, lives: 0, process,
+            number, options, shared, session, draws, counts, seen, memory, log, puts: 0, values_from, made: 0, life: 0, lives: 0, process,
         }
     }
 
     /// The calls of a round. A process whose answer is unknown makes no further call.
-    fn run(&mut self, task: &Task) -> Result<(Vec<Event>, [u64; 8]), Stop> {
+    fn run(&mut self, task: &Task) -> Result<(Vec<Event>, Counts), Stop> {
         (self.made, self.life) = (0, 0);
         self.values_from.get_or_insert(task.start.values().max().map_or(1, |value| value.wrapping_add(1)));
         self.seen.clear();
@@ -645,7 +660,7 @@ impl<'a> Worker<'a> {
         while self.goes_on() {
             self.draw()?;
         }
-        Ok((std::mem::take(&mut self.log), self.sayings))
+        Ok((std::mem::take(&mut self.log), self.counts))
     }
 
     /// Whether it may make one call more.
@@ -741,7 +756,8 @@ impl<'a> Worker<'a> {
     fn made_one(&mut self, kind: Kind, words: &[u64], said: Said, got: Said, begin: u64, end: u64) -> Result<Said, Stop> {
         let is_void = matches!(kind, Put | Del);
         self.made += 1;
-        self.sayings[said.word()] += 1;
+        self.counts.sayings[said.word()] += 1;
+        self.counts.called[kind as usize] += 1;
         let known = if words.is_empty() || !kind.writes() { said.clone() } else { self.known(kind, words, &said, got) };
         if self.options.void == "told" && is_void && matches!(known, Said::Done | Said::Found) {
             let line = format!("{} said {}, and --void told wants the value before", kind.name(), SAYINGS[known.word()]);
@@ -813,14 +829,14 @@ impl<'a> Worker<'a> {
     }
 }
 
-type Outcome = Result<(Vec<Event>, [u64; 8]), Stop>;
+type Outcome = Result<(Vec<Event>, Counts), Stop>;
 
 /// What a thread does: it opens a session and puts out nothing, and then one task after another, each of which puts out what it has
 /// recorded, or why the run ends.
 fn serve(number: u64, options: &Options, shared: &Shared, map: &dyn Map, tasks: &Receiver<Task>, out: &Sender<Outcome>) {
     let done = catch_unwind(AssertUnwindSafe(|| {
         let mut worker = Worker::new(number, options, shared, map);
-        let _ = out.send(Ok((vec![], [0; 8])));
+        let _ = out.send(Ok((vec![], Counts::default())));
         for task in tasks {
             let made = worker.run(&task);
             if let (Err(_), Some(stream)) = (&made, &shared.stream) {
@@ -1141,6 +1157,7 @@ impl Program {
 struct Run {
     options: Options,
     sayings: [u64; 8],
+    called: [u64; 9],
     met: HashSet<u64>,
     began: Instant,
     rounds: u64,
@@ -1159,8 +1176,8 @@ impl Run {
         let locks = if options.void == "lock" { (0..options.keys).map(|_| Mutex::new(false)).collect() } else { vec![] };
         let shared = Shared { stamps: AtomicU64::new(0), locks, stream: options.is_stream.then(|| Stream::new(options.threads)) };
         let mut run = Run {
-            options: options.clone(), sayings: [0; 8], met: HashSet::new(), began: Instant::now(), rounds: 0, calls: 0, overlap: 0,
-            undecided: 0, cut: vec![], failed: None, report: String::new(),
+            options: options.clone(), sayings: [0; 8], called: [0; 9], met: HashSet::new(), began: Instant::now(), rounds: 0, calls: 0,
+            overlap: 0, undecided: 0, cut: vec![], failed: None, report: String::new(),
         };
         std::thread::scope(|scope| {
             let mut threads = vec![];
@@ -1220,9 +1237,11 @@ impl Run {
             stream.is_ended.store(true, SeqCst);
             (ended, writer.join().unwrap_or_else(|_| fail(BAD_FILE, "a thread has panicked")))
         });
+        let mut counts = Counts::default();
         for one in ended.into_iter().flatten() {
-            one.map_err(named)?;
+            counts.add(&one.map_err(named)?.1);
         }
+        self.called = counts.called;
         let (status, report) = written?;
         self.conclude(stream, status, report)
     }
@@ -1345,16 +1364,16 @@ impl Run {
             for (tasks, _) in threads {
                 let _ = tasks.send(task.clone());
             }
-            let (mut events, mut sayings) = (vec![], [0; 8]);
+            let (mut events, mut counts) = (vec![], Counts::default());
             for one in taken() {
-                let (log, said) = one.map_err(named)?;
+                let (log, more) = one.map_err(named)?;
                 events.extend(log);
-                (0..8).for_each(|word| sayings[word] += said[word]);
+                counts.add(&more);
             }
             let (gets, left) = rest(&mut *session, &options, shared).map_err(named)?;
             events.extend(gets);
             let round = Round::new(events, start, &pending);
-            (start, pending, self.sayings) = (Arc::new(left), round.pending.clone(), sayings);
+            (start, pending, self.sayings, self.called) = (Arc::new(left), round.pending.clone(), counts.sayings, counts.called);
             self.take(round, program)?;
         }
         Ok(())
@@ -1618,7 +1637,7 @@ fn refuted_stream(run: &Run, program: &Program) -> Result<Vec<String>, Stop> {
     if status == NO {
         said.extend(shown(run, small, &explained, &Round::read(small), program)?);
     }
-    said.push(format!("  again: {}", run.options.again(0)));
+    said.push(format!("{AGAIN}{}", run.options.again(0)));
     Ok(said)
 }
 
@@ -1645,7 +1664,7 @@ fn refuted<M: Map>(run: &Run, make: &dyn Fn() -> M, program: &Program) -> Result
     said.push(format!("the smallest of some tries that failed: threads {threads}, keys {keys}, calls {calls}"));
     let text = round.text();
     said.extend(shown(run, &text, &program.ask_twice("explain", &text)?.1, round, program)?);
-    said.push(format!("  again: {}", run.options.again(run.rounds)));
+    said.push(format!("{AGAIN}{}", run.options.again(run.rounds)));
     Ok(said)
 }
 
@@ -1782,12 +1801,14 @@ impl Options {
         for kind in KINDS {
             let is_steps = kind == Scan && self.scan == "steps";
             let is_there = has[if is_steps { Ceiling } else { kind } as usize];
+            if is_steps && !is_there {
+                return fail(BAD_WORDS, "--scan: steps need the function ceiling");
+            }
             if !self.has_mix && is_there && !(kind == PopFirst && is_apart) {
                 self.shares[kind as usize] = SHARES[kind as usize];
             }
             if self.shares[kind as usize] > 0 && !is_there {
-                let why = if is_steps { "steps need the function ceiling" } else { "no such function of the map" };
-                return fail(BAD_WORDS, format!("{}: {why}", kind.name()));
+                return fail(BAD_WORDS, format!("{}: no such function of the map", kind.name()));
             }
         }
         self.keys = if self.keys > 0 { self.keys } else if self.is_stream { 1000 } else { 16 };
@@ -1849,20 +1870,30 @@ impl Options {
     }
 }
 
+/// How often the threads called each function of the map, and which functions it does not have.
+fn said_calls(has: [bool; 9], called: [u64; 9]) -> String {
+    let (there, missing): (Vec<Kind>, Vec<Kind>) = KINDS.iter().partition(|kind| has[**kind as usize]);
+    let calls: Vec<String> = there.iter().map(|kind| format!("{} {}", kind.name(), called[*kind as usize])).collect();
+    let names: Vec<&str> = missing.iter().map(|kind| kind.name()).collect();
+    let rest = if names.is_empty() { String::new() } else { format!("; not there: {}", names.join(", ")) };
+    format!("calls: {}{rest}", calls.join(", "))
+}
+
 /// How a run went: its status, what is to be told before the last line, and that.
 fn tested<M: Map>(name: &str, make: &dyn Fn() -> M, words: &[String]) -> Result<(i32, Vec<String>, String), Stop> {
     let mut options = Options::new(name, words)?;
-    options.fit(functions(make()))?;
+    let has = functions(make());
+    options.fit(has)?;
     let program = if options.out == "-" { None } else { Some(Program::new(&options)?) };
     if let (Some("all"), Some(program)) = (options.broken.as_deref(), &program) {
-        return all_broken(options, make, program);
+        return all_broken(options, make, program, has);
     }
     let run = Run::new(&options, make, program.as_ref(), 0)?;
     let is_undecided = run.undecided > 0 || !run.cut.is_empty();
     let status = if run.failed.is_some() { NO } else if is_undecided { UNDECIDED } else { YES };
-    let mut said = run.cut.clone();
+    let (mut said, calls) = (run.cut.clone(), said_calls(has, run.called));
     let Some(program) = program else {
-        said.push(run.summary("not judged"));
+        said.extend([calls, run.summary("not judged")]);
         return Ok((status, said, String::new()));
     };
     if run.failed.is_some() {
@@ -1871,12 +1902,15 @@ fn tested<M: Map>(name: &str, make: &dyn Fn() -> M, words: &[String]) -> Result<
     if let (Some(how), YES) = (&options.broken, status) {
         said.push(format!("--break {how}: the map was wrong now and then, and these calls did not show it"));
     }
+    said.push(calls);
     Ok((status, said, run.summary(VERDICTS[status as usize])))
 }
 
 /// Each way to go wrong that the drawn calls can show has to be refuted: then the status is that of a no.
-fn all_broken<M: Map>(mut options: Options, make: &dyn Fn() -> M, program: &Program) -> Result<(i32, Vec<String>, String), Stop> {
-    let (mut said, mut missed) = (vec![], 0);
+fn all_broken<M: Map>(
+    mut options: Options, make: &dyn Fn() -> M, program: &Program, has: [bool; 9],
+) -> Result<(i32, Vec<String>, String), Stop> {
+    let (mut said, mut missed, mut called) = (vec![], 0, [0; 9]);
     for (how, _) in BREAKS {
         if !options.is_called(how) {
             said.push(format!("{how}: what it makes wrong is not called"));
@@ -1885,8 +1919,10 @@ fn all_broken<M: Map>(mut options: Options, make: &dyn Fn() -> M, program: &Prog
         options.broken = Some(how.to_string());
         let run = Run::new(&options, make, Some(program), 0)?;
         missed += usize::from(run.failed.is_none());
+        (0..9).for_each(|kind| called[kind] += run.called[kind]);
         said.push(format!("{how}: {}", run.summary(if run.failed.is_some() { "no" } else { "yes" })));
     }
+    said.push(said_calls(has, called));
     Ok(match missed {
         0 => (NO, said, "no: each broken map was refuted".to_string()),
         _ => (YES, said, format!("yes: {missed} of the broken maps were not refuted")),
