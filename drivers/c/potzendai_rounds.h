@@ -412,14 +412,16 @@ static inline void potzendai_tell_no(struct potzendai_tester *tester, const stru
 static inline int potzendai_refuted(struct potzendai_tester *tester, struct potzendai_told *told)
 {
     struct potzendai_run *run = tester->run;
-    uint64_t sayings[POTZENDAI_SAYINGS];
+    uint64_t sayings[POTZENDAI_SAYINGS], functions_called[POTZENDAI_FUNCTIONS];
     memcpy(sayings, run->sayings, sizeof sayings);
+    memcpy(functions_called, run->functions_called, sizeof functions_called);
     fprintf(stderr, "round %" PRIu64 " has no order\n", run->round);
     potzendai_smaller(tester, told);
     fprintf(stderr, "the smallest of some tries that failed: threads %" PRIu64 ", keys %" PRIu64 ", calls %" PRIu64 "\n",
             run->threads, run->keys_drawn, run->calls);
     potzendai_tell_no(tester, told);
     memcpy(run->sayings, sayings, sizeof sayings);
+    memcpy(run->functions_called, functions_called, sizeof functions_called);
     fputs("  again: ", stderr);
     potzendai_write_words(stderr, tester->options, tester->program, run->round + 1);
     return POTZENDAI_IS_NO;
