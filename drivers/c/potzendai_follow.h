@@ -90,8 +90,7 @@ static inline void potzendai_tell_stream(struct potzendai_following *f)
             potzendai_tell_no(f->tester, &small);
         potzendai_forget(&small);
     }
-    fputs("  again: ", stderr);
-    potzendai_write_words(stderr, f->tester->options, f->tester->program, 0);
+    potzendai_tell_again(f->tester, 0);
 }
 
 /* What the follower says at the end. A stream that was cut off has no yes. */

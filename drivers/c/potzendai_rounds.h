@@ -408,7 +408,14 @@ static inline void potzendai_tell_no(struct potzendai_tester *tester, const stru
     potzendai_keep_picture(tester, few ? few : told->text, few ? length : told->length);
 }
 
-/* A round that has no order: shows it, and how to repeat it. */
+/* The words that draw the same calls again, of a run of so many rounds. */
+static inline void potzendai_tell_again(const struct potzendai_tester *tester, uint64_t rounds)
+{
+    fputs("  again (draws the same calls; threads may interleave otherwise): ", stderr);
+    potzendai_write_words(stderr, tester->options, tester->program, rounds);
+}
+
+/* A round that has no order: shows it, and how to draw its calls again. */
 static inline int potzendai_refuted(struct potzendai_tester *tester, struct potzendai_told *told)
 {
     struct potzendai_run *run = tester->run;
@@ -422,8 +429,7 @@ static inline int potzendai_refuted(struct potzendai_tester *tester, struct potz
     potzendai_tell_no(tester, told);
     memcpy(run->sayings, sayings, sizeof sayings);
     memcpy(run->functions_called, functions_called, sizeof functions_called);
-    fputs("  again: ", stderr);
-    potzendai_write_words(stderr, tester->options, tester->program, run->round + 1);
+    potzendai_tell_again(tester, run->round + 1);
     return POTZENDAI_IS_NO;
 }
 
