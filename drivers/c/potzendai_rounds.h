@@ -21,7 +21,7 @@ struct potzendai_tester {
     size_t pairs_at_start, pairs_next;
     uint64_t rounds, calls, refused, undecided, overlap;
     double began, told, overlap_a_call;
-    bool has_terminal;
+    bool has_terminal, has_overlap;
 };
 
 /* A recording as a text, and what the library says of it. */
@@ -258,7 +258,7 @@ static inline int potzendai_keep(const struct potzendai_tester *tester, const ch
     return is_kept ? 0 : -1;
 }
 
-/* How many other calls were open at an invocation, on average: of a stream the follower counts them. */
+/* How many other calls were open at an invocation, on average: of a stream the follower counts them, as long as it says yes. */
 static inline double potzendai_overlap_a_call(const struct potzendai_tester *tester)
 {
     return tester->options->is_stream ? tester->overlap_a_call : (double)tester->overlap / (double)(tester->calls ? tester->calls : 1);

@@ -51,8 +51,9 @@ static inline void potzendai_tell_all(FILE *out, const struct potzendai_tester *
     fprintf(out, "%s: ", verdict);
     if (!tester->options->is_stream)
         fprintf(out, "%" PRIu64 " rounds, ", tester->rounds);
-    fprintf(out, "%" PRIu64 " calls in %.1f seconds, overlap %.2f a call", tester->calls, potzendai_now() - tester->began,
-            potzendai_overlap_a_call(tester));
+    fprintf(out, "%" PRIu64 " calls in %.1f seconds", tester->calls, potzendai_now() - tester->began);
+    if (!tester->options->is_stream || tester->has_overlap)
+        fprintf(out, ", overlap %.2f a call", potzendai_overlap_a_call(tester));
     for (int said = 0; said < POTZENDAI_SAYINGS; said++)
         if (tester->run->sayings[said] > 0) {
             fprintf(out, "%s%" PRIu64 " %s", comma, tester->run->sayings[said], potzendai_sayings[said]);
