@@ -90,8 +90,7 @@ static inline void potzendai_tell_stream(struct potzendai_following *f)
             potzendai_tell_no(f->tester, &small);
         potzendai_forget(&small);
     }
-    fputs("  again: ", stderr);
-    potzendai_write_words(stderr, f->tester->options, f->tester->program, 0);
+    potzendai_tell_again(f->tester, 0);
 }
 
 /* What the follower says at the end. A stream that was cut off has no yes. */
@@ -99,7 +98,8 @@ static inline int potzendai_end_stream(struct potzendai_following *f)
 {
     struct potzendai_run *run = f->tester->run;
     enum potzendai_status status = potzendai_stream_verdict(f);
-    f->tester->overlap_a_call = potzendai_decimal(f->told.report ? f->told.report : "", "\"overlap\":");
+    f->tester->has_overlap = f->told.report && potzendai_member(f->told.report, "\"overlap\":");
+    f->tester->overlap_a_call = f->tester->has_overlap ? potzendai_decimal(f->told.report, "\"overlap\":") : 0;
     if (atomic_load(&run->fault))
         return -1;
     if (status == POTZENDAI_IS_YES && f->written)

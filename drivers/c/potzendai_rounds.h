@@ -21,7 +21,7 @@ struct potzendai_tester {
     size_t pairs_at_start, pairs_next;
     uint64_t rounds, calls, refused, undecided, overlap;
     double began, told, overlap_a_call;
-    bool has_terminal;
+    bool has_terminal, has_overlap;
 };
 
 /* A recording as a text, and what the library says of it. */
@@ -258,7 +258,7 @@ static inline int potzendai_keep(const struct potzendai_tester *tester, const ch
     return is_kept ? 0 : -1;
 }
 
-/* How many other calls were open at an invocation, on average: of a stream the follower counts them. */
+/* How many other calls were open at an invocation, on average: of a stream the follower counts them, as long as it says yes. */
 static inline double potzendai_overlap_a_call(const struct potzendai_tester *tester)
 {
     return tester->options->is_stream ? tester->overlap_a_call : (double)tester->overlap / (double)(tester->calls ? tester->calls : 1);
@@ -408,20 +408,28 @@ static inline void potzendai_tell_no(struct potzendai_tester *tester, const stru
     potzendai_keep_picture(tester, few ? few : told->text, few ? length : told->length);
 }
 
-/* A round that has no order: shows it, and how to repeat it. */
+/* The words that draw the same calls again, of a run of so many rounds. */
+static inline void potzendai_tell_again(const struct potzendai_tester *tester, uint64_t rounds)
+{
+    fputs("  again (draws the same calls; threads may interleave otherwise): ", stderr);
+    potzendai_write_words(stderr, tester->options, tester->program, rounds);
+}
+
+/* A round that has no order: shows it, and how to draw its calls again. */
 static inline int potzendai_refuted(struct potzendai_tester *tester, struct potzendai_told *told)
 {
     struct potzendai_run *run = tester->run;
-    uint64_t sayings[POTZENDAI_SAYINGS];
+    uint64_t sayings[POTZENDAI_SAYINGS], functions_called[POTZENDAI_FUNCTIONS];
     memcpy(sayings, run->sayings, sizeof sayings);
+    memcpy(functions_called, run->functions_called, sizeof functions_called);
     fprintf(stderr, "round %" PRIu64 " has no order\n", run->round);
     potzendai_smaller(tester, told);
     fprintf(stderr, "the smallest of some tries that failed: threads %" PRIu64 ", keys %" PRIu64 ", calls %" PRIu64 "\n",
             run->threads, run->keys_drawn, run->calls);
     potzendai_tell_no(tester, told);
     memcpy(run->sayings, sayings, sizeof sayings);
-    fputs("  again: ", stderr);
-    potzendai_write_words(stderr, tester->options, tester->program, run->round + 1);
+    memcpy(run->functions_called, functions_called, sizeof functions_called);
+    potzendai_tell_again(tester, run->round + 1);
     return POTZENDAI_IS_NO;
 }
 

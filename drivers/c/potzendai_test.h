@@ -26,6 +26,24 @@
 
 static const char *const potzendai_verdicts[] = {"yes", "no", "undecided"};
 
+/* The line before the last: how often each function of the map was called, and which it does not have. */
+static inline void potzendai_tell_calls(FILE *out, const struct potzendai_run *run)
+{
+    const char *comma = "calls: ";
+    for (int is_there = 1; is_there >= 0; is_there--) {
+        for (int f = 0; f < POTZENDAI_FUNCTIONS; f++) {
+            if (potzendai_has(run->truly, (enum potzendai_function)f) != (is_there == 1))
+                continue;
+            fprintf(out, "%s%s", comma, potzendai_functions[f]);
+            if (is_there)
+                fprintf(out, " %" PRIu64, run->functions_called[f]);
+            comma = ", ";
+        }
+        comma = "; not there: ";
+    }
+    fputc('\n', out);
+}
+
 /* The last line: the verdict, and what it rests on. */
 static inline void potzendai_tell_all(FILE *out, const struct potzendai_tester *tester, const char *verdict)
 {
@@ -33,8 +51,9 @@ static inline void potzendai_tell_all(FILE *out, const struct potzendai_tester *
     fprintf(out, "%s: ", verdict);
     if (!tester->options->is_stream)
         fprintf(out, "%" PRIu64 " rounds, ", tester->rounds);
-    fprintf(out, "%" PRIu64 " calls in %.1f seconds, overlap %.2f a call", tester->calls, potzendai_now() - tester->began,
-            potzendai_overlap_a_call(tester));
+    fprintf(out, "%" PRIu64 " calls in %.1f seconds", tester->calls, potzendai_now() - tester->began);
+    if (!tester->options->is_stream || tester->has_overlap)
+        fprintf(out, ", overlap %.2f a call", potzendai_overlap_a_call(tester));
     for (int said = 0; said < POTZENDAI_SAYINGS; said++)
         if (tester->run->sayings[said] > 0) {
             fprintf(out, "%s%" PRIu64 " %s", comma, tester->run->sayings[said], potzendai_sayings[said]);
@@ -52,10 +71,13 @@ static inline int potzendai_finish(const struct potzendai_tester *tester, int st
     if (status < 0) {
         status = (int)atomic_load(&run->fault);
         fprintf(stderr, "%s: %s\n", run->truly->name, run->complaint);
-        if (status == POTZENDAI_IS_UNDECIDED)
+        if (status == POTZENDAI_IS_UNDECIDED) {
+            potzendai_tell_calls(stderr, run);
             potzendai_tell_all(stdout, tester, potzendai_verdicts[status]);
+        }
         return status;
     }
+    potzendai_tell_calls(stderr, run);
     if (potzendai_is_unjudged(tester->options)) {
         potzendai_tell_all(stderr, tester, "not judged");
         return status;

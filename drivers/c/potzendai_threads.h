@@ -35,7 +35,7 @@ struct potzendai_run {
     struct streaming *stream;
     uint64_t threads, keys_drawn, calls, round;
     uint64_t puts[1024], values_from;
-    uint64_t sayings[POTZENDAI_SAYINGS];
+    uint64_t sayings[POTZENDAI_SAYINGS], functions_called[POTZENDAI_FUNCTIONS];
     struct potzendai_open open_calls[RECORDING_PROCESSES];
     recording_word open_count;
     recording_word next_process, processes, arrived, has_begun, is_over, fault;
@@ -46,7 +46,7 @@ struct potzendai_run {
 struct potzendai_thread {
     struct potzendai_run *run;
     unsigned number, process;
-    uint64_t state, made, sayings[POTZENDAI_SAYINGS];
+    uint64_t state, made, sayings[POTZENDAI_SAYINGS], functions_called[POTZENDAI_FUNCTIONS];
     uint64_t *seen;
     struct recording_pair *pairs;
     void *session;
@@ -201,11 +201,12 @@ static inline void potzendai_remember(struct potzendai_key *key, const struct po
     answer->pair.value = value_before;
 }
 
-/* Calls a function, and counts what it said. */
+/* Calls a function, and counts that and what it said. */
 static inline void potzendai_ask_and_count(struct potzendai_thread *t, const struct potzendai_request *request,
                                            struct potzendai_answer *answer)
 {
     potzendai_ask(t->run->map, t->session, request, answer);
+    t->functions_called[request->function]++;
     if ((unsigned)answer->said < POTZENDAI_SAYINGS)
         t->sayings[answer->said]++;
 }
@@ -434,13 +435,15 @@ static inline uint64_t potzendai_start_threads(struct potzendai_run *run, struct
     return started;
 }
 
-/* Waits for all, and adds up what was said to them. */
+/* Waits for all, and adds up what they called and what was said to them. */
 static inline void potzendai_join_threads(struct potzendai_run *run, struct potzendai_thread *threads, uint64_t started)
 {
     for (uint64_t i = 0; i < started; i++) {
         pthread_join(threads[i].id, NULL);
         for (int said = 0; said < POTZENDAI_SAYINGS; said++)
             run->sayings[said] += threads[i].sayings[said];
+        for (int f = 0; f < POTZENDAI_FUNCTIONS; f++)
+            run->functions_called[f] += threads[i].functions_called[f];
     }
 }
 

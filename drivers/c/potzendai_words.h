@@ -175,18 +175,20 @@ static inline void potzendai_take_shares(struct potzendai_options *o, const stru
     if (has_keys_of_its_own)
         o->shares[POTZENDAI_POP_FIRST] = 0;
     if (o->is_steps)
-        o->shares[POTZENDAI_SCAN] = map->ceiling ? 5 : 0;
+        o->shares[POTZENDAI_SCAN] = usual[POTZENDAI_SCAN];
 }
 
 /* Whether each function that has a share is there, and may be called under these words. */
 static inline int potzendai_check_shares(const struct potzendai_options *o, const struct potzendai_map *map)
 {
     uint64_t total = 0;
+    if (o->is_steps && !map->ceiling)
+        return potzendai_complain("--scan", "steps need the function ceiling, which the map does not have");
     for (int f = 0; f < POTZENDAI_FUNCTIONS; f++) {
         bool is_steps = f == POTZENDAI_SCAN && o->is_steps;
         total += o->shares[f];
-        if (o->shares[f] > 0 && !(is_steps ? map->ceiling != NULL : potzendai_has(map, (enum potzendai_function)f)))
-            return potzendai_complain(potzendai_functions[f], is_steps ? "steps need the function ceiling" : "no such function of the map");
+        if (o->shares[f] > 0 && !is_steps && !potzendai_has(map, (enum potzendai_function)f))
+            return potzendai_complain(potzendai_functions[f], "no such function of the map");
     }
     if (total == 0)
         return potzendai_complain("--mix", "no share");

@@ -12,7 +12,7 @@
  *         return potzendai::test_main(argc, argv, mine, "mine");
  *     }
  *
- * What else the object may have, each method as it is here or not at all:
+ * What else the object may have, each method as it is here or not at all (a member so named of another type is an error):
  *
  *     map_said del(uint64_t key, uint64_t &found);
  *     map_said scan(uint64_t low, uint64_t high, std::vector<recording_pair> &pairs);
@@ -29,14 +29,35 @@
 
 #include "../c/potzendai_test.h"
 #include <new>
+#include <type_traits>
 #include <utility>
 #include <vector>
 
 namespace potzendai {
 
-/* Of a method its function over a session of type S, or null where S has none: what it takes, what it is asked for by, and how. */
-#define POTZENDAI_METHOD(name, parameters, asked, called) \
-    template <class S> auto name##_of(int) -> decltype((void)std::declval<S &>().name asked, static_cast<map_said(*) parameters>(nullptr)) \
+/* What a member of the map may be named, to find one of any type: a name that a class and this one both have is ambiguous in what derives
+ * from both. None is found in a final class. */
+struct member_names { int get, put, del, scan, replace, put_if_absent, floor, ceiling, pop_first; };
+struct no_class {};
+template <class S> struct with_names : std::conditional<__is_final(S), no_class, S>::type, member_names {};
+
+/* Whether S has a method that fits: it is called with these, and tells by a reference what was found. A member of that name which does not
+ * fit is not taken for none. */
+#define POTZENDAI_FITS(name, asked, told, type) \
+    template <class S, class Told> auto name##_takes(int) -> std::is_convertible<decltype(std::declval<S &>().name asked), map_said>; \
+    template <class S, class Told> auto name##_takes(long) -> std::false_type; \
+    template <class S> auto name##_is_no_name(int) -> decltype((void)&with_names<S>::name, std::true_type()); \
+    template <class S> auto name##_is_no_name(long) -> std::false_type; \
+    template <class S> struct name##_fits \
+        : std::integral_constant<bool, decltype(name##_takes<S, told &>(0))::value && !decltype(name##_takes<S, told>(0))::value> { \
+        static_assert(name##_fits::value || decltype(name##_is_no_name<S>(0))::value, "the map's " #name " has to be public, and: " type); \
+    };
+
+/* Of a method its function over a session of type S, or null where S has none: what it takes, what it is asked for by and tells, how it is
+ * called, and its type. */
+#define POTZENDAI_METHOD(name, parameters, asked, told, called, type) \
+    POTZENDAI_FITS(name, asked, told, type) \
+    template <class S> auto name##_of(std::true_type) -> map_said (*) parameters \
     { \
         return [] parameters -> map_said { \
             try { \
@@ -46,28 +67,37 @@ namespace potzendai {
             } \
         }; \
     } \
-    template <class S> auto name##_of(long) -> map_said (*) parameters { return nullptr; }
+    template <class S> auto name##_of(std::false_type) -> map_said (*) parameters { return nullptr; }
 
 #define POTZENDAI_NUMBER std::declval<uint64_t>()
-#define POTZENDAI_FOUND std::declval<uint64_t &>()
-#define POTZENDAI_PAIR std::declval<recording_pair &>()
+#define POTZENDAI_TOLD std::declval<Told>()
 
-POTZENDAI_METHOD(get, (void *session, uint64_t key, uint64_t *found), (POTZENDAI_NUMBER, POTZENDAI_FOUND), (key, *found))
+POTZENDAI_METHOD(get, (void *session, uint64_t key, uint64_t *found), (POTZENDAI_NUMBER, POTZENDAI_TOLD), uint64_t, (key, *found),
+                 "map_said get(uint64_t key, uint64_t &found)")
 POTZENDAI_METHOD(put, (void *session, uint64_t key, uint64_t value, uint64_t *found),
-                 (POTZENDAI_NUMBER, POTZENDAI_NUMBER, POTZENDAI_FOUND), (key, value, *found))
-POTZENDAI_METHOD(del, (void *session, uint64_t key, uint64_t *found), (POTZENDAI_NUMBER, POTZENDAI_FOUND), (key, *found))
+                 (POTZENDAI_NUMBER, POTZENDAI_NUMBER, POTZENDAI_TOLD), uint64_t, (key, value, *found),
+                 "map_said put(uint64_t key, uint64_t value, uint64_t &found)")
+POTZENDAI_METHOD(del, (void *session, uint64_t key, uint64_t *found), (POTZENDAI_NUMBER, POTZENDAI_TOLD), uint64_t, (key, *found),
+                 "map_said del(uint64_t key, uint64_t &found)")
 POTZENDAI_METHOD(replace, (void *session, uint64_t key, uint64_t old, uint64_t value, uint64_t *found),
-                 (POTZENDAI_NUMBER, POTZENDAI_NUMBER, POTZENDAI_NUMBER, POTZENDAI_FOUND), (key, old, value, *found))
+                 (POTZENDAI_NUMBER, POTZENDAI_NUMBER, POTZENDAI_NUMBER, POTZENDAI_TOLD), uint64_t, (key, old, value, *found),
+                 "map_said replace(uint64_t key, uint64_t old, uint64_t value, uint64_t &found)")
 POTZENDAI_METHOD(put_if_absent, (void *session, uint64_t key, uint64_t value, uint64_t *found),
-                 (POTZENDAI_NUMBER, POTZENDAI_NUMBER, POTZENDAI_FOUND), (key, value, *found))
-POTZENDAI_METHOD(floor, (void *session, uint64_t key, recording_pair *pair), (POTZENDAI_NUMBER, POTZENDAI_PAIR), (key, *pair))
-POTZENDAI_METHOD(ceiling, (void *session, uint64_t key, recording_pair *pair), (POTZENDAI_NUMBER, POTZENDAI_PAIR), (key, *pair))
-POTZENDAI_METHOD(pop_first, (void *session, recording_pair *pair), (POTZENDAI_PAIR), (*pair))
+                 (POTZENDAI_NUMBER, POTZENDAI_NUMBER, POTZENDAI_TOLD), uint64_t, (key, value, *found),
+                 "map_said put_if_absent(uint64_t key, uint64_t value, uint64_t &found)")
+POTZENDAI_METHOD(floor, (void *session, uint64_t key, recording_pair *pair), (POTZENDAI_NUMBER, POTZENDAI_TOLD), recording_pair,
+                 (key, *pair), "map_said floor(uint64_t key, recording_pair &pair)")
+POTZENDAI_METHOD(ceiling, (void *session, uint64_t key, recording_pair *pair), (POTZENDAI_NUMBER, POTZENDAI_TOLD), recording_pair,
+                 (key, *pair), "map_said ceiling(uint64_t key, recording_pair &pair)")
+POTZENDAI_METHOD(pop_first, (void *session, recording_pair *pair), (POTZENDAI_TOLD), recording_pair, (*pair),
+                 "map_said pop_first(recording_pair &pair)")
+POTZENDAI_FITS(scan, (POTZENDAI_NUMBER, POTZENDAI_NUMBER, POTZENDAI_TOLD), std::vector<recording_pair>,
+               "map_said scan(uint64_t low, uint64_t high, std::vector<recording_pair> &pairs)")
 
+#undef POTZENDAI_FITS
 #undef POTZENDAI_METHOD
 #undef POTZENDAI_NUMBER
-#undef POTZENDAI_FOUND
-#undef POTZENDAI_PAIR
+#undef POTZENDAI_TOLD
 
 typedef map_said (*scan_function)(void *session, uint64_t low, uint64_t high, recording_pair *pairs, size_t room, size_t *count);
 
@@ -86,13 +116,12 @@ template <class S> map_said scan_pairs(void *session, uint64_t low, uint64_t hig
     }
 }
 
-template <class S> auto scan_of(int)
-    -> decltype((void)std::declval<S &>().scan(uint64_t(), uint64_t(), std::declval<std::vector<recording_pair> &>()), scan_function())
+template <class S> scan_function scan_of(std::true_type)
 {
     return scan_pairs<S>;
 }
 
-template <class S> scan_function scan_of(long)
+template <class S> scan_function scan_of(std::false_type)
 {
     return nullptr;
 }
@@ -118,15 +147,15 @@ template <class Map> void close_session(void *session)
 /* The functions of a type S: a session, or the map itself. */
 template <class S> void take_methods(potzendai_map &functions)
 {
-    functions.get = get_of<S>(0);
-    functions.put = put_of<S>(0);
-    functions.del = del_of<S>(0);
-    functions.scan = scan_of<S>(0);
-    functions.replace = replace_of<S>(0);
-    functions.put_if_absent = put_if_absent_of<S>(0);
-    functions.floor = floor_of<S>(0);
-    functions.ceiling = ceiling_of<S>(0);
-    functions.pop_first = pop_first_of<S>(0);
+    functions.get = get_of<S>(std::integral_constant<bool, get_fits<S>::value>());
+    functions.put = put_of<S>(std::integral_constant<bool, put_fits<S>::value>());
+    functions.del = del_of<S>(std::integral_constant<bool, del_fits<S>::value>());
+    functions.scan = scan_of<S>(std::integral_constant<bool, scan_fits<S>::value>());
+    functions.replace = replace_of<S>(std::integral_constant<bool, replace_fits<S>::value>());
+    functions.put_if_absent = put_if_absent_of<S>(std::integral_constant<bool, put_if_absent_fits<S>::value>());
+    functions.floor = floor_of<S>(std::integral_constant<bool, floor_fits<S>::value>());
+    functions.ceiling = ceiling_of<S>(std::integral_constant<bool, ceiling_fits<S>::value>());
+    functions.pop_first = pop_first_of<S>(std::integral_constant<bool, pop_first_fits<S>::value>());
 }
 
 template <class Map> void take_map(potzendai_map &functions, typename Map::session *)
