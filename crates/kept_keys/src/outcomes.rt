@@ -167,7 +167,7 @@ fn with_choices(
     Ok(into)
 }
 
-/// With what one call that ended, and no other, makes of a configuration from one value.
+/// With what one call that ended, and no other, makes of a configuration from its values.
 fn with_one(
     alloc: Global,
     mut into: Vec<Configuration>,
@@ -175,51 +175,25 @@ fn with_one(
     gone: &[usize],
     names: &[usize],
     call: &Operation,
-    value: Option<u64>,
 ) -> Result<Vec<Configuration>, Memory>
     requires ended { IsSome call.now.response }
     requires apart { precedes call.now call.now ≡ false }
     ensures { IfOk result (λ v. (key : ℕ) → IsCallOf key call.now.call
-        → AreAdded Choice (IsPastChoice key value (call.now ∷ []) (true ∷ [])) (IsOutcomeOf gone.now names.now c.now) into.items v.items) }
+        → AreAdded Choice (IsChoiceFrom key c.now.values (call.now ∷ []) (true ∷ [])) (IsOutcomeOf gone.now names.now c.now) into.items v.items) }
 {
-    if may_be_answered(value, call) {
-        let next = value_behind(value, call);
-        into.push(outcome_by_parts(alloc, c, gone, names, &[], next, &[])?)?;
+    for value in &c.values {
+        if may_be_answered(*value, call) {
+            let next = value_behind(*value, call);
+            into.push(outcome_by_parts(alloc, c, gone, names, &[], next, &[])?)?;
+        }
     }
     Ok(into)
 }
 
-/// With what the choices from one value make of a configuration, or none where more than `budget` positions are reachable.
-fn with_value(
-    alloc: Global,
-    into: Vec<Configuration>,
-    c: &Configuration,
-    gone: &[usize],
-    names: &[usize],
-    calls: &[Operation],
-    ended: &[bool],
-    key: u64,
-    value: Option<u64>,
-    budget: u32,
-) -> Result<Option<Vec<Configuration>>, Memory>
-    requires past { ArePast key calls.now ended.now }
-    requires each { length names.now ≡ length calls.now }
-    ensures { IfOk result (λ found. MatchOption found (ReachesMoreThan key value calls.now budget)
-        (λ v. AreAdded Choice (IsPastChoice key value calls.now ended.now) (IsOutcomeOf gone.now names.now c.now) into.items v.items)) }
-{
-    if calls.len() == 1 && ended[0] && calls[0].is_completed() {
-        return Ok(Some(with_one(alloc, into, c, gone, names, &calls[0], value)?));
-    }
-    match past_choices(alloc, key, value, calls, ended, budget)? {
-        Answer::All(choices) => Ok(Some(with_choices(alloc, into, c, gone, names, &choices)?)),
-        Answer::Spent => Ok(None),
-    }
-}
-
-/// With what the choices from its values make of a configuration.
+/// With what the choices from its values make of a configuration, or none where more than `budget` positions are reachable from them.
 pub(crate) fn with_values(
     alloc: Global,
-    mut into: Vec<Configuration>,
+    into: Vec<Configuration>,
     c: &Configuration,
     gone: &[usize],
     names: &[usize],
@@ -233,19 +207,16 @@ pub(crate) fn with_values(
     requires rising { AllPairs (λ x y. x.inv < y.inv) calls.now }
     requires apart { NonePrecedesItself calls.now }
     requires of_key { All (λ a. IsCallOf key a.call) calls.now }
-    ensures { IfOk result (λ found. MatchOption found (AreBeyond budget key c.now.values calls.now)
+    ensures { IfOk result (λ found. MatchOption found (ReachesMoreThan key c.now.values calls.now budget)
         (λ v. AreAdded Choice (IsChoiceFrom key c.now.values calls.now (which_ended limit calls.now))
         (IsOutcomeOf gone.now names.now c.now) into.items v.items)) }
 {
     let ended = ended_marks(alloc, calls, limit)?;
-    for value in &c.values {
-        let Some(more) = with_value(
-            alloc, into, c, gone, names, calls, &ended, key, *value, budget,
-        )?
-        else {
-            return Ok(None);
-        };
-        into = more;
+    if calls.len() == 1 && ended[0] && calls[0].is_completed() {
+        return Ok(Some(with_one(alloc, into, c, gone, names, &calls[0])?));
     }
-    Ok(Some(into))
+    match past_choices(alloc, key, &c.values, calls, &ended, budget)? {
+        Answer::All(choices) => Ok(Some(with_choices(alloc, into, c, gone, names, &choices)?)),
+        Answer::Spent => Ok(None),
+    }
 }
