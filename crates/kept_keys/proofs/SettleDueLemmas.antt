@@ -12,7 +12,7 @@ use Rattle.list_laws.specs.Lists.{has_number}
 use Rattle.list_laws.proofs.Lists.{All-from_contains, AllPairs-head, AllPairs-tail, Contains-from_filter}
 use Rattle.list_laws.proofs.FilterLemmas.{AllPairs-map, AllPairs-from_map, Contains-map}
 use Rattle.following.specs.keys.KeyStates.{Configuration}
-use Rattle.kept_keys.specs.SettleSteps.{is_due, due, names_due, calls_due}
+use Rattle.kept_keys.specs.SettleSteps.{has_begun, begun, names_begun, calls_begun}
 use Rattle.kept_keys.specs.Views.{KeptView}
 
 pub zip_push : {A B : Type 0} (xs : List A) (ys : List B) (x : A) (y : B) → length xs ≡ length ys

@@ -5,13 +5,13 @@ use Rattle.std.specs.Prelude.{slice_get, slice_index, slice_index_or, All, AllPa
 use Rattle.std.proofs.lemmas.Bool.{cases_Bool, lt-ltb, ltb-true}
 use Rattle.std.proofs.lemmas.List.{length-map, map_push}
 use Rattle.std.proofs.lemmas.List.Elements.{All-contains, All-head, Contains-get_or, Contains-append_left, Contains-append_right, Contains-append_cases}
-use Rattle.std.proofs.lemmas.Option.{get_or_from_slice_get, slice_get_within}
+use Rattle.std.proofs.lemmas.Option.{get_or_from_slice_get, same_Some, slice_get_within}
 use Rattle.events.specs.declared.operation.Operation.{Operation}
 use Rattle.events.specs.declared.operation.Response.{Response}
 use Rattle.events.specs.Precedence.{is_before, NonePrecedesItself}
 use Rattle.list_laws.specs.Lists.{has_number}
 use Rattle.list_laws.proofs.FilterLemmas.{Contains-map, Contains-from_map}
-use Rattle.list_laws.proofs.Lists.{All-at, All-from_contains, Contains-first, Contains-later, Contains-nil, Contains-cases, place_of-Contains}
+use Rattle.list_laws.proofs.Lists.{All-at, All-from_contains, Contains-at, Contains-first, Contains-later, Contains-nil, Contains-cases, place_of-Contains}
 use Rattle.list_laws.proofs.NumberLemmas.{slice_get-below, has_number-from_Contains}
 use Rattle.following.specs.keys.KeyStates.{Configuration}
 use Rattle.following.proofs.keys.ChoiceLemmas.{any_from, any_to}
@@ -19,9 +19,10 @@ use Rattle.past_choices.specs.PastChoices.{PastChoice, ArePast, IsPastChoice, Is
 use Rattle.past_choices.specs.Positions.{IsReached, IsReachedFrom, ReachesMoreThan}
 use Rattle.past_choices.specs.Starts.{Start}
 use Rattle.past_choices.specs.Values.{IsCallOf}
-use Rattle.kept_keys.specs.SettleSteps.{found_of, names_of, nothing, one_start, start_from, starts_from, starts_of, which_ended, which_taken}
-use Rattle.kept_keys.specs.SettleSteps.{AreAdded, AreOutcomesOf, HaveGone, IsNotedWith, IsOutcomeOf, IsPlain}
-use Rattle.kept_keys.proofs.SettleChoiceLemmas.{ended_at, taken_at}
+use Rattle.kept_keys.specs.SettleSteps.{begun, calls_begun, names_begun, names_gone, found_of, names_of, nothing, one_start, start_from, starts_from, starts_of, which_ended, which_taken}
+use Rattle.kept_keys.specs.SettleSteps.{AreAdded, AreOutcomes, AreOutcomesOf, HaveGone, IsNotedWith, IsOutcomeOf, IsPlain}
+use Rattle.kept_keys.specs.Views.{KeptView}
+use Rattle.kept_keys.proofs.SettleChoiceLemmas.{at_number, begun_parts, ended_at, gone_from, name_here, taken_at}
 use Rattle.kept_keys.proofs.SettleOneLemmas.{ones_are}
 use Rattle.kept_keys.proofs.SettleOutcomeLemmas.{take_next}
 
@@ -130,6 +131,36 @@ alone key limit gone names (b ∷ []) a c old new one here each over none of_key
     old new) here
     (added (subst (λ (x : Operation). IsCallOf key x.call) (sym here) (All-head (λ a. IsCallOf key a.call) b [] of_key)))))
 alone key limit gone names (b ∷ x ∷ calls) a c old new one here each over none of_key added = absurd (omega (arith, one))
+
+-- the calls that ended of those that began before are gone
+pub gone_all : (limit : ℕ) (k : KeptView) (gone names : List ℕ) (calls : List Operation) → names ≡ names_begun limit k → calls ≡ calls_begun limit k
+    → gone ≡ names_gone limit k → HaveGone limit gone names calls
+gone_all limit k gone names calls names_are calls_are gone_are m n x here there over =
+    let x_here : slice_get (calls_begun limit k) m ≡ Some x = ap (λ (l : List Operation). slice_get l m) (sym calls_are) ∙ there in
+    let (name, d_here, named) = at_number limit k m x x_here in
+    let name_is : name ≡ n = same_Some name n (sym (name_here limit k name m x d_here) ∙ ap (λ (l : List ℕ). slice_get l m) (sym names_are) ∙ here) in
+    subst (λ (l : List ℕ). Contains l n) (sym gone_are)
+    (subst (Contains (names_gone limit k)) name_is
+    (gone_from limit k name x (begun_parts limit k name x (Contains-at (begun limit k) m (name, x) d_here)).0 over))
+
+-- what is found of lists is found of those that are the same
+pub beyond_by : (key limit budget : ℕ) (k : KeptView) (names : List ℕ) (calls : List Operation) (cs : List Configuration)
+    → names ≡ names_begun limit k → calls ≡ calls_begun limit k → cs ≡ k.configurations
+    → ReachesMoreThan key (starts_of names cs) calls budget
+    → ReachesMoreThan key (starts_of (names_begun limit k) k.configurations) (calls_begun limit k) budget
+beyond_by key limit budget k names calls cs names_are calls_are same h =
+    subst (λ (l : List ℕ). ReachesMoreThan key (starts_of l k.configurations) (calls_begun limit k) budget) names_are
+    (subst (λ (l : List Operation). ReachesMoreThan key (starts_of names k.configurations) l budget) calls_are
+    (subst (λ (l : List Configuration). ReachesMoreThan key (starts_of names l) calls budget) same h))
+
+pub outcomes_by : (key limit : ℕ) (k : KeptView) (gone names : List ℕ) (calls : List Operation) (cs new : List Configuration)
+    → gone ≡ names_gone limit k → names ≡ names_begun limit k → calls ≡ calls_begun limit k → cs ≡ k.configurations
+    → AreOutcomesOf key limit gone names calls cs new → AreOutcomes key limit k k.configurations new
+outcomes_by key limit k gone names calls cs new gone_are names_are calls_are same h =
+    subst (λ (l : List ℕ). AreOutcomesOf key limit l (names_begun limit k) (calls_begun limit k) k.configurations new) gone_are
+    (subst (λ (l : List ℕ). AreOutcomesOf key limit gone l (calls_begun limit k) k.configurations new) names_are
+    (subst (λ (l : List Operation). AreOutcomesOf key limit gone names l k.configurations new) calls_are
+    (subst (λ (l : List Configuration). AreOutcomesOf key limit gone names calls l new) same h)))
 
 -- ---- what is found, or not
 
