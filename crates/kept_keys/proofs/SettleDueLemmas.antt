@@ -1,17 +1,15 @@
 -- Two lists beside each other, place by place.
-use Rattle.std.proofs.Common.{◌≡◌, ℕ, zero, suc, ◌+◌, ◌<◌, ◌≤◌, Bool, true, false, cond, ◌&&◌, nat_lt, List, [], ◌∷◌, ◌++◌, length, map}
+use Rattle.std.proofs.Common.{◌≡◌, ℕ, zero, suc, ◌+◌, ◌<◌, ◌≤◌, Bool, true, false, cond, List, [], ◌∷◌, ◌++◌, length, map}
 use Rattle.std.proofs.Common.{filter, take}
 use Rattle.std.proofs.Common.{get_or, refl, sym, ap, ap₂, ◌∙◌, subst, arith, append-nil}
-use Rattle.std.specs.Prelude.{zip, not, All, AllPairs, Contains, IfSome, slice_get}
-use Rattle.std.proofs.lemmas.Bool.{ltb-true, lt-ltb, le-ltb, and_parts}
+use Rattle.std.specs.Prelude.{zip, All, AllPairs, Contains, IfSome, slice_get}
+use Rattle.std.proofs.lemmas.Bool.{lt-ltb, le-ltb}
 use Rattle.std.proofs.lemmas.List.{take_all, map_push}
 use Rattle.std.proofs.lemmas.List.Elements.{filter_more, All-cons, All-head, All-tail, All-weaker, All-map, All-filter, All-contains}
 use Rattle.std.proofs.lemmas.List.Kept.{AllPairs-filter}
 use Rattle.events.specs.declared.operation.Operation.{Operation}
-use Rattle.list_laws.specs.Lists.{has_number}
-use Rattle.list_laws.proofs.Lists.{All-from_contains, AllPairs-head, AllPairs-tail, Contains-from_filter}
+use Rattle.list_laws.proofs.Lists.{All-from_contains, AllPairs-head, AllPairs-tail}
 use Rattle.list_laws.proofs.FilterLemmas.{AllPairs-map, AllPairs-from_map, Contains-map}
-use Rattle.following.specs.keys.KeyStates.{Configuration}
 use Rattle.kept_keys.specs.SettleSteps.{has_begun, begun, names_begun, calls_begun}
 use Rattle.kept_keys.specs.Views.{KeptView}
 

@@ -1,5 +1,5 @@
 -- Where configurations go on from, one after another and together.
-use Rattle.std.proofs.Common.{◌≡◌, ℕ, ◌+◌, ◌<◌, ◌≤◌, Bool, true, false, List, [], ◌∷◌, ◌++◌, length, map, take, get_or, Option, Some, None, Result, Ok, Err}
+use Rattle.std.proofs.Common.{◌≡◌, ℕ, ◌+◌, ◌<◌, Bool, true, false, List, [], ◌∷◌, ◌++◌, length, map, take, get_or, Option, Some, None, Result, Ok, Err}
 use Rattle.std.proofs.Common.{refl, sym, ap, ◌∙◌, subst, ⊎_elim, inl, inr, arith, append_assoc, append-nil}
 use Rattle.std.specs.Prelude.{slice_get, slice_index, slice_index_or, All, AllPairs, Contains, IfOk, MatchOption}
 use Rattle.std.proofs.lemmas.Bool.{cases_Bool, lt-ltb, ltb-true}
@@ -19,7 +19,7 @@ use Rattle.past_choices.specs.PastChoices.{PastChoice, ArePast, IsPastChoice, Is
 use Rattle.past_choices.specs.Positions.{IsReached, IsReachedFrom, ReachesMoreThan}
 use Rattle.past_choices.specs.Starts.{Start}
 use Rattle.past_choices.specs.Values.{IsCallOf}
-use Rattle.kept_keys.specs.SettleSteps.{begun, calls_begun, names_begun, names_gone, found_of, names_of, nothing, one_start, start_from, starts_from, starts_of, which_ended, which_taken}
+use Rattle.kept_keys.specs.SettleSteps.{begun, calls_begun, names_begun, names_gone, found_of, names_of, nothing, one_start, start_from, starts_from, starts_of, which_ended}
 use Rattle.kept_keys.specs.SettleSteps.{AreAdded, AreOutcomes, AreOutcomesOf, HaveGone, IsNotedWith, IsOutcomeOf, IsPlain}
 use Rattle.kept_keys.specs.Views.{KeptView}
 use Rattle.kept_keys.proofs.SettleChoiceLemmas.{at_number, begun_parts, ended_at, gone_from, name_here, taken_at}

@@ -1,7 +1,6 @@
-use Rattle.std.proofs.Common.{◌≡◌, ◌∙◌, ◌<◌, ◌≤◌, ap, sym, subst, List, take, IfSome}
+use Rattle.std.proofs.Common.{◌∙◌, ◌<◌, ◌≤◌, ap, sym, subst, List, take, IfSome}
 use Rattle.std.specs.Prelude.{All, slice_get}
 use Rattle.events.specs.declared.operation.Operation.{Operation}
-use Rattle.kept_keys.specs.SettleSteps.{names_begun, calls_begun}
 use Rattle.kept_keys.proofs.SettleDueLemmas.{begun_at_first}
 use Rattle.kept_keys.proofs.SettleStartLemmas.{beyond_by, gone_all, if_match, outcomes_by}
 use Rattle.kept_keys.proofs.kept.KeptKey.outcomes.Goals as goal
