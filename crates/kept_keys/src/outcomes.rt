@@ -12,8 +12,8 @@ ghost use Rattle.kept_keys.specs.SettleSteps.{AreAdded, AreOutcomesOf, HaveGone,
 use crate::configuration::{Ahead, Configuration};
 use crate::copying::copied_ahead;
 use crate::due::{ended_marks, is_among, is_ended};
-use events::{Memory, Operation};
 use crate::starting::{add_starts, are_plain, starts_of};
+use events::{Memory, Operation};
 use past_choices::{Answer, PastChoice, Start, may_be_answered, past_choices, value_behind};
 use std::alloc::Global;
 

@@ -24,15 +24,7 @@ free_call (true ∷ taken) (a ∷ calls) zero free = absurd (both_ways true free
 free_call (false ∷ taken) (a ∷ calls) zero free = refl
 free_call (is ∷ taken) (a ∷ calls) (suc n) free = free_call taken calls n free
 
--- a call begins as it did, whether it is taken or not
-pub call_from : (taken : List Bool) (calls : List Operation) (n : ℕ) (x : Operation) → slice_get (with_taken taken calls) n ≡ Some x
-    → (a : Operation) × (slice_get calls n ≡ Some a) × (x.inv ≡ a.inv)
-call_from [] calls n x h = (x, h, refl)
-call_from (is ∷ taken) [] n x h = absurd (none-some x h)
-call_from (true ∷ taken) (a ∷ calls) zero x h = (a, refl, ap (λ (y : Operation). y.inv) (sym (same_Some _ x h)))
-call_from (false ∷ taken) (a ∷ calls) zero x h = (a, refl, ap (λ (y : Operation). y.inv) (sym (same_Some _ x h)))
-call_from (is ∷ taken) (a ∷ calls) (suc n) x h = call_from taken calls n x h
-
+-- as many calls
 pub length-with_taken : (taken : List Bool) (calls : List Operation) → length (with_taken taken calls) ≡ length calls
 length-with_taken [] calls = refl
 length-with_taken (is ∷ taken) [] = refl
