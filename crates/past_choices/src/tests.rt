@@ -46,7 +46,7 @@ fn has_choice(
 /// No call of some is taken.
 fn from_value(alloc: Global, count: usize, value: Option<u64>) -> Result<Vec<Start>, Memory> {
     let taken = vec![in alloc; false; count]?;
-    vec![in alloc; Start { taken, value }]
+    Ok(vec![in alloc; Start { taken, value }]?)
 }
 
 // An insert of 1 had ended; a get and a replace of 1 by 2 are open. Each may have come before the insert, or behind it.
