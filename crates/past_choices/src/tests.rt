@@ -1,5 +1,5 @@
 // Choices of calls of one key, by hand.
-ghost use Rattle.std.specs.Prelude.{◌≡◌, None, Some};
+ghost use Rattle.std.specs.Prelude.{◌≡◌, length, None, Some, All, IfOk};
 ghost use Rattle.events.specs.declared.event.Reply.TheVariants as replies;
 
 use crate::answer::{Answer, PastChoice};
@@ -44,7 +44,9 @@ fn has_choice(
 }
 
 /// No call of some is taken.
-fn from_value(alloc: Global, count: usize, value: Option<u64>) -> Result<Vec<Start>, Memory> {
+fn from_value(alloc: Global, count: usize, value: Option<u64>) -> Result<Vec<Start>, Memory>
+    ensures { IfOk result (λ starts. All (λ s. length s.taken ≡ count) starts.items) }
+{
     let taken = vec![in alloc; false; count]?;
     Ok(vec![in alloc; Start { taken, value }]?)
 }
