@@ -175,17 +175,23 @@ def few_of(history, rows):
     return {call_at[event] for event in events}
 
 
+def groups_where(status, picture, wanted, other):
+    """The groups of a picture whose status is that of something else; or none, and what is wrong, which is nothing of a text that is refused."""
+    if status != wanted:
+        return None, f"status {status}, where {other} has {wanted}"
+    if status > 2:
+        return None, "output of a refused text" if picture else None
+    groups, fault = groups_of(picture)
+    return (groups, None) if fault is None else (None, fault)
+
+
 def fault_of_part(text, words, around, calls):
     """What is wrong with a part of the picture of a history, or nothing."""
     asked = [*([] if calls is None else ["--calls", str(calls)]), *([] if around is None else ["--around", str(around)])]
     status, picture = bench(["draw", *words, *asked], text)
     wanted, whole = bench(["draw", *words, "--calls", "0"], text)
-    if status != wanted:
-        return f"status {status}, where the whole picture has {wanted}"
-    if status > 2:
-        return "output of a refused text" if picture else None
-    groups, fault = groups_of(picture)
-    if fault is not None:
+    groups, fault = groups_where(status, picture, wanted, "the whole picture")
+    if groups is None:
         return fault
     history = json.loads(text)
     verdict, located = (json.loads(bench([word, *words], text)[1]) for word in ("judge", "locate"))
@@ -218,12 +224,8 @@ def fault_of(text, words):
     """What is wrong with the whole picture of a history, or nothing."""
     status, picture = bench(["draw", *words, "--calls", "0"], text)
     wanted, report = bench(["judge", *words], text)
-    if status != wanted:
-        return f"status {status}, where judge has {wanted}"
-    if status > 2:
-        return "output of a refused text" if picture else None
-    groups, fault = groups_of(picture)
-    if fault is not None:
+    groups, fault = groups_where(status, picture, wanted, "judge")
+    if groups is None:
         return fault
     history = json.loads(text)
     lanes = len({event["process"] for event in history["events"]})
