@@ -8,6 +8,7 @@ mod SettleGoesLemmas
 mod SettleLawLemmas
 mod SettleOneLemmas
 mod SettleOutcomeLemmas
+mod SettleStartLemmas
 mod SettleUniteLemmas
 mod SettleWholeLemmas
 mod EventLawLemmas

@@ -1,5 +1,5 @@
 -- A choice of calls by number, as code finds them, is one to which a choice by names goes on.
-use Rattle.std.proofs.Common.{◌≡◌, ◌≢◌, ℕ, ◌*◌, ◌<◌, ◌==◌, ◌||◌, nat_lt, Bool, true, false, cond, not, List, [], ◌∷◌, ◌++◌}
+use Rattle.std.proofs.Common.{◌≡◌, ◌≢◌, ℕ, ◌*◌, ◌<◌, ◌==◌, ◌||◌, ◌&&◌, Bool, true, false, cond, not, List, [], ◌∷◌, ◌++◌}
 use Rattle.std.proofs.Common.{length, filter, Option, Some, None, option_map, refl, sym, ap, ap₂, ◌∙◌, subst, ⊎_elim, inl}
 use Rattle.std.proofs.Common.{inr, arith}
 use Rattle.std.specs.Prelude.{◌⊎◌, ◌↔◌, zip, slice_get, slice_index, slice_index_or, AllPairs, Contains}
@@ -30,8 +30,9 @@ use Rattle.following.proofs.keys.ChoiceLemmas.{any_from, any_to}
 use Rattle.following.proofs.keys.InTurnLemmas.{self_waits}
 use Rattle.past_choices.specs.PastChoices.{calls_done}
 use Rattle.past_choices.specs.Positions.{FindsAt}
+use Rattle.past_choices.specs.Starts.{IsFree}
 use Rattle.kept_keys.specs.Calls.{AreCallsOf}
-use Rattle.kept_keys.specs.SettleSteps.{ended_by, is_due, due, names_due, calls_due, names_gone, found_of, which_ended}
+use Rattle.kept_keys.specs.SettleSteps.{ended_by, has_begun, begun, names_begun, calls_begun, names_gone, found_of, which_ended, which_taken}
 use Rattle.kept_keys.specs.Views.{KeptView, width}
 
 -- ---- names
@@ -187,91 +188,107 @@ ended_at limit calls m x here =
     slice_get-map (λ (a : Operation). is_before a.response limit) calls m
     ∙ ap (option_map (λ (a : Operation). is_before a.response limit)) here
 
--- the calls done are those of numbers that ended or were chosen
-pub done_to : (limit : ℕ) (calls : List Operation) (chosen : List ℕ) (x : Operation) → Contains (calls_done calls (which_ended limit calls) chosen) x
-    → (m : ℕ) × (slice_get calls m ≡ Some x) × ((is_before x.response limit ≡ true) ⊎ Contains chosen m)
-done_to limit calls chosen x h =
-    let p : ℕ → Bool = λ n. slice_index_or (which_ended limit calls) n false || has_number chosen n in
+-- the calls done are those of numbers that ended or were chosen, and are not taken
+pub done_to : (limit : ℕ) (calls : List Operation) (taken : List Bool) (chosen : List ℕ) (x : Operation)
+    → Contains (calls_done calls (which_ended limit calls) taken chosen) x
+    → (m : ℕ) × (slice_get calls m ≡ Some x) × ((is_before x.response limit ≡ true) ⊎ Contains chosen m) × IsFree taken m
+done_to limit calls taken chosen x h =
+    let p : ℕ → Bool = λ n. (slice_index_or (which_ended limit calls) n false || has_number chosen n) && not (slice_index_or taken n false) in
     let (m, m_in, here) = Contains-from_filter_map (slice_get calls) (filter p (range_with_len 0 (length calls))) x h in
-    let passes = (Contains-from_filter p (range_with_len 0 (length calls)) m m_in).1 in (
+    let passes = and_parts (slice_index_or (which_ended limit calls) m false || has_number chosen m) (not (slice_index_or taken m false))
+    (Contains-from_filter p (range_with_len 0 (length calls)) m m_in).1 in (
       m,
       here,
       ⊎_elim (λ had. inl (sym (get_or_from_slice_get (which_ended limit calls) m (is_before x.response limit) false (ended_at limit calls m x here))
           ∙ had))
           (λ it. inr (has_number-Contains chosen m it))
-          (or_cases (slice_index_or (which_ended limit calls) m false) (has_number chosen m) passes),
+          (or_cases (slice_index_or (which_ended limit calls) m false) (has_number chosen m) passes.0),
+      not_true (slice_index_or taken m false) passes.1,
     )
+  where
+    not_true : (b : Bool) → not b ≡ true → b ≡ false
+    not_true true h = sym h
+    not_true false h = refl
 
-pub done_from : (limit : ℕ) (calls : List Operation) (chosen : List ℕ) (x : Operation) (m : ℕ) → slice_get calls m ≡ Some x
-    → (is_before x.response limit ≡ true) ⊎ Contains chosen m → Contains (calls_done calls (which_ended limit calls) chosen) x
-done_from limit calls chosen x m here h =
-    let p : ℕ → Bool = λ n. slice_index_or (which_ended limit calls) n false || has_number chosen n in
+pub done_from : (limit : ℕ) (calls : List Operation) (taken : List Bool) (chosen : List ℕ) (x : Operation) (m : ℕ) → slice_get calls m ≡ Some x
+    → (is_before x.response limit ≡ true) ⊎ Contains chosen m → IsFree taken m
+    → Contains (calls_done calls (which_ended limit calls) taken chosen) x
+done_from limit calls taken chosen x m here h free =
+    let p : ℕ → Bool = λ n. (slice_index_or (which_ended limit calls) n false || has_number chosen n) && not (slice_index_or taken n false) in
     Contains-filter_map (slice_get calls) (filter p (range_with_len 0 (length calls))) m x
     (Contains-filter p (range_with_len 0 (length calls)) m (Contains-range (length calls) m (slice_get_within calls m x here))
+    (and_from (slice_index_or (which_ended limit calls) m false || has_number chosen m) (not (slice_index_or taken m false))
     (⊎_elim
     (λ had. or_left (slice_index_or (which_ended limit calls) m false) (has_number chosen m)
     (get_or_from_slice_get (which_ended limit calls) m (is_before x.response limit) false (ended_at limit calls m x here) ∙ had))
-    (λ it. or_right (slice_index_or (which_ended limit calls) m false) (has_number chosen m) (has_number-from_Contains chosen m it)) h))
+    (λ it. or_right (slice_index_or (which_ended limit calls) m false) (has_number chosen m) (has_number-from_Contains chosen m it)) h)
+    (ap not free)))
     here
 
--- ---- the calls that are due, by number and name
+-- whether a name is taken, by its number
+pub taken_at : (taken names : List ℕ) (m n : ℕ) → slice_get names m ≡ Some n → slice_index_or (which_taken taken names) m false ≡ has_number taken n
+taken_at taken names m n here =
+    get_or_from_slice_get (which_taken taken names) m (has_number taken n) false
+    (slice_get-map (λ n. has_number taken n) names m ∙ ap (option_map (λ n. has_number taken n)) here)
 
-module _ (limit : ℕ) (k : KeptView) (c : Configuration) where
+-- ---- the calls that began before, by number and name
+
+module _ (limit : ℕ) (k : KeptView) where
   abbrev D : List (ℕ × Operation)
-  D = due limit k c
+  D = begun limit k
 
   -- a number of a call has a name
-  pub at_number : (m : ℕ) (x : Operation) → slice_get (calls_due limit k c) m ≡ Some x
-      → (n : ℕ) × (slice_get (due limit k c) m ≡ Some (n, x)) × (slice_index (names_due limit k c) m ≡ n)
+  pub at_number : (m : ℕ) (x : Operation) → slice_get (calls_begun limit k) m ≡ Some x
+      → (n : ℕ) × (slice_get (begun limit k) m ≡ Some (n, x)) × (slice_index (names_begun limit k) m ≡ n)
   at_number m x here =
       let mapped = sym (slice_get-map (λ (call : ℕ × Operation). call.1) D m) ∙ here in
       by_option (slice_get D m) refl mapped
     where
-      by_option : (o : Option (ℕ × Operation)) → slice_get (due limit k c) m ≡ o → option_map (λ (call : ℕ × Operation). call.1) o ≡ Some x
-          → (n : ℕ) × (slice_get (due limit k c) m ≡ Some (n, x)) × (slice_index (names_due limit k c) m ≡ n)
+      by_option : (o : Option (ℕ × Operation)) → slice_get (begun limit k) m ≡ o → option_map (λ (call : ℕ × Operation). call.1) o ≡ Some x
+          → (n : ℕ) × (slice_get (begun limit k) m ≡ Some (n, x)) × (slice_index (names_begun limit k) m ≡ n)
       by_option None is h = absurd (none-some x h)
       by_option (Some call) is h = (
         call.0,
         is ∙ ap (λ (y : Operation). Some (call.0, y)) (same_Some call.1 x h),
-        get_or_from_slice_get (names_due limit k c) m call.0 0
-            (slice_get-map (λ (call : ℕ × Operation). call.0) (due limit k c) m ∙ ap (option_map (λ (call : ℕ × Operation). call.0)) is),
+        get_or_from_slice_get (names_begun limit k) m call.0 0
+            (slice_get-map (λ (call : ℕ × Operation). call.0) (begun limit k) m ∙ ap (option_map (λ (call : ℕ × Operation). call.0)) is),
       )
 
   -- and the other way round
-  pub to_number : (n m : ℕ) (x : Operation) → slice_get (due limit k c) m ≡ Some (n, x) → slice_get (calls_due limit k c) m ≡ Some x
+  pub to_number : (n m : ℕ) (x : Operation) → slice_get (begun limit k) m ≡ Some (n, x) → slice_get (calls_begun limit k) m ≡ Some x
   to_number n m x here =
-      slice_get-map (λ (call : ℕ × Operation). call.1) (due limit k c) m ∙ ap (option_map (λ (call : ℕ × Operation). call.1)) here
+      slice_get-map (λ (call : ℕ × Operation). call.1) (begun limit k) m ∙ ap (option_map (λ (call : ℕ × Operation). call.1)) here
 
-  pub name_at : (n m : ℕ) (x : Operation) → slice_get (due limit k c) m ≡ Some (n, x) → slice_index (names_due limit k c) m ≡ n
+  pub name_at : (n m : ℕ) (x : Operation) → slice_get (begun limit k) m ≡ Some (n, x) → slice_index (names_begun limit k) m ≡ n
   name_at n m x here =
-      get_or_from_slice_get (names_due limit k c) m n 0
-      (slice_get-map (λ (call : ℕ × Operation). call.0) (due limit k c) m ∙ ap (option_map (λ (call : ℕ × Operation). call.0)) here)
+      get_or_from_slice_get (names_begun limit k) m n 0
+      (slice_get-map (λ (call : ℕ × Operation). call.0) (begun limit k) m ∙ ap (option_map (λ (call : ℕ × Operation). call.0)) here)
 
-  -- what is due is left, began before, and is not taken
-  pub due_parts : (n : ℕ) (x : Operation) → Contains (due limit k c) (n, x)
-      → Contains (zip k.names k.calls) (n, x) × (x.inv < limit) × (Contains c.taken n → ⊥)
-  due_parts n x h =
-      let it = Contains-from_filter (is_due limit c.taken) (zip k.names k.calls) (n, x) h in
-      let parts = and_parts (nat_lt x.inv limit) (not (has_number c.taken n)) it.1 in (
-        it.0,
-        ltb-true x.inv limit parts.0,
-        λ had. both_ways (has_number c.taken n) (not_back (has_number c.taken n) parts.1) (has_number-from_Contains c.taken n had),
-      )
-    where
-      not_back : (b : Bool) → not b ≡ true → b ≡ false
-      not_back true h = sym h
-      not_back false h = refl
+  pub name_here : (n m : ℕ) (x : Operation) → slice_get (begun limit k) m ≡ Some (n, x) → slice_get (names_begun limit k) m ≡ Some n
+  name_here n m x here =
+      slice_get-map (λ (call : ℕ × Operation). call.0) (begun limit k) m ∙ ap (option_map (λ (call : ℕ × Operation). call.0)) here
 
-  pub due_of : (n : ℕ) (x : Operation) → Contains (zip k.names k.calls) (n, x) → x.inv < limit → (Contains c.taken n → ⊥)
-      → Contains (due limit k c) (n, x)
-  due_of n x h began new =
-      Contains-filter (is_due limit c.taken) (zip k.names k.calls) (n, x) h
-      (and_from (nat_lt x.inv limit) (not (has_number c.taken n)) (lt-ltb x.inv limit began)
-      (not_among (has_number c.taken n) (has_number-Contains c.taken n)))
+  -- a number is not taken where its name is not
+  pub free_name : (taken : List ℕ) (n m : ℕ) (x : Operation) → slice_get (begun limit k) m ≡ Some (n, x)
+      → IsFree (which_taken taken (names_begun limit k)) m → Contains taken n → ⊥
+  free_name taken n m x here free had =
+      both_ways (has_number taken n) (sym (taken_at taken (names_begun limit k) m n (name_here n m x here)) ∙ free) (has_number-from_Contains taken n had)
+
+  pub name_free : (taken : List ℕ) (n m : ℕ) (x : Operation) → slice_get (begun limit k) m ≡ Some (n, x)
+      → (Contains taken n → ⊥) → IsFree (which_taken taken (names_begun limit k)) m
+  name_free taken n m x here new = taken_at taken (names_begun limit k) m n (name_here n m x here) ∙ not_among (has_number taken n) refl
     where
-      not_among : (b : Bool) → (b ≡ true → Contains c.taken n) → not b ≡ true
-      not_among true had = absurd (new (had refl))
-      not_among false had = refl
+      not_among : (b : Bool) → has_number taken n ≡ b → has_number taken n ≡ false
+      not_among true had = absurd (new (has_number-Contains taken n had))
+      not_among false had = had
+
+  -- what began before is left
+  pub begun_parts : (n : ℕ) (x : Operation) → Contains (begun limit k) (n, x) → Contains (zip k.names k.calls) (n, x) × (x.inv < limit)
+  begun_parts n x h =
+      let it = Contains-from_filter (has_begun limit) (zip k.names k.calls) (n, x) h in (it.0, ltb-true x.inv limit it.1)
+
+  pub begun_of : (n : ℕ) (x : Operation) → Contains (zip k.names k.calls) (n, x) → x.inv < limit → Contains (begun limit k) (n, x)
+  begun_of n x h began = Contains-filter (has_begun limit) (zip k.names k.calls) (n, x) h (lt-ltb x.inv limit began)
 
   -- the name of a call that ended is among those
   pub gone_from : (n : ℕ) (x : Operation) → Contains (zip k.names k.calls) (n, x) → is_before x.response limit ≡ true → Contains (names_gone limit k) n
@@ -366,47 +383,47 @@ module _ (key limit : ℕ) (k : KeptView) (c : Configuration) (moment : ℕ → 
 
   -- ---- what calls found, by name
 
-  pub found_names : (first : Option ℕ) (order : List Operation) (found : List (ℕ × Option ℕ)) → AllPairs (λ a b. a.inv < b.inv) (calls_due limit k c)
-      → ((x : Operation) → Contains order x → (m : ℕ) × (slice_get (calls_due limit k c) m ≡ Some x))
-      → ((m : ℕ) (v : Option ℕ) → Contains found (m, v) ↔ FindsAt key first (calls_due limit k c) order m v)
-      → (n : ℕ) (v : Option ℕ) → Contains (found_of (names_due limit k c) found) (n, v)
+  pub found_names : (first : Option ℕ) (order : List Operation) (found : List (ℕ × Option ℕ)) → AllPairs (λ a b. a.inv < b.inv) (calls_begun limit k)
+      → ((x : Operation) → Contains order x → (m : ℕ) × (slice_get (calls_begun limit k) m ≡ Some x))
+      → ((m : ℕ) (v : Option ℕ) → Contains found (m, v) ↔ FindsAt key first (calls_begun limit k) order m v)
+      → (n : ℕ) (v : Option ℕ) → Contains (found_of (names_begun limit k) found) (n, v)
       ↔ Contains (found_in key (one_key key first) order) (places_by width n, v)
   found_names first order found rising known finds n v = (to, from)
     where
-      same_number : (m i : ℕ) (x y : Operation) → slice_get (calls_due limit k c) m ≡ Some x → slice_get (calls_due limit k c) i ≡ Some y
+      same_number : (m i : ℕ) (x y : Operation) → slice_get (calls_begun limit k) m ≡ Some x → slice_get (calls_begun limit k) i ≡ Some y
           → x.inv ≡ y.inv → m ≡ i
       same_number m i x y here there same = ⊎_elim (λ is. is)
           (λ apart. ⊎_elim
-          (λ below. absurd (omega (arith, same, AllPairs-at (λ a b. a.inv < b.inv) (calls_due limit k c) m i x y rising below here there)))
-          (λ above. absurd (omega (arith, same, AllPairs-at (λ a b. a.inv < b.inv) (calls_due limit k c) i m y x rising above there here))) apart)
+          (λ below. absurd (omega (arith, same, AllPairs-at (λ a b. a.inv < b.inv) (calls_begun limit k) m i x y rising below here there)))
+          (λ above. absurd (omega (arith, same, AllPairs-at (λ a b. a.inv < b.inv) (calls_begun limit k) i m y x rising above there here))) apart)
           (cases_order m i)
 
-      to : Contains (found_of (names_due limit k c) found) (n, v) → Contains (found_in key (one_key key first) order) (places_by width n, v)
+      to : Contains (found_of (names_begun limit k) found) (n, v) → Contains (found_in key (one_key key first) order) (places_by width n, v)
       to h =
-          let (f, f_in, f_is) = Contains-from_map (λ (f : ℕ × Option ℕ). (slice_index (names_due limit k c) f.0, f.1)) found (n, v) h in
-          let name_is : slice_index (names_due limit k c) f.0 ≡ n = ap (λ (g : ℕ × Option ℕ). g.0) f_is in
+          let (f, f_in, f_is) = Contains-from_map (λ (f : ℕ × Option ℕ). (slice_index (names_begun limit k) f.0, f.1)) found (n, v) h in
+          let name_is : slice_index (names_begun limit k) f.0 ≡ n = ap (λ (g : ℕ × Option ℕ). g.0) f_is in
           let value_is : f.1 ≡ v = ap (λ (g : ℕ × Option ℕ). g.1) f_is in
           let (a, a_at, a_found) = (finds f.0 f.1).0 f_in in
           let (x, x_in, x_at, x_open) = found_by key (one_key key first) order a.inv f.1 a_found in
           let (m, x_here) = known x x_in in
           let same_m = same_number m f.0 x a x_here a_at x_at in
-          let x_is : x ≡ a = same_Some x a (sym x_here ∙ ap (slice_get (calls_due limit k c)) same_m ∙ a_at) in
-          let (name, d_here, named) = at_number limit k c f.0 a a_at in
-          let d_in = (due_parts limit k c name a (Contains-at (due limit k c) f.0 (name, a) d_here)).0 in
+          let x_is : x ≡ a = same_Some x a (sym x_here ∙ ap (slice_get (calls_begun limit k)) same_m ∙ a_at) in
+          let (name, d_here, named) = at_number limit k f.0 a a_at in
+          let d_in = (begun_parts limit k name a (Contains-at (begun limit k) f.0 (name, a) d_here)).0 in
           let a_open : a.response ≡ None = subst (λ (y : Operation). y.response ≡ None) x_is x_open in
           let place_is : a.inv ≡ places_by width n = open_at name a d_in a_open ∙ ap (places_by width) (sym named ∙ name_is) in
           subst (λ (g : ℕ × Option ℕ). Contains (found_in key (one_key key first) order) g)
           (ap₂ (λ (p : ℕ) (w : Option ℕ). (p, w)) place_is value_is) a_found
 
-      from : Contains (found_in key (one_key key first) order) (places_by width n, v) → Contains (found_of (names_due limit k c) found) (n, v)
+      from : Contains (found_in key (one_key key first) order) (places_by width n, v) → Contains (found_of (names_begun limit k) found) (n, v)
       from h =
           let (x, x_in, x_at, x_open) = found_by key (one_key key first) order (places_by width n) v h in
           let (m, x_here) = known x x_in in
-          let (name, d_here, named) = at_number limit k c m x x_here in
-          let d_in = (due_parts limit k c name x (Contains-at (due limit k c) m (name, x) d_here)).0 in
+          let (name, d_here, named) = at_number limit k m x x_here in
+          let d_in = (begun_parts limit k name x (Contains-at (begun limit k) m (name, x) d_here)).0 in
           let places_same : width * name ≡ width * n = sym (open_at name x d_in x_open) ∙ x_at in
           let name_is : name ≡ n = omega (arith, places_same) in
           let m_in = (finds m v).1 (x, x_here, subst (λ (p : ℕ). Contains (found_in key (one_key key first) order) (p, v)) (sym x_at) h) in
-          subst (Contains (found_of (names_due limit k c) found))
+          subst (Contains (found_of (names_begun limit k) found))
           (ap (λ (p : ℕ). (p, v)) (named ∙ name_is))
-          (Contains-map (λ (f : ℕ × Option ℕ). (slice_index (names_due limit k c) f.0, f.1)) found (m, v) m_in)
+          (Contains-map (λ (f : ℕ × Option ℕ). (slice_index (names_begun limit k) f.0, f.1)) found (m, v) m_in)

@@ -1,18 +1,16 @@
 -- Two lists beside each other, place by place.
-use Rattle.std.proofs.Common.{◌≡◌, ℕ, zero, suc, ◌+◌, ◌<◌, ◌≤◌, Bool, true, false, cond, ◌&&◌, nat_lt, List, [], ◌∷◌, ◌++◌, length, map}
+use Rattle.std.proofs.Common.{◌≡◌, ℕ, zero, suc, ◌+◌, ◌<◌, ◌≤◌, Bool, true, false, cond, List, [], ◌∷◌, ◌++◌, length, map}
 use Rattle.std.proofs.Common.{filter, take}
 use Rattle.std.proofs.Common.{get_or, refl, sym, ap, ap₂, ◌∙◌, subst, arith, append-nil}
-use Rattle.std.specs.Prelude.{zip, not, All, AllPairs, Contains, IfSome, slice_get}
-use Rattle.std.proofs.lemmas.Bool.{ltb-true, lt-ltb, le-ltb, and_parts}
+use Rattle.std.specs.Prelude.{zip, All, AllPairs, Contains, IfSome, slice_get}
+use Rattle.std.proofs.lemmas.Bool.{lt-ltb, le-ltb}
 use Rattle.std.proofs.lemmas.List.{take_all, map_push}
 use Rattle.std.proofs.lemmas.List.Elements.{filter_more, All-cons, All-head, All-tail, All-weaker, All-map, All-filter, All-contains}
 use Rattle.std.proofs.lemmas.List.Kept.{AllPairs-filter}
 use Rattle.events.specs.declared.operation.Operation.{Operation}
-use Rattle.list_laws.specs.Lists.{has_number}
-use Rattle.list_laws.proofs.Lists.{All-from_contains, AllPairs-head, AllPairs-tail, Contains-from_filter}
+use Rattle.list_laws.proofs.Lists.{All-from_contains, AllPairs-head, AllPairs-tail}
 use Rattle.list_laws.proofs.FilterLemmas.{AllPairs-map, AllPairs-from_map, Contains-map}
-use Rattle.following.specs.keys.KeyStates.{Configuration}
-use Rattle.kept_keys.specs.SettleSteps.{is_due, due, names_due, calls_due}
+use Rattle.kept_keys.specs.SettleSteps.{has_begun, begun, names_begun, calls_begun}
 use Rattle.kept_keys.specs.Views.{KeptView}
 
 pub zip_push : {A B : Type 0} (xs : List A) (ys : List B) (x : A) (y : B) → length xs ≡ length ys
@@ -103,33 +101,33 @@ zip_calls [] (b ∷ ys) e = absurd (omega (arith, e))
 zip_calls (a ∷ xs) [] e = absurd (omega (arith, e))
 zip_calls {A} {B} (a ∷ xs) (b ∷ ys) e = ap (λ (l : List B). b ∷ l) (zip_calls xs ys (omega (arith, e)))
 
--- where nothing is taken, the calls that are due are the first ones
-due_later : (limit : ℕ) (names : List ℕ) (calls : List Operation) → All (λ a. limit ≤ a.inv) calls
-    → filter (is_due limit []) (zip names calls) ≡ []
-due_later limit [] calls late = refl
-due_later limit (n ∷ names) [] late = refl
-due_later limit (n ∷ names) (a ∷ calls) late =
-    ap (λ (b : Bool). cond (b && true) ((n, a) ∷ filter (is_due limit []) (zip names calls)) (filter (is_due limit []) (zip names calls)))
+-- the calls that began before are the first ones
+begun_later : (limit : ℕ) (names : List ℕ) (calls : List Operation) → All (λ a. limit ≤ a.inv) calls
+    → filter (has_begun limit) (zip names calls) ≡ []
+begun_later limit [] calls late = refl
+begun_later limit (n ∷ names) [] late = refl
+begun_later limit (n ∷ names) (a ∷ calls) late =
+    ap (λ (b : Bool). cond b ((n, a) ∷ filter (has_begun limit) (zip names calls)) (filter (has_begun limit) (zip names calls)))
     (le-ltb a.inv limit (All-head (λ a. limit ≤ a.inv) a calls late))
-    ∙ due_later limit names calls (All-tail (λ a. limit ≤ a.inv) a calls late)
+    ∙ begun_later limit names calls (All-tail (λ a. limit ≤ a.inv) a calls late)
 
-pub due_first : (limit n : ℕ) (names : List ℕ) (calls : List Operation) → length names ≡ length calls → AllPairs (λ a b. a.inv < b.inv) calls
+pub begun_first : (limit n : ℕ) (names : List ℕ) (calls : List Operation) → length names ≡ length calls → AllPairs (λ a b. a.inv < b.inv) calls
     → All (λ a. a.inv < limit) (take n calls) → IfSome (slice_get calls n) (λ a. limit ≤ a.inv)
-    → filter (is_due limit []) (zip names calls) ≡ zip (take n names) (take n calls)
-due_first limit zero [] calls each rising before behind = refl
-due_first limit zero (m ∷ names) [] each rising before behind = refl
-due_first limit zero (m ∷ names) (a ∷ calls) each rising before behind =
-    due_later limit (m ∷ names) (a ∷ calls) (All-cons (λ a. limit ≤ a.inv) a calls behind
+    → filter (has_begun limit) (zip names calls) ≡ zip (take n names) (take n calls)
+begun_first limit zero [] calls each rising before behind = refl
+begun_first limit zero (m ∷ names) [] each rising before behind = refl
+begun_first limit zero (m ∷ names) (a ∷ calls) each rising before behind =
+    begun_later limit (m ∷ names) (a ∷ calls) (All-cons (λ a. limit ≤ a.inv) a calls behind
     (All-weaker (λ b. a.inv < b.inv) (λ b. limit ≤ b.inv) (λ b h. omega (arith, h, behind)) calls
     (AllPairs-head (λ a b. a.inv < b.inv) a calls rising)))
-due_first limit (suc n) [] [] each rising before behind = refl
-due_first limit (suc n) [] (a ∷ calls) each rising before behind = absurd (omega (arith, each))
-due_first limit (suc n) (m ∷ names) [] each rising before behind = absurd (omega (arith, each))
-due_first limit (suc n) (m ∷ names) (a ∷ calls) each rising before behind =
-    ap (λ (b : Bool). cond (b && true) ((m, a) ∷ filter (is_due limit []) (zip names calls)) (filter (is_due limit []) (zip names calls)))
+begun_first limit (suc n) [] [] each rising before behind = refl
+begun_first limit (suc n) [] (a ∷ calls) each rising before behind = absurd (omega (arith, each))
+begun_first limit (suc n) (m ∷ names) [] each rising before behind = absurd (omega (arith, each))
+begun_first limit (suc n) (m ∷ names) (a ∷ calls) each rising before behind =
+    ap (λ (b : Bool). cond b ((m, a) ∷ filter (has_begun limit) (zip names calls)) (filter (has_begun limit) (zip names calls)))
     (lt-ltb a.inv limit (All-head (λ a. a.inv < limit) a (take n calls) before))
     ∙ ap (λ (l : List (ℕ × Operation)). (m, a) ∷ l)
-    (due_first limit n names calls (omega (arith, each)) (AllPairs-tail (λ a b. a.inv < b.inv) a calls rising)
+    (begun_first limit n names calls (omega (arith, each)) (AllPairs-tail (λ a b. a.inv < b.inv) a calls rising)
     (All-tail (λ a. a.inv < limit) a (take n calls) before) behind)
 
 -- what holds of some calls holds of those that are picked
@@ -150,36 +148,15 @@ picked_pairs p R names calls each all =
     (AllPairs-from_map R (λ (call : ℕ × Operation). call.1) (zip names calls)
     (subst (AllPairs R) (sym (zip_calls names calls each)) all)))
 
--- calls that are due began before
-pub due_began : (limit : ℕ) (taken names : List ℕ) (calls : List Operation)
-    → All (λ a. a.inv < limit) (map (λ call. call.1) (filter (is_due limit taken) (zip names calls)))
-due_began limit taken names calls =
-    All-map (λ a. a.inv < limit) (λ (call : ℕ × Operation). call.1) (filter (is_due limit taken) (zip names calls))
-    (All-from_contains (λ call. call.1.inv < limit) (filter (is_due limit taken) (zip names calls)) (λ call h.
-    ltb-true call.1.inv limit (and_parts (nat_lt call.1.inv limit) (not (has_number taken call.0))
-    (Contains-from_filter (is_due limit taken) (zip names calls) call h).1).0))
-
--- the calls that are due, and their names, from lists that have them beside each other
-pub due_found : (limit : ℕ) (k : KeptView) (c : Configuration) (taken names ns : List ℕ) (calls cs : List Operation) → names ≡ k.names
-    → calls ≡ k.calls → taken ≡ c.taken → length ns ≡ length cs → zip ns cs ≡ filter (is_due limit taken) (zip names calls)
-    → (ns ≡ names_due limit k c) × (cs ≡ calls_due limit k c)
-due_found limit k c taken names ns calls cs names_is calls_is taken_is each are =
-    let all : zip ns cs ≡ due limit k c =
-    are ∙ ap (λ (l : List ℕ). filter (is_due limit l) (zip names calls)) taken_is
-    ∙ ap₂ (λ (n : List ℕ) (a : List Operation). filter (is_due limit c.taken) (zip n a)) names_is calls_is in (
-      sym (zip_names ns cs each) ∙ ap (map (λ (call : ℕ × Operation). call.0)) all,
-      sym (zip_calls ns cs each) ∙ ap (map (λ (call : ℕ × Operation). call.1)) all,
-    )
-
--- where nothing is taken
-pub due_at_first : (limit n : ℕ) (k : KeptView) (c : Configuration) (names : List ℕ) (calls : List Operation) → names ≡ k.names
-    → calls ≡ k.calls → c.taken ≡ [] → length k.names ≡ length k.calls → AllPairs (λ a b. a.inv < b.inv) k.calls
+-- and so are their names
+pub begun_at_first : (limit n : ℕ) (k : KeptView) (names : List ℕ) (calls : List Operation) → names ≡ k.names
+    → calls ≡ k.calls → length k.names ≡ length k.calls → AllPairs (λ a b. a.inv < b.inv) k.calls
     → All (λ a. a.inv < limit) (take n calls) → IfSome (slice_get calls n) (λ a. limit ≤ a.inv)
-    → (take n names ≡ names_due limit k c) × (take n calls ≡ calls_due limit k c)
-due_at_first limit n k c names calls names_is calls_is none each rising before behind =
-    due_found limit k c [] names (take n names) calls (take n calls) names_is calls_is (sym none)
-    (same_take n names calls same)
-    (sym (due_first limit n names calls same (subst (AllPairs (λ a b. a.inv < b.inv)) (sym calls_is) rising) before behind))
+    → (take n names ≡ names_begun limit k) × (take n calls ≡ calls_begun limit k)
+begun_at_first limit n k names calls names_is calls_is each rising before behind = (
+  sym (zip_names (take n names) (take n calls) (same_take n names calls same)) ∙ ap (map (λ (call : ℕ × Operation). call.0)) all,
+  sym (zip_calls (take n names) (take n calls) (same_take n names calls same)) ∙ ap (map (λ (call : ℕ × Operation). call.1)) all,
+)
   where
     same : length names ≡ length calls
     same = ap length names_is ∙ each ∙ sym (ap length calls_is)
@@ -190,3 +167,7 @@ due_at_first limit n k c names calls names_is calls_is none each rising before b
     same_take (suc m) [] (y ∷ ys) e = absurd (omega (arith, e))
     same_take (suc m) (x ∷ xs) [] e = absurd (omega (arith, e))
     same_take (suc m) (x ∷ xs) (y ∷ ys) e = let rest = same_take m xs ys (omega (arith, e)) in omega (arith, rest)
+
+    all : zip (take n names) (take n calls) ≡ begun limit k
+    all = sym (begun_first limit n names calls same (subst (AllPairs (λ a b. a.inv < b.inv)) (sym calls_is) rising) before behind)
+        ∙ ap₂ (λ (l : List ℕ) (a : List Operation). filter (has_begun limit) (zip l a)) names_is calls_is

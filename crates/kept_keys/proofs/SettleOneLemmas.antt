@@ -1,5 +1,5 @@
 -- One call that ended, and no other: it is done, or there is no choice.
-use Rattle.std.proofs.Common.{◌≡◌, ◌≢◌, ℕ, zero, suc, ◌<◌, true, false, List, [], ◌∷◌, ◌++◌, Option, Some, None}
+use Rattle.std.proofs.Common.{◌≡◌, ◌≢◌, ℕ, zero, suc, ◌<◌, true, false, List, [], ◌∷◌, ◌++◌, length, map, Option, Some, None}
 use Rattle.std.proofs.Common.{refl, sym, ap, ◌∙◌, subst, ⊎_elim, arith}
 use Rattle.std.specs.Prelude.{slice_get, AllPairs, Contains}
 use Rattle.std.proofs.Common.{is_some}
@@ -17,7 +17,7 @@ use Rattle.following.specs.keys.Settling.{AreInTurn, found_at, found_in}
 use Rattle.past_choices.specs.PastChoices.{PastChoice, calls_done, IsPastChoice}
 use Rattle.past_choices.specs.Values.{IsCallOf, MayBeAnswered, value_behind_call}
 use Rattle.past_choices.proofs.ValueLemmas.{one_key_same, after_call_one, legal_one}
-use Rattle.kept_keys.specs.SettleSteps.{AreAdded}
+use Rattle.kept_keys.specs.SettleSteps.{one_start, start_from, starts_from, AreAdded}
 use Rattle.kept_keys.proofs.SettleOutcomeLemmas.{added_none, added_one, added_same}
 
 no_members : {X : Type 0} (xs : List X) → ((x : X) → Contains xs x → ⊥) → xs ≡ []
@@ -43,6 +43,12 @@ one_order a (x ∷ y ∷ order) each there distinct =
     (Contains-first y order)
     (ap (λ (z : Operation). z.inv) (each x (Contains-first x (y ∷ order)) ∙ sym (each y (Contains-later x (y ∷ order) y (Contains-first y order))))))
 
+-- where nothing is taken, one call is not
+pub ones_are : (names : List ℕ) (c : Configuration) → c.taken ≡ [] → length names ≡ 1 → map one_start c.values ≡ starts_from names c
+ones_are [] c none one = absurd (omega (arith, one))
+ones_are (n ∷ []) c none one = ap (λ (l : List ℕ). map (start_from (n ∷ []) l) c.values) (sym none)
+ones_are (n ∷ m ∷ names) c none one = absurd (omega (arith, one))
+
 abbrev pub one_choice : Option ℕ → Operation → PastChoice
 one_choice first a = record { chosen = []; value = value_behind_call first a.call a.response; found = [] }
 
@@ -57,7 +63,7 @@ module _ (key : ℕ) (first : Option ℕ) (a : Operation) (r : Response) (answer
   none_open zero h = both_ways true (same_Some true false h) refl
   none_open (suc n) h = none-some false h
 
-  pub one_to : (p : PastChoice) → IsPastChoice key first (a ∷ []) (true ∷ []) p
+  pub one_to : (p : PastChoice) → IsPastChoice key (a ∷ []) (true ∷ []) p (one_start first)
       → MayBeAnswered first a.call a.response × (p ≡ one_choice first a)
   one_to p choice = (
     (legal_one key first a.call a.response of_key).0 (subst (IsLegal (one_key key first)) is choice.in_turn.legal).0,
@@ -73,17 +79,18 @@ module _ (key : ℕ) (first : Option ℕ) (a : Operation) (r : Response) (answer
       none_chosen = no_members p.chosen (λ n h. none_open n (choice.were_open n h))
 
       turn : AreInTurn (one_key key first) (a ∷ []) choice.order
-      turn = subst (λ (chosen : List ℕ). AreInTurn (one_key key first) (calls_done (a ∷ []) (true ∷ []) chosen) choice.order) none_chosen choice.in_turn
+      turn = subst (λ (chosen : List ℕ). AreInTurn (one_key key first) (calls_done (a ∷ []) (true ∷ []) (false ∷ []) chosen) choice.order) none_chosen choice.in_turn
 
       is : choice.order ≡ a ∷ []
       is = one_order a choice.order
           (λ x h. ⊎_elim (λ same. sym same) (λ later. absurd (Contains-nil x later)) (Contains-cases a [] x ((turn.all x).0 h)))
           ((turn.all a).1 (Contains-first a [])) turn.distinct
 
-  pub one_from : precedes a a ≡ false → MayBeAnswered first a.call a.response → IsPastChoice key first (a ∷ []) (true ∷ []) (one_choice first a)
+  pub one_from : precedes a a ≡ false → MayBeAnswered first a.call a.response → IsPastChoice key (a ∷ []) (true ∷ []) (one_choice first a) (one_start first)
   one_from apart legal = record {
     rising = AllPairs-nil (λ m n. m < n);
     were_open = λ n h. absurd (Contains-nil n h);
+    holds = λ n taken had_not. absurd (none_open n had_not);
     order = a ∷ [];
     in_turn = record {
       all = λ x. (λ h. h, λ h. h);
@@ -105,17 +112,17 @@ module _ (key : ℕ) (first : Option ℕ) (a : Operation) (r : Response) (answer
   -- what it makes of a configuration
   pub one_added : (Leads : PastChoice → Configuration → Type 0) (old new : List Configuration) (d : Configuration) → precedes a a ≡ false
       → MayBeAnswered first a.call a.response → new ≡ old ++ d ∷ [] → Leads (one_choice first a) d
-      → AreAdded PastChoice (IsPastChoice key first (a ∷ []) (true ∷ [])) Leads old new
+      → AreAdded PastChoice (λ p. IsPastChoice key (a ∷ []) (true ∷ []) p (one_start first)) Leads old new
   one_added Leads old new d apart legal is leads =
-      added_same PastChoice (λ y. y ≡ one_choice first a) (IsPastChoice key first (a ∷ []) (true ∷ [])) Leads old new
-      (λ p same. subst (IsPastChoice key first (a ∷ []) (true ∷ [])) (sym same) (one_from apart legal))
+      added_same PastChoice (λ y. y ≡ one_choice first a) (λ p. IsPastChoice key (a ∷ []) (true ∷ []) p (one_start first)) Leads old new
+      (λ p same. subst (λ (p : PastChoice). IsPastChoice key (a ∷ []) (true ∷ []) p (one_start first)) (sym same) (one_from apart legal))
       (λ p choice. (one_to p choice).1)
       (added_one PastChoice Leads old new (one_choice first a) d is leads)
 
   pub none_added : (Leads : PastChoice → Configuration → Type 0) (old : List Configuration) → (MayBeAnswered first a.call a.response → ⊥)
-      → AreAdded PastChoice (IsPastChoice key first (a ∷ []) (true ∷ [])) Leads old old
+      → AreAdded PastChoice (λ p. IsPastChoice key (a ∷ []) (true ∷ []) p (one_start first)) Leads old old
   none_added Leads old illegal =
-      added_none PastChoice (IsPastChoice key first (a ∷ []) (true ∷ [])) Leads old (λ p choice. illegal (one_to p choice).0)
+      added_none PastChoice (λ p. IsPastChoice key (a ∷ []) (true ∷ []) p (one_start first)) Leads old (λ p choice. illegal (one_to p choice).0)
 
 pub some_is : {X : Type 0} (o : Option X) → is_some o ≡ true → (x : X) × (o ≡ Some x)
 some_is None h = absurd (false≢true h)

@@ -1,5 +1,5 @@
 -- What choices make of configurations, one after another.
-use Rattle.std.proofs.Common.{◌≡◌, ℕ, ◌+◌, ◌<◌, Bool, true, false, List, [], ◌∷◌, ◌++◌, length, filter, take, drop}
+use Rattle.std.proofs.Common.{◌≡◌, ℕ, ◌+◌, ◌<◌, Bool, true, false, List, [], ◌∷◌, ◌++◌, length, filter, map, take, drop}
 use Rattle.std.proofs.Common.{Option, get_or, refl, sym, ap, ap₂, ◌∙◌, subst, ⊎_elim, inl, inr, arith}
 use Rattle.std.specs.Prelude.{◌⊎◌, ◌↔◌, not, slice_index, All, Contains, insert}
 use Rattle.std.specs.List.{AllZip}
@@ -15,11 +15,11 @@ use Rattle.list_laws.proofs.NumberLemmas.{has_number-Contains, has_number-from_C
 use Rattle.events.specs.declared.operation.Operation.{Operation}
 use Rattle.following.specs.keys.Choices.{HaveSame, IsFoundOf}
 use Rattle.following.specs.keys.KeyStates.{Configuration}
-use Rattle.past_choices.specs.PastChoices.{PastChoice, IsPastChoice}
+use Rattle.past_choices.specs.PastChoices.{PastChoice, IsPastChoice, IsPastChoiceFrom}
+use Rattle.past_choices.specs.Starts.{Start}
 use Rattle.following.proofs.keys.ChoiceLemmas.{any_from, any_to}
-use Rattle.kept_keys.specs.SettleSteps.{names_of, found_of, IsOneOf, HasNoted, IsNotedWith, IsOutcomeOf, IsChoiceFrom, AreAdded}
-use Rattle.kept_keys.specs.SettleSteps.{IsChoiceAt, IsOutcomeAt, AreOutcomes}
-use Rattle.kept_keys.specs.Views.{KeptView}
+use Rattle.kept_keys.specs.SettleSteps.{names_of, found_of, IsOneOf, HasNoted, IsNotedWith, IsOutcomeOf, AreAdded}
+use Rattle.kept_keys.specs.SettleSteps.{starts_from, which_ended, AreOutcomesOf}
 
 -- ---- additions
 
@@ -283,41 +283,55 @@ choices_next choices i p Leads old mid new d within is before pushed leads =
     (λ x h. ⊎_elim (λ it. inl it) (λ same. inr (x, same, λ d h. h)) (taken_cases choices i p x within is h))
 
 -- the numbers of choices are those of calls
-pub known_chosen : (key : ℕ) (value : Option ℕ) (calls : List Operation) (ended : List Bool) (names : List ℕ) (choices : List PastChoice)
+pub known_chosen : (key : ℕ) (starts : List Start) (calls : List Operation) (ended : List Bool) (names : List ℕ) (choices : List PastChoice)
     → length ended ≡ length calls → length names ≡ length calls
-    → ((p : PastChoice) → Contains choices p → IsPastChoice key value calls ended p)
+    → ((p : PastChoice) → Contains choices p → IsPastChoiceFrom key starts calls ended p)
     → All (λ p. All (λ n. n < length names) p.chosen) choices
-known_chosen key value calls ended names choices each same are =
+known_chosen key starts calls ended names choices each same are =
     All-from_contains (λ p. All (λ n. n < length names) p.chosen) choices (λ p h.
+    let (s, s_in, choice) = any_to (IsPastChoice key calls ended p) starts (are p h) in
     All-from_contains (λ n. n < length names) p.chosen (λ n in_chosen.
-    omega (arith, each, same, slice_get_within ended n false ((are p h).were_open n in_chosen))))
+    omega (arith, each, same, slice_get_within ended n false (choice.were_open n in_chosen))))
 
-pub known_found : (key : ℕ) (value : Option ℕ) (calls : List Operation) (ended : List Bool) (names : List ℕ) (choices : List PastChoice)
-    → length names ≡ length calls → ((p : PastChoice) → Contains choices p → IsPastChoice key value calls ended p)
+pub known_found : (key : ℕ) (starts : List Start) (calls : List Operation) (ended : List Bool) (names : List ℕ) (choices : List PastChoice)
+    → length names ≡ length calls → ((p : PastChoice) → Contains choices p → IsPastChoiceFrom key starts calls ended p)
     → All (λ p. All (λ f. f.0 < length names) p.found) choices
-known_found key value calls ended names choices same are =
+known_found key starts calls ended names choices same are =
     All-from_contains (λ p. All (λ f. f.0 < length names) p.found) choices (λ p h.
+    let (s, s_in, choice) = any_to (IsPastChoice key calls ended p) starts (are p h) in
     All-from_contains (λ f. f.0 < length names) p.found (λ f in_found.
-    let finds = ((are p h).found f.0 f.1).0 in_found in
+    let finds = (choice.found f.0 f.1).0 in_found in
     omega (arith, same, slice_get_within calls f.0 finds.0 finds.1)))
+
+-- the choices of one start more
+added_start : (key : ℕ) (starts : List Start) (s : Start) (calls : List Operation) (ended : List Bool)
+    (Leads : PastChoice → Configuration → Type 0) (old mid new : List Configuration)
+    → AreAdded PastChoice (IsPastChoiceFrom key starts calls ended) Leads old mid
+    → AreAdded PastChoice (λ p. IsPastChoice key calls ended p s) Leads mid new
+    → AreAdded PastChoice (IsPastChoiceFrom key (starts ++ s ∷ []) calls ended) Leads old new
+added_start key starts s calls ended Leads old mid new before more =
+    added_join PastChoice PastChoice (IsPastChoiceFrom key starts calls ended) (IsPastChoiceFrom key (starts ++ s ∷ []) calls ended) Leads
+    (λ p. IsPastChoice key calls ended p s) Leads (λ y. y) old mid new before more
+    (λ p h. let (t, t_in, choice) = any_to (IsPastChoice key calls ended p) starts h in
+    any_from (IsPastChoice key calls ended p) (starts ++ s ∷ []) t (Contains-append_left starts (s ∷ []) t t_in) choice)
+    (λ p choice. any_from (IsPastChoice key calls ended p) (starts ++ s ∷ []) s (Contains-push starts s) choice)
+    (λ p d h. h)
+    (λ p h. let (t, t_in, choice) = any_to (IsPastChoice key calls ended p) (starts ++ s ∷ []) h in
+    ⊎_elim (λ it. inl (any_from (IsPastChoice key calls ended p) starts t it choice))
+    (λ same. inr (p, subst (IsPastChoice key calls ended p) (sym same) choice, λ d h. h))
+    (Contains-push_cases starts s t t_in))
 
 -- the choices of one value more
 pub values_next : (key : ℕ) (values : List (Option ℕ)) (i : ℕ) (v : Option ℕ) (calls : List Operation) (ended : List Bool)
-    (Leads : PastChoice → Configuration → Type 0) (old mid new : List Configuration) → i < length values → v ≡ get_or values i v
-    → AreAdded PastChoice (IsChoiceFrom key (take i values) calls ended) Leads old mid
-    → AreAdded PastChoice (IsPastChoice key v calls ended) Leads mid new
-    → AreAdded PastChoice (IsChoiceFrom key (take (i + 1) values) calls ended) Leads old new
-values_next key values i v calls ended Leads old mid new within is before more =
-    added_join PastChoice PastChoice (IsChoiceFrom key (take i values) calls ended) (IsChoiceFrom key (take (i + 1) values) calls ended) Leads
-    (IsPastChoice key v calls ended) Leads (λ y. y) old mid new before more
-    (λ p h. let (w, w_in, choice) = any_to (λ w. IsPastChoice key w calls ended p) (take i values) h in
-    any_from (λ w. IsPastChoice key w calls ended p) (take (i + 1) values) w (taken_before values i v w within is w_in) choice)
-    (λ p choice. any_from (λ w. IsPastChoice key w calls ended p) (take (i + 1) values) v (taken_now values i v within is) choice)
-    (λ p d h. h)
-    (λ p h. let (w, w_in, choice) = any_to (λ w. IsPastChoice key w calls ended p) (take (i + 1) values) h in
-    ⊎_elim (λ it. inl (any_from (λ w. IsPastChoice key w calls ended p) (take i values) w it choice))
-    (λ same. inr (p, subst (λ (u : Option ℕ). IsPastChoice key u calls ended p) same choice, λ d h. h))
-    (taken_cases values i v w within is w_in))
+    (start : Option ℕ → Start) (Leads : PastChoice → Configuration → Type 0) (old mid new : List Configuration) → i < length values
+    → v ≡ get_or values i v
+    → AreAdded PastChoice (IsPastChoiceFrom key (map start (take i values)) calls ended) Leads old mid
+    → AreAdded PastChoice (λ p. IsPastChoice key calls ended p (start v)) Leads mid new
+    → AreAdded PastChoice (IsPastChoiceFrom key (map start (take (i + 1) values)) calls ended) Leads old new
+values_next key values i v calls ended start Leads old mid new within is before more =
+    subst (λ (l : List Start). AreAdded PastChoice (IsPastChoiceFrom key l calls ended) Leads old new)
+    (sym (ap (map start) (take_next values i v within is) ∙ map_push start (take i values) v))
+    (added_start key (map start (take i values)) (start v) calls ended Leads old mid new before more)
 
 -- an outcome by its parts
 pub outcome_by : (gone names : List ℕ) (c : Configuration) (p : PastChoice) (d : Configuration) (taken chosen : List ℕ)
@@ -335,22 +349,24 @@ outcome_by gone names c p d taken chosen ahead found taken_is chosen_is ahead_is
 }
 
 -- what the choices of one configuration more make
-pub outcomes_next : (key limit : ℕ) (k : KeptView) (configurations : List Configuration) (i : ℕ) (c : Configuration) (mid new : List Configuration)
-    → i < length configurations → c ≡ get_or configurations i c → AreOutcomes key limit k (take i configurations) mid
-    → AreAdded PastChoice (IsChoiceAt key limit k c) (IsOutcomeAt limit k c) mid new
-    → AreOutcomes key limit k (take (i + 1) configurations) new
-outcomes_next key limit k configurations i c mid new within is before more =
+pub outcomes_next : (key limit : ℕ) (gone names : List ℕ) (calls : List Operation) (configurations : List Configuration) (i : ℕ) (c : Configuration)
+    (mid new : List Configuration) → i < length configurations → c ≡ get_or configurations i c
+    → AreOutcomesOf key limit gone names calls (take i configurations) mid
+    → AreAdded PastChoice (IsPastChoiceFrom key (starts_from names c) calls (which_ended limit calls)) (IsOutcomeOf gone names c) mid new
+    → AreOutcomesOf key limit gone names calls (take (i + 1) configurations) new
+outcomes_next key limit gone names calls configurations i c mid new within is before more =
     added_join (Configuration × PastChoice) PastChoice
-    (λ x. Contains (take i configurations) x.0 × IsChoiceAt key limit k x.0 x.1)
-    (λ x. Contains (take (i + 1) configurations) x.0 × IsChoiceAt key limit k x.0 x.1)
-    (λ x d. IsOutcomeAt limit k x.0 x.1 d) (IsChoiceAt key limit k c) (IsOutcomeAt limit k c) (λ p. (c, p)) [] mid new before more
+    (λ x. Contains (take i configurations) x.0 × IsPastChoiceFrom key (starts_from names x.0) calls (which_ended limit calls) x.1)
+    (λ x. Contains (take (i + 1) configurations) x.0 × IsPastChoiceFrom key (starts_from names x.0) calls (which_ended limit calls) x.1)
+    (λ x d. IsOutcomeOf gone names x.0 x.1 d) (IsPastChoiceFrom key (starts_from names c) calls (which_ended limit calls))
+    (IsOutcomeOf gone names c) (λ p. (c, p)) [] mid new before more
     (λ x h. (taken_before configurations i c x.0 within is h.0, h.1))
     (λ p h. (taken_now configurations i c within is, h))
     (λ p d h. h)
     (λ x h. ⊎_elim (λ it. inl (it, h.1))
     (λ same. inr (
       x.1,
-      subst (λ (e : Configuration). IsChoiceAt key limit k e x.1) same h.1,
-      λ d leads. subst (λ (e : Configuration). IsOutcomeAt limit k e x.1 d) (sym same) leads,
+      subst (λ (e : Configuration). IsPastChoiceFrom key (starts_from names e) calls (which_ended limit calls) x.1) same h.1,
+      λ d leads. subst (λ (e : Configuration). IsOutcomeOf gone names e x.1 d) (sym same) leads,
     ))
     (taken_cases configurations i c x.0 within is h.0))

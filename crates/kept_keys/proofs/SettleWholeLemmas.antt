@@ -19,14 +19,16 @@ use Rattle.following.specs.rows.ExactMoments.{places_by}
 use Rattle.following.specs.rows.Fixed.{SettlesIn}
 use Rattle.following.proofs.keys.ChoiceLemmas.{any_from, any_to}
 use Rattle.past_choices.specs.PastChoices.{PastChoice, IsPastChoice}
+use Rattle.past_choices.specs.Starts.{Start}
 use Rattle.kept_keys.specs.Calls.{AreCallsOf}
 use Rattle.kept_keys.specs.Kept.{IsOpenAhead, IsFormed}
 use Rattle.kept_keys.specs.Settling.{has_ended, names_ended, names_open}
-use Rattle.kept_keys.specs.SettleSteps.{ended_by, is_due, due, names_due, calls_due, names_gone, names_of, found_of, which_ended, IsOneOf}
+use Rattle.kept_keys.specs.SettleSteps.{ended_by, has_begun, begun, names_begun, calls_begun, names_gone, names_of, found_of, which_ended, which_taken}
+use Rattle.kept_keys.specs.SettleSteps.{start_from, starts_from, IsOneOf}
 use Rattle.kept_keys.specs.SettleSteps.{IsChoiceAt, IsOutcomeAt, AreOutcomes, AreUnited}
 use Rattle.kept_keys.specs.Views.{KeptView, state, width}
 use Rattle.kept_keys.proofs.SettleDueLemmas.{picked_pairs}
-use Rattle.kept_keys.proofs.SettleChoiceLemmas.{one_call, zip_name, found_by, done_to, at_number, due_parts, gone_from}
+use Rattle.kept_keys.proofs.SettleChoiceLemmas.{one_call, zip_name, found_by, done_to, at_number, begun_parts, gone_from}
 use Rattle.kept_keys.proofs.SettleGoesLemmas.{chosen_open, taken_whole, goes_by_name, choice_of, goes_by_number, number_taken, number_found}
 
 -- a value of a configuration that is united is one of an outcome
@@ -63,7 +65,8 @@ record IsFrom (key limit : ℕ) (old : KeptView) (e : Configuration) : Type 0 wh
   pub first : Option ℕ
   pub c_in : Contains old.configurations c
   pub first_in : Contains c.values first
-  pub choice : IsPastChoice key first (calls_due limit old c) (which_ended limit (calls_due limit old c)) p
+  pub choice : IsPastChoice key (calls_begun limit old) (which_ended limit (calls_begun limit old)) p
+      (start_from (names_begun limit old) c.taken first)
   pub leads : IsOutcomeAt limit old c p e
 
 from_choice : (key limit : ℕ) (old : KeptView) (outcomes : List Configuration) (e : Configuration)
@@ -76,9 +79,10 @@ from_choice key limit old outcomes e outs h = ⊎_elim
     of_choice : (x : Configuration × PastChoice) → Contains old.configurations x.0 × IsChoiceAt key limit old x.0 x.1
         → IsOutcomeAt limit old x.0 x.1 e → IsFrom key limit old e
     of_choice x h leads =
-        let (first, first_in, choice) = any_to
-        (λ value. IsPastChoice key value (calls_due limit old x.0) (which_ended limit (calls_due limit old x.0)) x.1) x.0.values h.1 in
-        record { c = x.0; p = x.1; first = first; c_in = h.0; first_in = first_in; choice = choice; leads = leads }
+        let Is : Start → Type 0 = IsPastChoice key (calls_begun limit old) (which_ended limit (calls_begun limit old)) x.1 in
+        let (start, start_in, choice) = any_to Is (starts_from (names_begun limit old) x.0) h.1 in
+        let (first, first_in, is) = Contains-from_map (start_from (names_begun limit old) x.0.taken) x.0.values start start_in in
+        record { c = x.0; p = x.1; first = first; c_in = h.0; first_in = first_in; choice = subst Is (sym is) choice; leads = leads }
 
 -- ---- what is formed
 
@@ -94,37 +98,38 @@ beside (m ∷ names) (a ∷ calls) n each h = ⊎_elim
 
 -- a call that found something is one of the chosen ones that are open
 found_open : (key limit : ℕ) (old : KeptView) (c : Configuration) (first : Option ℕ) (p : PastChoice)
-    → AllPairs (λ a b. a.inv < b.inv) (calls_due limit old c)
-    → IsPastChoice key first (calls_due limit old c) (which_ended limit (calls_due limit old c)) p
-    → (f : ℕ × Option ℕ) → Contains (found_of (names_due limit old c) p.found) f
-    → (x : Operation) × Contains (zip old.names old.calls) (f.0, x) × (x.response ≡ None) × Contains (names_of (names_due limit old c) p.chosen) f.0
+    → AllPairs (λ a b. a.inv < b.inv) (calls_begun limit old)
+    → IsPastChoice key (calls_begun limit old) (which_ended limit (calls_begun limit old)) p (start_from (names_begun limit old) c.taken first)
+    → (f : ℕ × Option ℕ) → Contains (found_of (names_begun limit old) p.found) f
+    → (x : Operation) × Contains (zip old.names old.calls) (f.0, x) × (x.response ≡ None) × Contains (names_of (names_begun limit old) p.chosen) f.0
 found_open key limit old c first p rising choice f h =
-    let (g, g_in, is) = Contains-from_map (λ (f : ℕ × Option ℕ). (slice_index (names_due limit old c) f.0, f.1)) p.found f h in
-    let name_is : slice_index (names_due limit old c) g.0 ≡ f.0 = ap (λ (f : ℕ × Option ℕ). f.0) is in
+    let (g, g_in, is) = Contains-from_map (λ (f : ℕ × Option ℕ). (slice_index (names_begun limit old) f.0, f.1)) p.found f h in
+    let name_is : slice_index (names_begun limit old) g.0 ≡ f.0 = ap (λ (f : ℕ × Option ℕ). f.0) is in
     let (a, a_at, a_found) = (choice.found g.0 g.1).0 g_in in
     let (x, x_in, x_at, x_open) = found_by key (one_key key first) choice.order a.inv g.1 a_found in
-    let (m, x_here, why) = done_to limit (calls_due limit old c) p.chosen x ((choice.in_turn.all x).0 x_in) in
+    let (m, x_here, why, free) = done_to limit (calls_begun limit old) (which_taken c.taken (names_begun limit old)) p.chosen x
+    ((choice.in_turn.all x).0 x_in) in
     let same_m = same_number m g.0 x a x_here a_at x_at in
-    let x_is : x ≡ a = same_Some x a (sym x_here ∙ ap (slice_get (calls_due limit old c)) same_m ∙ a_at) in
+    let x_is : x ≡ a = same_Some x a (sym x_here ∙ ap (slice_get (calls_begun limit old)) same_m ∙ a_at) in
     let a_open : a.response ≡ None = subst (λ (y : Operation). y.response ≡ None) x_is x_open in
-    let (name, d_here, named) = at_number limit old c g.0 a a_at in
+    let (name, d_here, named) = at_number limit old g.0 a a_at in
     let name_f : name ≡ f.0 = sym named ∙ name_is in (
       a,
       subst (λ (q : ℕ). Contains (zip old.names old.calls) (q, a)) name_f
-          (due_parts limit old c name a (Contains-at (due limit old c) g.0 (name, a) d_here)).0,
+          (begun_parts limit old name a (Contains-at (begun limit old) g.0 (name, a) d_here)).0,
       a_open,
       ⊎_elim
           (λ had. absurd (open_waits x.response x_open had))
-          (λ in_chosen. subst (Contains (names_of (names_due limit old c) p.chosen)) name_is
-          (Contains-map (λ m. slice_index (names_due limit old c) m) p.chosen g.0 (subst (Contains p.chosen) same_m in_chosen))) why,
+          (λ in_chosen. subst (Contains (names_of (names_begun limit old) p.chosen)) name_is
+          (Contains-map (λ m. slice_index (names_begun limit old) m) p.chosen g.0 (subst (Contains p.chosen) same_m in_chosen))) why,
     )
   where
-    same_number : (m i : ℕ) (x y : Operation) → slice_get (calls_due limit old c) m ≡ Some x → slice_get (calls_due limit old c) i ≡ Some y
+    same_number : (m i : ℕ) (x y : Operation) → slice_get (calls_begun limit old) m ≡ Some x → slice_get (calls_begun limit old) i ≡ Some y
         → x.inv ≡ y.inv → m ≡ i
     same_number m i x y here there same = ⊎_elim (λ is. is)
         (λ apart. ⊎_elim
-        (λ below. absurd (omega (arith, same, AllPairs-at (λ a b. a.inv < b.inv) (calls_due limit old c) m i x y rising below here there)))
-        (λ above. absurd (omega (arith, same, AllPairs-at (λ a b. a.inv < b.inv) (calls_due limit old c) i m y x rising above there here))) apart)
+        (λ below. absurd (omega (arith, same, AllPairs-at (λ a b. a.inv < b.inv) (calls_begun limit old) m i x y rising below here there)))
+        (λ above. absurd (omega (arith, same, AllPairs-at (λ a b. a.inv < b.inv) (calls_begun limit old) i m y x rising above there here))) apart)
         (cases_order m i)
 
     open_waits : (response : Option Response) → response ≡ None → is_before response limit ≡ true → ⊥
@@ -139,8 +144,8 @@ module _ (key place : ℕ) (old new : KeptView) (outcomes : List Configuration)
       (state (gone ++ names_ended place old) new)
   settles calls gone moment left next = (to, from)
     where
-      rising : (c : Configuration) → AllPairs (λ a b. a.inv < b.inv) (calls_due (width * place) old c)
-      rising c = picked_pairs (is_due (width * place) c.taken) (λ a b. a.inv < b.inv) old.names old.calls left.each left.rising
+      rising : AllPairs (λ a b. a.inv < b.inv) (calls_begun (width * place) old)
+      rising = picked_pairs (has_begun (width * place)) (λ a b. a.inv < b.inv) old.names old.calls left.each left.rising
 
       to : HasChoice (state (gone ++ names_ended place old) new) next
           → (w : Choice) × HasChoice (state gone old) w
@@ -149,15 +154,15 @@ module _ (key place : ℕ) (old new : KeptView) (outcomes : List Configuration)
           let (d, d_in, is) = any_to (λ d. IsChoiceOf (gone ++ names_ended place old) d next) new.configurations h in
           let (e, e_in, taken_is, ahead_is, v_in) = outcome_of outcomes new.configurations d next.value united d_in is.value in
           let it = from_choice key (width * place) old outcomes e outs e_in in
-          let chosen = names_of (names_due (width * place) old it.c) it.p.chosen in
+          let chosen = names_of (names_begun (width * place) old) it.p.chosen in
           let noted = (it.leads.ahead.choices next.found).0
           (subst (λ (l : List (ℕ × List (Option ℕ))). IsOneOf l next.found) (sym ahead_is) is.found) in
-          let whole = taken_whole gone it.c.taken (names_ended place old) chosen chosen e.taken it.leads.taken (λ n h. h) (λ n h. inr h) in
+          let whole = taken_whole gone it.c.taken (names_ended place old) chosen chosen e.taken it.leads.taken (λ n h. inr h) (λ n h. inr h) in
           let w : Choice = record { taken = gone ++ it.c.taken; value = it.first; found = noted.before } in (
             w,
             any_from (λ c. IsChoiceOf gone c w) old.configurations it.c it.c_in
                 (record { taken = λ n. (λ h. h, λ h. h); value = it.first_in; found = noted.one }),
-            goes_by_name key place old it.c moment calls gone left it.first it.p w next it.choice (rising it.c) refl refl
+            goes_by_name key place old it.c moment calls gone left it.first it.p w next it.choice rising refl refl
                 (only e.values it.p.value next.value it.leads.values v_in)
                 (λ n. (
                   λ h. (whole n).0 (subst (λ (l : List ℕ). Contains ((gone ++ names_ended place old) ++ l) n) (sym taken_is) ((is.taken n).0 h)),
@@ -176,9 +181,9 @@ module _ (key place : ℕ) (old new : KeptView) (outcomes : List Configuration)
           let choice = goes_by_number key place old c moment calls gone left w next goes is.taken in
           let (e, e_in, leads) = outs.to (c, p) (
             c_in,
-            any_from
-                (λ value. IsPastChoice key value (calls_due (width * place) old c) (which_ended (width * place) (calls_due (width * place) old c)) p)
-                c.values w.value is.value choice,
+            any_from (IsPastChoice key (calls_begun (width * place) old) (which_ended (width * place) (calls_begun (width * place) old)) p)
+                (starts_from (names_begun (width * place) old) c) (start_from (names_begun (width * place) old) c.taken w.value)
+                (Contains-map (start_from (names_begun (width * place) old) c.taken) c.values w.value is.value) choice,
           ) in
           let (d, d_in, taken_is, ahead_is, v_in) = united_of outcomes new.configurations e next.value united e_in
           (subst (λ l. Contains l next.value) (sym leads.values) (Contains-first next.value [])) in
@@ -193,7 +198,7 @@ module _ (key place : ℕ) (old new : KeptView) (outcomes : List Configuration)
                 ((leads.ahead.choices next.found).1 (record {
                   before = w.found;
                   one = is.found;
-                  each = number_found key place old c moment calls gone left w next goes is.taken (rising c);
+                  each = number_found key place old c moment calls gone left w next goes is.taken rising;
                 }));
           })
 
@@ -212,10 +217,10 @@ module _ (key place : ℕ) (old new : KeptView) (outcomes : List Configuration)
         taken = All-from_contains (Contains new.names) d.taken (λ n n_in.
             ⊎_elim
             (λ had. let (x, there) = beside old.names old.calls n each (All-contains (Contains old.names) it.c.taken n c_formed.taken had.0) in
-            stays n x there (λ over. had.1 (gone_from (width * place) old it.c n x there over)))
-            (λ is_chosen. let (m, rest_of) = chosen_open place old it.c it.p.chosen it.choice.were_open n is_chosen in
+            stays n x there (λ over. had.1 (gone_from (width * place) old n x there over)))
+            (λ is_chosen. let (m, rest_of) = chosen_open place old it.p.chosen it.choice.were_open n is_chosen in
             let (x, m_in, d_here, waits) = rest_of in
-            stays n x (due_parts (width * place) old it.c n x (Contains-at (due (width * place) old it.c) m (n, x) d_here)).0
+            stays n x (begun_parts (width * place) old n x (Contains-at (begun (width * place) old) m (n, x) d_here)).0
             (λ over. both_ways (is_before x.response (width * place)) waits over))
             ((it.leads.taken n).0 (subst (λ (l : List ℕ). Contains l n) (sym taken_is) n_in)));
         ahead = All-from_contains (IsOpenAhead new d) d.ahead (λ entry entry_in. ⊎_elim
@@ -229,10 +234,10 @@ module _ (key place : ℕ) (old new : KeptView) (outcomes : List Configuration)
             ))
             (λ found. let (f, f_in, f_is) = found in
             let (x, there, waiting, is_chosen) = found_open key (width * place) old it.c it.first it.p
-            (picked_pairs (is_due (width * place) it.c.taken) (λ a b. a.inv < b.inv) old.names old.calls each rising) it.choice f f_in in
+            (picked_pairs (has_begun (width * place)) (λ a b. a.inv < b.inv) old.names old.calls each rising) it.choice f f_in in
             let name_is : f.0 ≡ entry.0 = sym (ap (λ (g : ℕ × List (Option ℕ)). g.0) f_is) in (
               subst (λ (l : List ℕ). Contains l entry.0) taken_is
-                  ((it.leads.taken entry.0).1 (inr (subst (Contains (names_of (names_due (width * place) old it.c) it.p.chosen)) name_is is_chosen))),
+                  ((it.leads.taken entry.0).1 (inr (subst (Contains (names_of (names_begun (width * place) old) it.p.chosen)) name_is is_chosen))),
               λ none. cons_not_nil f.1 (sym (ap (λ (g : ℕ × List (Option ℕ)). g.1) f_is) ∙ none),
               open_stays entry.0 (f.0, x) there name_is waiting,
             ))

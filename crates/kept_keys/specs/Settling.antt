@@ -1,15 +1,14 @@
 -- A key as it is kept settles at a place: its calls that ended before it are gone, and its configurations are those to which they go on.
-use Rattle.std.specs.Prelude.{◌≡◌, ◌≢◌, ℕ, Bool, ◌*◌, ◌&&◌, not, nat_lt, List, ◌++◌, map, filter, length, zip, All, Any, AllPairs}
+use Rattle.std.specs.Prelude.{◌≡◌, ◌≢◌, ℕ, Bool, ◌*◌, ◌&&◌, not, nat_lt, List, ◌++◌, map, filter, length, zip, All, AllPairs}
 use Rattle.events.specs.declared.operation.Operation.{Operation}
 use Rattle.events.specs.Precedence.{is_before}
 use Rattle.quiet_cuts.specs.Cells.{calls_left}
-use Rattle.list_laws.specs.Lists.{has_number}
-use Rattle.following.specs.keys.KeyStates.{Configuration}
 use Rattle.following.specs.rows.ExactMoments.{places_by}
 use Rattle.following.specs.rows.Fixed.{SettlesIn}
 use Rattle.past_choices.specs.Positions.{ReachesMoreThan}
 use Rattle.kept_keys.specs.Calls.{AreCallsOf}
 use Rattle.kept_keys.specs.Kept.{IsFormed}
+use Rattle.kept_keys.specs.SettleSteps.{calls_begun, names_begun, starts_of}
 use Rattle.kept_keys.specs.Views.{KeptView, state, width}
 
 -- a call ended before a place, or began before it and did not end before it
@@ -36,12 +35,7 @@ pub record IsSettledAt (key place : ℕ) (old new : KeptView) : Type 0 where
       (state (gone ++ names_ended place old) new)
   pub formed : AllPairs (λ m n. m ≢ n) old.names → All (IsFormed old) old.configurations → All (IsFormed new) new.configurations
 
--- the calls that began before a place and that a configuration has not taken
-abbrev pub calls_by : ℕ → KeptView → Configuration → List Operation
-calls_by place k c = map (λ call. call.1)
-    (filter (λ call. nat_lt call.1.inv (width * place) && not (has_number c.taken call.0)) (zip k.names k.calls))
-
--- from a value of a configuration more positions are reachable than the budget
+-- from the values of its configurations, with the calls that each has taken, more positions are reachable together than the budget
 abbrev pub IsBeyondAt : ℕ → ℕ → ℕ → KeptView → Type 0
 IsBeyondAt budget key place k =
-    Any (λ c. Any (λ value. ReachesMoreThan key value (calls_by place k c) budget) c.values) k.configurations
+    ReachesMoreThan key (starts_of (names_begun (width * place) k) k.configurations) (calls_begun (width * place) k) budget

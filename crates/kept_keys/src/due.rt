@@ -1,7 +1,6 @@
-// The calls that are due at a past moment.
-ghost use Rattle.std.specs.Prelude.{◌≡◌, ◌↔◌, ◌++◌, ◌∷◌, [], not, ◌&&◌, nat_lt, length, map, filter, zip, Contains, IsTrue, IfOk, OnOk};
+// The calls that ended before a past moment, and the others.
+ghost use Rattle.std.specs.Prelude.{◌≡◌, ◌↔◌, ◌++◌, ◌∷◌, [], not, length, map, filter, zip, Contains, IsTrue, IfOk, OnOk};
 ghost use Rattle.events.specs.Precedence.{is_before};
-ghost use Rattle.kept_keys.specs.SettleSteps as spec;
 ghost use Rattle.kept_keys.specs.SettleSteps.{ended_by, which_ended};
 ghost use Rattle.list_laws.specs.Lists.{has_number};
 
@@ -58,13 +57,6 @@ pub(crate) fn is_among(numbers: &[usize], number: usize) -> bool
     numbers.contains(&number)
 }
 
-/// Whether a call began before a moment and is not among some.
-fn is_due(call: &Operation, name: usize, taken: &[usize], limit: usize) -> bool
-    ensures { result ≡ (nat_lt call.now.inv limit && not (has_number taken.now name)) }
-{
-    call.inv < limit && !is_among(taken, name)
-}
-
 /// The calls that ended before a moment, by name.
 pub(crate) fn gone_names(
     alloc: Global,
@@ -104,28 +96,6 @@ pub(crate) fn rest_of(
         }
     }
     Ok(rest)
-}
-
-/// The calls that began before a moment and are not among some.
-pub(crate) fn due_calls(
-    alloc: Global,
-    names: &[usize],
-    calls: &[Operation],
-    taken: &[usize],
-    limit: usize,
-) -> Result<Named, Memory>
-    requires { length names.now ≡ length calls.now }
-    ensures each { IfOk result (λ due. length due.names.items ≡ length due.calls.items) }
-    ensures due { IfOk result (λ due. zip due.names.items due.calls.items ≡ filter (spec.is_due limit taken.now) (zip names.now calls.now)) }
-{
-    let mut due = Named::new(alloc);
-    for place in 0..calls.len() {
-        let call = &calls[place];
-        if is_due(call, names[place], taken, limit) {
-            due.push(alloc, names[place], call)?;
-        }
-    }
-    Ok(due)
 }
 
 /// Which calls ended before a moment.

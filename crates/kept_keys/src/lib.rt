@@ -20,6 +20,7 @@ mod reads;
 mod retiming;
 mod scout;
 mod settling;
+mod starting;
 mod uniting;
 
 pub use configuration::{Ahead, Configuration};

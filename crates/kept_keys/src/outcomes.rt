@@ -1,18 +1,20 @@
 // What choices make of configurations.
-ghost use Rattle.std.specs.Prelude.{◌≡◌, ◌⊎◌, ◌↔◌, ◌<◌, ◌≤◌, ◌++◌, ◌∷◌, [], ℕ, not, filter, length, All, AllPairs, Contains, IsSome, true, false};
+ghost use Rattle.std.specs.Prelude.{◌≡◌, ◌⊎◌, ◌↔◌, ◌<◌, ◌≤◌, ◌++◌, ◌∷◌, [], ℕ, not, filter, map, length, All, AllPairs, Contains, IsSome, true, false};
 ghost use Rattle.std.specs.Prelude.{IfOk, OnOk, MatchOption};
 ghost use Rattle.events.specs.Precedence.{NonePrecedesItself, precedes};
 ghost use Rattle.list_laws.specs.Lists.{has_number};
-ghost use Rattle.past_choices.specs.PastChoices.{ArePast, IsPastChoice, PastChoice as Choice};
+ghost use Rattle.past_choices.specs.PastChoices.{ArePast, IsPastChoice, IsPastChoiceFrom, PastChoice as Choice};
 ghost use Rattle.past_choices.specs.Positions.{ReachesMoreThan};
 ghost use Rattle.past_choices.specs.Values.{IsCallOf};
-ghost use Rattle.kept_keys.specs.SettleSteps.{names_of, found_of, IsNotedWith, IsOutcomeOf, AreAdded, IsChoiceFrom, AreBeyond, which_ended};
+ghost use Rattle.kept_keys.specs.SettleSteps.{names_of, found_of, nothing, one_start, starts_from, starts_of, which_ended};
+ghost use Rattle.kept_keys.specs.SettleSteps.{AreAdded, AreOutcomesOf, HaveGone, IsNotedWith, IsOutcomeOf, IsPlain};
 
 use crate::configuration::{Ahead, Configuration};
 use crate::copying::copied_ahead;
-use crate::due::{ended_marks, is_among};
+use crate::due::{ended_marks, is_among, is_ended};
+use crate::starting::{add_starts, are_plain, starts_of};
 use events::{Memory, Operation};
-use past_choices::{Answer, PastChoice, may_be_answered, past_choices, value_behind};
+use past_choices::{Answer, PastChoice, Start, may_be_answered, past_choices, value_behind};
 use std::alloc::Global;
 
 /// The calls taken that have not ended, and the chosen ones, by rising name.
@@ -180,7 +182,8 @@ fn with_one(
     requires ended { IsSome call.now.response }
     requires apart { precedes call.now call.now ≡ false }
     ensures { IfOk result (λ v. (key : ℕ) → IsCallOf key call.now.call
-        → AreAdded Choice (IsPastChoice key value (call.now ∷ []) (true ∷ [])) (IsOutcomeOf gone.now names.now c.now) into.items v.items) }
+        → AreAdded Choice (λ p. IsPastChoice key (call.now ∷ []) (true ∷ []) p (one_start value)) (IsOutcomeOf gone.now names.now c.now)
+        into.items v.items) }
 {
     if may_be_answered(value, call) {
         let next = value_behind(value, call);
@@ -189,8 +192,29 @@ fn with_one(
     Ok(into)
 }
 
-/// With what the choices from one value make of a configuration, or none where more than `budget` positions are reachable.
-fn with_value(
+/// With what it makes of one from its values.
+fn with_ones(
+    alloc: Global,
+    mut into: Vec<Configuration>,
+    c: &Configuration,
+    gone: &[usize],
+    names: &[usize],
+    call: &Operation,
+) -> Result<Vec<Configuration>, Memory>
+    requires ended { IsSome call.now.response }
+    requires apart { precedes call.now call.now ≡ false }
+    ensures { IfOk result (λ v. (key : ℕ) → IsCallOf key call.now.call
+        → AreAdded Choice (IsPastChoiceFrom key (map one_start c.now.values) (call.now ∷ []) (true ∷ []))
+        (IsOutcomeOf gone.now names.now c.now) into.items v.items) }
+{
+    for value in &c.values {
+        into = with_one(alloc, into, c, gone, names, call, *value)?;
+    }
+    Ok(into)
+}
+
+/// With what the choices from some starts make of a configuration, or none where more than `budget` positions are reachable from these.
+fn with_starts(
     alloc: Global,
     into: Vec<Configuration>,
     c: &Configuration,
@@ -198,28 +222,26 @@ fn with_value(
     names: &[usize],
     calls: &[Operation],
     ended: &[bool],
+    starts: &[Start],
     key: u64,
-    value: Option<u64>,
     budget: u32,
 ) -> Result<Option<Vec<Configuration>>, Memory>
     requires past { ArePast key calls.now ended.now }
     requires each { length names.now ≡ length calls.now }
-    ensures { IfOk result (λ found. MatchOption found (ReachesMoreThan key value calls.now budget)
-        (λ v. AreAdded Choice (IsPastChoice key value calls.now ended.now) (IsOutcomeOf gone.now names.now c.now) into.items v.items)) }
+    requires sized { All (λ s. length s.taken ≡ length calls.now) starts.now }
+    ensures { IfOk result (λ found. MatchOption found (ReachesMoreThan key starts.now calls.now budget)
+        (λ v. AreAdded Choice (IsPastChoiceFrom key starts.now calls.now ended.now) (IsOutcomeOf gone.now names.now c.now) into.items v.items)) }
 {
-    if calls.len() == 1 && ended[0] && calls[0].is_completed() {
-        return Ok(Some(with_one(alloc, into, c, gone, names, &calls[0], value)?));
-    }
-    match past_choices(alloc, key, value, calls, ended, budget)? {
+    match past_choices(alloc, key, starts, calls, ended, budget)? {
         Answer::All(choices) => Ok(Some(with_choices(alloc, into, c, gone, names, &choices)?)),
         Answer::Spent => Ok(None),
     }
 }
 
 /// With what the choices from its values make of a configuration.
-pub(crate) fn with_values(
+fn with_values(
     alloc: Global,
-    mut into: Vec<Configuration>,
+    into: Vec<Configuration>,
     c: &Configuration,
     gone: &[usize],
     names: &[usize],
@@ -233,19 +255,134 @@ pub(crate) fn with_values(
     requires rising { AllPairs (λ x y. x.inv < y.inv) calls.now }
     requires apart { NonePrecedesItself calls.now }
     requires of_key { All (λ a. IsCallOf key a.call) calls.now }
-    ensures { IfOk result (λ found. MatchOption found (AreBeyond budget key c.now.values calls.now)
-        (λ v. AreAdded Choice (IsChoiceFrom key c.now.values calls.now (which_ended limit calls.now))
+    ensures { IfOk result (λ found. MatchOption found (ReachesMoreThan key (starts_from names.now c.now) calls.now budget)
+        (λ v. AreAdded Choice (IsPastChoiceFrom key (starts_from names.now c.now) calls.now (which_ended limit calls.now))
         (IsOutcomeOf gone.now names.now c.now) into.items v.items)) }
 {
+    if calls.len() == 1 && c.taken.is_empty() {
+        let call = &calls[0];
+        if is_ended(call, limit) {
+            return Ok(Some(with_ones(alloc, into, c, gone, names, call)?));
+        }
+    }
     let ended = ended_marks(alloc, calls, limit)?;
-    for value in &c.values {
-        let Some(more) = with_value(
-            alloc, into, c, gone, names, calls, &ended, key, *value, budget,
-        )?
-        else {
+    let mut starts = Vec::new(alloc);
+    add_starts(alloc, &mut starts, names, c)?;
+    with_starts(
+        alloc, into, c, gone, names, calls, &ended, &starts, key, budget,
+    )
+}
+
+/// What the choices of calls make of configurations, one after another.
+fn outcomes_apart(
+    alloc: Global,
+    configurations: &[Configuration],
+    gone: &[usize],
+    names: &[usize],
+    calls: &[Operation],
+    limit: usize,
+    key: u64,
+    budget: u32,
+) -> Result<Option<Vec<Configuration>>, Memory>
+    requires each { length names.now ≡ length calls.now }
+    requires began { All (λ a. a.inv < limit) calls.now }
+    requires rising { AllPairs (λ x y. x.inv < y.inv) calls.now }
+    requires apart { NonePrecedesItself calls.now }
+    requires of_key { All (λ a. IsCallOf key a.call) calls.now }
+    ensures { IfOk result (λ found. MatchOption found (ReachesMoreThan key (starts_of names.now configurations.now) calls.now budget)
+        (λ v. AreOutcomesOf key limit gone.now names.now calls.now configurations.now v.items)) }
+{
+    let mut into = Vec::new(alloc);
+    for c in configurations {
+        let Some(more) = with_values(alloc, into, c, gone, names, calls, limit, key, budget)? else {
             return Ok(None);
         };
         into = more;
     }
     Ok(Some(into))
+}
+
+/// Nothing taken, and nothing noted.
+fn nothing(alloc: Global) -> Configuration
+    ensures { result ≡ nothing }
+{
+    Configuration {
+        taken: Vec::new(alloc),
+        values: Vec::new(alloc),
+        ahead: Vec::new(alloc),
+    }
+}
+
+/// What the choices of calls make of plain configurations, all at once: in each the calls taken that are open yet are chosen again.
+fn outcomes_together(
+    alloc: Global,
+    configurations: &[Configuration],
+    gone: &[usize],
+    names: &[usize],
+    calls: &[Operation],
+    limit: usize,
+    key: u64,
+    budget: u32,
+) -> Result<Option<Vec<Configuration>>, Memory>
+    requires plain { All (IsPlain names.now) configurations.now }
+    requires gone { HaveGone limit gone.now names.now calls.now }
+    requires each { length names.now ≡ length calls.now }
+    requires began { All (λ a. a.inv < limit) calls.now }
+    requires rising { AllPairs (λ x y. x.inv < y.inv) calls.now }
+    requires apart { NonePrecedesItself calls.now }
+    requires of_key { All (λ a. IsCallOf key a.call) calls.now }
+    ensures { IfOk result (λ found. MatchOption found (ReachesMoreThan key (starts_of names.now configurations.now) calls.now budget)
+        (λ v. AreOutcomesOf key limit gone.now names.now calls.now configurations.now v.items)) }
+{
+    let ended = ended_marks(alloc, calls, limit)?;
+    let starts = starts_of(alloc, names, configurations)?;
+    let into = Vec::new(alloc);
+    let c = nothing(alloc);
+    with_starts(
+        alloc, into, &c, gone, names, calls, &ended, &starts, key, budget,
+    )
+}
+
+/// What the choices of calls make of configurations, or none where more than `budget` positions are reachable from them.
+pub(crate) fn outcomes_of(
+    alloc: Global,
+    configurations: &[Configuration],
+    gone: &[usize],
+    names: &[usize],
+    calls: &[Operation],
+    limit: usize,
+    key: u64,
+    budget: u32,
+) -> Result<Option<Vec<Configuration>>, Memory>
+    requires gone { HaveGone limit gone.now names.now calls.now }
+    requires each { length names.now ≡ length calls.now }
+    requires began { All (λ a. a.inv < limit) calls.now }
+    requires rising { AllPairs (λ x y. x.inv < y.inv) calls.now }
+    requires apart { NonePrecedesItself calls.now }
+    requires of_key { All (λ a. IsCallOf key a.call) calls.now }
+    ensures { IfOk result (λ found. MatchOption found (ReachesMoreThan key (starts_of names.now configurations.now) calls.now budget)
+        (λ v. AreOutcomesOf key limit gone.now names.now calls.now configurations.now v.items)) }
+{
+    if configurations.len() > 1 && are_plain(configurations, names) {
+        return outcomes_together(
+            alloc,
+            configurations,
+            gone,
+            names,
+            calls,
+            limit,
+            key,
+            budget,
+        );
+    }
+    outcomes_apart(
+        alloc,
+        configurations,
+        gone,
+        names,
+        calls,
+        limit,
+        key,
+        budget,
+    )
 }

@@ -11,7 +11,7 @@ use Rattle.past_choices.specs.Equality.{same_position}
 use Rattle.past_choices.specs.PastChoices.{PastChoice}
 use Rattle.past_choices.specs.Positions.{Position}
 use Rattle.past_choices.specs.Steps.{IsChoiceOf}
-use Rattle.past_choices.proofs.AtLemmas.{left_found_nothing, taken_found_nothing, left_is_not_taken}
+use Rattle.past_choices.proofs.MarkLemmas.{left_found_nothing, taken_found_nothing, left_is_not_taken}
 use Rattle.past_choices.proofs.PlaceLemmas.{rising_same, same_by_place}
 
 choice_from : List ℕ → Option ℕ → List (ℕ × Option ℕ) → PastChoice

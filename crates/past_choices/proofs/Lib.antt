@@ -4,8 +4,10 @@ mod ChoiceLemmas
 mod EarliestLemmas
 mod GatherLemmas
 mod ItemLemmas
+mod MarkLemmas
 mod PathLemmas
 pub mod PlaceLemmas
+mod StartLemmas
 mod StepLemmas
 mod TurnLemmas
 pub mod ValueLemmas

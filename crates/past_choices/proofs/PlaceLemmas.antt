@@ -1,5 +1,5 @@
 -- Lists by place, and lists that rise.
-use Rattle.std.proofs.Common.{◌≡◌, ◌≢◌, ℕ, zero, suc, ◌<◌, List, [], ◌∷◌, length, Some, replicate}
+use Rattle.std.proofs.Common.{◌≡◌, ◌≢◌, ℕ, zero, suc, ◌<◌, List, [], ◌∷◌, length, Some}
 use Rattle.std.proofs.Common.{refl, sym, ap, ◌∙◌, ⊎_elim, inl, inr, arith}
 use Rattle.std.specs.Prelude.{◌⊎◌, slice_get, slice_set, All, AllPairs, Contains}
 use Rattle.std.proofs.lemmas.Bool.{both_ways, cases_Bool}
@@ -21,17 +21,6 @@ set_elsewhere (y ∷ xs) zero zero x apart = absurd (apart refl)
 set_elsewhere (y ∷ xs) zero (suc m) x apart = refl
 set_elsewhere (y ∷ xs) (suc n) zero x apart = refl
 set_elsewhere (y ∷ xs) (suc n) (suc m) x apart = set_elsewhere xs n m x (λ e. apart (omega (arith, e)))
-
--- the places of many the same
-pub replicate_at : {X : Type 0} (n : ℕ) (x : X) (m : ℕ) → m < n → slice_get (replicate n x) m ≡ Some x
-replicate_at zero x m within = absurd (omega (arith, within))
-replicate_at (suc n) x zero within = refl
-replicate_at (suc n) x (suc m) within = replicate_at n x m (omega (arith, within))
-
-pub replicate_only : {X : Type 0} (n : ℕ) (x : X) (m : ℕ) (y : X) → slice_get (replicate n x) m ≡ Some y → (m < n) × (x ≡ y)
-replicate_only zero x m y h = absurd (none-some y h)
-replicate_only (suc n) x zero y h = (omega arith, same_Some x y h)
-replicate_only (suc n) x (suc m) y h = let rest = replicate_only n x m y h in (omega (arith, rest.0), rest.1)
 
 -- a number is in a list or not
 pub is_in_or_not : (numbers : List ℕ) (n : ℕ) → Contains numbers n ⊎ (Contains numbers n → ⊥)

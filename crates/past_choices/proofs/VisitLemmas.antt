@@ -1,8 +1,10 @@
 -- Positions visited: one more, and all of a list.
-use Rattle.std.proofs.Common.{◌≡◌, Bool, true, false, List, [], ◌∷◌, ◌++◌, Result, Ok, Err, refl, ◌∙◌, subst, ⊎_elim, inl, inr}
+use Rattle.std.proofs.Common.{◌≡◌, ℕ, ◌+◌, ◌<◌, Bool, true, false, List, [], ◌∷◌, ◌++◌, length, map, take, get_or, Result, Ok, Err}
+use Rattle.std.proofs.Common.{refl, sym, ap, ◌∙◌, subst, ⊎_elim, inl, inr}
 use Rattle.std.specs.Prelude.{if◌then◌else◌, OnOk, Contains}
 use Rattle.std.specs.List.{list_any}
 use Rattle.std.proofs.lemmas.List.Elements.{Contains-append_left, Contains-push, Contains-push_cases}
+use Rattle.std.proofs.lemmas.List.{take_more, map_push}
 use Rattle.std.proofs.lemmas.Map.Views.{Contains-from_any}
 use Rattle.std.proofs.lemmas.Option.{slice_get_within}
 use Rattle.indexmap.specs.IndexSet.{insert_key}
@@ -10,7 +12,8 @@ use Rattle.events.specs.declared.operation.Operation.{Operation}
 use Rattle.list_laws.proofs.Lists.{slice_get-append_left, Contains-cases, Contains-nil, place_of-Contains, Contains-at}
 use Rattle.past_choices.specs.Equality.{is_same, Decides-is_same}
 use Rattle.past_choices.specs.Positions.{Position}
-use Rattle.past_choices.specs.Steps.{AreVisited, IsVisited, IsExpanded, AreEnough, AreSteps, next_position}
+use Rattle.past_choices.specs.Starts.{Start}
+use Rattle.past_choices.specs.Steps.{start_position, AreVisited, IsVisited, IsExpanded, AreEnough, AreSteps, next_position}
 
 -- the only member of a list of one
 only : (q x : Position) → Contains (q ∷ []) x → q ≡ x
@@ -52,6 +55,16 @@ visited_more xs q first old new before now = record {
       (λ is. now.to x (subst (Contains (q ∷ [])) is (Contains-push [] q)))
       (Contains-push_cases xs q x h);
 }
+
+-- the position of one start more
+pub visited_start : (starts : List Start) (i : ℕ) (s : Start) (q : Position) (old new : List Position) → i < length starts → s ≡ get_or starts i s
+    → q ≡ start_position s → AreVisited (map start_position (take i starts)) [] old → IsVisited q old new
+    → AreVisited (map start_position (take (i + 1) starts)) [] new
+visited_start starts i s q old new within here is before now =
+    subst (λ (l : List Position). AreVisited l [] new)
+    (sym (ap (map start_position) (take_more starts i s within ∙ ap (λ (x : Start). take i starts ++ x ∷ []) (sym here))
+    ∙ map_push start_position (take i starts) s ∙ ap (λ (x : Position). map start_position (take i starts) ++ x ∷ []) (sym is)))
+    (visited_more (map start_position (take i starts)) q [] old new before now)
 
 -- positions that are enough stay so among more
 pub enough_more : (calls : List Operation) (ended : List Bool) (p : Position) (xs ys : List Position)

@@ -1,15 +1,15 @@
 -- Steps from position to position, and what the worklist has come to.
-use Rattle.std.specs.Prelude.{◌≡◌, ◌≢◌, ◌↔◌, ◌⊎◌, ℕ, ◌<◌, ◌≤◌, min, Bool, true, false, List, [], ◌∷◌, length, replicate, Option, Some, None}
+use Rattle.std.specs.Prelude.{◌≡◌, ◌≢◌, ◌↔◌, ◌⊎◌, ℕ, ◌<◌, ◌≤◌, min, Bool, true, false, List, [], ◌∷◌, length, map, Option, Some, None}
 use Rattle.std.specs.Prelude.{slice_get, slice_set, All, AllPairs, Contains}
 use Rattle.events.specs.declared.operation.Operation.{Operation}
 use Rattle.events.specs.declared.operation.Response.{Response}
-use Rattle.configurations.specs.Fronts.{PrecedesAt, IsFront}
-use Rattle.following.specs.keys.KeyStates.{one_key}
+use Rattle.configurations.specs.Fronts.{PrecedesAt}
 use Rattle.past_choices.specs.declared.mark.Mark.{Mark}
 use Rattle.past_choices.specs.declared.mark.Mark.TheVariants.{Left, Taken, Found}
 use Rattle.past_choices.specs.PastChoices.{PastChoice}
-use Rattle.past_choices.specs.Positions.{Position, IsAt, IsReached}
+use Rattle.past_choices.specs.Positions.{Position, IsAt, IsFrontFrom, IsReachedFrom}
 use Rattle.past_choices.specs.Reads.{IsRead}
+use Rattle.past_choices.specs.Starts.{Start, IsFree}
 use Rattle.past_choices.specs.Values.{value_behind_call, MayBeAnswered}
 
 -- the mark of a call that is done at a value
@@ -17,9 +17,14 @@ abbrev pub mark_of : Option Response → Option ℕ → Mark
 mark_of None value = Found value
 mark_of (Some response) value = Taken
 
--- no call is done
-abbrev pub start_position : ℕ → Option ℕ → Position
-start_position count first = record { marks = replicate count Left; value = first }
+-- the mark of a call where nothing is done
+abbrev pub start_mark : Bool → Mark
+start_mark true = Taken
+start_mark false = Left
+
+-- the position of a start: no call is done but those that are taken
+abbrev pub start_position : Start → Position
+start_position first = record { marks = map start_mark first.taken; value = first.value }
 
 -- one more call is done
 abbrev pub next_position : Position → ℕ → Operation → Position
@@ -97,18 +102,22 @@ abbrev pub IsExpandedAt : List Operation → List Bool → ℕ → List Position
 IsExpandedAt calls ended at old new = (p : Position) × (slice_get old at ≡ Some p) × IsExpanded calls ended p old new
 
 -- positions visited, of which those before a place have been gone on from
-pub record AreExplored (key : ℕ) (first : Option ℕ) (calls : List Operation) (ended : List Bool) (visited : List Position) (at : ℕ)
+pub record AreExplored (key : ℕ) (starts : List Start) (calls : List Operation) (ended : List Bool) (visited : List Position) (at : ℕ)
     : Type 0 where
-  pub start : Contains visited (start_position (length calls) first)
-  pub reached : All (IsReached key first calls) visited
+  pub start : (first : Start) → Contains starts first → Contains visited (start_position first)
+  pub reached : All (IsReachedFrom key starts calls) visited
   pub closed : (i : ℕ) (p : Position) → i < at → slice_get visited i ≡ Some p → AreEnough calls ended p visited
 
+-- each call that ended is taken, or on a path
+abbrev pub HasEnded : List Bool → Start → List ℕ → Type 0
+HasEnded ended first path = (n : ℕ) → slice_get ended n ≡ Some true → IsFree first.taken n → Contains path n
+
 -- the positions are reachable, and those at which all calls that ended are done are among them
-pub record AreReached (key : ℕ) (first : Option ℕ) (calls : List Operation) (ended : List Bool) (visited : List Position)
+pub record AreReached (key : ℕ) (starts : List Start) (calls : List Operation) (ended : List Bool) (visited : List Position)
     : Type 0 where
   pub distinct : AllPairs (λ p q. p ≢ q) visited
-  pub reached : All (IsReached key first calls) visited
-  pub whole : (path : List ℕ) → IsFront (one_key key first) calls path → ((n : ℕ) → slice_get ended n ≡ Some true → Contains path n)
+  pub reached : All (IsReachedFrom key starts calls) visited
+  pub whole : (first : Start) → Contains starts first → (path : List ℕ) → IsFrontFrom key first calls path → HasEnded ended first path
       → (p : Position) × Contains visited p × IsAt key first calls path p
 
 -- all calls that ended are done

@@ -2,8 +2,8 @@
 //! open then, in any order that keeps precedence and is legal. A follower that keeps a key by itself takes these choices in place
 //! of the calls.
 //!
-//! The worklist goes from position to position, each once: which calls are done, the value behind them, and what those found that
-//! are not answered (Lowe 2017, whose memo it is, here for all that is left and not for one order). Where a call may come next that
+//! The worklist goes from position to position, each once, from all starts at once: which calls are done, the value behind them, and what those
+//! found that are not answered (Lowe 2017, whose memo it is, here for all that is left and not for one order). Where a call may come next that
 //! ended before the moment and says that it changed nothing, it goes on with this call alone.
 #![tactic(auto)]
 
@@ -12,6 +12,7 @@ mod choices;
 mod mark;
 mod position;
 mod reads;
+mod start;
 mod steps;
 mod values;
 mod visited;
@@ -19,6 +20,7 @@ mod worklist;
 
 pub use answer::{Answer, PastChoice};
 pub use reads::is_read;
+pub use start::Start;
 pub use values::{may_be_answered, value_behind};
 pub use worklist::past_choices;
 

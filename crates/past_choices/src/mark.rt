@@ -2,7 +2,7 @@
 ghost use Rattle.std.specs.Prelude.{◌≡◌, ◌↔◌, IsTrue};
 ghost use Rattle.past_choices.specs.declared.mark.Mark.TheVariants as marks;
 ghost use Rattle.past_choices.specs.Marks.{kind_of, told_of, with_mark};
-ghost use Rattle.past_choices.specs.Steps.{mark_of};
+ghost use Rattle.past_choices.specs.Steps.{mark_of, start_mark};
 
 use events::Response;
 
@@ -66,6 +66,13 @@ impl Mark {
     {
         matches!(self, Mark::Left)
     }
+}
+
+/// The mark of a call where nothing is done yet.
+pub(crate) fn start_mark(is_taken: bool) -> Mark
+    ensures { result ≡ start_mark is_taken }
+{
+    if is_taken { Mark::Taken } else { Mark::Left }
 }
 
 /// The mark of a call that is done where its key has this value, or none.

@@ -1,8 +1,9 @@
 // Positions of the worklist.
-ghost use Rattle.std.specs.Prelude.{◌≡◌, ◌<◌, length, Some, slice_get, IfOk};
-ghost use Rattle.past_choices.specs.Steps.{start_position, next_position};
+ghost use Rattle.std.specs.Prelude.{◌≡◌, ◌<◌, length, map, Some, slice_get, IfOk};
+ghost use Rattle.past_choices.specs.Steps.{start_mark, start_position, next_position};
 
-use crate::mark::{Mark, mark_of, with_mark};
+use crate::mark::{Mark, mark_of, start_mark, with_mark};
+use crate::start::Start;
 use crate::values::value_behind;
 use events::{Memory, Operation};
 use std::alloc::Global;
@@ -63,12 +64,15 @@ impl Hash for Position {
 impl Position {
     ghost use Rattle.past_choices.specs.Marks.{digest_of};
 
-    /// No call is done.
-    pub(crate) fn start(alloc: Global, count: usize, value: Option<u64>) -> Result<Position, Memory>
-        ensures { IfOk result (λ p. p ≡ start_position count value) }
+    /// No call is done but those that a start has taken.
+    pub(crate) fn start(alloc: Global, start: &Start) -> Result<Position, Memory>
+        ensures { IfOk result (λ p. p ≡ start_position start.now) }
     {
-        let marks = vec![in alloc; Mark::Left; count]?;
-        Ok(Position { marks, value })
+        let marks = start_marks(alloc, &start.taken)?;
+        Ok(Position {
+            marks,
+            value: start.value,
+        })
     }
 
     /// The marks, one for each call.
@@ -113,4 +117,15 @@ impl Position {
         }
         digest
     }
+}
+
+/// The marks of calls of which some are taken.
+fn start_marks(alloc: Global, taken: &[bool]) -> Result<Vec<Mark>, Memory>
+    ensures { IfOk result (λ v. v.items ≡ map start_mark taken.now) }
+{
+    let mut marks = Vec::new(alloc);
+    for is_taken in taken {
+        marks.push(start_mark(*is_taken))?;
+    }
+    Ok(marks)
 }

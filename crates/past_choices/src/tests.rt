@@ -1,10 +1,12 @@
 // Choices of calls of one key, by hand.
-ghost use Rattle.std.specs.Prelude.{◌≡◌, None, Some};
+ghost use Rattle.std.specs.Prelude.{◌≡◌, length, None, Some, All, IfOk};
 ghost use Rattle.events.specs.declared.event.Reply.TheVariants as replies;
 
 use crate::answer::{Answer, PastChoice};
+use crate::start::Start;
 use crate::worklist::past_choices;
-use events::{Call, Operation, Reply, Response};
+use events::{Call, Memory, Operation, Reply, Response};
+use std::alloc::Global;
 use std::test::Fail;
 
 /// A call that is answered at a place.
@@ -41,6 +43,14 @@ fn has_choice(
         && choice.found() == found)
 }
 
+/// No call of some is taken.
+fn from_value(alloc: Global, count: usize, value: Option<u64>) -> Result<Vec<Start>, Memory>
+    ensures { IfOk result (λ starts. All (λ s. length s.taken ≡ count) starts.items) }
+{
+    let taken = vec![in alloc; false; count]?;
+    Ok(vec![in alloc; Start { taken, value }]?)
+}
+
 // An insert of 1 had ended; a get and a replace of 1 by 2 are open. Each may have come before the insert, or behind it.
 #[test]
 fn open_calls_come_at_each_place_or_not_at_all(rt: HostRuntime) -> Result<(), Fail> {
@@ -50,7 +60,8 @@ fn open_calls_come_at_each_place_or_not_at_all(rt: HostRuntime) -> Result<(), Fa
     let replace = open(Call::Replace(7, 1, 2), 2);
     let calls = vec![in alloc; insert, get, replace]?;
     let ended = vec![in alloc; true, false, false]?;
-    let Answer::All(choices) = past_choices(alloc, 7, None, &calls, &ended, 1000)? else {
+    let starts = from_value(alloc, 3, None)?;
+    let Answer::All(choices) = past_choices(alloc, 7, &starts, &calls, &ended, 1000)? else {
         panic!(rt; "more positions than there are");
     };
     assert!(rt; choices.len() == 10);
@@ -79,7 +90,8 @@ fn answers_and_precedence_are_kept(rt: HostRuntime) -> Result<(), Fail> {
     let get = answered(Call::Get(7), 3, 9, Reply::Some(1));
     let calls = vec![in alloc; insert, remove, get]?;
     let ended = vec![in alloc; true, false, false]?;
-    let Answer::All(choices) = past_choices(alloc, 7, Some(4), &calls, &ended, 1000)? else {
+    let starts = from_value(alloc, 3, Some(4))?;
+    let Answer::All(choices) = past_choices(alloc, 7, &starts, &calls, &ended, 1000)? else {
         panic!(rt; "more positions than there are");
     };
     assert!(rt; choices.len() == 4);
@@ -90,13 +102,13 @@ fn answers_and_precedence_are_kept(rt: HostRuntime) -> Result<(), Fail> {
     // No call, the insert, the remove behind it, and the get behind the insert with the remove or not.
     assert!(rt;
         matches!(
-            past_choices(alloc, 7, Some(4), &calls, &ended, 4)?,
+            past_choices(alloc, 7, &starts, &calls, &ended, 4)?,
             Answer::Spent
         )
     );
     assert!(rt;
         matches!(
-            past_choices(alloc, 7, Some(4), &calls, &ended, 5)?,
+            past_choices(alloc, 7, &starts, &calls, &ended, 5)?,
             Answer::All(_)
         )
     );
@@ -114,7 +126,8 @@ fn reads_that_ended_go_first(rt: HostRuntime) -> Result<(), Fail> {
     let remove = open(Call::Remove(7), 4);
     let calls = vec![in alloc; insert, first, second, remove]?;
     let ended = vec![in alloc; true, true, true, false]?;
-    let Answer::All(choices) = past_choices(alloc, 7, None, &calls, &ended, 5)? else {
+    let starts = from_value(alloc, 4, None)?;
+    let Answer::All(choices) = past_choices(alloc, 7, &starts, &calls, &ended, 5)? else {
         panic!(rt; "more positions than are met");
     };
     assert!(rt; choices.len() == 2);
@@ -122,7 +135,46 @@ fn reads_that_ended_go_first(rt: HostRuntime) -> Result<(), Fail> {
     assert!(rt; has_choice(&choices, &[3], None, &[(3, Some(1))]));
     assert!(rt;
         matches!(
-            past_choices(alloc, 7, None, &calls, &ended, 4)?,
+            past_choices(alloc, 7, &starts, &calls, &ended, 4)?,
+            Answer::Spent
+        )
+    );
+    Ok(())
+}
+
+// An insert of 1 had ended, and a get is open. From none and from 4 each finds its own, or 1 behind the insert, where both come to the same
+// positions; where the get is taken at 4, it is chosen, and what it found is noted elsewhere. In all ten positions are reachable: the three
+// starts, the insert with the get left, which two come to, or taken, the get of none, of 4, each before the insert too, and of 1.
+#[test]
+fn positions_of_several_starts_are_met_once(rt: HostRuntime) -> Result<(), Fail> {
+    let alloc = rt.alloc();
+    let insert = answered(Call::Insert(7, 1), 0, 3, Reply::Done);
+    let get = open(Call::Get(7), 1);
+    let calls = vec![in alloc; insert, get]?;
+    let ended = vec![in alloc; true, false]?;
+    let mut starts = from_value(alloc, 2, None)?;
+    let none = vec![in alloc; false, false]?;
+    starts.push(Start {
+        taken: none,
+        value: Some(4),
+    })?;
+    let second = vec![in alloc; false, true]?;
+    starts.push(Start {
+        taken: second,
+        value: Some(4),
+    })?;
+    let Answer::All(choices) = past_choices(alloc, 7, &starts, &calls, &ended, 10)? else {
+        panic!(rt; "more positions than there are");
+    };
+    assert!(rt; choices.len() == 5);
+    assert!(rt; has_choice(&choices, &[], Some(1), &[]));
+    assert!(rt; has_choice(&choices, &[1], Some(1), &[]));
+    for found in [None, Some(1), Some(4)] {
+        assert!(rt; has_choice(&choices, &[1], Some(1), &[(1, found)]));
+    }
+    assert!(rt;
+        matches!(
+            past_choices(alloc, 7, &starts, &calls, &ended, 9)?,
             Answer::Spent
         )
     );

@@ -1,10 +1,11 @@
 // The positions that the worklist has visited.
-ghost use Rattle.std.specs.Prelude.{◌≡◌, ◌↔◌, ◌++◌, ◌∷◌, [], length, IsTrue, Some, slice_get, ◌<◌, IfOk, OnOk, Contains};
+ghost use Rattle.std.specs.Prelude.{◌≡◌, ◌↔◌, ◌++◌, ◌∷◌, [], length, map, IsTrue, Some, slice_get, ◌<◌, IfOk, OnOk, Contains};
 ghost use Rattle.std.specs.Prelude.{if◌then◌else◌};
 ghost use Rattle.past_choices.specs.Positions.{AreDistinct};
 ghost use Rattle.past_choices.specs.Steps.{start_position, AreVisited, IsVisited};
 
 use crate::position::Position;
+use crate::start::Start;
 use events::Memory;
 use indexmap::IndexSet;
 use std::alloc::Global;
@@ -35,17 +36,15 @@ impl Visited {
         }
     }
 
-    /// The position of no call.
-    pub(crate) fn at_start(
-        alloc: Global,
-        count: usize,
-        value: Option<u64>,
-    ) -> Result<Visited, Memory>
-        ensures { IfOk result (IsVisited (start_position count value) []) }
+    /// The positions of some starts.
+    pub(crate) fn at_start(alloc: Global, starts: &[Start]) -> Result<Visited, Memory>
+        ensures { IfOk result (AreVisited (map start_position starts.now) []) }
     {
-        let start = Position::start(alloc, count, value)?;
         let mut visited = Visited::new(alloc);
-        visited.visit(start)?;
+        for start in starts {
+            let position = Position::start(alloc, start)?;
+            visited.visit(position)?;
+        }
         Ok(visited)
     }
 

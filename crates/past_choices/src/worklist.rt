@@ -9,29 +9,31 @@ ghost use Rattle.past_choices.specs.Values.{IsCallOf};
 
 use crate::answer::Answer;
 use crate::choices::choices_of;
+use crate::start::Start;
 use crate::steps::next_positions;
 use crate::visited::Visited;
 use events::{Memory, Operation};
 use std::alloc::Global;
 
-/// What calls of a key may leave that were done by a past moment, from one value of the key, or none: each choice of calls that had
-/// not ended, of the value behind all that were done, and of what calls found that have no answer, once. `Spent` where more than
-/// `budget` positions were met, `Memory` where a growth was refused.
+/// What calls of a key may leave that were done by a past moment, from any of some starts: each choice of calls that had not ended, of the
+/// value behind all that were done, and of what calls found that have no answer, once. `Spent` where more than `budget` positions were met,
+/// `Memory` where a growth was refused. A position is met once, from however many starts it is reached.
 /// The calls are those of the key that began before the moment, by rising invocation, and `ended` says of each whether it ended
 /// before the moment. From a position at which a read may come next that ended before the moment it goes on with this read alone,
 /// so it meets fewer positions than are reachable. Each of the calls that may come next at a position costs as much as all calls.
 pub fn past_choices(
     alloc: Global,
     key: u64,
-    value: Option<u64>,
+    starts: &[Start],
     calls: &[Operation],
     ended: &[bool],
     budget: u32,
 ) -> Result<Answer, Memory>
-    requires { ArePast key calls.now ended.now }
-    ensures { IfOk result (IsAnswer key value calls.now ended.now budget) }
+    requires past { ArePast key calls.now ended.now }
+    requires sized { All (λ s. length s.taken ≡ length calls.now) starts.now }
+    ensures { IfOk result (IsAnswer key starts.now calls.now ended.now budget) }
 {
-    match positions_of(alloc, key, value, calls, ended, budget)? {
+    match positions_of(alloc, key, starts, calls, ended, budget)? {
         Some(visited) => Ok(Answer::All(choices_of(alloc, &visited, ended)?)),
         None => Ok(Answer::Spent),
     }
@@ -41,7 +43,7 @@ pub fn past_choices(
 fn positions_of(
     alloc: Global,
     key: u64,
-    value: Option<u64>,
+    starts: &[Start],
     calls: &[Operation],
     ended: &[bool],
     budget: u32,
@@ -50,10 +52,11 @@ fn positions_of(
     requires rising { AllPairs (λ a b. a.inv < b.inv) calls.now }
     requires apart { NonePrecedesItself calls.now }
     requires each { length ended.now ≡ length calls.now }
-    ensures { IfOk result (λ found. MatchOption found (ReachesMoreThan key value calls.now budget)
-        (AreReached key value calls.now ended.now)) }
+    requires sized { All (λ s. length s.taken ≡ length calls.now) starts.now }
+    ensures { IfOk result (λ found. MatchOption found (ReachesMoreThan key starts.now calls.now budget)
+        (AreReached key starts.now calls.now ended.now)) }
 {
-    let mut visited = Visited::at_start(alloc, calls.len(), value)?;
+    let mut visited = Visited::at_start(alloc, starts)?;
     let mut at = 0;
     while at < visited.len() {
         if visited.len() > budget as usize {

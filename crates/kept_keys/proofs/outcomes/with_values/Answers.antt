@@ -1,20 +1,28 @@
-use Rattle.std.proofs.Common.{subst, ◌∙◌, List, get_or, None, Bool}
-use Rattle.std.proofs.lemmas.List.{get_or_default}
-use Rattle.std.proofs.lemmas.Option.{MatchOption-at_some}
-use Rattle.past_choices.specs.PastChoices.{PastChoice, IsPastChoice}
-use Rattle.kept_keys.specs.SettleSteps.{AreAdded, IsOutcomeOf, which_ended}
-use Rattle.kept_keys.proofs.SettleOutcomeLemmas.{values_next}
+use Rattle.std.proofs.Common.{◌≡◌, ◌∙◌, ap, sym, subst, ◌++◌, List, length}
+use Rattle.std.specs.Prelude.{All}
+use Rattle.std.proofs.lemmas.Bool.{eqb-true}
+use Rattle.std.proofs.lemmas.List.{nil_from_length}
+use Rattle.past_choices.specs.Starts.{Start}
+use Rattle.kept_keys.specs.SettleSteps.{starts_from}
+use Rattle.kept_keys.proofs.SettleStartLemmas.{alone, past_of, sized_from}
 use Rattle.kept_keys.proofs.outcomes.with_values.Goals as goal
 
-pub loop-value-preserved : goal.loop-value-preserved
-loop-value-preserved c =
-    let values = c.deref-value-items.result.now in
-    let i = c.loop-value.value-index in
-    let v = get_or values i None in
-    values_next c.args.key values i v c.args.calls.now (which_ended c.args.limit c.args.calls.now)
-    (IsOutcomeOf c.args.gone.now c.args.names.now c.args.c.now) _ c.loop-value.into.items c.in-Some.more.items
-    c.loop-value-test.true (get_or_default values i None v c.loop-value-test.true) c.loop-value.invariant
-    (subst (λ (ended : List Bool). AreAdded PastChoice (IsPastChoice c.args.key v c.args.calls.now ended)
-    (IsOutcomeOf c.args.gone.now c.args.names.now c.args.c.now) c.loop-value.into.items c.in-Some.more.items)
-    (c.deref.ensures.value ∙ c.in_ok-ended.ensures)
-    (MatchOption-at_some _ _ c.in-Some.more c.in-Some.is c.in_ok-more.ensures))
+pub returns-then-is_ended : goal.returns-then-is_ended
+returns-then-is_ended c =
+    alone c.args.key c.args.limit c.args.gone.now c.args.names.now c.args.calls.now c.index-calls-0.result c.args.c.now c.args.into.items
+    c.in_ok-with_ones.field-0.items c.if-calls-eq1.true c.index-calls-0.is c.requires.each (sym c.is_ended.ensures ∙ c.if-is_ended.true)
+    (sym (ap (λ d. d.taken) c.c.view_is) ∙ nil_from_length c.c.inside.taken.items (sym c.c.inside.taken.ok.0 ∙ eqb-true _ 0 (sym c.if-is_empty.ensures)))
+    c.requires.of_key
+    (λ of_it. c.in_ok-with_ones.ensures c.args.key of_it)
+
+pub with_starts-requires-clause-past : goal.with_starts-requires-clause-past
+with_starts-requires-clause-past c =
+    past_of c.args.key c.args.limit c.args.calls.now c.deref.result.now (c.deref.ensures.value ∙ c.in_ok-ended.ensures) c.requires.began
+    c.requires.rising c.requires.apart c.requires.of_key
+
+pub with_starts-requires-clause-sized : goal.with_starts-requires-clause-sized
+with_starts-requires-clause-sized c =
+    subst (All (λ s. length s.taken ≡ length c.args.calls.now))
+    (sym (c.deref-2.ensures.value ∙ (c.in_ok-add_starts.ensures
+    ∙ ap (λ (l : List Start). l ++ starts_from c.args.names.now c.args.c.now) c.new-starts.ensures.items)))
+    (sized_from c.args.names.now c.args.c.now c.args.calls.now c.requires.each)

@@ -4,19 +4,19 @@ use Rattle.past_choices.proofs.WholeLemmas.{explored_start, explored_more, reach
 use Rattle.past_choices.proofs.worklist.positions_of.Goals as goal
 
 pub loop-at-init : goal.loop-at-init
-loop-at-init c = explored_start c.args.key c.args.value c.args.calls.now c.args.ended.now c.in_ok-visited.visited c.in_ok-visited.ensures
+loop-at-init c = explored_start c.args.key c.args.starts.now c.args.calls.now c.args.ended.now c.in_ok-visited.visited c.requires.sized c.in_ok-visited.ensures
 
 pub go_on_from-requires-clause-each : goal.go_on_from-requires-clause-each
 go_on_from-requires-clause-each c =
-    sizes c.args.key c.args.value c.args.calls.now c.loop-at.visited c.loop-at.invariant.reached
+    sizes c.args.key c.args.starts.now c.args.calls.now c.loop-at.visited c.loop-at.invariant.reached
 
 pub loop-at-preserved : goal.loop-at-preserved
 loop-at-preserved c =
     let (p, here, expanded) = c.in_ok-go_on_from.ensures in
-    explored_more c.args.key c.args.value c.args.calls.now c.args.ended.now c.loop-at.visited c.go_on_from.new.visited c.loop-at.at p
+    explored_more c.args.key c.args.starts.now c.args.calls.now c.args.ended.now c.loop-at.visited c.go_on_from.new.visited c.loop-at.at p
     c.requires.of_key c.requires.rising here expanded c.loop-at.invariant
 
 pub returns : goal.returns
 returns c =
-    reached_all c.args.key c.args.value c.args.calls.now c.args.ended.now c.loop-at.visited c.loop-at.at c.requires.of_key
-    c.requires.rising (omega (arith, c.loop-at-test.false, c.len.ensures.len)) c.len.ensures.distinct c.loop-at.invariant
+    reached_all c.args.key c.args.starts.now c.args.calls.now c.args.ended.now c.loop-at.visited c.loop-at.at c.requires.of_key
+    c.requires.rising c.requires.sized (omega (arith, c.loop-at-test.false, c.len.ensures.len)) c.len.ensures.distinct c.loop-at.invariant

@@ -1,27 +1,27 @@
 use Rattle.std.proofs.Common.{sym, subst, List}
 use Rattle.std.specs.Prelude.{Contains}
 use Rattle.past_choices.specs.Answers.{IsAnswer}
-use Rattle.past_choices.specs.PastChoices.{PastChoice, IsPastChoice}
+use Rattle.past_choices.specs.PastChoices.{PastChoice, IsPastChoiceFrom}
 use Rattle.kept_keys.specs.SettleSteps.{IsOutcomeOf}
 use Rattle.kept_keys.proofs.SettleOutcomeLemmas.{known_chosen, known_found, added_same}
-use Rattle.kept_keys.proofs.outcomes.with_value.Goals as goal
+use Rattle.kept_keys.proofs.outcomes.with_starts.Goals as goal
 
 pub with_choices-requires-clause-chosen : goal.with_choices-requires-clause-chosen
 with_choices-requires-clause-chosen c =
-    let answer = subst (IsAnswer c.args.key c.args.value c.args.calls.now c.args.ended.now c.args.budget) c.in-All.is c.in_ok-choices.ensures in
-    known_chosen c.args.key c.args.value c.args.calls.now c.args.ended.now c.args.names.now c.deref.result.now c.requires.past.each
+    let answer = subst (IsAnswer c.args.key c.args.starts.now c.args.calls.now c.args.ended.now c.args.budget) c.in-All.is c.in_ok-choices.ensures in
+    known_chosen c.args.key c.args.starts.now c.args.calls.now c.args.ended.now c.args.names.now c.deref.result.now c.requires.past.each
     c.requires.each (λ p h. (answer.0 p).0 (subst (λ (l : List PastChoice). Contains l p) c.deref.ensures.value h))
 
 pub with_choices-requires-clause-found : goal.with_choices-requires-clause-found
 with_choices-requires-clause-found c =
-    let answer = subst (IsAnswer c.args.key c.args.value c.args.calls.now c.args.ended.now c.args.budget) c.in-All.is c.in_ok-choices.ensures in
-    known_found c.args.key c.args.value c.args.calls.now c.args.ended.now c.args.names.now c.deref.result.now
+    let answer = subst (IsAnswer c.args.key c.args.starts.now c.args.calls.now c.args.ended.now c.args.budget) c.in-All.is c.in_ok-choices.ensures in
+    known_found c.args.key c.args.starts.now c.args.calls.now c.args.ended.now c.args.names.now c.deref.result.now
     c.requires.each (λ p h. (answer.0 p).0 (subst (λ (l : List PastChoice). Contains l p) c.deref.ensures.value h))
 
 pub returns-in_ok-with_choices-in-All : goal.returns-in_ok-with_choices-in-All
 returns-in_ok-with_choices-in-All c =
-    let answer = subst (IsAnswer c.args.key c.args.value c.args.calls.now c.args.ended.now c.args.budget) c.in-All.is c.in_ok-choices.ensures in
-    added_same PastChoice (Contains c.deref.result.now) (IsPastChoice c.args.key c.args.value c.args.calls.now c.args.ended.now)
+    let answer = subst (IsAnswer c.args.key c.args.starts.now c.args.calls.now c.args.ended.now c.args.budget) c.in-All.is c.in_ok-choices.ensures in
+    added_same PastChoice (Contains c.deref.result.now) (IsPastChoiceFrom c.args.key c.args.starts.now c.args.calls.now c.args.ended.now)
     (IsOutcomeOf c.args.gone.now c.args.names.now c.args.c.now) c.args.into.items c.in_ok-with_choices-in-All.field-0.items
     (λ p h. (answer.0 p).0 (subst (λ (l : List PastChoice). Contains l p) c.deref.ensures.value h))
     (λ p h. subst (λ (l : List PastChoice). Contains l p) (sym c.deref.ensures.value) ((answer.0 p).1 h))
