@@ -32,7 +32,7 @@ use Rattle.kept_keys.specs.Steps.{IsOpenCall, IsNotAt}
 use Rattle.kept_keys.proofs.ScanAnswerLemmas.{open_call, answered_calls}
 use Rattle.kept_rows.specs.Followed.{AreFollowed}
 use Rattle.kept_rows.specs.Laws.{RowsPassBy}
-use Rattle.kept_rows.specs.Outcomes.{HasNoOrder, IsLostFor, IsLimitOf, AreOpenScans, IsAnswered, IsScanAnswered}
+use Rattle.kept_rows.specs.Outcomes.{HasNoOrder, IsLostAt, IsLostFor, IsLimitOf, AreOpenScans, IsAnswered, IsScanAnswered}
 use Rattle.kept_rows.specs.Rows.{RowsView}
 use Rattle.kept_rows.specs.declared.outcomes.Answered.{Answered}
 use Rattle.kept_rows.specs.declared.outcomes.Answered.TheVariants.{Going, Lost, Spent, Crowded}
@@ -41,7 +41,7 @@ use Rattle.kept_rows.specs.declared.rows.OpenScan.{OpenScan}
 use Rattle.kept_rows.proofs.EventLemmas.{invoked_later, answered_later, with_answer}
 use Rattle.kept_rows.proofs.OpenCallLemmas.{well_formed_on}
 use Rattle.follower.specs.Calls.{IsKeyOf}
-use Rattle.follower.specs.Steps.{key_of, IsLimitAmong, AreRowsAnswered}
+use Rattle.follower.specs.Steps.{key_of, IsLimitAmong, AreRowsAnswered, WasKeptFor}
 
 -- ---- a call by its key
 
@@ -120,11 +120,14 @@ module _ (start : Contents) (events : List Event) (process name low high : ℕ) 
       let form = forms_from_order start (operations all) order rising is_order in
       never (All-contains (λ a. HasForm a.call a.response) (operations all) done form stays)
 
+abbrev IsLostOf : Contents → List Event → Call → KeyLoss → Type 0
+IsLostOf start events call at = IsKeyOf call at.key × HasNoOrder at × WasKeptFor start events call at
+
 -- no key is named then
 pub lost_without_keys : (start : Contents) (events : List Event) (low high : ℕ) (losses : List KeyLoss) → losses ≡ [] → IsLostFor start events
-    → All (λ at. IsKeyOf (Scan low high) at.key × HasNoOrder at) losses × (⊥ → losses ≢ []) × IsLostFor start events
+    → All (IsLostOf start events (Scan low high)) losses × (⊥ → losses ≢ []) × IsLostFor start events
 lost_without_keys start events low high losses none lost = (
-  subst (All (λ at. IsKeyOf (Scan low high) at.key × HasNoOrder at)) (sym none) (All-nil (λ at. IsKeyOf (Scan low high) at.key × HasNoOrder at)),
+  subst (All (IsLostOf start events (Scan low high))) (sym none) (All-nil (IsLostOf start events (Scan low high))),
   λ wrong. absurd wrong,
   lost,
 )
@@ -134,12 +137,12 @@ pub scan_answered : (start : Contents) (events : List Event) (budget low high : 
     → AreRowsAnswered start events budget (Scan low high) a
 scan_answered start events budget low high (Going rows) h = h
 scan_answered start events budget low high (Lost losses) h = (
-  All-weaker (λ loss. (low ≤ loss.key) × (loss.key ≤ high) × HasNoOrder loss) (λ at. IsKeyOf (Scan low high) at.key × HasNoOrder at)
-      (λ loss is. ((is.0, is.1), is.2)) losses.items h.0,
+  All-weaker (λ loss. (low ≤ loss.key) × (loss.key ≤ high) × HasNoOrder loss) (IsLostOf start events (Scan low high))
+      (λ loss is. ((is.0, is.1), is.2, λ wrong. absurd wrong)) losses.items h.0,
   λ wrong. absurd wrong,
   h.1,
 )
-scan_answered start events budget low high (Spent at) h = ((h.0, h.1), h.2)
+scan_answered start events budget low high (Spent at) h = ((h.0, h.1), h.2, λ wrong. absurd wrong)
 scan_answered start events budget low high Crowded h = λ wrong. wrong
 
 -- ---- a call of one key is answered
@@ -158,13 +161,13 @@ pub call_answered : (start : Contents) (events : List Event) (budget key : ℕ) 
     → IsAnswered start events budget key a → AreRowsAnswered start events budget call a
 call_answered start events budget key call own (Going rows) h = h
 call_answered start events budget key call own (Lost losses) h = (
-  All-weaker (λ loss. (loss.key ≡ key) × HasNoOrder loss) (λ at. IsKeyOf call at.key × HasNoOrder at)
-      (λ loss is. (is_key key call own loss.key is.0, is.1)) losses.items h.1,
+  All-weaker (IsLostAt start events key) (IsLostOf start events call)
+      (λ loss is. (is_key key call own loss.key is.key_is, is.none, λ one. is.was)) losses.items h.1,
   λ one. h.0,
   h.2,
 )
 call_answered start events budget key call own (Spent at) h =
-    (is_key key call own at.key h.0, subst (λ (k : ℕ). IsBeyond budget k at.kept) (sym h.0) h.1)
+    (is_key key call own at.key h.0, subst (λ (k : ℕ). IsBeyond budget k at.kept) (sym h.0) h.1, λ one. h.2)
 call_answered start events budget key call own Crowded h = absurd h
 
 -- the limit is one for all open scans

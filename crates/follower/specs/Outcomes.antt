@@ -14,6 +14,7 @@ use Rattle.follower.specs.Calls.{IsKeyOf, IsOfOneKey}
 use Rattle.follower.specs.Faults.{answer_fault}
 use Rattle.follower.specs.FollowerView.{FollowerView}
 use Rattle.follower.specs.Following.{IsFollowing, IsCallOf}
+use Rattle.follower.specs.Steps.{WasKeptFor}
 use Rattle.follower.specs.declared.answered.Answered.{Answered}
 use Rattle.follower.specs.declared.answered.Answered.TheVariants.{Going, Lost, Spent, Refused}
 use Rattle.follower.specs.declared.answered.Loss.{Loss}
@@ -32,31 +33,32 @@ pub record IsToldOf (events : List Event) (process : ℕ) (event number : ℕ) (
   pub answers : (reply : Reply) (more : List Event) → IsAnswerOf (events ++ Answer process reply ∷ more) number event
 
 -- the events go wrong at this answer, whatever comes behind it; what was kept of keys of the call has no order with the answer, and of a call of one key
--- there is such
+-- there is such, and what is told of it is what was kept: the values that were possible and the calls left
 pub record IsLost (start : Contents) (events : List Event) (process : ℕ) (reply : Reply) (loss : Loss) : Type 0 where
   pub accepted : answer_fault events process ≡ None
   pub call : Call
   pub told : IsToldOf events process loss.event loss.number call
-  pub keys : All (λ at. IsKeyOf call at.key × HasNoOrder at) loss.keys.items
+  pub keys : All (λ at. IsKeyOf call at.key × HasNoOrder at × WasKeptFor start (events ++ Answer process reply ∷ []) call at) loss.keys.items
   pub some : IsOfOneKey call → loss.keys.items ≢ []
   pub wrong : (more : List Event) → let all = events ++ Answer process reply ∷ more in
       (IsLinearizable start (operations all) → ⊥) × GoesWrongAt (record { start = start; events = all }) loss.number loss.event
 
 -- why it is not known whether they do: a search at a key of the call is beyond the budget, or more rows have an order than are kept
-abbrev pub IsDoubt : Call → ℕ → Doubt → Type 0
-IsDoubt call budget (Budget at) = IsKeyOf call at.key × IsBeyond budget at.key at.kept
-IsDoubt call budget Rows = IsOfOneKey call → ⊥
+abbrev pub IsDoubt : Contents → List Event → Call → ℕ → Doubt → Type 0
+IsDoubt start events call budget (Budget at) = IsKeyOf call at.key × IsBeyond budget at.key at.kept × WasKeptFor start events call at
+IsDoubt start events call budget Rows = IsOfOneKey call → ⊥
 
-pub record IsSpent (events : List Event) (process : ℕ) (budget : ℕ) (event number : ℕ) (doubt : Doubt) : Type 0 where
+pub record IsSpent (start : Contents) (events : List Event) (process : ℕ) (reply : Reply) (budget : ℕ) (event number : ℕ) (doubt : Doubt)
+    : Type 0 where
   pub accepted : answer_fault events process ≡ None
   pub call : Call
   pub told : IsToldOf events process event number call
-  pub doubt_is : IsDoubt call budget doubt
+  pub doubt_is : IsDoubt start (events ++ Answer process reply ∷ []) call budget doubt
 
 -- what an answer comes to
 abbrev pub IsAnswered : Contents → List Event → FollowerView → ℕ → Reply → ℕ → Answered → Type 0
 IsAnswered start events f process reply budget (Going g) =
     (answer_fault events process ≡ None) × IsFollowing start (events ++ Answer process reply ∷ []) g
 IsAnswered start events f process reply budget (Lost loss) = IsLost start events process reply loss
-IsAnswered start events f process reply budget (Spent event number doubt) = IsSpent events process budget event number doubt
+IsAnswered start events f process reply budget (Spent event number doubt) = IsSpent start events process reply budget event number doubt
 IsAnswered start events f process reply budget (Refused g fault) = (answer_fault events process ≡ Some fault) × (g ≡ f)

@@ -8,10 +8,11 @@ use Rattle.map_object.specs.MapObject.{Contents}
 use Rattle.kept_keys.specs.Judging.{IsBeyond}
 use Rattle.kept_keys.specs.Steps.{IsOpenCall}
 use Rattle.kept_rows.specs.Followed.{AreFollowed}
-use Rattle.kept_rows.specs.Outcomes.{HasNoOrder, IsLostFor}
+use Rattle.kept_rows.specs.Outcomes.{HasNoOrder, IsLostFor, WasKept}
 use Rattle.kept_rows.specs.Rows.{RowsView}
 use Rattle.kept_rows.specs.declared.outcomes.Answered.{Answered}
 use Rattle.kept_rows.specs.declared.outcomes.Answered.TheVariants.{Going, Lost, Spent, Crowded}
+use Rattle.kept_rows.specs.declared.outcomes.KeyLoss.{KeyLoss}
 use Rattle.kept_rows.specs.declared.rows.OpenScan.{OpenScan}
 use Rattle.follower.specs.Calls.{IsKeyOf, IsOfOneKey}
 
@@ -43,12 +44,16 @@ IsLimitAmong key limit scans = All (λ s. s.low ≤ key → key ≤ s.high → l
 abbrev pub IsGreatestLimit : ℕ → ℕ → List OpenScan → Type 0
 IsGreatestLimit key limit scans = (other : ℕ) → other < 2 ^ 64 → IsLimitAmong key other scans → other ≤ limit
 
+-- what is told of a key is what is kept of it after the events, where the call is of one key
+abbrev pub WasKeptFor : Contents → List Event → Call → KeyLoss → Type 0
+WasKeptFor start events call at = IsOfOneKey call → WasKept start events at.key at.kept
+
 -- what the answer of an open call makes of the rows
 abbrev pub AreRowsAnswered : Contents → List Event → ℕ → Call → Answered → Type 0
 AreRowsAnswered start events budget call (Going rows) = AreFollowed start events rows
-AreRowsAnswered start events budget call (Lost losses) = All (λ at. IsKeyOf call at.key × HasNoOrder at) losses.items
+AreRowsAnswered start events budget call (Lost losses) = All (λ at. IsKeyOf call at.key × HasNoOrder at × WasKeptFor start events call at) losses.items
     × (IsOfOneKey call → losses.items ≢ []) × IsLostFor start events
-AreRowsAnswered start events budget call (Spent at) = IsKeyOf call at.key × IsBeyond budget at.key at.kept
+AreRowsAnswered start events budget call (Spent at) = IsKeyOf call at.key × IsBeyond budget at.key at.kept × WasKeptFor start events call at
 AreRowsAnswered start events budget call Crowded = IsOfOneKey call → ⊥
 
 -- rows follow some events up to a place, behind which a call is open

@@ -44,4 +44,5 @@ pub mod TurnLemmas
 pub mod TurnedLemmas
 pub mod TurnedRowsLemmas
 pub mod UnseenLemmas
+mod WasKeptLemmas
 pub mod WayLemmas

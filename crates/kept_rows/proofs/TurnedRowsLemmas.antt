@@ -220,7 +220,7 @@ module _ (start : Contents) (events : List Event) (v : RowsView) (h : AreFollowe
       let column = subst (λ (l : List ℕ). Contains l key) (All-contains (λ r. keys_of r.keys ≡ h.columns) v.rows r h.same_keys r_is) named in
       none-some old (sym (All-contains (λ key. entry_at v.base key ≡ None) h.columns key h.parted column) ∙ here))
 
-  kept_for_all : (r : RowView) → Contains v.rows r → kept_at v.base r.keys key ≡ old
+  pub kept_for_all : (r : RowView) → Contains v.rows r → kept_at v.base r.keys key ≡ old
   kept_for_all r r_is =
       ap (λ (o : Option KeptView). or_fresh (or_else o (entry_at v.base key))) (not_own r r_is) ∙ ap or_fresh here
 

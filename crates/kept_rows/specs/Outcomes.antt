@@ -1,13 +1,17 @@
 -- What an answer makes of rows.
-use Rattle.std.specs.Prelude.{◌≡◌, ◌≢◌, ◌↔◌, ℕ, ◌≤◌, List, [], ◌++◌, None, All, Contains, ⊤}
+use Rattle.std.specs.Prelude.{◌≡◌, ◌≢◌, ◌↔◌, ℕ, ◌≤◌, true, List, [], ◌++◌, None, All, Contains, ⊤}
 use Rattle.events.specs.declared.event.Call.TheVariants.{Scan}
 use Rattle.events.specs.declared.event.Event.{Event}
 use Rattle.events.specs.declared.operation.Operation.{Operation}
 use Rattle.events.specs.Operations.{operations}
 use Rattle.map_object.specs.MapObject.{Contents}
 use Rattle.orders.specs.Orders.{IsLinearizable}
+use Rattle.following.specs.keys.KeyStates.{Timings}
 use Rattle.following.specs.keys.Settling.{IsOpenScanOver}
+use Rattle.following.specs.moments.Timings.{IsTiming}
 use Rattle.kept_keys.specs.Judging.{HasOrder, IsBeyond}
+use Rattle.kept_keys.specs.Kept.{IsKept}
+use Rattle.kept_keys.specs.Views.{KeptView}
 use Rattle.kept_rows.specs.Followed.{AreFollowed}
 use Rattle.kept_rows.specs.declared.outcomes.Answered.{Answered}
 use Rattle.kept_rows.specs.declared.outcomes.Answered.TheVariants.{Going, Lost, Spent, Crowded}
@@ -26,13 +30,31 @@ IsLimitOf events key limit = (a : Operation) → Contains (operations events) a 
 abbrev pub HasNoOrder : KeyLoss → Type 0
 HasNoOrder loss = HasOrder loss.key loss.kept → ⊥
 
+-- What is told of a key is what is kept of it after the events, in a class of timings of which there is one: its configurations, and the values of each,
+-- stand for them, and its calls are those that are left.
+pub record WasKept (start : Contents) (events : List Event) (key : ℕ) (kept : KeptView) : Type 0 where
+  pub allows : Timings
+  pub spread : ℕ → ℕ
+  pub moment : ℕ → ℕ
+  pub timing : IsTiming (operations events) spread moment
+  pub allowed : allows spread moment ≡ true
+  pub numbers : ℕ → ℕ
+  pub gone : List ℕ
+  pub is_kept : IsKept start events allows numbers key gone kept
+
+-- a key that has no order with the events, as it is kept after them
+pub record IsLostAt (start : Contents) (events : List Event) (key : ℕ) (loss : KeyLoss) : Type 0 where
+  pub key_is : loss.key ≡ key
+  pub none : HasNoOrder loss
+  pub was : WasKept start events loss.key loss.kept
+
 -- what the answer of a call of one key comes to: the rows follow the events with it, or no row has an order at that key, and no events have one, or
 -- of what is kept there a search is beyond the budget
 abbrev pub IsAnswered : Contents → List Event → ℕ → ℕ → Answered → Type 0
 IsAnswered start events budget key (Going rows) = AreFollowed start events rows
 IsAnswered start events budget key (Lost losses) =
-    (losses.items ≢ []) × All (λ loss. (loss.key ≡ key) × HasNoOrder loss) losses.items × IsLostFor start events
-IsAnswered start events budget key (Spent loss) = (loss.key ≡ key) × IsBeyond budget key loss.kept
+    (losses.items ≢ []) × All (IsLostAt start events key) losses.items × IsLostFor start events
+IsAnswered start events budget key (Spent loss) = (loss.key ≡ key) × IsBeyond budget key loss.kept × WasKept start events loss.key loss.kept
 IsAnswered start events budget key Crowded = ⊥
 
 -- the open scans, each with its range

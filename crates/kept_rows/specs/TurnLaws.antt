@@ -1,14 +1,14 @@
 -- Laws of rows that take the answers of calls of one key.
-use Rattle.std.specs.Prelude.{◌≡◌, ◌≢◌, ℕ, List, [], ◌∷◌, ◌++◌, length, Some}
+use Rattle.std.specs.Prelude.{◌≡◌, ◌≢◌, ℕ, List, [], ◌∷◌, ◌++◌, length, Some, Contains}
 use Rattle.events.specs.declared.event.Event.{Event}
 use Rattle.events.specs.declared.event.Event.TheVariants.{Answer}
 use Rattle.map_object.specs.MapObject.{Contents}
 use Rattle.past_choices.specs.Values.{IsCallOf}
-use Rattle.kept_keys.specs.Steps.{IsOpenCall}
+use Rattle.kept_keys.specs.Steps.{IsAnswered, IsOpenCall}
 use Rattle.kept_keys.specs.Views.{KeptView}
 use Rattle.kept_rows.specs.Followed.{AreFollowed}
-use Rattle.kept_rows.specs.Outcomes.{IsLostFor, IsLimitOf}
-use Rattle.kept_rows.specs.Rows.{RowView, RowsView, entry_at, or_fresh}
+use Rattle.kept_rows.specs.Outcomes.{IsLostFor, IsLimitOf, WasKept}
+use Rattle.kept_rows.specs.Rows.{RowView, RowsView, entry_at, kept_at, or_fresh}
 use Rattle.kept_rows.specs.Turning.{CallAnswer, IsTurned, IsTurnedDown, AreTurned}
 use Rattle.kept_rows.specs.declared.outcomes.KeyLoss.{KeyLoss}
 
@@ -40,3 +40,10 @@ BaseIsLost =
     (start : Contents) (events : List Event) (process : ℕ) (a : CallAnswer) (limit : ℕ) (v : RowsView) (old answered : KeptView)
     → AreFollowed start events v → IsAnswerOf events process a limit → entry_at v.base a.key ≡ Some old → IsTurnedDown a old answered
     → IsLostFor start (events ++ Answer process a.reply ∷ [])
+
+-- what a row keeps of the key is kept with the answer
+abbrev pub AnswersAreKept : Type 0
+AnswersAreKept =
+    (start : Contents) (events : List Event) (process : ℕ) (a : CallAnswer) (limit : ℕ) (v : RowsView) (r : RowView) (old answered : KeptView)
+    → AreFollowed start events v → IsAnswerOf events process a limit → Contains v.rows r → kept_at v.base r.keys a.key ≡ old
+    → IsAnswered a.place a.name a.call a.reply old answered → WasKept start (events ++ Answer process a.reply ∷ []) a.key answered

@@ -1,9 +1,8 @@
 -- What becomes of a key, of a row and of rows where a call of the key is answered, as the code gives it.
-use Rattle.std.specs.Prelude.{◌≡◌, ◌≢◌, ℕ, List, [], ◌∷◌, slice_index_or, slice_set}
-use Rattle.kept_keys.specs.Judging.{IsBeyond}
+use Rattle.std.specs.Prelude.{◌≡◌, ◌≢◌, ℕ, List, [], ◌∷◌, Any, slice_index_or, slice_set}
 use Rattle.kept_keys.specs.Views.{KeptView}
 use Rattle.kept_rows.specs.Rows.{RowView, entry_at, or_fresh}
-use Rattle.kept_rows.specs.Turning.{CallAnswer, IsTurned, IsTurnedDown, IsTurnedAway, IsRowTurned, IsRowTurnedDown, AreTurned}
+use Rattle.kept_rows.specs.Turning.{CallAnswer, IsTurned, IsTurnedDown, IsTurnedAway, IsRowTurned, IsRowTurnedDown, IsRowTurnedAway, AreTurned}
 use Rattle.kept_rows.specs.declared.outcomes.Answered.{Answered}
 use Rattle.kept_rows.specs.declared.outcomes.Answered.TheVariants as answers
 use Rattle.kept_rows.specs.declared.outcomes.KeyLoss.{KeyLoss}
@@ -30,20 +29,16 @@ IsKeyTurned a scans limit budget old (keys.Stays new) = IsTurned a scans limit o
 IsKeyTurned a scans limit budget old (keys.Goes answered) = IsTurnedDown a old answered
 IsKeyTurned a scans limit budget old (keys.Away answered) = IsTurnedAway a budget old answered
 
--- a search of what is kept of the key is beyond the budget
-abbrev pub IsAway : CallAnswer → ℕ → KeyLoss → Type 0
-IsAway a budget loss = (loss.key ≡ a.key) × IsBeyond budget a.key loss.kept
-
 -- the same of a row, by its own key
 abbrev pub IsOneTurned : CallAnswer → ℕ → ℕ → RowView → TurnedRow → Type 0
 IsOneTurned a limit budget r (single.Stays s) = IsRowTurned a limit r s
 IsOneTurned a limit budget r (single.Goes loss) = IsRowTurnedDown a r loss
-IsOneTurned a limit budget r (single.Away loss) = IsAway a budget loss
+IsOneTurned a limit budget r (single.Away loss) = IsRowTurnedAway a budget r loss
 
 -- and of rows
 abbrev pub AreAllTurned : CallAnswer → ℕ → ℕ → List RowView → TurnedRows → Type 0
 AreAllTurned a limit budget rows (several.Turned next losses) = AreTurned a limit rows next.items losses.items
-AreAllTurned a limit budget rows (several.Away loss) = IsAway a budget loss
+AreAllTurned a limit budget rows (several.Away loss) = Any (λ r. IsRowTurnedAway a budget r loss) rows
 
 -- what is kept elsewhere with another key
 pub record HasKept (a : CallAnswer) (limit : ℕ) (old : KeptView) (base next : List (ℕ × KeptView)) : Type 0 where
@@ -57,7 +52,7 @@ abbrev pub IsBaseTurned : CallAnswer → ℕ → ℕ → KeptView → List (ℕ 
 IsBaseTurned a limit budget old base rows (answers.Going v) = (v.rows ≡ rows) × HasKept a limit old base v.base
 IsBaseTurned a limit budget old base rows (answers.Lost losses) =
     (loss : KeyLoss) × ((losses.items ≡ loss ∷ []) × (loss.key ≡ a.key) × IsTurnedDown a old loss.kept)
-IsBaseTurned a limit budget old base rows (answers.Spent loss) = IsAway a budget loss
+IsBaseTurned a limit budget old base rows (answers.Spent loss) = (loss.key ≡ a.key) × IsTurnedAway a budget old loss.kept
 IsBaseTurned a limit budget old base rows answers.Crowded = ⊥
 
 -- a key turns that is the rows' own
@@ -65,5 +60,5 @@ abbrev pub AreRowsTurned : CallAnswer → ℕ → ℕ → List (ℕ × KeptView)
 AreRowsTurned a limit budget base rows (answers.Going v) =
     (v.base ≡ base) × (v.rows ≢ []) × ((losses : List KeyLoss) × AreTurned a limit rows v.rows losses)
 AreRowsTurned a limit budget base rows (answers.Lost losses) = AreTurned a limit rows [] losses.items
-AreRowsTurned a limit budget base rows (answers.Spent loss) = IsAway a budget loss
+AreRowsTurned a limit budget base rows (answers.Spent loss) = Any (λ r. IsRowTurnedAway a budget r loss) rows
 AreRowsTurned a limit budget base rows answers.Crowded = ⊥

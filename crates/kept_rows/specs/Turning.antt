@@ -57,6 +57,13 @@ pub record IsRowTurnedDown (a : CallAnswer) (r : RowView) (loss : KeyLoss) : Typ
   pub key : loss.key ≡ a.key
   pub turned_down : IsTurnedDown a old loss.kept
 
+-- and one whose search is beyond the budget
+pub record IsRowTurnedAway (a : CallAnswer) (budget : ℕ) (r : RowView) (loss : KeyLoss) : Type 0 where
+  pub old : KeptView
+  pub here : entry_at r.keys a.key ≡ Some old
+  pub key : loss.key ≡ a.key
+  pub turned_away : IsTurnedAway a budget old loss.kept
+
 -- rows go on with the answer, or are lost, one after another
 pub data AreTurned (a : CallAnswer) (limit : ℕ) : List RowView → List RowView → List KeyLoss → Type 0 where
   at_start : AreTurned a limit [] [] []

@@ -13,7 +13,9 @@ ghost use Rattle.kept_rows.specs.Sound.{IsAnswerable, MayRowTurn, MayTurn};
 ghost use Rattle.kept_rows.specs.Turned.{AreRowsTurned, IsBaseTurned, answer_of};
 
 use crate::known::Known;
-use crate::laws::turns::{base_is_lost, base_takes_answers, rows_take_answers};
+use crate::laws::turns::{
+    answers_are_kept, base_is_lost, base_takes_answers, rows_take_answers,
+};
 use crate::outcomes::{Answered, KeyLoss};
 use crate::own_keys::is_own;
 use crate::row::Row;
@@ -48,6 +50,7 @@ impl Rows {
         rows_take_answers();
         base_takes_answers();
         base_is_lost();
+        answers_are_kept();
         let Rows { mut base, rows } = self;
         let answer = GivenAnswer {
             place,

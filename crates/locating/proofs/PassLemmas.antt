@@ -127,7 +127,7 @@ module _ (history : HistoryView) (place process : ℕ) (reply : Reply) (here : s
     followed = followed loss.event (Lost loss) is.told.event_is is;
   }
 
-  pub spent : (event number : ℕ) (doubt : Doubt) → IsSpent (take place history.events) process budget event number doubt
+  pub spent : (event number : ℕ) (doubt : Doubt) → IsSpent history.start (take place history.events) process reply budget event number doubt
       → IsUndecidedAt budget history event number doubt
   spent event number doubt is = record {
     before = subst (λ (n : ℕ). IsLinearizable history.start (operations (take n history.events)))

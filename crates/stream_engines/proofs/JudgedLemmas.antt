@@ -70,7 +70,7 @@ lost_at budget (Some text) read next f process reply loss (Answered answer bytes
 pub spent_at : (budget : ℕ) (told : Option (List ℕ)) (read : List (List ℕ)) (next : List ℕ) (f : Followed) (process : ℕ)
     (reply : Reply) (event number : ℕ) (doubt : Doubt) (outcome : Outcome) (followed : IsFollowed read f)
     → SpellsEvent f.version next (Answer process reply) → BeginsWith told (read ++ next ∷ [])
-    → IsSpent followed.stream.events process budget event number doubt
+    → IsSpent followed.stream.start followed.stream.events process reply budget event number doubt
     → IsAnsweredBy Undecided (line (compact_text (spent_data event number doubt))) outcome → IsStreamOutcome budget told outcome
 spent_at budget told read next f process reply event number doubt Memory followed spelled begins judged is = tt
 spent_at budget told read next f process reply event number doubt (Refused bytes hint) followed spelled begins judged is = absurd is
@@ -84,7 +84,7 @@ spent_at budget (Some text) read next f process reply event number doubt (Answer
       number,
       doubt,
       judged_of text read begins.0 next f process reply
-          (λ start events process reply. IsSpent events process budget event number doubt) followed spelled begins.1 judged,
+          (λ start events process reply. IsSpent start events process reply budget event number doubt) followed spelled begins.1 judged,
       is.1,
       refl,
     )

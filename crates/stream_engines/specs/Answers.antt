@@ -65,7 +65,7 @@ GoesWrongHere lines loss = IsJudgedAnswer lines (λ start events process reply. 
 -- it is not known whether they do, at this budget
 abbrev pub IsDoubtedHere : ℕ → List (List ℕ) → ℕ → ℕ → Doubt → Type 0
 IsDoubtedHere budget lines event number doubt =
-    IsJudgedAnswer lines (λ start events process reply. IsSpent events process budget event number doubt)
+    IsJudgedAnswer lines (λ start events process reply. IsSpent start events process reply budget event number doubt)
 
 -- the line of the text of a history; nothing where that would be too long
 abbrev pub IsHistoryLine : HistoryView → List ℕ → Type 0

@@ -7,7 +7,7 @@ use Rattle.kept_rows.specs.Beginning.{AreRising, IsEntryAt}
 use Rattle.kept_rows.specs.Rows.{RowView, entry_at}
 use Rattle.kept_rows.specs.Sound.{MayTurn}
 use Rattle.kept_rows.specs.Turned.{HasOther, IsKeyTurned, answer_of}
-use Rattle.kept_rows.specs.Turning.{IsTurned, IsTurnedDown}
+use Rattle.kept_rows.specs.Turning.{IsTurned, IsTurnedDown, IsTurnedAway}
 use Rattle.kept_rows.proofs.OwnKeyLemmas.{own_changed, own_kept}
 use Rattle.kept_rows.proofs.turning_rows.turn_row.Goals as goal
 
@@ -80,6 +80,26 @@ returns-in-Goes c =
       key = refl;
       turned_down = subst (λ k. IsTurnedDown (answer_of a) k c.in-Goes.kept) (sym kept_is)
           (subst (IsKeyTurned (answer_of a) c.deref-2.result.now c.args.limit c.args.budget c.take_at-kept.result) c.in-Goes.is c.in_ok-new.ensures);
+    }
+
+-- src/turning_rows.rt:60:1
+pub returns-in-Away : goal.returns-in-Away
+returns-in-Away c =
+    let a = c.args.answer.now in
+    let at = c.in-Some.at in
+    let old = c.requires.may_turn.old in
+    let row = c.args.row in
+    let view_is : c.row.inside.keys.items ≡ row.keys = ap (λ (r : RowView). r.keys) c.row.view_is in
+    let here : IsEntryAt row.keys a.key at = subst (λ l. IsEntryAt l a.key at) (c.deref.ensures.value ∙ view_is) c.in-Some.ensures in
+    let taken : (other : ℕ × KeptView) → c.take_at-kept.result ≡ (get_or row.keys at other).1 =
+    subst (λ l. (other : ℕ × KeptView) → c.take_at-kept.result ≡ (get_or l at other).1) view_is c.take_at-kept.ensures.taken in
+    let kept_is = own_kept row c.requires.may_turn.rising a.key at here old c.take_at-kept.result taken c.requires.may_turn.here in
+    record {
+      old = old;
+      here = c.requires.may_turn.here;
+      key = refl;
+      turned_away = subst (λ k. IsTurnedAway (answer_of a) c.args.budget k c.in-Away.kept) (sym kept_is)
+          (subst (IsKeyTurned (answer_of a) c.deref-2.result.now c.args.limit c.args.budget c.take_at-kept.result) c.in-Away.is c.in_ok-new.ensures);
     }
 
 -- src/turning_rows.rt:83:13

@@ -40,7 +40,7 @@ returns-then-is_own c start events process followed place own opened limit =
     let answer : IsAnswerOf events process a c.args.limit = record { place = sym place; of_key = own; is_open = opened; limit_is = limit } in
     IfOk-weaker c.answer_in_rows.result (AreRowsTurned a c.args.limit c.args.budget base c.self.inside.rows.items)
     (IsAnswered start (events ++ Answer process c.args.reply ∷ []) c.args.budget c.args.key)
-    (λ answered turned. rows_answered start events process a c.args.limit c.args.budget v followed answer c.rows_take_answers.ensures
+    (λ answered turned. rows_answered start events process a c.args.limit c.args.budget v followed answer c.rows_take_answers.ensures c.answers_are_kept.ensures
     base answered (subst (λ rows. AreRowsTurned a c.args.limit c.args.budget base rows answered) rows_are turned) base_is)
     c.answer_in_rows.ensures
 
@@ -92,6 +92,6 @@ returns c start events process followed place own opened limit =
     ∙ ap (λ l. entry_at l other) base_is in
     IfOk-weaker c.answer_in_base.result (IsBaseTurned a c.args.limit c.args.budget kept rest c.self.inside.rows.items)
     (IsAnswered start (events ++ Answer process c.args.reply ∷ []) c.args.budget c.args.key)
-    (λ answered turned. base_answered start events process a c.args.limit c.args.budget v followed answer c.base_takes_answers.ensures c.base_is_lost.ensures
+    (λ answered turned. base_answered start events process a c.args.limit c.args.budget v followed answer c.base_takes_answers.ensures c.base_is_lost.ensures c.answers_are_kept.ensures
     kept rest answered here others (subst (λ rows. IsBaseTurned a c.args.limit c.args.budget kept rest rows answered) rows_are turned))
     c.answer_in_base.ensures

@@ -1,9 +1,10 @@
-use Rattle.std.proofs.Common.{subst}
+use Rattle.std.proofs.Common.{[], ◌∷◌, ◌++◌, subst}
 use Rattle.std.proofs.lemmas.List.Elements.{All-weaker}
 use Rattle.events.specs.declared.event.Event.TheVariants.{Answer}
 use Rattle.kept_rows.specs.Outcomes.{HasNoOrder}
 use Rattle.follower.specs.Calls.{IsKeyOf}
 use Rattle.follower.specs.Outcomes.{IsAnswered}
+use Rattle.follower.specs.Steps.{WasKeptFor}
 use Rattle.follower.specs.declared.answered.Answered.{Answered}
 use Rattle.stream_engines.proofs.FollowedLemmas.{answered}
 use Rattle.stream_engines.proofs.JudgedLemmas.{lost_at, spent_at}
@@ -33,7 +34,9 @@ returns-in-Ok-Lost-clause-stopped c = λ told read count followed spelled begins
     c.in-Ok-Lost.field-0-is
     (c.in-Ok-Lost.ensures stream.start stream.events followed.follows) in
     lost_at c.args.budget told read line c.args.self process reply loss c.lost_outcome.result followed spelled begins taken
-    (c.lost_outcome.ensures (All-weaker (λ at. IsKeyOf taken.call at.key × HasNoOrder at) HasNoOrder (λ at here. here.1) loss.keys.items taken.keys))
+    (c.lost_outcome.ensures (All-weaker
+    (λ at. IsKeyOf taken.call at.key × HasNoOrder at × WasKeptFor stream.start (stream.events ++ Answer process reply ∷ []) taken.call at)
+    HasNoOrder (λ at here. here.1) loss.keys.items taken.keys))
 
 pub returns-in-Ok-Spent-clause-stopped : goal.returns-in-Ok-Spent-clause-stopped
 returns-in-Ok-Spent-clause-stopped c = λ told read count followed spelled begins.
