@@ -1,6 +1,6 @@
 -- Entries of a map, by key.
 use Rattle.std.proofs.Common.{◌≡◌, ◌≢◌, ℕ, ◌+◌, get_or, drop, ◌<◌, ◌≤◌, ◌==◌, ◌&&◌, Bool, true, false, cond, List, [], ◌∷◌, ◌++◌, length, take, map, filter}
-use Rattle.std.proofs.Common.{Bor, refl, sym, ap, ◌∙◌, subst, ⊎_elim, arith, Option, Some, None}
+use Rattle.std.proofs.Common.{Bor, refl, sym, ap, ◌∙◌, subst, ⊎_elim, arith, Option, Some, None, Result, Ok, Err, OnOk}
 use Rattle.std.specs.Prelude.{◌↔◌, not, if◌then◌else◌, MatchOption, All, AllPairs, Contains, option_map}
 use Rattle.std.specs.Option.{IsSome, option_copied}
 use Rattle.std.specs.Ordering.{nat_cmp, is_eq, is_le, is_lt}
@@ -16,9 +16,12 @@ use Rattle.std.proofs.lemmas.List.Elements.{All-head, All-tail, All-weaker}
 use Rattle.list_laws.proofs.Lists.{Contains-cases, Contains-first, Contains-later, Contains-nil}
 use Rattle.list_laws.proofs.Lists.{AllPairs-across, Contains-filter, Contains-from_filter}
 use Rattle.list_laws.proofs.Places.{parts_at}
+use Rattle.events.specs.declared.event.Call.{Call}
 use Rattle.map_object.specs.MapObject.{Contents, IsRising, value_at}
+use Rattle.kept_keys.specs.Steps.{with_call}
 use Rattle.kept_keys.specs.Views.{KeptView, fresh}
-use Rattle.kept_rows.specs.Rows.{entry_at}
+use Rattle.kept_rows.specs.Beginning.{HasBegunIn}
+use Rattle.kept_rows.specs.Rows.{entry_at, or_fresh}
 
 -- a query is at a key where it is the same number
 pub at_key : (key other : ℕ) → is_eq (nat_cmp key other) ≡ (other == key)
@@ -146,3 +149,36 @@ keys_within-each es low high key = (
       Contains-map f (filter (is_in_range low high) es) (key, kept)
       (Contains-filter (is_in_range low high) es (key, kept) known (in_range-from low high key h.0 h.1)),
 )
+
+-- of two that agree where a test passes
+same_if : {X : Type 0} (b : Bool) (x y other : X) → (b ≡ true → x ≡ y) → (if b then x else other) ≡ (if b then y else other)
+same_if true x y other same = same refl
+same_if false x y other same = refl
+
+-- a key that is kept as before takes a call
+pub begun_there : (old new : List (ℕ × KeptView)) (key place : ℕ) (call : Call) (kept : KeptView) → or_fresh (entry_at old key) ≡ kept
+    → ((other : ℕ) → entry_at new other ≡ (if other == key then Some (with_call place call kept) else entry_at old other))
+    → HasBegunIn key place call old new
+begun_there old new key place call kept known changed other =
+    changed other
+    ∙ same_if (other == key) (Some (with_call place call kept)) (Some (with_call place call (or_fresh (entry_at old other)))) (entry_at old other)
+    (λ here. ap (λ k. Some (with_call place call k)) (sym (ap (λ k. or_fresh (entry_at old k)) (eqb-true other key here) ∙ known)))
+
+-- where it was written through
+pub written_there : {E : Type 0} (result : Result (Unit {0}) E) (old new : List (ℕ × KeptView)) (key place : ℕ) (call : Call) (kept next : KeptView)
+    → entry_at old key ≡ Some kept → ((other : ℕ) → entry_at new other ≡ (if other == key then Some next else entry_at old other))
+    → OnOk result (next ≡ with_call place call kept) → OnOk result (HasBegunIn key place call old new)
+written_there (Ok u) old new key place call kept next known changed is =
+    begun_there old new key place call kept (ap or_fresh known)
+    (subst (λ k. (other : ℕ) → entry_at new other ≡ (if other == key then Some k else entry_at old other)) is changed)
+written_there (Err e) old new key place call kept next known changed is = is
+
+-- or where it comes to the map
+pub put_there : {E : Type 0} (result : Result (Unit {0}) E) (old new : List (ℕ × KeptView)) (key place : ℕ) (call : Call) (kept : KeptView)
+    → entry_at old key ≡ None → kept ≡ with_call place call (fresh None)
+    → OnOk result ((other : ℕ) → entry_at new other ≡ (if other == key then Some kept else entry_at old other))
+    → OnOk result (HasBegunIn key place call old new)
+put_there (Ok u) old new key place call kept none is changed =
+    begun_there old new key place call (fresh None) (ap or_fresh none)
+    (subst (λ k. (other : ℕ) → entry_at new other ≡ (if other == key then Some k else entry_at old other)) is changed)
+put_there (Err e) old new key place call kept none is changed = changed

@@ -23,6 +23,7 @@ pub mod OwnKeyLemmas
 pub mod PartedLemmas
 pub mod PassLemmas
 pub mod PlaceLemmas
+pub mod RestingLemmas
 pub mod RowEntryLemmas
 pub mod ScanEndLemmas
 pub mod ScanGapLemmas

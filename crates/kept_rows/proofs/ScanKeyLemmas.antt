@@ -113,6 +113,19 @@ fresh_may value =
     let c : Configuration = record { taken = []; values = value ∷ []; ahead = [] } in
     Any-first (λ (c : Configuration). Contains c.values value) c [] (Contains-first value [])
 
+pub may_if : (value held : Option ℕ) → value ≡ held → MayHave value (fresh held)
+may_if value held same = subst (λ v. MayHave value (fresh v)) same (fresh_may value)
+
+-- and it may have no other
+pub may_only : (value held : Option ℕ) → MayHave value (fresh held) → value ≡ held
+may_only value held may =
+    let only : Configuration = record { taken = []; values = held ∷ []; ahead = [] } in
+    let (c, c_is, has) = any_to (λ (c : Configuration). Contains c.values value) (only ∷ []) may in ⊎_elim
+    (λ first. ⊎_elim (λ same. sym same) (λ rest. absurd (Contains-nil value rest))
+    (Contains-cases held [] value (subst (λ (c : Configuration). Contains c.values value) (sym first) has)))
+    (λ rest. absurd (Contains-nil c rest))
+    (Contains-cases only [] c c_is)
+
 -- a key that has what the scan was told has seen it
 pub seen_as_known : (s : ScanAnswer) (key : ℕ) (base : List (ℕ × KeptView)) (value : Option ℕ) → value ≡ value_at s.pairs key
     → or_fresh (entry_at base key) ≡ fresh value → HasSeenAt s key base base

@@ -11,6 +11,7 @@ pub mod Parting
 pub mod Places
 pub mod Placing
 pub mod Printing
+pub mod Resting
 pub mod Rows
 pub mod Scannable
 pub mod Settling

@@ -1,11 +1,11 @@
 // A call of one key is answered.
-ghost use Rattle.std.specs.Prelude.{◌≡◌, ◌≢◌, ℕ, ◌<◌, ◌-◌, ◌++◌, ◌∷◌, [], All, List, length, None, IfOk, IsTrue, OnOk};
+ghost use Rattle.std.specs.Prelude.{◌≡◌, ◌≢◌, ℕ, ◌<◌, ◌-◌, ◌++◌, ◌∷◌, [], All, List, length, None, IfOk, OnOk};
 ghost use Rattle.events.specs.declared.event.Event.{Event};
 ghost use Rattle.events.specs.declared.event.Event.TheVariants.{Answer};
 ghost use Rattle.map_object.specs.MapObject.{Contents};
 ghost use Rattle.past_choices.specs.Values.{IsCallOf};
 ghost use Rattle.kept_keys.specs.Steps.{IsOpenCall};
-ghost use Rattle.kept_keys.specs.Views.{fresh, place_limit};
+ghost use Rattle.kept_keys.specs.Views.{place_limit};
 ghost use Rattle.kept_rows.specs.Followed.{AreFollowed};
 ghost use Rattle.kept_rows.specs.Outcomes.{IsAnswered, IsLimitOf};
 ghost use Rattle.kept_rows.specs.Rows.{entry_at, or_fresh};
@@ -13,9 +13,8 @@ ghost use Rattle.kept_rows.specs.Sound.{IsAnswerable, MayRowTurn, MayTurn};
 ghost use Rattle.kept_rows.specs.Turned.{AreRowsTurned, IsBaseTurned, answer_of};
 
 use crate::known::Known;
-use crate::laws::turns::{
-    answers_are_kept, base_is_lost, base_takes_answers, rows_take_answers,
-};
+use crate::known_key::KnownKey;
+use crate::laws::turns::{answers_are_kept, base_is_lost, base_takes_answers, rows_take_answers};
 use crate::outcomes::{Answered, KeyLoss};
 use crate::own_keys::is_own;
 use crate::row::Row;
@@ -62,9 +61,10 @@ impl Rows {
         if is_own(&rows, key) {
             return answer_in_rows(alloc, &answer, base, rows, limit, budget);
         }
-        let Some(kept) = base.take(key) else {
+        let Some(known) = base.take(key) else {
             unreachable!();
         };
+        let kept = known.whole(alloc)?;
         answer_in_base(alloc, &answer, kept, base, rows, limit, budget)
     }
 }
@@ -87,7 +87,8 @@ fn answer_in_base(
     let key = answer.key;
     match turn_key(alloc, answer, kept, &[], limit, budget)? {
         TurnedKey::Stays(new) => {
-            keep(&mut base, key, new)?;
+            let known = KnownKey::of(alloc, new)?;
+            keep(&mut base, key, known)?;
             Ok(Answered::Going(Rows { base, rows }))
         }
         TurnedKey::Goes(kept) => {
@@ -99,26 +100,15 @@ fn answer_in_base(
 }
 
 /// Keeps something of a key, unless it is what a key is of which nothing is kept.
-fn keep(base: &mut Known, key: u64, kept: KeptKey) -> Result<(), Memory>
+fn keep(base: &mut Known, key: u64, known: KnownKey) -> Result<(), Memory>
     requires { entry_at base.old key ≡ None }
-    ensures here { OnOk result (or_fresh (entry_at base.new key) ≡ kept) }
+    ensures here { OnOk result (or_fresh (entry_at base.new key) ≡ known) }
     ensures others { OnOk result ((other : ℕ) → other ≢ key → entry_at base.new other ≡ entry_at base.old other) }
 {
-    if is_fresh(&kept) {
+    if known.is_fresh(None) {
         return Ok(());
     }
-    base.put(key, kept)
-}
-
-/// Whether no call is left of a key, and it is certain that it has no value.
-fn is_fresh(kept: &KeptKey) -> bool
-    ensures { IsTrue result → kept.now ≡ fresh None }
-{
-    if !kept.names.is_empty() || !kept.calls.is_empty() || kept.configurations.len() != 1 {
-        return false;
-    }
-    let c = &kept.configurations[0];
-    c.taken.is_empty() && c.ahead.is_empty() && c.values.len() == 1 && c.values[0].is_none()
+    base.put(key, known)
 }
 
 /// Takes the answer at a key that is each row's own.

@@ -8,6 +8,7 @@ ghost use Rattle.kept_rows.specs.Parting.{HaveColumns};
 ghost use Rattle.kept_keys.specs.Views.{width};
 ghost use Rattle.kept_rows.specs.Tidying.{AreClosed, HasNoGets, IsWithout};
 
+use crate::known_key::KnownKey;
 use crate::laws::tidies::closed_keys_follow;
 use crate::row::Row;
 use crate::rows::Rows;
@@ -46,7 +47,8 @@ fn key_closed(alloc: Global, all: Rows, column: usize) -> Result<Rows, Memory>
         Some((key, kept)) => {
             let Rows { mut base, rows } = all;
             let rows = rows_without(alloc, rows, column)?;
-            base.put(key, kept)?;
+            let known = KnownKey::of(alloc, kept)?;
+            base.put(key, known)?;
             Ok(Rows { base, rows })
         }
     }

@@ -2,19 +2,20 @@
 ghost use Rattle.std.specs.Prelude.{◌≡◌, ◌↔◌, ℕ, ◌==◌, ◌<◌, ◌≤◌, if◌then◌else◌, Option, Some, None, AllPairs, Contains, IfOk, OnOk, MatchOption, option_map};
 ghost use Rattle.std.specs.Option.{IsSome};
 ghost use Rattle.map_object.specs.MapObject.{IsRising, value_at};
-ghost use Rattle.kept_keys.specs.Views.{fresh};
+ghost use Rattle.kept_keys.specs.Views.{fresh, place_limit};
+ghost use Rattle.kept_rows.specs.Beginning.{HasBegunIn};
 ghost use Rattle.kept_rows.specs.Rows.{entry_at};
 
-use events::Memory;
-use kept_keys::KeptKey;
+use crate::known_key::KnownKey;
+use events::{Call, Memory};
 use std::alloc::Global;
 use std::collections::BTreeMap;
 use std::marker::Model;
 
-/// What is kept of keys. One of which nothing is kept has no value, and no call left.
+/// What is kept of keys. One of which nothing is kept has no value, and no call left. A key at rest takes some 57 bytes, with its part of the map.
 #[derive(Drop)]
 pub struct Known {
-    keys: BTreeMap<u64, KeptKey>,
+    keys: BTreeMap<u64, KnownKey>,
 }
 
 impl Model for Known {
@@ -34,32 +35,65 @@ impl Known {
     {
         let mut keys = BTreeMap::new(alloc);
         for pair in start {
-            let kept = KeptKey::fresh(alloc, Some(pair.1))?;
-            keys.insert(pair.0, kept)?;
+            keys.insert(pair.0, KnownKey::at_rest(Some(pair.1)))?;
         }
         Ok(Known { keys })
     }
 
     /// What is kept of a key.
-    pub fn look(&self, key: u64) -> Option<&KeptKey>
+    pub fn look(&self, key: u64) -> Option<&KnownKey>
         ensures { MatchOption result (entry_at self.now key ≡ None) (λ kept. entry_at self.now key ≡ Some kept.now) }
     {
         self.keys.get(&key)
     }
 
     /// Takes out what is kept of a key.
-    pub fn take(&mut self, key: u64) -> Option<KeptKey>
+    pub fn take(&mut self, key: u64) -> Option<KnownKey>
         ensures taken { result ≡ entry_at self.old key }
         ensures left { (other : ℕ) → entry_at self.new other ≡ (if other == key then None else entry_at self.old other) }
     {
         self.keys.remove(&key)
     }
 
-    /// Keeps something of a key.
-    pub fn put(&mut self, key: u64, kept: KeptKey) -> Result<(), Memory>
-        ensures { OnOk result ((other : ℕ) → entry_at self.new other ≡ (if other == key then Some kept else entry_at self.old other)) }
+    /// A key takes the invocation of a call, at its place in the stream.
+    pub fn begin_call(
+        &mut self,
+        alloc: Global,
+        key: u64,
+        place: usize,
+        call: Call,
+    ) -> Result<(), Memory>
+        requires { place < place_limit }
+        ensures { OnOk result (HasBegunIn key place call self.old self.new) }
     {
-        self.keys.insert(key, kept)?;
+        match self.keys.get_mut(&key) {
+            Some(known) => known.begin_call(alloc, place, call),
+            None => self.begin_first_call(alloc, key, place, call),
+        }
+    }
+
+    /// A key of which nothing is kept takes the invocation of a call.
+    fn begin_first_call(
+        &mut self,
+        alloc: Global,
+        key: u64,
+        place: usize,
+        call: Call,
+    ) -> Result<(), Memory>
+        requires place { place < place_limit }
+        requires none { entry_at self.old key ≡ None }
+        ensures { OnOk result (HasBegunIn key place call self.old self.new) }
+    {
+        let mut known = KnownKey::at_rest(None);
+        known.begin_call(alloc, place, call)?;
+        self.put(key, known)
+    }
+
+    /// Keeps something of a key.
+    pub fn put(&mut self, key: u64, known: KnownKey) -> Result<(), Memory>
+        ensures { OnOk result ((other : ℕ) → entry_at self.new other ≡ (if other == key then Some known else entry_at self.old other)) }
+    {
+        self.keys.insert(key, known)?;
         Ok(())
     }
 

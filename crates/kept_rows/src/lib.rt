@@ -8,6 +8,7 @@ mod forgetting;
 mod halt;
 mod joining;
 mod known;
+mod known_key;
 mod laws;
 mod moments;
 mod opening;
@@ -31,6 +32,7 @@ mod turning_rows;
 mod ways;
 
 pub use known::Known;
+pub use known_key::KnownKey;
 pub use laws::parts::{opened_rows_follow, rows_take_scans, unseen_scans_are_lost};
 pub use laws::tidies::{closed_keys_follow, forgotten_scans_follow, joined_rows_follow};
 pub use laws::turns::{base_is_lost, base_takes_answers, rows_take_answers};

@@ -15,7 +15,7 @@ fn has_no_calls(base: &Known, key: u64) -> bool
     ensures { IsTrue result ↔ HasNoCalls base.now key }
 {
     match base.look(key) {
-        Some(kept) => kept.names.is_empty(),
+        Some(known) => known.has_no_calls(),
         None => true,
     }
 }
@@ -46,7 +46,8 @@ fn open_key(alloc: Global, base: &mut Known, rows: &mut [Row], key: u64) -> Resu
     if has_no_calls(base, key) {
         return Ok(());
     }
-    if let Some(kept) = base.take(key) {
+    if let Some(known) = base.take(key) {
+        let kept = known.whole(alloc)?;
         insert_in_rows(alloc, rows, key, &kept)?;
     }
     Ok(())

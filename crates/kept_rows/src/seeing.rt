@@ -1,5 +1,5 @@
 // Keys of which no call is left see a scan at once.
-ghost use Rattle.std.specs.Prelude.{◌≡◌, ◌≢◌, ◌↔◌, ◌⊎◌, ◌≤◌, ◌<◌, ℕ, [], ◌∷◌, None, map, All, Any, AllPairs, Contains, IsTrue, MatchOption, IfOk, OnOk};
+ghost use Rattle.std.specs.Prelude.{◌≡◌, ◌≢◌, ◌↔◌, ◌⊎◌, ◌≤◌, ◌<◌, ℕ, [], None, map, All, AllPairs, Contains, IsTrue, MatchOption, IfOk, OnOk};
 ghost use Rattle.std.specs.Option.{IsSome};
 ghost use Rattle.map_object.specs.MapObject.{IsRising, value_at};
 ghost use Rattle.following.specs.moments.Timings.{ArePairsOf};
@@ -10,61 +10,19 @@ ghost use Rattle.kept_rows.specs.Rows.{entry_at, or_fresh};
 ghost use Rattle.kept_rows.specs.Steps.{IsSeenAs, HaveSeenAt, IsUnknown, AreKnown};
 
 use crate::known::Known;
+use crate::known_key::KnownKey;
 use crate::outcomes::KeyLoss;
 use crate::told::Told;
 use events::Memory;
-use kept_keys::{Configuration, KeptKey, WIDTH};
+use kept_keys::{KeptKey, WIDTH};
 use std::alloc::Global;
-
-/// Whether a key is kept as fresh, with this value or none.
-fn is_fresh(kept: &KeptKey, value: Option<u64>) -> bool
-    ensures { IsTrue result → kept.now ≡ fresh value }
-{
-    kept.names.is_empty()
-        && kept.calls.is_empty()
-        && kept.configurations.len() == 1
-        && is_certain(&kept.configurations[0], value)
-}
-
-/// Whether a configuration has this value or none alone, and nothing else.
-fn is_certain(c: &Configuration, value: Option<u64>) -> bool
-    ensures { IsTrue result → c.now ≡ record { taken = []; values = value ∷ []; ahead = [] } }
-{
-    c.taken.is_empty() && c.ahead.is_empty() && c.values.len() == 1 && c.values[0] == value
-}
-
-/// Whether some configuration of a key has this value, or none.
-fn may_have(kept: &KeptKey, value: Option<u64>) -> bool
-    ensures { IsTrue result ↔ MayHave value kept.now }
-{
-    some_has(&kept.configurations, value)
-}
-
-/// Whether some configuration has this value, or none, among its values.
-fn some_has(configurations: &[Configuration], value: Option<u64>) -> bool
-    ensures { IsTrue result ↔ Any (λ c. Contains c.values value) configurations.now }
-{
-    for c in configurations {
-        if has_value(c, value) {
-            return true;
-        }
-    }
-    false
-}
-
-/// Whether a configuration has this value, or none, among its values.
-fn has_value(c: &Configuration, value: Option<u64>) -> bool
-    ensures { IsTrue result ↔ Contains c.now.values value }
-{
-    c.values.contains(&value)
-}
 
 /// Whether what is kept of a key that is not the rows' own is this value or none already.
 fn is_known_as(base: &Known, key: u64, value: Option<u64>) -> bool
     ensures { IsTrue result → or_fresh (entry_at base.now key) ≡ fresh value }
 {
     match base.look(key) {
-        Some(kept) => is_fresh(kept, value),
+        Some(known) => known.is_fresh(value),
         None => value.is_none(),
     }
 }
@@ -74,13 +32,13 @@ fn may_be(base: &Known, key: u64, value: Option<u64>) -> bool
     ensures { IsTrue result ↔ MayHave value (or_fresh (entry_at base.now key)) }
 {
     match base.look(key) {
-        Some(kept) => may_have(kept, value),
+        Some(known) => known.may_have(value),
         None => value.is_none(),
     }
 }
 
 /// Keeps of a key that it has this value; nothing, where it has none.
-fn set_value(alloc: Global, base: &mut Known, key: u64, value: Option<u64>) -> Result<(), Memory>
+fn set_value(base: &mut Known, key: u64, value: Option<u64>) -> Result<(), Memory>
     ensures here { OnOk result (or_fresh (entry_at base.new key) ≡ fresh value) }
     ensures others { OnOk result ((other : ℕ) → other ≢ key → entry_at base.new other ≡ entry_at base.old other) }
 {
@@ -88,12 +46,11 @@ fn set_value(alloc: Global, base: &mut Known, key: u64, value: Option<u64>) -> R
         base.take(key);
         return Ok(());
     }
-    let kept = KeptKey::fresh(alloc, value)?;
-    base.put(key, kept)
+    base.put(key, KnownKey::at_rest(value))
 }
 
 /// A key sees the scan, or it can't have what the scan was told.
-fn see_key(alloc: Global, told: &Told, base: &mut Known, key: u64) -> Result<bool, Memory>
+fn see_key(told: &Told, base: &mut Known, key: u64) -> Result<bool, Memory>
     requires { IsRising told.now.pairs }
     ensures { IfOk result (IsSeenAs told.now key base.old base.new) }
 {
@@ -104,17 +61,12 @@ fn see_key(alloc: Global, told: &Told, base: &mut Known, key: u64) -> Result<boo
     if !may_be(base, key, value) {
         return Ok(false);
     }
-    set_value(alloc, base, key, value)?;
+    set_value(base, key, value)?;
     Ok(true)
 }
 
 /// Keys see the scan, one after another, up to the first one that can't have what the scan was told, which is handed back.
-fn see_keys(
-    alloc: Global,
-    told: &Told,
-    base: &mut Known,
-    keys: &[u64],
-) -> Result<Option<u64>, Memory>
+fn see_keys(told: &Told, base: &mut Known, keys: &[u64]) -> Result<Option<u64>, Memory>
     requires pairs { IsRising told.now.pairs }
     requires keys { AllPairs (λ k l. k < l) keys.now }
     ensures { IfOk result (λ lost. MatchOption lost (HaveSeenAt told.now keys.now base.old base.new)
@@ -122,7 +74,7 @@ fn see_keys(
         × (MayHave (value_at told.now.pairs key) (or_fresh (entry_at base.old key)) → ⊥))) }
 {
     for key in keys {
-        if !see_key(alloc, told, base, *key)? {
+        if !see_key(told, base, *key)? {
             return Ok(Some(*key));
         }
     }
@@ -171,7 +123,7 @@ fn unseen(alloc: Global, told: &Told, base: &mut Known, key: u64) -> Result<KeyL
         × HasGet key told.now.name number (value_at told.now.pairs key) (or_fresh (entry_at base.old key)) loss.kept)) }
 {
     let kept = match base.take(key) {
-        Some(kept) => kept,
+        Some(known) => known.whole(alloc)?,
         None => KeptKey::fresh(alloc, None)?,
     };
     let number = (WIDTH * told.place).saturating_sub(1);
@@ -197,7 +149,7 @@ fn see_known(
         (IsUnseen told.now (map (λ entry. entry.0) own.now) base.old)) }
 {
     let keys = base.within(alloc, told.scan.low, told.scan.high)?;
-    match see_keys(alloc, told, base, &keys)? {
+    match see_keys(told, base, &keys)? {
         Some(key) => {
             let loss = unseen(alloc, told, base, key)?;
             Ok(Some(loss))

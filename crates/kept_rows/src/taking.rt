@@ -7,16 +7,15 @@ ghost use Rattle.events.specs.Events.{IsWellFormed};
 ghost use Rattle.map_object.specs.MapObject.{Contents};
 ghost use Rattle.past_choices.specs.Values.{IsCallOf};
 ghost use Rattle.kept_keys.specs.Views.{place_limit};
-ghost use Rattle.kept_rows.specs.Beginning.{HasBegun, HasBegunIn};
+ghost use Rattle.kept_rows.specs.Beginning.{HasBegun};
 ghost use Rattle.kept_rows.specs.Followed.{AreFollowed};
 
-use crate::known::Known;
 use crate::own_keys::{is_own, place_of};
 use crate::row::Row;
 use crate::rows::Rows;
 use events::{Call, Memory};
 use following_reads::read_rows_judge;
-use kept_keys::{KeptKey, kept_keys_go_on, kept_keys_take_calls};
+use kept_keys::{kept_keys_go_on, kept_keys_take_calls};
 use std::alloc::Global;
 
 /// A key that is the row's own takes a call.
@@ -41,25 +40,6 @@ fn begin_in_rows(rows: &mut [Row], key: u64, place: usize, call: Call) -> Result
     Ok(())
 }
 
-/// Or one that is kept for all rows.
-fn begin_in_base(
-    alloc: Global,
-    base: &mut Known,
-    key: u64,
-    place: usize,
-    call: Call,
-) -> Result<(), Memory>
-    requires { place < place_limit }
-    ensures { OnOk result (HasBegunIn key place call base.old base.new) }
-{
-    let mut kept = match base.take(key) {
-        Some(kept) => kept,
-        None => KeptKey::fresh(alloc, None)?,
-    };
-    kept.begin_call(place, call)?;
-    base.put(key, kept)
-}
-
 impl Rows {
     /// Takes the invocation of a call of one key, at its place in the stream.
     pub fn begin_call(
@@ -81,7 +61,7 @@ impl Rows {
         if is_own(&rows, key) {
             begin_in_rows(&mut rows, key, place, call)?;
         } else {
-            begin_in_base(alloc, &mut base, key, place, call)?;
+            base.begin_call(alloc, key, place, call)?;
         }
         Ok(Rows { base, rows })
     }

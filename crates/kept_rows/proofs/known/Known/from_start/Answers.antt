@@ -11,5 +11,5 @@ loop-pair-preserved c =
     let i = c.loop-pair.pair-index in
     let pair = get_or start i (0, 0) in
     kept_from-more start i pair _ _ c.requires c.loop-pair-test.true (get_or_default start i (0, 0) pair c.loop-pair-test.true) c.loop-pair.invariant
-    (λ key. changed-entry_at _ _ pair.0 key (Some c.in_ok-kept.kept) (c.in_ok-insert.ensures.updates.0 key)
-    ∙ ap (λ k. cond (key == pair.0) (Some k) (entry_at c.loop-pair.keys.entries key)) c.in_ok-kept.ensures)
+    (λ key. changed-entry_at _ _ pair.0 key (Some c.at_rest.result) (c.in_ok-insert.ensures.updates.0 key)
+    ∙ ap (λ k. cond (key == pair.0) (Some k) (entry_at c.loop-pair.keys.entries key)) c.at_rest.ensures)

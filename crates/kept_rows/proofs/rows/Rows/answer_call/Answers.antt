@@ -73,20 +73,21 @@ answer_in_base-requires-clause-may_turn c =
     subst (λ l. AreRising (first_keys l) → IsTrue c.is_own.result ↔ (entry_at (first_keys l) a.key ≢ None)) (c.deref.ensures.value ∙ rows_are)
     c.is_own.ensures rises in
     let has = (found_is (first_keys v.rows) a.key c.is_own.result false c.if-is_own.false says).1 refl in
-    base_turns c.kept_keys_take_answers.ensures h.start h.events h.process a v h.followed h.place_is h.of_key h.is_open c.in-Some.kept
-    (sym (ap (λ l. entry_at l a.key) base_is) ∙ (sym c.take.ensures.taken ∙ c.in-Some.is)) has
+    base_turns c.kept_keys_take_answers.ensures h.start h.events h.process a v h.followed h.place_is h.of_key h.is_open c.in_ok-kept.kept
+    (sym (ap (λ l. entry_at l a.key) base_is) ∙ (sym c.take.ensures.taken ∙ c.in-Some.is ∙ ap Some (sym c.in_ok-kept.ensures))) has
 
 -- src/answering.rt:30:5
 pub returns : goal.returns
 returns c start events process followed place own opened limit =
     let a = answer_of (record { place = c.args.place; key = c.args.key; name = c.args.name; call = c.args.call.now; reply = c.args.reply }) in
     let v = c.args.self in
-    let kept = c.in-Some.kept in
+    let kept = c.in_ok-kept.kept in
     let rest = c.take.new.self in
     let base_is : c.self.inside.base ≡ v.base = ap (λ (w : RowsView). w.base) c.self.view_is in
     let rows_are : c.self.inside.rows.items ≡ v.rows = ap (λ (w : RowsView). w.rows) c.self.view_is in
     let answer : IsAnswerOf events process a c.args.limit = record { place = sym place; of_key = own; is_open = opened; limit_is = limit } in
-    let here : entry_at v.base a.key ≡ Some kept = sym (ap (λ l. entry_at l a.key) base_is) ∙ (sym c.take.ensures.taken ∙ c.in-Some.is) in
+    let here : entry_at v.base a.key ≡ Some kept =
+    sym (ap (λ l. entry_at l a.key) base_is) ∙ (sym c.take.ensures.taken ∙ c.in-Some.is ∙ ap Some (sym c.in_ok-kept.ensures)) in
     let others : (other : ℕ) → other ≢ a.key → entry_at rest other ≡ entry_at v.base other =
     λ other apart. c.take.ensures.left other ∙ ap (λ b. cond b None (entry_at c.self.inside.base other)) (ne_eqb other a.key apart)
     ∙ ap (λ l. entry_at l other) base_is in

@@ -3,7 +3,7 @@ use Rattle.std.proofs.lemmas.List.{with_items_is}
 use Rattle.kept_rows.specs.Followed.{AreFollowed}
 use Rattle.kept_rows.proofs.BeginLemmas.{as_many, taken_by_rows, taken_by_base}
 use Rattle.kept_rows.proofs.rows.Rows.begin_call.Goals as goal
-use Rattle.kept_rows.proofs.rows.Rows.begin_call.Goals.{then-is_own+in_ok-begin_in_rows, else-is_own+in_ok-begin_in_base}
+use Rattle.kept_rows.proofs.rows.Rows.begin_call.Goals.{then-is_own+in_ok-begin_in_rows, else-is_own+in_ok-begin_call}
 
 pub returns : goal.returns
 returns c start events process h long of_key well =
@@ -21,8 +21,8 @@ returns c start events process h long of_key well =
           (ap (λ v. v.items) w.rows-is ∙ with_items_is rows w.begin_in_rows.new.rows
           (as_many c.args.key c.args.place c.args.call w.deref_mut.result.now w.begin_in_rows.new.rows w.in_ok-begin_in_rows.ensures
           ∙ w.deref_mut.ensures.len))
-      | else-is_own+in_ok-begin_in_base w ↦
+      | else-is_own+in_ok-begin_call w ↦
           taken_by_base law take go_on start events process c.args.key c.args.place c.args.call of_key well long base rows.items
-          c.deref.result.now known c.deref.ensures.value c.is_own.result c.is_own.ensures c.if-is_own.rows.items w.begin_in_base.new.base
-          c.if-is_own.base w.if-is_own.false w.in_ok-begin_in_base.ensures w.base-is (ap (λ v. v.items) w.rows-is)
+          c.deref.result.now known c.deref.ensures.value c.is_own.result c.is_own.ensures c.if-is_own.rows.items w.begin_call.new.self
+          c.if-is_own.base w.if-is_own.false w.in_ok-begin_call.ensures w.base-is (ap (λ v. v.items) w.rows-is)
     ]

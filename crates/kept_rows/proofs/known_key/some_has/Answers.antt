@@ -3,7 +3,7 @@ use Rattle.std.specs.Prelude.{Contains}
 use Rattle.std.proofs.lemmas.Bool.{false≢true}
 use Rattle.following.specs.keys.KeyStates.{Configuration}
 use Rattle.kept_rows.proofs.ScanListLemmas.{none_more, none_all}
-use Rattle.kept_rows.proofs.seeing.some_has.Goals as goal
+use Rattle.kept_rows.proofs.known_key.some_has.Goals as goal
 
 pub loop-c-preserved : goal.loop-c-preserved
 loop-c-preserved c =

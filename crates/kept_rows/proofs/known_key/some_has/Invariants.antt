@@ -1,6 +1,6 @@
 use Rattle.std.specs.Prelude.{Contains}
 use Rattle.kept_rows.proofs.ScanListLemmas.{NoneBefore}
-use Rattle.kept_rows.proofs.seeing.some_has.Given as goal
+use Rattle.kept_rows.proofs.known_key.some_has.Given as goal
 
 -- no configuration so far has the value
 abbrev pub invariant-loop-c : goal.invariant-loop-c
