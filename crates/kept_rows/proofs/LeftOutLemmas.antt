@@ -54,7 +54,7 @@ module _ (ends : EndsJoin) (begins : BeginsJoin) {start : Contents} {events : Li
   own_call key k n x k_is x_is own =
       let kept = subst (IsKept start events (class_of_row r g) (number_of r.scans) key (g.gones key)) (kept_here base r.keys key k m.rising k_is)
       (m.row.kept key) in
-      let (a, a_is, name, part) = any_to (λ a. (a.inv ≡ n) × (part_at key (places_by width) (number_of r.scans) a ≡ Some x))
+      let (a, a_is, (name, part)) = any_to (λ a. (a.inv ≡ n) × (part_at key (places_by width) (number_of r.scans) a ≡ Some x))
       (calls_left (g.gones key) (before_calls m)) ((kept.left.are n x).0 x_is) in
       (a, by_kind a a_is name (kind_of a.call a.response) refl
       (part_is key (places_by width) (number_of r.scans) a x (kind_of a.call a.response) part))
@@ -77,10 +77,10 @@ module _ (ends : EndsJoin) (begins : BeginsJoin) {start : Contents} {events : Li
   end_there : (place : ℕ) → HasEndAt s.low s.high r.keys place
       → (b : Operation) × ((q : Response) × (Contains (calls m) b × ((b.response ≡ Some q) × (q.res ≡ place))))
   end_there place h =
-      let (entry, entry_is, within, some) = any_to
+      let (entry, entry_is, (within, some)) = any_to
       (λ (entry : ℕ × KeptView). ((s.low ≤ entry.0) × (entry.0 ≤ s.high)) × Any (IsEndAt place) (zip entry.1.names entry.1.calls)) r.keys h in
-      let (call, call_is, own, (q, answered, at)) = any_to (IsEndAt place) (zip entry.1.names entry.1.calls) some in
-      let (a, a_is, name, same) = own_call entry.0 entry.1 call.0 call.1 entry_is call_is own in
+      let (call, call_is, (own, (q, answered, at))) = any_to (IsEndAt place) (zip entry.1.names entry.1.calls) some in
+      let (a, (a_is, (name, same))) = own_call entry.0 entry.1 call.0 call.1 entry_is call_is own in
       let (p, ended, where_is) = response_spread (places_by width) a.response q (ap (λ (y : Operation). y.response) same ∙ answered) in
       let here : p.res ≡ place = omega (arith, where_is, at) in
       (a, (p, ((completed_stays events (answer m ∷ []) a (from_left (g.gones entry.0) (before_calls m) a a_is).0
@@ -90,9 +90,9 @@ module _ (ends : EndsJoin) (begins : BeginsJoin) {start : Contents} {events : Li
       → (HasEndAt s.low s.high r.keys place → ⊥) → (b : Operation) × (Contains (calls m) b × (b.inv ≡ place))
   begin_there places place are is none =
       let h = (are.each place).0 is in
-      let (call, call_is, own, (other, which)) = any_to (IsEventAt (value_at s.pairs h.key) place) (zip h.kept.names h.kept.calls) h.event in ⊎_elim
+      let (call, call_is, (own, other, which)) = any_to (IsEventAt (value_at s.pairs h.key) place) (zip h.kept.names h.kept.calls) h.event in ⊎_elim
       (λ begun.
-      let (a, a_is, name, same) = own_call h.key h.kept call.0 call.1 h.known call_is own in
+      let (a, (a_is, (name, same))) = own_call h.key h.kept call.0 call.1 h.known call_is own in
       let (b, b_is, grown) = in_later events (answer m ∷ []) a (from_left (g.gones h.key) (before_calls m) a a_is).0 in
       (b, (b_is, sym (grown_inv (length events) a b grown) ∙ (name ∙ sym begun))))
       (λ ended.
@@ -115,7 +115,7 @@ module _ (ends : EndsJoin) (begins : BeginsJoin) {start : Contents} {events : Li
     abbrev InLaw : ℕ → ℕ → Type 0
     InLaw low high = RowHolds (operations (later m ++ more)) (row_between (states m opened) (Kept m opened) s.name low high)
 
-    gap_said : ℕ → ℕ → List Comparison
+    abbrev gap_said : ℕ → ℕ → List Comparison
     gap_said low high = Behind s.name low ∷ Before s.name high ∷ []
 
     to_law : (low high : ℕ) → InGap low high → InLaw low high

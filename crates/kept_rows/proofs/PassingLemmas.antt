@@ -57,12 +57,12 @@ told_or_silent b scan = by_call b.call refl scan b.response refl
   where
     by_call : (c : Call) → b.call ≡ c → is_scan c ≡ true → (o : Option Response) → b.response ≡ o
         → (is_silent b ≡ true) ⊎ ((b.response ≡ None) ⊎ IsToldScan b)
-    by_call (Get key) is no o answered = absurd (false≢true no)
-    by_call (Insert key value) is no o answered = absurd (false≢true no)
-    by_call (Remove key) is no o answered = absurd (false≢true no)
-    by_call (Replace key expected value) is no o answered = absurd (false≢true no)
-    by_call (Scan low high) is yes None open = inr (inl open)
-    by_call (Scan low high) is yes (Some r) answered = by_reply r.reply refl
+    by_call (Get key) is never o answered = absurd (false≢true never)
+    by_call (Insert key value) is never o answered = absurd (false≢true never)
+    by_call (Remove key) is never o answered = absurd (false≢true never)
+    by_call (Replace key expected value) is never o answered = absurd (false≢true never)
+    by_call (Scan low high) is sure None none = inr (inl none)
+    by_call (Scan low high) is sure (Some r) answered = by_reply r.reply refl
       where
         by_reply : (reply : Reply) → r.reply ≡ reply → (is_silent b ≡ true) ⊎ ((b.response ≡ None) ⊎ IsToldScan b)
         by_reply replies.None e = inl (rw (is, answered, e) refl)
@@ -75,11 +75,11 @@ told_or_silent b scan = by_call b.call refl scan b.response refl
 
 -- a scan names a range
 scan_range : (c : Call) → is_scan c ≡ true → (low : ℕ) × ((high : ℕ) × (c ≡ Scan low high))
-scan_range (Get key) no = absurd (false≢true no)
-scan_range (Insert key value) no = absurd (false≢true no)
-scan_range (Remove key) no = absurd (false≢true no)
-scan_range (Scan low high) yes = (low, (high, refl))
-scan_range (Replace key expected value) no = absurd (false≢true no)
+scan_range (Get key) never = absurd (false≢true never)
+scan_range (Insert key value) never = absurd (false≢true never)
+scan_range (Remove key) never = absurd (false≢true never)
+scan_range (Scan low high) sure = (low, (high, refl))
+scan_range (Replace key expected value) never = absurd (false≢true never)
 
 module _ {start : Contents} {events : List Event} {process : ℕ} {s : ScanAnswer} {base : List (ℕ × KeptView)} {r : RowView} {g : RowGhost}
     (m : IsMet start events process s base r g) (opened : AreOpenScans (later m) s.still_open) where
@@ -153,13 +153,13 @@ module _ {start : Contents} {events : List Event} {process : ℕ} {s : ScanAnswe
         })
         (λ found.
         let (o, (o_is, (name, within))) = found in
-        let open = (opened o).0 o_is in
-        let one = one_call a open.scan is open.known (name ∙ sym open.name) in
-        let none : a.response ≡ None = ap (λ (b : Operation). b.response) one ∙ open.is_open in record {
+        let known = (opened o).0 o_is in
+        let one = one_call a known.scan is known.known (name ∙ sym known.name) in
+        let none : a.response ≡ None = ap (λ (b : Operation). b.response) one ∙ known.is_open in record {
           past = (let before = within.0 in omega (arith, name, before));
           apart = (λ above same. let before = within.0 in omega (arith, name, before, same));
           range = λ key over.
-              let (from, to) = subst (λ (c : Call). IsOver key c) (ap (λ (b : Operation). b.call) one ∙ open.call) over in
+              let (from, to) = subst (λ (c : Call). IsOver key c) (ap (λ (b : Operation). b.call) one ∙ known.call) over in
               let first = within.1.0 in
               let last = within.1.1 in (omega (arith, from, first), omega (arith, to, last));
           answered = λ q at. absurd (none_some none at);
@@ -236,7 +236,7 @@ module _ {start : Contents} {events : List Event} {process : ℕ} {s : ScanAnswe
           λ q answered. outside q.res (λ inside.
               let own_end : Response = record { res = width * q.res; reply = q.reply } in
               let whole : own_end.res / width ≡ q.res = omega arith in
-              none (refl, inr (own_end, (ap (spread_response (places_by width)) answered, (omega (arith, whole, inside.0), omega (arith, whole, inside.1)))))),
+              none (refl, inr (own_end, ap (spread_response (places_by width)) answered, (omega (arith, whole, inside.0), omega (arith, whole, inside.1))))),
         ))
         (λ other. absurd (none_left m key b within other left own over))
         (has_entry r.keys key))
