@@ -275,8 +275,9 @@ ready law start events process s v w h long own opens =
     }
 
 -- the answer of an open scan
-abbrev pub told_of : ℕ → OpenScan → Contents → ScanAnswer
-told_of place scan pairs = record { place = place; name = scan.name; low = scan.low; high = scan.high; pairs = pairs }
+abbrev pub told_of : ℕ → OpenScan → Contents → List OpenScan → ScanAnswer
+told_of place scan pairs still_open =
+    record { place = place; name = scan.name; low = scan.low; high = scan.high; pairs = pairs; still_open = still_open }
 
 -- and so where the rows are lent
 pub lent_ready : OpenedRowsFollow → (start : Contents) (events : List Event) (process : ℕ) (s : ScanAnswer) (v w : RowsView)
@@ -304,10 +305,10 @@ module _ (start : Contents) (events : List Event) (process : ℕ) (s : ScanAnswe
 
   -- what the answer comes to, where it is taken so
   pub ready_comes_to : RowsTakeScans → UnseenScansAreLost → ArePairsOf s.low s.high s.pairs → (scans : List OpenScan) (budget : ℕ) (answered : Answered)
-      → AreOpenScans (with_scan events process s) scans
+      → s.still_open ≡ scans → AreOpenScans (with_scan events process s) scans
       → IsTakenAs s (limit_of scans (suc s.place)) budget (map (λ entry. entry.0) (first_keys w.rows)) w answered
       → IsScanAnswered start (with_scan events process s) budget s.low s.high answered
-  ready_comes_to take unseen pairs scans budget answered opened taken =
+  ready_comes_to take unseen pairs scans budget answered same opened taken =
       let limit = limit_of scans (suc s.place) in
       let columns = first_columns start events process s w h.columns h.followed h.place h.is_open h.columns_are h.rest in
       scan_comes_to take unseen start events process s limit budget h.columns w answered h.followed (record {
@@ -317,4 +318,5 @@ module _ (start : Contents) (events : List Event) (process : ℕ) (s : ScanAnswe
         columns_are = h.columns_are;
         rest = h.rest;
         limits = λ key. limits_are (with_scan events process s) scans (suc s.place) key opened;
+        opened = subst (AreOpenScans (with_scan events process s)) (sym same) opened;
       }) (subst (λ (l : List ℕ). IsTakenAs s limit budget l w answered) columns taken)

@@ -12,6 +12,7 @@ pub mod HoldLemmas
 pub mod JoinedLemmas
 pub mod JoiningLemmas
 pub mod KnownLemmas
+pub mod LeftOutLemmas
 pub mod MomentLemmas
 pub mod NewKeyLemmas
 pub mod NewRowLemmas
@@ -22,6 +23,7 @@ pub mod OutcomeLemmas
 pub mod OwnKeyLemmas
 pub mod PartedLemmas
 pub mod PassLemmas
+pub mod PassingLemmas
 pub mod PlaceLemmas
 pub mod RestingLemmas
 pub mod RowEntryLemmas
@@ -36,6 +38,7 @@ pub mod ScanTryLemmas
 pub mod ScanWayLemmas
 pub mod SettleLemmas
 pub mod SettledKeyLemmas
+pub mod SilentLemmas
 pub mod SoundLemmas
 pub mod StartLemmas
 pub mod TakenLemmas

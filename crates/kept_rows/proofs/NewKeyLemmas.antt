@@ -25,6 +25,7 @@ use Rattle.following_reads.specs.Laws.{ReadTimingsHold, ReadRowsJudge}
 use Rattle.following.specs.rows.Rows.{IsWithin}
 use Rattle.following.proofs.keys.ChoiceLemmas.{any_from, any_to}
 use Rattle.following.proofs.rows.AlikeLemmas.{left_weaker}
+use Rattle.dead_events.specs.Laws.{EndsJoin, BeginsJoin}
 use Rattle.kept_keys.specs.Gone.{GoneStayAnswered, AnsweredCallsGo}
 use Rattle.kept_keys.specs.Judging.{HasOrder, HasOrderFrom}
 use Rattle.kept_keys.specs.Kept.{IsKept}
@@ -58,6 +59,8 @@ pub record KeyLaws : Type 0 where
   pub answered : AnsweredCallsGo
   pub read_timings : ReadTimingsHold
   pub read_rows : ReadRowsJudge
+  pub ends : EndsJoin
+  pub begins : BeginsJoin
 
 -- ---- other moments, where no told scan is left of a key
 

@@ -1,9 +1,10 @@
 -- Rows part by the ways of an answered scan: each new row follows the events with the answer, and one holds wherever an old one does.
 use Rattle.events.specs.declared.event.Reply.TheVariants as replies
-use Rattle.std.proofs.Common.{◌≡◌, ℕ, ◌<◌, List, [], ◌∷◌, ◌++◌, length, None}
+use Rattle.std.proofs.Common.{◌≡◌, ℕ, ◌<◌, arith, List, [], ◌∷◌, ◌++◌, length, None}
 use Rattle.std.proofs.Common.{refl, sym, ap, ◌∙◌, subst, ⊎_elim}
 use Rattle.std.specs.Prelude.{◌≢◌, All, AllPairs, Any, Contains}
 use Rattle.std.specs.List.{AllZip}
+use Rattle.std.proofs.lemmas.Bool.{cases_order}
 use Rattle.std.proofs.lemmas.List.Elements.{All-append, All-cons, All-contains, All-nil, Contains-append_left, Contains-append_right, Contains-append_cases}
 use Rattle.events.specs.declared.event.Call.TheVariants.{Scan}
 use Rattle.events.specs.declared.event.Event.{Event}
@@ -21,7 +22,7 @@ use Rattle.following.proofs.rows.RowLemmas.{rows_go_on}
 use Rattle.kept_keys.specs.Views.{KeptView}
 use Rattle.kept_rows.specs.Candidates.{ArePlacesWithin}
 use Rattle.kept_rows.specs.Followed.{RowGhost, row_of, rows_of, IsKeptScan, IsRowOf}
-use Rattle.kept_rows.specs.Outcomes.{IsLimitOf}
+use Rattle.kept_rows.specs.Outcomes.{IsLimitOf, AreOpenScans}
 use Rattle.kept_rows.specs.PartLaws.{IsScanAnswerOf, RowsTakeScans}
 use Rattle.kept_rows.specs.Parting.{ScanAnswer, Way, HaveSeen, IsTimedWay, AreTried, IsParted, AreParted}
 use Rattle.kept_rows.specs.Rows.{RowView, RowsView, entry_at}
@@ -35,7 +36,8 @@ use Rattle.kept_rows.proofs.NumberLemmas.{scan_named}
 use Rattle.kept_rows.proofs.OpenCallLemmas.{well_formed_on}
 use Rattle.kept_rows.proofs.TakenLemmas.{IsMet, IsTaken, answer, later, new, new_is, new_told}
 use Rattle.kept_rows.proofs.TakenRowLemmas.{same_names, not_void, not_lost, new_ghost, new_row, new_holds}
-use Rattle.kept_rows.proofs.WayLemmas.{IsWayOf, HoldsInWay, way_of, way_holds}
+use Rattle.kept_rows.proofs.WayLemmas.{IsWayOf, HoldsInWay, way_of}
+use Rattle.kept_rows.proofs.LeftOutLemmas.{InGap, come}
 
 -- ---- lists side by side
 
@@ -69,11 +71,19 @@ rows_more R base (r ∷ rows) more [] others zip = absurd zip
 rows_more R base (r ∷ rows) more (g ∷ ghosts) others zip =
     ap (λ (l : List Row). row_of base r g ∷ l) (rows_more R base rows more ghosts others zip.1)
 
+-- places are in the order in which they are spread
+in_order : (spread : ℕ → ℕ) → ((p q : ℕ) → p < q → spread p < spread q) → (p q : ℕ) → spread p < spread q → p < q
+in_order spread rises p q less = ⊎_elim
+    (λ equal. let same = ap spread equal in absurd (omega (arith, same, less)))
+    (λ differ. ⊎_elim (λ before. before) (λ behind. let more = rises q p behind in absurd (omega (arith, more, less))) differ)
+    (cases_order p q)
+
 -- ---- one row
 
 module _ (laws : KeyLaws) {start : Contents} {events : List Event} {process : ℕ} {s : ScanAnswer} {base : List (ℕ × KeptView)} {r : RowView}
     {g : RowGhost} (m : IsMet start events process s base r g) (limit : ℕ → ℕ) (next_base : List (ℕ × KeptView))
-    (seen : HaveSeen s (keys_of r.keys) base next_base) (limits : (key : ℕ) → IsLimitOf (later m) key (limit key)) where
+    (seen : HaveSeen s (keys_of r.keys) base next_base) (limits : (key : ℕ) → IsLimitOf (later m) key (limit key))
+    (opened : AreOpenScans (later m) s.still_open) where
   abbrev pub HoldsLater : List Event → Row → Type 0
   HoldsLater more row = RowHolds (operations (later m ++ more)) row
 
@@ -171,26 +181,22 @@ module _ (laws : KeyLaws) {start : Contents} {events : List Event} {process : �
         each = made.each;
         names = made.names;
         cover = λ more held.
-            let a = new m in
-            let own : Response = record { res = length events; reply = replies.Pairs s.pairs } in
-            let there = told_stays (later m) more a (new_is m) (new_told m) in
             let place = m.place in
-            let ended = held.timing.ended a own there (new_told m) refl in
-            let (way, way_is, holds) = way_holds s r parted.are_ways held.spread held.moment
-            (held.timing.begun a there (new_told m))
-            (subst (λ (n : ℕ). held.moment s.name < held.spread n) (sym place) ended)
-            (λ p. held.timing.between a p there (new_told m))
-            (λ n is.
-            let (x, x_is, at) = scan_named r.scans n is in
-            let known = All-contains (IsKeptScan events) r.scans x m.row.scans x_is in
-            let told : IsToldScan known.scan = (x.low, (x.high, (known.pairs, known.told))) in
-            let same = known.name ∙ at in
-            let b_is = told_stays (later m) more known.scan (told_stays events (answer m ∷ []) known.scan known.known told) told in
-            subst (λ (n : ℕ). held.moment s.name ≢ held.moment n) same
-            (held.timing.apart a known.scan there b_is (new_told m) told (λ one.
-            open_was_not_told events process s.name (Scan s.low s.high) m.begun
-            (any_from (λ a. (a.inv ≡ s.name) × IsToldScan a) (operations events) known.scan known.known (sym one, told))))) in
-            made.cover more held way way_is holds;
+            let there = told_stays (later m) more (new m) (new_is m) (new_told m) in
+            let own : Response = record { res = length events; reply = replies.Pairs s.pairs } in
+            let ended = held.timing.ended (new m) own there (new_told m) refl in
+            let begun = held.timing.begun (new m) there (new_told m) in
+            let upto = subst (λ (n : ℕ). held.moment s.name < held.spread n) (sym place) ended in
+            let short = in_order held.spread held.timing.rises s.name s.place (omega (arith, begun, upto)) in
+            come laws.ends laws.begins m opened more (Any (HoldsLater more) (rows_of next_base next made.ghosts)) parted.places parted.are_places
+            parted.are_ways parted.are_places.rising within (omega arith) short (λ p is. is)
+            (λ way way_is other holds. made.cover more other way way_is holds)
+            (λ above. absurd (omega (arith, above)))
+            (record {
+              held = held;
+              behind = begun;
+              before = upto;
+            });
       }
 
 -- ---- all rows
@@ -234,7 +240,7 @@ module _ (laws : KeyLaws) (start : Contents) (events : List Event) (process : �
       let here = All-contains Own (rows ++ r ∷ []) r own (Contains-append_right rows (r ∷ []) r (Contains-first r [])) in
       let h = have_parted before front rest (All-front Own rows (r ∷ []) own) in
       let one = has_parted laws (met r g here known) limit next_base
-      (subst (λ (l : List ℕ). HaveSeen s l v.base next_base) (sym here) seen) is.limits more_next others parted in
+      (subst (λ (l : List ℕ). HaveSeen s l v.base next_base) (sym here) seen) is.limits is.opened more_next others parted in
       let joined = rows_more New next_base next more_next h.ghosts one.ghosts h.each in
       let split = rows_more Old v.base rows (r ∷ []) front (g ∷ []) rest in record {
         ghosts = h.ghosts ++ one.ghosts;

@@ -1,5 +1,5 @@
 -- A row parts, gap by gap.
-use Rattle.std.proofs.Common.{◌≡◌, ℕ, ◌+◌, ◌<◌, ◌≤◌, List, [], ◌∷◌, ◌++◌, length, map, take, drop, get_or, refl, sym, ap, ap₂, ◌∙◌, subst, arith, append_assoc, append-nil}
+use Rattle.std.proofs.Common.{◌≡◌, ℕ, ◌+◌, ◌<◌, ◌≤◌, ⊎_elim, List, [], ◌∷◌, ◌++◌, length, map, take, drop, get_or, refl, sym, ap, ap₂, ◌∙◌, subst, arith, append_assoc, append-nil}
 use Rattle.std.specs.Prelude.{All, Contains, zip}
 use Rattle.std.proofs.lemmas.List.{take_more, drop_more, drop_all}
 use Rattle.std.proofs.lemmas.List.Elements.{All-contains}
@@ -9,10 +9,10 @@ use Rattle.map_object.specs.MapObject.{value_at}
 use Rattle.following.proofs.keys.ChoiceLemmas.{any_from}
 use Rattle.kept_keys.specs.Views.{KeptView}
 use Rattle.kept_rows.specs.Candidates.{ArePlacesWithin}
-use Rattle.kept_rows.specs.Parting.{ScanAnswer, IsInRange, Way, AreRivals, choices_among, AreWays, AreTried, AreParted}
+use Rattle.kept_rows.specs.Parting.{ScanAnswer, IsInRange, Way, AreRivals, choices_among, IsLeftOut, AreWays, AreTried, AreParted}
 use Rattle.kept_rows.specs.Rows.{RowView, names_of}
 use Rattle.kept_rows.specs.Steps.{IsOther, HasOther, TellsOtherwise, HaveOthers, AreMeeting}
-use Rattle.kept_rows.specs.Trying.{HaveTried, HasTriedGap, HasPartedRow, HaveParted, ways_with, ways_by}
+use Rattle.kept_rows.specs.Trying.{HaveTried, HasTriedGap, HasTriedIfNeeded, HasPartedRow, HaveParted, ways_with, ways_by}
 use Rattle.kept_rows.specs.declared.outcomes.KeyLoss.{KeyLoss}
 use Rattle.kept_rows.specs.declared.parting.Parted.{Parted}
 use Rattle.kept_rows.specs.declared.row.KeptScan.{KeptScan}
@@ -80,7 +80,7 @@ tried_none s limit r places into = record {
   begun = omega arith;
 }
 
-pub tried_more : (s : ScanAnswer) (limit : ℕ → ℕ) (r : RowView) (places : List ℕ) (i behind before : ℕ) (old middle new : Parted) → i < length places
+tried_more : (s : ScanAnswer) (limit : ℕ → ℕ) (r : RowView) (places : List ℕ) (i behind before : ℕ) (old middle new : Parted) → i < length places
     → before ≡ get_or places i before → s.name ≤ before → AreTriedUpTo s limit r places i behind old middle
     → HasTriedGap s limit r behind before middle new → AreTriedUpTo s limit r places (i + 1) before old new
 tried_more s limit r places i behind before old middle new within is begun upto gap =
@@ -95,7 +95,29 @@ tried_more s limit r places i behind before old middle new within is begun upto 
       begun = begun;
     }
 
-pub tried_all : (s : ScanAnswer) (limit : ℕ → ℕ) (r : RowView) (places : List ℕ) (i behind : ℕ) (old middle new : Parted) → length places ≤ i
+-- or it need not be tried
+left_more : (s : ScanAnswer) (limit : ℕ → ℕ) (r : RowView) (places : List ℕ) (i behind before : ℕ) (old middle new : Parted) → i < length places
+    → before ≡ get_or places i before → s.name ≤ before → AreTriedUpTo s limit r places i behind old middle
+    → IsLeftOut s r behind before → new ≡ middle → AreTriedUpTo s limit r places (i + 1) before old new
+left_more s limit r places i behind before old middle new within is begun upto left same = record {
+  done = upto.done;
+  tried = subst (λ (p : Parted). HaveTried s limit r upto.done old p) (sym same) upto.tried;
+  rest = λ ways are.
+      let parts : drop i places ≡ before ∷ drop (i + 1) places = drop_more places i before within ∙ ap (λ n. n ∷ drop (i + 1) places) (sym is) in
+      upto.rest ways (subst (λ (l : List ℕ). AreWays s r behind l ways) (sym parts)
+      (AreWays.out behind before (drop (i + 1) places) ways left are));
+  begun = begun;
+}
+
+pub more_if_needed : (s : ScanAnswer) (limit : ℕ → ℕ) (r : RowView) (places : List ℕ) (i behind before : ℕ) (old middle new : Parted)
+    → i < length places → before ≡ get_or places i before → s.name ≤ before → AreTriedUpTo s limit r places i behind old middle
+    → HasTriedIfNeeded s limit r behind before middle new → AreTriedUpTo s limit r places (i + 1) before old new
+more_if_needed s limit r places i behind before old middle new within is begun upto h = ⊎_elim
+    (λ gap. tried_more s limit r places i behind before old middle new within is begun upto gap)
+    (λ left. left_more s limit r places i behind before old middle new within is begun upto left.0 left.1)
+    h
+
+tried_all : (s : ScanAnswer) (limit : ℕ → ℕ) (r : RowView) (places : List ℕ) (i behind : ℕ) (old middle new : Parted) → length places ≤ i
     → ArePlacesWithin s.low s.high s.name s.place s.pairs r.keys places → AreTriedUpTo s limit r places i behind old middle
     → HasTriedGap s limit r behind s.place middle new → HasPartedRow s limit r old new
 tried_all s limit r places i behind old middle new past are upto gap =
@@ -114,6 +136,32 @@ tried_all s limit r places i behind old middle new past are upto gap =
         tried = whole.tried;
       };
     }
+
+left_all : (s : ScanAnswer) (limit : ℕ → ℕ) (r : RowView) (places : List ℕ) (i behind : ℕ) (old middle new : Parted) → length places ≤ i
+    → ArePlacesWithin s.low s.high s.name s.place s.pairs r.keys places → AreTriedUpTo s limit r places i behind old middle
+    → IsLeftOut s r behind s.place → new ≡ middle → HasPartedRow s limit r old new
+left_all s limit r places i behind old middle new past are upto left same =
+    let whole = subst (λ (p : Parted). HaveTried s limit r upto.done old p) (sym same) upto.tried in record {
+      next = whole.next;
+      losses = whole.losses;
+      next_are = whole.next_are;
+      losses_are = whole.losses_are;
+      parted = record {
+        places = places;
+        are_places = are;
+        ways = upto.done ++ [];
+        are_ways = upto.rest [] (subst (λ (l : List ℕ). AreWays s r behind l []) (sym (drop_all i places past)) (AreWays.out_last behind left));
+        tried = subst (λ (ways : List Way). AreTried s limit r ways whole.next whole.losses) (sym (append-nil upto.done)) whole.tried;
+      };
+    }
+
+pub all_if_needed : (s : ScanAnswer) (limit : ℕ → ℕ) (r : RowView) (places : List ℕ) (i behind : ℕ) (old middle new : Parted) → length places ≤ i
+    → ArePlacesWithin s.low s.high s.name s.place s.pairs r.keys places → AreTriedUpTo s limit r places i behind old middle
+    → HasTriedIfNeeded s limit r behind s.place middle new → HasPartedRow s limit r old new
+all_if_needed s limit r places i behind old middle new past are upto h = ⊎_elim
+    (λ gap. tried_all s limit r places i behind old middle new past are upto gap)
+    (λ left. left_all s limit r places i behind old middle new past are upto left.0 left.1)
+    h
 
 -- a place lies within the scan
 pub place_within : (s : ScanAnswer) (keys : List (ℕ × KeptView)) (places : List ℕ) (place : ℕ) → ArePlacesWithin s.low s.high s.name s.place s.pairs keys places

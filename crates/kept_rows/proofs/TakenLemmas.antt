@@ -210,7 +210,7 @@ module _ {start : Contents} {events : List Event} {process : ℕ} {s : ScanAnswe
       m.row.left key a low high pairs is told from to
 
   -- no own call is left of a key of the range that is not the row's own
-  none_left : (key : ℕ) (b : Operation) → IsInRange s key → (Contains (keys_of r.keys) key → ⊥) → Contains (calls_left (g.gones key) before_calls) b
+  pub none_left : (key : ℕ) (b : Operation) → IsInRange s key → (Contains (keys_of r.keys) key → ⊥) → Contains (calls_left (g.gones key) before_calls) b
       → is_scan b.call ≡ false → IsOver key b.call → ⊥
   none_left key b within other is own over =
       let k = or_fresh (entry_at base key) in

@@ -185,6 +185,26 @@ module _ (s : ScanAnswer) (r : RowView) where
           → All (λ p. (before < p) × (p < s.place)) places
       both before places above others n d less = (above n d less, (others n d less).1)
 
+  way_of (AreWays.out behind before places ways left rest) way is rising within =
+      let Within = λ (p : ℕ). (behind < p) × (p < s.place) in
+      let first = All-head Within before places within in
+      let others = All-tail Within before places within in
+      let above = AllPairs-head (λ p q. p < q) before places rising in
+      let h = way_of rest way is (AllPairs-tail (λ p q. p < q) before places rising) (λ n d less. (above n d less, (others n d less).1)) in
+      let begun = h.begun in
+      let upto = first.0 in record {
+        begun = omega (arith, begun, upto);
+        ended = h.ended;
+        parted = λ place is. ⊎_elim
+            (λ equal. inl (omega (arith, equal, begun)))
+            (λ later. h.parted place later)
+            (Contains-cases before places place is);
+        rivals = h.rivals;
+        are_rivals = h.are_rivals;
+        chosen = h.chosen;
+      }
+  way_of (AreWays.out_last behind left) way is rising within = absurd (Contains-nil way is)
+
   -- a way holds in a timing
   pub record HoldsInWay (spread moment : ℕ → ℕ) (way : Way) : Type 0 where
     pub behind : spread way.behind < moment s.name
@@ -198,26 +218,14 @@ module _ (s : ScanAnswer) (r : RowView) where
       let (scan, scan_is, name) = All-contains Is rivals n are.are is in
       apart n (subst (Contains (names_of r.scans)) name (Contains-map (λ (scan : KeptScan). scan.name) r.scans scan scan_is))
 
-  pub way_holds : {behind : ℕ} {places : List ℕ} {ways : List Way} → AreWays s r behind places ways → (spread moment : ℕ → ℕ)
-      → spread behind < moment s.name → moment s.name < spread s.place → ((p : ℕ) → moment s.name ≢ spread p)
+  -- in each timing of a gap one of its ways holds
+  pub gap_holds : (spread moment : ℕ → ℕ) (behind before : ℕ) (rivals : List ℕ) → AreRivals s behind before r rivals
+      → spread behind < moment s.name → moment s.name < spread before
       → ((n : ℕ) → Contains (names_of r.scans) n → moment s.name ≢ moment n)
-      → (way : Way) × Contains ways way × HoldsInWay spread moment way
-  way_holds (AreWays.last behind rivals are) spread moment begun ended between apart =
-      let (turns, turns_is, hold) = choice_holds moment s.name rivals (rivals_apart moment behind s.place rivals are apart) in (
-        way_by behind s.place turns,
-        Contains-map (way_by behind s.place) (choices_among s.name rivals) turns turns_is,
-        record { behind = begun; before = ended; turns = hold },
-      )
-  way_holds (AreWays.gap behind before places rivals ways are rest) spread moment begun ended between apart = ⊎_elim
-      (λ less.
+      → (way : Way) × Contains (map (way_by behind before) (choices_among s.name rivals)) way × HoldsInWay spread moment way
+  gap_holds spread moment behind before rivals are begun ended apart =
       let (turns, turns_is, hold) = choice_holds moment s.name rivals (rivals_apart moment behind before rivals are apart) in (
         way_by behind before turns,
-        Contains-append_left (map (way_by behind before) (choices_among s.name rivals)) ways (way_by behind before turns)
-            (Contains-map (way_by behind before) (choices_among s.name rivals) turns turns_is),
-        record { behind = begun; before = less; turns = hold },
-      ))
-      (λ upto.
-      let differ = between before in
-      let (way, way_is, hold) = way_holds rest spread moment (omega arith) ended between apart in
-      (way, Contains-append_right (map (way_by behind before) (choices_among s.name rivals)) ways way way_is, hold))
-      (cases_lt (moment s.name) (spread before))
+        Contains-map (way_by behind before) (choices_among s.name rivals) turns turns_is,
+        record { behind = begun; before = ended; turns = hold },
+      )

@@ -8,6 +8,7 @@ pub mod Moments
 pub mod Outcomes
 pub mod PartLaws
 pub mod Parting
+pub mod Passing
 pub mod Places
 pub mod Placing
 pub mod Printing

@@ -9,7 +9,7 @@ use Rattle.following.specs.moments.Timings.{ArePairsOf}
 use Rattle.kept_keys.specs.Steps.{IsOpenCall}
 use Rattle.kept_keys.specs.Views.{KeptView}
 use Rattle.kept_rows.specs.Followed.{AreFollowed}
-use Rattle.kept_rows.specs.Outcomes.{IsLostFor, IsLimitOf}
+use Rattle.kept_rows.specs.Outcomes.{IsLostFor, IsLimitOf, AreOpenScans}
 use Rattle.kept_rows.specs.Parting.{ScanAnswer, IsInRange, HaveColumns, AreOpened, HaveSeen, IsUnseen, AreParted}
 use Rattle.kept_rows.specs.Rows.{RowView, RowsView, entry_at, or_fresh}
 use Rattle.kept_rows.specs.declared.outcomes.KeyLoss.{KeyLoss}
@@ -19,7 +19,7 @@ abbrev pub with_scan : List Event → ℕ → ScanAnswer → List Event
 with_scan events process s = events ++ Answer process (replies.Pairs s.pairs) ∷ []
 
 -- The answer is that of an open scan, and one that some map may give; of the keys of its range no call is left of those that are not the rows' own; and no
--- open scan over a key began before the key's limit.
+-- open scan over a key began before the key's limit. The open scans are known.
 pub record IsScanAnswerOf (events : List Event) (process : ℕ) (s : ScanAnswer) (limit : ℕ → ℕ) (columns : List ℕ) (v : RowsView) : Type 0 where
   pub place : s.place ≡ length events
   pub is_open : IsOpenCall events process s.name (Scan s.low s.high)
@@ -27,6 +27,7 @@ pub record IsScanAnswerOf (events : List Event) (process : ℕ) (s : ScanAnswer)
   pub columns_are : HaveColumns columns v
   pub rest : (key : ℕ) → IsInRange s key → (Contains columns key → ⊥) → (or_fresh (entry_at v.base key)).names ≡ []
   pub limits : (key : ℕ) → IsLimitOf (with_scan events process s) key (limit key)
+  pub opened : AreOpenScans (with_scan events process s) s.still_open
 
 -- rows follow the same events with more keys of their own
 abbrev pub OpenedRowsFollow : Type 0

@@ -12,18 +12,21 @@ use Rattle.kept_keys.specs.Steps.{HasGet}
 use Rattle.kept_keys.specs.Views.{KeptView}
 use Rattle.kept_rows.specs.Candidates.{ArePlacesWithin}
 use Rattle.kept_rows.specs.Moments.{AreTimed, HaveNoMoments}
+use Rattle.kept_rows.specs.Passing.{HasEndAt, MayPass}
 use Rattle.kept_rows.specs.Rows.{RowView, RowsView, entry_at, or_fresh, kept_at, number_of}
 use Rattle.kept_rows.specs.Settling.{HasSettled}
 use Rattle.kept_rows.specs.declared.outcomes.KeyLoss.{KeyLoss}
 use Rattle.kept_rows.specs.declared.row.KeptScan.{KeptScan}
+use Rattle.kept_rows.specs.declared.rows.OpenScan.{OpenScan}
 
--- the answer at a place of the stream, of a scan that was told pairs
+-- the answer at a place of the stream, of a scan that was told pairs, and the scans that are open behind it
 pub record ScanAnswer : Type 0 where
   pub place : ℕ
   pub name : ℕ
   pub low : ℕ
   pub high : ℕ
   pub pairs : Contents
+  pub still_open : List OpenScan
 
 abbrev pub IsInRange : ScanAnswer → ℕ → Type 0
 IsInRange s key = (s.low ≤ key) × (key ≤ s.high)
@@ -105,13 +108,23 @@ pub record AreRivals (s : ScanAnswer) (behind before : ℕ) (r : RowView) (rival
   pub are : All (λ name. (scan : KeptScan) × Contains r.scans scan × (scan.name ≡ name)) rivals
   pub each : (name : ℕ) → IsRival s behind before r name → Contains rivals name
 
--- all ways: the gaps between the places, from the scan's invocation to its answer, each with all choices of turns
+-- a gap need not be tried: a call ends at its lower end, and the scan may pass that back; or none ends at its upper end, so one begins there, which the
+-- scan may pass on
+abbrev pub IsLeftOut : ScanAnswer → RowView → ℕ → ℕ → Type 0
+IsLeftOut s r low high =
+    ((s.name < low) × (HasEndAt s.low s.high r.keys low × MayPass s.low s.high s.still_open r.keys r.scans low high))
+    ⊎ ((high < s.place) × ((HasEndAt s.low s.high r.keys high → ⊥) × MayPass s.low s.high s.still_open r.keys r.scans low high))
+
+-- all ways: the gaps between the places, from the scan's invocation to its answer, but for those that need not be tried, each with all choices of turns
 pub data AreWays (s : ScanAnswer) (r : RowView) : ℕ → List ℕ → List Way → Type 0 where
   last : (behind : ℕ) (rivals : List ℕ) → AreRivals s behind s.place r rivals
       → AreWays s r behind [] (map (λ turns. record { behind = behind; before = s.place; turns = turns }) (choices_among s.name rivals))
   gap : (behind before : ℕ) (places rivals : List ℕ) (ways : List Way) → AreRivals s behind before r rivals → AreWays s r before places ways
       → AreWays s r behind (before ∷ places)
       (map (λ turns. record { behind = behind; before = before; turns = turns }) (choices_among s.name rivals) ++ ways)
+  out : (behind before : ℕ) (places : List ℕ) (ways : List Way) → IsLeftOut s r behind before → AreWays s r before places ways
+      → AreWays s r behind (before ∷ places) ways
+  out_last : (behind : ℕ) → IsLeftOut s r behind s.place → AreWays s r behind [] []
 
 -- the scans of a row with the new one, by a way, and their numbers
 pub record IsTimedWay (s : ScanAnswer) (way : Way) (r : RowView) (scans : List KeptScan) : Type 0 where

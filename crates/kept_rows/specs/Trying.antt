@@ -1,6 +1,6 @@
 -- What rows come to by some ways, one after another.
-use Rattle.std.specs.Prelude.{◌≡◌, ℕ, ◌≤◌, List, [], ◌∷◌, ◌++◌, map, Contains}
-use Rattle.kept_rows.specs.Parting.{ScanAnswer, Way, choices_among, AreRivals, AreTried, IsParted, AreParted}
+use Rattle.std.specs.Prelude.{◌≡◌, ◌⊎◌, ℕ, ◌≤◌, List, [], ◌∷◌, ◌++◌, map, Contains}
+use Rattle.kept_rows.specs.Parting.{ScanAnswer, Way, choices_among, AreRivals, AreTried, IsLeftOut, IsParted, AreParted}
 use Rattle.kept_rows.specs.Rows.{RowView}
 use Rattle.kept_rows.specs.declared.outcomes.KeyLoss.{KeyLoss}
 use Rattle.kept_rows.specs.declared.parting.Parted.{Parted}
@@ -46,6 +46,11 @@ pub record HasTriedGap (s : ScanAnswer) (limit : ℕ → ℕ) (r : RowView) (beh
   pub rivals : List ℕ
   pub are_rivals : AreRivals s behind before r rivals
   pub tried : HaveTried s limit r (ways_by s behind before rivals) old new
+
+-- or it need not be tried
+abbrev pub HasTriedIfNeeded : ScanAnswer → (ℕ → ℕ) → RowView → ℕ → ℕ → Parted → Parted → Type 0
+HasTriedIfNeeded s limit r behind before old new =
+    HasTriedGap s limit r behind before old new ⊎ (IsLeftOut s r behind before × (new ≡ old))
 
 -- those of a row that parts
 pub record HasPartedRow (s : ScanAnswer) (limit : ℕ → ℕ) (r : RowView) (old new : Parted) : Type 0 where

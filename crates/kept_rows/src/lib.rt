@@ -15,6 +15,7 @@ mod opening;
 mod outcomes;
 mod own_keys;
 mod parting;
+mod passing;
 mod places;
 mod placing;
 mod printing;

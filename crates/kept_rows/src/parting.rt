@@ -7,11 +7,12 @@ ghost use Rattle.kept_rows.specs.Parting.{ScanAnswer};
 ghost use Rattle.kept_rows.specs.Rows.{names_of};
 ghost use Rattle.kept_rows.specs.Scannable.{IsSoundRow};
 ghost use Rattle.kept_rows.specs.Steps.{IsHalt, HaveOthers};
-ghost use Rattle.kept_rows.specs.Trying.{IsAddedAs, HaveTried, HasTriedGap, HasPartedRow, HaveParted, IsScanOf, IsTurnAmong, ways_with};
+ghost use Rattle.kept_rows.specs.Trying.{IsAddedAs, HaveTried, HasTriedGap, HasTriedIfNeeded, HasPartedRow, HaveParted, IsScanOf, IsTurnAmong, ways_with};
 
 use crate::halt::Halt;
 use crate::moments::timed;
 use crate::outcomes::KeyLoss;
+use crate::passing::is_left_out;
 use crate::places::places_within;
 use crate::placing::{Tried, try_way};
 use crate::row::{KeptScan, Row};
@@ -181,7 +182,38 @@ fn try_gap(
     )
 }
 
-/// Parts a row: between each two events of calls left at keys of the range, but for reads of what was told, the scan is tried.
+/// Tries a row with the scan between two places, where that is needed.
+fn try_if_needed(
+    alloc: Global,
+    told: &Told,
+    row: &Row,
+    others: &[KeptScan],
+    behind: usize,
+    before: usize,
+    still_open: &[OpenScan],
+    budget: u32,
+    into: &mut Parted,
+) -> Result<(), Halt>
+    requires place { told.now.place < place_limit - 1 }
+    requires pairs { ArePairsOf told.now.low told.now.high told.now.pairs }
+    requires few { length row.now.scans + 1 < width }
+    requires sound { IsSoundRow told.now row.now }
+    requires others { HaveOthers told.now row.now.scans row.now.keys others.now }
+    requires begun { told.now.name ≤ behind }
+    requires ended { before ≤ told.now.place }
+    ensures tried { OnOk result
+        (HasTriedIfNeeded told.now (limit_of still_open.now (suc told.now.place)) row.now behind before into.old into.new) }
+    ensures halt { IfErr result (IsHalt told.now budget) }
+{
+    if is_left_out(told, row, behind, before) {
+        return Ok(());
+    }
+    try_gap(
+        alloc, told, row, others, behind, before, still_open, budget, into,
+    )
+}
+
+/// Parts a row: between each two events of calls left at keys of the range, but for reads of what was told, the scan is tried, where that is needed.
 fn part_row(
     alloc: Global,
     told: &Told,
@@ -205,12 +237,12 @@ fn part_row(
     let places = places_within(alloc, told, &row.keys)?;
     let mut behind = told.scan.name;
     for before in &places {
-        try_gap(
+        try_if_needed(
             alloc, told, row, &others, behind, *before, still_open, budget, into,
         )?;
         behind = *before;
     }
-    try_gap(
+    try_if_needed(
         alloc, told, row, &others, behind, told.place, still_open, budget, into,
     )
 }

@@ -49,7 +49,12 @@ impl Rows {
         kept_keys_retime();
         let Rows { mut base, mut rows } = self;
         open_range(alloc, &mut base, &mut rows, scan.low, scan.high)?;
-        let told = Told { place, scan, pairs };
+        let told = Told {
+            place,
+            scan,
+            pairs,
+            still_open,
+        };
         take_scan(alloc, &told, base, rows, still_open, budget)
     }
 }

@@ -7,12 +7,13 @@ ghost use Rattle.kept_rows.specs.Parting as spec;
 use crate::rows::OpenScan;
 use std::marker::Model;
 
-/// A scan that is answered, at a place of the stream, with the pairs that it was told, by rising key.
+/// A scan that is answered, at a place of the stream, with the pairs that it was told, by rising key, and the scans that are open behind the answer.
 #[derive(Drop)]
 pub(crate) struct Told<'a> {
     pub(crate) place: usize,
     pub(crate) scan: OpenScan,
     pub(crate) pairs: &'a [(u64, u64)],
+    pub(crate) still_open: &'a [OpenScan],
 }
 
 impl<'a> Model for Told<'a> {
@@ -20,7 +21,7 @@ impl<'a> Model for Told<'a> {
 
     ghost Value = { ScanAnswer };
 
-    ghost view = { λ t. record { place = t.place; name = t.scan.name; low = t.scan.low; high = t.scan.high; pairs = t.pairs.now } };
+    ghost view = { λ t. record { place = t.place; name = t.scan.name; low = t.scan.low; high = t.scan.high; pairs = t.pairs.now; still_open = t.still_open.now } };
 }
 
 impl<'a> Told<'a> {

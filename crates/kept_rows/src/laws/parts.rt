@@ -10,6 +10,8 @@ pub fn opened_rows_follow()
 pub fn rows_take_scans()
     ensures { RowsTakeScans }
 {
+    dead_events::ends_join();
+    dead_events::begins_join();
     following_reads::read_timings_hold();
     following_reads::read_rows_judge();
     kept_keys::kept_keys_narrow();

@@ -17,4 +17,6 @@ returns c =
       answered = c.gone_calls_are_answered.ensures.answered;
       read_timings = c.read_timings_hold.ensures;
       read_rows = c.read_rows_judge.ensures;
+      ends = c.ends_join.ensures;
+      begins = c.begins_join.ensures;
     } in take_scans laws

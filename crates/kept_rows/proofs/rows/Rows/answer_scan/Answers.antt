@@ -1,5 +1,5 @@
 use Rattle.events.specs.declared.event.Reply.TheVariants as replies
-use Rattle.std.proofs.Common.{◌≡◌, ℕ, suc, ◌++◌, ◌∷◌, [], List, map, sym, ◌∙◌, subst, arith}
+use Rattle.std.proofs.Common.{◌≡◌, ℕ, suc, ◌++◌, ◌∷◌, [], List, map, refl, sym, ◌∙◌, subst, arith}
 use Rattle.std.specs.Prelude.{All, IfOk, None}
 use Rattle.std.proofs.lemmas.List.{with_items_is}
 use Rattle.std.proofs.lemmas.Result.{IfOk-weaker}
@@ -16,7 +16,7 @@ use Rattle.kept_rows.proofs.rows.Rows.answer_scan.Goals as goal
 
 pub take_scan-requires-clause-sound : goal.take_scan-requires-clause-sound
 take_scan-requires-clause-sound c =
-    let s = told_of c.args.place c.args.scan c.args.pairs.now in
+    let s = told_of c.args.place c.args.scan c.args.pairs.now c.args.still_open.now in
     let may = c.requires.answerable in
     let v : RowsView = record { base = c.self.inside.base; rows = c.deref_mut.result.now } in
     let w : RowsView = record { base = c.open_range.new.base; rows = c.open_range.new.rows } in
@@ -29,7 +29,7 @@ take_scan-requires-clause-sound c =
 
 pub take_scan-requires-clause-parted : goal.take_scan-requires-clause-parted
 take_scan-requires-clause-parted c =
-    let s = told_of c.args.place c.args.scan c.args.pairs.now in
+    let s = told_of c.args.place c.args.scan c.args.pairs.now c.args.still_open.now in
     let may = c.requires.answerable in
     let v : RowsView = record { base = c.self.inside.base; rows = c.deref_mut.result.now } in
     let w : RowsView = record { base = c.open_range.new.base; rows = c.open_range.new.rows } in
@@ -41,7 +41,7 @@ take_scan-requires-clause-parted c =
 
 pub take_scan-requires-clause-names : goal.take_scan-requires-clause-names
 take_scan-requires-clause-names c =
-    let s = told_of c.args.place c.args.scan c.args.pairs.now in
+    let s = told_of c.args.place c.args.scan c.args.pairs.now c.args.still_open.now in
     let may = c.requires.answerable in
     let v : RowsView = record { base = c.self.inside.base; rows = c.deref_mut.result.now } in
     let w : RowsView = record { base = c.open_range.new.base; rows = c.open_range.new.rows } in
@@ -51,7 +51,7 @@ take_scan-requires-clause-names c =
 
 pub take_scan-requires-clause-calls : goal.take_scan-requires-clause-calls
 take_scan-requires-clause-calls c =
-    let s = told_of c.args.place c.args.scan c.args.pairs.now in
+    let s = told_of c.args.place c.args.scan c.args.pairs.now c.args.still_open.now in
     let may = c.requires.answerable in
     let v : RowsView = record { base = c.self.inside.base; rows = c.deref_mut.result.now } in
     let w : RowsView = record { base = c.open_range.new.base; rows = c.open_range.new.rows } in
@@ -61,7 +61,7 @@ take_scan-requires-clause-calls c =
 
 pub returns : goal.returns
 returns c = λ start events process h long own opened.
-    let s = told_of c.args.place c.args.scan c.args.pairs.now in
+    let s = told_of c.args.place c.args.scan c.args.pairs.now c.args.still_open.now in
     let v : RowsView = record { base = c.self.inside.base; rows = c.deref_mut.result.now } in
     let w : RowsView = record { base = c.open_range.new.base; rows = c.open_range.new.rows } in
     let is = lent_ready c.opened_rows_follow.ensures start events process s c.args.self w c.self.inside.base c.self.inside.rows.items
@@ -74,5 +74,5 @@ returns c = λ start events process h long own opened.
     IfOk-weaker c.take_scan.result (IsTakenAs s (limit_of scans (suc c.args.place)) budget (map (λ e. e.0) (first_keys w.rows)) w)
     (IsScanAnswered start (events ++ Answer process (replies.Pairs c.args.pairs.now) ∷ []) budget c.args.scan.low c.args.scan.high)
     (λ answered. ready_comes_to start events process s v w is c.rows_take_scans.ensures c.unseen_scans_are_lost.ensures c.requires.pairs scans budget answered
-    opened)
+    refl opened)
     (subst Taken items c.take_scan.ensures)
