@@ -55,9 +55,11 @@ module _ (ends : EndsJoin) (begins : BeginsJoin) {start : Contents} {events : Li
       let kept = subst (IsKept start events (class_of_row r g) (number_of r.scans) key (g.gones key)) (kept_here base r.keys key k m.rising k_is)
       (m.row.kept key) in
       let (a, a_is, (name, part)) = any_to (λ a. (a.inv ≡ n) × (part_at key (places_by width) (number_of r.scans) a ≡ Some x))
-      (calls_left (g.gones key) (before_calls m)) ((kept.left.are n x).0 x_is) in
-      (a, by_kind a a_is name (kind_of a.call a.response) refl
-      (part_is key (places_by width) (number_of r.scans) a x (kind_of a.call a.response) part))
+      (calls_left (g.gones key) (before_calls m)) ((kept.left.are n x).0 x_is) in (
+        a,
+        by_kind a a_is name (kind_of a.call a.response) refl
+            (part_is key (places_by width) (number_of r.scans) a x (kind_of a.call a.response) part),
+      )
     where
       by_kind : (a : Operation) → Contains (calls_left (g.gones key) (before_calls m)) a → a.inv ≡ n → (kind : Kind)
           → kind_of a.call a.response ≡ kind → IsPart key (places_by width) (number_of r.scans) a x kind → IsOwn key n x a
@@ -82,9 +84,17 @@ module _ (ends : EndsJoin) (begins : BeginsJoin) {start : Contents} {events : Li
       let (call, call_is, (own, (q, answered, at))) = any_to (IsEndAt place) (zip entry.1.names entry.1.calls) some in
       let (a, (a_is, (name, same))) = own_call entry.0 entry.1 call.0 call.1 entry_is call_is own in
       let (p, ended, where_is) = response_spread (places_by width) a.response q (ap (λ (y : Operation). y.response) same ∙ answered) in
-      let here : p.res ≡ place = omega (arith, where_is, at) in
-      (a, (p, ((completed_stays events (answer m ∷ []) a (from_left (g.gones entry.0) (before_calls m) a a_is).0
-      (ap (λ (o : Option Response). is_some o) ended)).0, (ended, here))))
+      let here : p.res ≡ place = omega (arith, where_is, at) in (
+        a,
+        (
+          p,
+          (
+            (completed_stays events (answer m ∷ []) a (from_left (g.gones entry.0) (before_calls m) a a_is).0
+                (ap (λ (o : Option Response). is_some o) ended)).0,
+            (ended, here),
+          ),
+        ),
+      )
 
   begin_there : (places : List ℕ) (place : ℕ) → ArePlacesWithin s.low s.high s.name s.place s.pairs r.keys places → Contains places place
       → (HasEndAt s.low s.high r.keys place → ⊥) → (b : Operation) × (Contains (calls m) b × (b.inv ≡ place))

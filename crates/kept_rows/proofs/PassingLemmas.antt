@@ -270,10 +270,18 @@ module _ {start : Contents} {events : List Event} {process : ℕ} {s : ScanAnswe
         let old = comparisons_of r.scans r.turns in ⊎_elim
         (λ apart. absurd (⊎_elim (λ below. omega (arith, below, range.1, within.0)) (λ above. omega (arith, above, range.0, within.1)) apart))
         (λ rest. ⊎_elim
-        (λ before. inl (inr (x.before, Contains-append_left old g.others (Before b.inv x.before)
-        (subst (λ (n : ℕ). Contains old (Before n x.before)) at (before_said r.scans r.turns x x_is)), before)))
-        (λ behind. inr (inl (inr (x.behind, Contains-append_left old g.others (Behind b.inv x.behind)
-        (subst (λ (n : ℕ). Contains old (Behind n x.behind)) at (behind_said r.scans r.turns x x_is)), behind))))
+        (λ before. inl (inr (
+          x.before,
+          Contains-append_left old g.others (Before b.inv x.before)
+              (subst (λ (n : ℕ). Contains old (Before n x.before)) at (before_said r.scans r.turns x x_is)),
+          before,
+        )))
+        (λ behind. inr (inl (inr (
+          x.behind,
+          Contains-append_left old g.others (Behind b.inv x.behind)
+              (subst (λ (n : ℕ). Contains old (Behind n x.behind)) at (behind_said r.scans r.turns x x_is)),
+          behind,
+        ))))
         rest)
         (All-contains (IsElsewhere s.low s.high low high) r.scans x may.scans x_is)
       where

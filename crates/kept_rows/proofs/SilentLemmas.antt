@@ -111,12 +111,14 @@ module _ (events : List Event) where
             (λ one. Contains-append_left (gone ++ silent_names events) taken n (Contains-append_left gone (silent_names events) n one))
             (λ two. Contains-append_right (gone ++ silent_names events) taken n two)
             (Contains-append_cases gone taken n h)
+
         back : (n : ℕ) → (Contains (silent_names events) n → ⊥) → Contains ((gone ++ silent_names events) ++ taken) n → Contains (gone ++ taken) n
         back n other h = ⊎_elim
             (λ one. ⊎_elim (λ old. Contains-append_left gone taken n old) (λ silent. absurd (other silent))
             (Contains-append_cases gone (silent_names events) n one))
             (λ two. Contains-append_right gone taken n two)
             (Contains-append_cases (gone ++ silent_names events) taken n h)
+
         by_name : (a : Operation) → Contains (operations (events ++ more)) a → (b : Bool) → has_number (silent_names events) a.inv ≡ b
             → (is_left (gone ++ taken) a ≡ is_left ((gone ++ silent_names events) ++ taken) a) ⊎ (part_at key spread moment a ≡ None)
         by_name a a_is true e = inr (no_part a a_is (has_number-Contains (silent_names events) a.inv e))

@@ -184,7 +184,6 @@ module _ (s : ScanAnswer) (r : RowView) where
       both : (before : ℕ) (places : List ℕ) → All (λ q. before < q) places → All (λ p. (behind < p) × (p < s.place)) places
           → All (λ p. (before < p) × (p < s.place)) places
       both before places above others n d less = (above n d less, (others n d less).1)
-
   way_of (AreWays.out behind before places ways left rest) way is rising within =
       let Within = λ (p : ℕ). (behind < p) × (p < s.place) in
       let first = All-head Within before places within in
