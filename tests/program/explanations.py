@@ -10,11 +10,14 @@ value that these read and none of them put, with each call of the history that p
 answers that tell what it put, `judge` says yes or undecided of the others, as the reason says. The front of the last line is a list of
 these calls that a map allows, each behind all that were answered before it began, and none is longer; behind it stand what the map then
 holds, and each call that could come next, with what it was answered, which is not what the map would answer. Then long ones: of 4,000
-calls of one key one answer is wrong, in the middle or near the end, and the explanation has fewer than 20 calls and takes less than two
-seconds of a processor. The last line here counts what passed and failed.
+calls of one key one answer is wrong, in the middle or near the end, and the explanation has fewer than 20 calls. And scans that disagree:
+24 at once over 24 keys and over 2,000, beside puts of two values at each of 24 keys, one put behind the other; each scan lists the second
+values, but at one key the first, and this at another key than the others. Each is explained in less than two seconds of a processor. The
+last line here counts what passed and failed.
 """
 
 import concurrent.futures
+import itertools
 import json
 import math
 import os
@@ -31,6 +34,8 @@ NO = 1
 LONG_CALLS = 4000
 FEW_CALLS = 20
 FEW_SECONDS = 2.0
+SCANS = 24
+MANY_KEYS = 2000
 
 
 def calls_of(events):
@@ -361,22 +366,60 @@ def long_ones():
             yield spoiled(history, place, [None, 0, 1, 2] if values == 3 else old)
 
 
-def long_explained(history):
-    """What is wrong with the explanation of a long history, or None: it is that of `explained`, of few calls, and quick."""
+def disagreeing_scans(keys):
+    """Scans over so many keys, all open while another process puts two values at some keys; each misses the second put of another key."""
+    changed = [1 + keys // SCANS * number for number in range(SCANS)]
+    scans = [{"process": process, "invoke": ["scan", 1, keys]} for process in range(SCANS)]
+    held, events = {key: 0 for key in range(1, keys + 1)}, []
+    for value in (1, 2):
+        for key in changed:
+            events += [{"process": SCANS, "invoke": ["insert", key, value]}, {"process": SCANS, "answer": value - 1}]
+    answers = [sorted({**held, **{key: 2 for key in changed}, missed: 1}.items()) for missed in changed]
+    told = [{"process": process, "answer": [list(pair) for pair in pairs]} for process, pairs in enumerate(answers)]
+    return {"version": 2, "start": [[key, 0] for key in held], "events": [*scans, *events, *told]}
+
+
+def wrong_with_scan(history, rows, origins, small, front):
+    """What is wrong with few calls, of which one is a scan that lists two values of which the first was overwritten before the other came.
+
+    Of calls that are open so many overlap that `judge` does not decide their history within its budget."""
+    scans = [row for row in rows if row["call"][0] == "scan"]
+    if len(scans) != 1 or not isinstance(scans[0]["answer"], list):
+        return f"not one scan with its answer: {rows}"
+    whole = calls_of(history["events"])
+    left, held = rest_of(whole, {row["event"] for row in rows})
+    if held or list(left) != [row["event"] for row in rows]:
+        return f"calls that are held, {held}, or go: {left}"
+    told = [row["call"][1] for row in rows if row["call"][0] == "insert" and row["call"][2] == 1 and row["answer"] == 0]
+    if not any([key, 1] in scans[0]["answer"] for key in told):
+        return f"no put of the value that the scan lists: {rows}"
+    return None
+
+
+def quick_explained(name, history, most, wrong_with):
+    """What is wrong with the explanation of a history, or None: it is as the function says, of few calls, and quick."""
     text = text_of(history)
     before = resource.getrusage(resource.RUSAGE_CHILDREN)
     ran = subprocess.run([PROGRAM, "explain"], input=text, capture_output=True, timeout=120, check=False)
     after = resource.getrusage(resource.RUSAGE_CHILDREN)
     seconds = after.ru_utime + after.ru_stime - before.ru_utime - before.ru_stime
     lines = [json.loads(line) for line in ran.stdout.splitlines()]
-    name = f"of {LONG_CALLS} calls of {1 + max(event['process'] for event in history['events'])} processes"
     print(f"{name}: {len(lines) - 3} calls, {seconds:.2f} s of a processor")
     if ran.returncode != NO or len(lines) < 4:
         return f"{name} explain says too little: {lines[1:]}"
-    if len(lines) - 3 >= FEW_CALLS or seconds >= FEW_SECONDS:
+    if len(lines) - 3 >= most or seconds >= FEW_SECONDS:
         return f"{name} explain says too much, or not in time: {lines[1:]}"
-    wrong = wrong_with_few(history, *parts_of(lines[1:]))
+    wrong = wrong_with(history, *parts_of(lines[1:]))
     return wrong and f"{name} explain says {wrong}"
+
+
+def quick_ones():
+    """Histories that are explained quickly: their names, and how few calls explain them, and what says what is wrong with these."""
+    for history in long_ones():
+        processes = 1 + max(event["process"] for event in history["events"])
+        yield f"of {LONG_CALLS} calls of {processes} processes", history, FEW_CALLS, wrong_with_few
+    for keys in (SCANS, MANY_KEYS):
+        yield f"of {SCANS} scans over {keys} keys", disagreeing_scans(keys), 2 * SCANS, wrong_with_scan
 
 
 def main():
@@ -398,7 +441,7 @@ def main():
             seeds = range(SEED + number, SEED + number + 100)
             histories = [less_told(seed) if seed % 2 else drawn_history(seed, False) for seed in seeds] if refuted < wanted else []
             number += 100
-    for wrong in map(long_explained, long_ones()):
+    for wrong in itertools.starmap(quick_explained, quick_ones()):
         passed += wrong is None
         failed += wrong is not None
         if wrong is not None:

@@ -1,5 +1,7 @@
 pub mod ReplyLemmas
 pub mod ReadLemmas
+mod ApartLemmas
+mod IdleLemmas
 pub mod MarkLemmas
 pub mod StandingLemmas
 pub mod EarliestLemmas

@@ -1,5 +1,5 @@
 -- A completed call that leaves the map as it is may go first.
-use Rattle.std.proofs.Common.{◌≡◌, ℕ, ◌<◌, true, false, List, [], ◌∷◌, ◌++◌, refl, sym, ap, ◌∙◌, subst, append_assoc, ⊎_elim}
+use Rattle.std.proofs.Common.{◌≡◌, ℕ, ◌<◌, true, false, List, Some, [], ◌∷◌, ◌++◌, refl, sym, ap, ◌∙◌, subst, append_assoc, ⊎_elim}
 use Rattle.std.specs.Prelude.{◌≢◌, slice_get, length, All, AllPairs, Contains}
 use Rattle.std.proofs.lemmas.Bool.{false_from_ne_true}
 use Rattle.std.proofs.lemmas.List.Elements.{All-contains, All-append, Contains-append_left, Contains-append_right, Contains-append_cases}
@@ -60,35 +60,66 @@ legal_forward m front back a legal leaves leaves_there h =
           (IsLegal-append m front back (IsLegal-front m front (a ∷ back) h) (subst (λ n. IsLegal n back) leaves_there rest.1)),
     )
 
+-- an order in which a call stands further behind than where a path ends
+module _ (start : Contents) (calls : List Operation) (path : List ℕ) (n : ℕ) (a : Operation) (here : slice_get calls n ≡ Some a)
+    (front back : List ℕ) (order : IsOrder start calls (path ++ (front ++ n ∷ back))) where
+  legal_order : IsLegalOrder start calls (path ++ (front ++ n ∷ back))
+  legal_order = order.legal_order
+
+  abbrev whole : List Operation
+  whole = calls_at calls path ++ (calls_at calls front ++ a ∷ calls_at calls back)
+
+  at_n : calls_at calls (n ∷ back) ≡ a ∷ calls_at calls back
+  at_n = rw here refl
+
+  parts : calls_at calls (path ++ (front ++ n ∷ back)) ≡ whole
+  parts = calls_at-append calls path (front ++ n ∷ back) ∙ ap (λ xs. calls_at calls path ++ xs) (calls_at-append calls front (n ∷ back)
+      ∙ ap (λ xs. calls_at calls front ++ xs) at_n)
+
+  forward_parts : calls_at calls (path ++ n ∷ (front ++ back)) ≡ calls_at calls path ++ a ∷ (calls_at calls front ++ calls_at calls back)
+  forward_parts = calls_at-append calls path (n ∷ (front ++ back))
+      ∙ ap (λ xs. calls_at calls path ++ xs) (rw here (ap (λ xs. a ∷ xs) (calls_at-append calls front back)))
+
+  legal_whole : IsLegal start whole
+  legal_whole = subst (IsLegal start) parts legal_order.legal
+
+  -- what is legal where the path leads
+  pub legal_rest : IsLegal (pairs_after start calls path) (calls_at calls front ++ a ∷ calls_at calls back)
+  legal_rest = IsLegal-back start (calls_at calls path) (calls_at calls front ++ a ∷ calls_at calls back) legal_whole
+
+  -- the call may stand there, where none of those that stood before it precedes it and it is legal there, as the others are behind it
+  pub moves_forward : All (λ b. precedes b a ≡ false) (calls_at calls front)
+      → IsLegal (pairs_after start calls path) (a ∷ (calls_at calls front ++ calls_at calls back))
+      → IsOrder start calls (path ++ n ∷ (front ++ back))
+  moves_forward free legal = record {
+    legal_order = record {
+      known = All-forward path front n back (λ k. k < length calls) legal_order.known;
+      distinct = AllPairs-forward path front n back (λ k l. k ≢ l) legal_order.distinct (λ i d within same. others i d within (sym same));
+      precedence = subst KeepsPrecedence (sym forward_parts)
+          (AllPairs-forward (calls_at calls path) (calls_at calls front) a (calls_at calls back) (λ b c. precedes c b ≡ false)
+          (subst KeepsPrecedence parts legal_order.precedence) free);
+      legal = subst (IsLegal start) (sym forward_parts)
+          (IsLegal-append start (calls_at calls path) (a ∷ (calls_at calls front ++ calls_at calls back))
+          (IsLegal-front start (calls_at calls path) (calls_at calls front ++ a ∷ calls_at calls back) legal_whole) legal);
+    };
+    complete = λ k done. Contains-forward path front n back k (order.complete k done);
+  }
+    where
+      others : All (λ k. k ≢ n) front
+      others = AllPairs-before (λ k l. k ≢ l) front n back (AllPairs-back (λ k l. k ≢ l) path (front ++ n ∷ back) legal_order.distinct)
+
 module _ (start : Contents) (calls : List Operation) (path : List ℕ) (n : ℕ) (rising : IsRising start)
     (read : IsReadNext start calls path n) where
   abbrev a : Operation
   a = read.call
 
   module _ (front back : List ℕ) (order : IsOrder start calls (path ++ (front ++ n ∷ back))) where
-    legal_order : IsLegalOrder start calls (path ++ (front ++ n ∷ back))
-    legal_order = order.legal_order
-
-    abbrev whole : List Operation
-    whole = calls_at calls path ++ (calls_at calls front ++ a ∷ calls_at calls back)
-
-    at_n : calls_at calls (n ∷ back) ≡ a ∷ calls_at calls back
-    at_n = rw read.here refl
-
-    parts : calls_at calls (path ++ (front ++ n ∷ back)) ≡ whole
-    parts = calls_at-append calls path (front ++ n ∷ back) ∙ ap (λ xs. calls_at calls path ++ xs) (calls_at-append calls front (n ∷ back)
-        ∙ ap (λ xs. calls_at calls front ++ xs) at_n)
-
-    forward_parts : calls_at calls (path ++ n ∷ (front ++ back)) ≡ calls_at calls path ++ a ∷ (calls_at calls front ++ calls_at calls back)
-    forward_parts = calls_at-append calls path (n ∷ (front ++ back))
-        ∙ ap (λ xs. calls_at calls path ++ xs) (rw read.here (ap (λ xs. a ∷ xs) (calls_at-append calls front back)))
-
     -- no call stands twice
     apart : (k : ℕ) → Contains path k → Contains (front ++ n ∷ back) k → ⊥
     apart k in_path later =
         All-contains (λ l. k ≢ l) (front ++ n ∷ back) k
         (All-contains (λ l. All (λ m. l ≢ m) (front ++ n ∷ back)) path k
-        (AllPairs-across (λ l m. l ≢ m) path (front ++ n ∷ back) legal_order.distinct) in_path) later refl
+        (AllPairs-across (λ l m. l ≢ m) path (front ++ n ∷ back) order.legal_order.distinct) in_path) later refl
 
     -- none of the calls that stood before it precedes it
     free : All (λ b. precedes b a ≡ false) (calls_at calls front)
@@ -100,11 +131,8 @@ module _ (start : Contents) (calls : List Operation) (path : List ℕ) (n : ℕ)
             let (k, in_front, there) = Contains-from_filter_map (slice_get calls) front b is in
             apart k (read.preceded k (b, a, there, read.here, before)) (Contains-append_left front (n ∷ back) k in_front)
 
-    legal_whole : IsLegal start whole
-    legal_whole = subst (IsLegal start) parts legal_order.legal
-
-    legal_rest : IsLegal (pairs_after start calls path) (calls_at calls front ++ a ∷ calls_at calls back)
-    legal_rest = IsLegal-back start (calls_at calls path) (calls_at calls front ++ a ∷ calls_at calls back) legal_whole
+    rest : IsLegal (pairs_after start calls path) (calls_at calls front ++ a ∷ calls_at calls back)
+    rest = legal_rest start calls path n a read.here front back order
 
     path_rises : IsRising (pairs_after start calls path)
     path_rises = rising_after (calls_at calls path) start rising
@@ -113,29 +141,14 @@ module _ (start : Contents) (calls : List Operation) (path : List ℕ) (n : ℕ)
     leaves_there : after_call (after_calls (pairs_after start calls path) (calls_at calls front)) a.call a.response
         ≡ after_calls (pairs_after start calls path) (calls_at calls front)
     leaves_there =
-        let rest = IsLegal-back (pairs_after start calls path) (calls_at calls front) (a ∷ calls_at calls back) legal_rest in
+        let behind = IsLegal-back (pairs_after start calls path) (calls_at calls front) (a ∷ calls_at calls back) rest in
         read.leaves (after_calls (pairs_after start calls path) (calls_at calls front))
-        (rising_after (calls_at calls front) (pairs_after start calls path) path_rises) rest.0
-
-    others : All (λ k. k ≢ n) front
-    others = AllPairs-before (λ k l. k ≢ l) front n back (AllPairs-back (λ k l. k ≢ l) path (front ++ n ∷ back) legal_order.distinct)
+        (rising_after (calls_at calls front) (pairs_after start calls path) path_rises) behind.0
 
     first : IsOrder start calls (path ++ n ∷ (front ++ back))
-    first = record {
-      legal_order = record {
-        known = All-forward path front n back (λ k. k < length calls) legal_order.known;
-        distinct = AllPairs-forward path front n back (λ k l. k ≢ l) legal_order.distinct (λ i d within same. others i d within (sym same));
-        precedence = subst KeepsPrecedence (sym forward_parts)
-            (AllPairs-forward (calls_at calls path) (calls_at calls front) a (calls_at calls back) (λ b c. precedes c b ≡ false)
-            (subst KeepsPrecedence parts legal_order.precedence) free);
-        legal = subst (IsLegal start) (sym forward_parts)
-            (IsLegal-append start (calls_at calls path) (a ∷ (calls_at calls front ++ calls_at calls back))
-            (IsLegal-front start (calls_at calls path) (calls_at calls front ++ a ∷ calls_at calls back) legal_whole)
-            (legal_forward (pairs_after start calls path) (calls_at calls front) (calls_at calls back) a read.legal
-            (read.leaves (pairs_after start calls path) path_rises read.legal) leaves_there legal_rest));
-      };
-      complete = λ k done. Contains-forward path front n back k (order.complete k done);
-    }
+    first = moves_forward start calls path n a read.here front back order free
+        (legal_forward (pairs_after start calls path) (calls_at calls front) (calls_at calls back) a read.legal
+        (read.leaves (pairs_after start calls path) path_rises read.legal) leaves_there rest)
 
   -- an order that goes on from the path holds it
   goes_first : HasOrderAfter start calls path → HasOrderAfter start calls (path ++ n ∷ [])

@@ -2,4 +2,5 @@ pub mod Replies
 pub mod Reads
 pub mod Found
 pub mod Earliest
+pub mod Idle
 pub mod Standing

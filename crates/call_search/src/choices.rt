@@ -9,8 +9,10 @@ ghost use Rattle.orders.specs.Orders.{IsOrder};
 ghost use Rattle.configurations.proofs.FrontLemmas.{IsNext};
 ghost use Rattle.search.specs.Remaining.{IsEarliestAnswer};
 ghost use Rattle.call_search.specs.Earliest.{earlier_of};
+ghost use Rattle.call_search.specs.Idle.{IsPassedOver};
 ghost use Rattle.call_search.specs.Standing.{places, StandsBare, AreChoices};
 
+use crate::idle::{are_idle, is_taken};
 use crate::reads::is_read;
 use crate::standing::Standing;
 use events::{Memory, Operation, Response};
@@ -18,7 +20,8 @@ use orders::may_come_next;
 use std::alloc::Global;
 
 /// The calls that are to be tried where a search stands, the last one first: one read alone, where there is one, or else all
-/// calls that may come next. None where all completed calls are taken.
+/// calls that may come next, of which the pending ones are passed over where no completed one could wait for them. None where all
+/// completed calls are taken.
 pub(crate) fn choices(
     alloc: Global,
     calls: &[Operation],
@@ -41,7 +44,8 @@ pub(crate) fn choices(
     Ok(Some(rest))
 }
 
-/// One read that may come next, or else all calls that may, by rising place.
+/// One read that may come next, or else all calls that may, by rising place, but for the pending ones where no completed call that
+/// could come next waits for them.
 fn next_calls(
     alloc: Global,
     calls: &[Operation],
@@ -58,13 +62,14 @@ fn next_calls(
     ensures choices { IfOk result (λ v. AreChoices start calls.now (places standing.now.levels.items) v.items) }
     ensures few { IfOk result (λ v. length v.items ≤ length calls.now) }
 {
+    let idle = are_idle(calls, standing, answered);
     let mut next = Vec::new(alloc);
     for place in standing.low..calls.len() {
         let call = &calls[place];
         if answered < call.inv {
             return Ok(next);
         }
-        if may_come(calls, standing, place, answered) {
+        if may_come(calls, standing, place, answered, idle) {
             if is_read(call) {
                 return Ok(Vec::from_slice(alloc, &[place as u32])?);
             }
@@ -74,29 +79,31 @@ fn next_calls(
     Ok(next)
 }
 
-/// Whether a call that was not invoked after the earliest answer may come next.
-fn may_come(calls: &[Operation], standing: &Standing, place: usize, answered: usize) -> bool
+/// Whether a call that was not invoked after the earliest answer may come next, and is not passed over.
+fn may_come(
+    calls: &[Operation],
+    standing: &Standing,
+    place: usize,
+    answered: usize,
+    idle: bool,
+) -> bool
     ghost start: { Contents }
     requires stands { StandsBare start calls.now standing.now }
     requires earliest { IsEarliestAnswer calls.now (places standing.now.levels.items) (Some answered) }
     requires known { place < length calls.now }
     requires early { IsSomeAnd (slice_get calls.now place) (λ a. a.inv ≤ answered) }
     ensures next { result ≡ true → IsNext start calls.now (places standing.now.levels.items) place }
-    ensures not_next { result ≡ false → IsNext start calls.now (places standing.now.levels.items) place → ⊥ }
+    ensures not_next { result ≡ false → IsNext start calls.now (places standing.now.levels.items) place
+        → IsPassedOver idle calls.now place }
 {
     if is_taken(standing, place) {
         return false;
     }
-    may_come_next(&standing.map, &calls[place])
-}
-
-/// Whether a call is taken.
-fn is_taken(standing: &Standing, place: usize) -> bool
-    requires known { place < length standing.now.taken.items }
-    requires marks { slice_index_or standing.now.taken.items place false ≡ has_number (places standing.now.levels.items) place }
-    ensures { IsTrue result ↔ Contains (places standing.now.levels.items) place }
-{
-    standing.taken[place]
+    let call = &calls[place];
+    if idle && call.response.is_none() {
+        return false;
+    }
+    may_come_next(&standing.map, call)
 }
 
 /// The earliest answer of a call that is left.

@@ -14,7 +14,7 @@ is_taken-requires g c =
     record { known = omega (arith, s.marked.all, c.requires.1.1.0); marks = s.marked.marks c.args.place c.requires.1.1.0 }
 
 pub returns-then-is_taken-clause-not_next : goal.returns-then-is_taken-clause-not_next
-returns-then-is_taken-clause-not_next g c = λ no next. next.new (c.is_taken.ensures.0 c.if-is_taken.true)
+returns-then-is_taken-clause-not_next g c = λ no next. absurd (next.new (c.is_taken.ensures.0 c.if-is_taken.true))
 
 pub returns-clause-next : goal.returns-clause-next
 returns-clause-next g c = λ yes.
@@ -43,4 +43,4 @@ returns-clause-not_next g c = λ no next.
     let same = same_Some next.call a (sym next.here ∙ here) in
     let legal = subst (λ (b : Operation). IsLegalCall c.args.standing.now.map b.call b.response) same
     (subst (λ m. IsLegalCall m next.call.call next.call.response) (sym s.holds) next.legal) in
-    both_ways c.may_come_next.result no (c.may_come_next.ensures.1 legal)
+    absurd (both_ways c.may_come_next.result no (c.may_come_next.ensures.1 legal))

@@ -2,7 +2,7 @@ use Rattle.std.proofs.Common.{false, sym, ◌∙◌}
 use Rattle.std.proofs.lemmas.List.{get_or_default}
 use Rattle.list_laws.proofs.NumberLemmas.{has_number-Contains, has_number-from_Contains}
 use Rattle.call_search.specs.Standing.{places}
-use Rattle.call_search.proofs.choices.is_taken.Goals as goal
+use Rattle.call_search.proofs.idle.is_taken.Goals as goal
 
 pub returns : goal.returns
 returns c =

@@ -1,0 +1,113 @@
+-- Calls of other keys: each may be done before the other.
+use Rattle.std.proofs.Common.{◌≡◌, ℕ, ◌<◌, ◌≤◌, false, List, [], ◌∷◌, ◌++◌, None, refl, sym, ap, ◌∙◌, subst, inl, inr, ⊎_elim}
+use Rattle.std.proofs.Common.{arith}
+use Rattle.std.specs.Prelude.{◌⊎◌, All}
+use Rattle.std.proofs.lemmas.Bool.{false≢true}
+use Rattle.std.proofs.lemmas.List.Elements.{All-head, All-tail}
+use Rattle.events.specs.declared.event.Call.{Call}
+use Rattle.events.specs.declared.event.Call.TheVariants.{Get, Insert, Remove, Scan, Replace}
+use Rattle.events.specs.declared.operation.Operation.{Operation}
+use Rattle.events.specs.Keys.{low_key, high_key, may_change}
+use Rattle.map_object.specs.MapObject.{Contents, IsRising, value_at, within, after}
+use Rattle.orders.specs.Orders.{IsLegalCall, IsLegal, after_call, after_calls}
+use Rattle.segments.proofs.RangeLemmas.{IsInside, IsOutside, value_at-within, within-after_call, within_left_call, IsLegalCall-within}
+use Rattle.quiet_cuts.proofs.ValueLemmas.{in_or_out, same_pairs, value_alone, value_left, rising_kept}
+
+own_keys : (a : Operation) → IsInside (low_key a.call) (high_key a.call) a.call
+own_keys a = record { low_inside = omega arith; high_inside = omega arith }
+
+-- what a call leaves at its keys is the same where one goes before it that changes none of them
+kept_range : (m : Contents) (a p : Operation) → IsOutside (low_key a.call) (high_key a.call) p.call
+    → within (low_key a.call) (high_key a.call) (after_call (after_call m p.call p.response) a.call a.response)
+    ≡ within (low_key a.call) (high_key a.call) (after_call (after_call m a.call a.response) p.call p.response)
+kept_range m a p out =
+    let low = low_key a.call in
+    let high = high_key a.call in
+    within-after_call low high (after_call m p.call p.response) a.call a.response (own_keys a)
+    ∙ (ap (λ (n : Contents). after_call n a.call a.response) (within_left_call low high m p.call p.response out)
+    ∙ (sym (within-after_call low high m a.call a.response (own_keys a))
+    ∙ sym (within_left_call low high (after_call m a.call a.response) p.call p.response out)))
+
+value_in : (low high key : ℕ) (m n : Contents) → (low ≤ key) × (key ≤ high) → within low high m ≡ within low high n
+    → value_at m key ≡ value_at n key
+value_in low high key m n bounds same =
+    sym (value_at-within low high m key bounds.0 bounds.1)
+    ∙ (ap (λ (l : Contents). value_at l key) same ∙ value_at-within low high n key bounds.0 bounds.1)
+
+-- two calls whose keys are apart leave the same in either order
+module _ (m : Contents) (a p : Operation) (rising : IsRising m)
+    (apart : (high_key p.call < low_key a.call) ⊎ (high_key a.call < low_key p.call)) where
+  p_outside : IsOutside (low_key a.call) (high_key a.call) p.call
+  p_outside = inr apart
+
+  a_outside : IsOutside (low_key p.call) (high_key p.call) a.call
+  a_outside = ⊎_elim (λ less. inr (inr less)) (λ more. inr (inl more)) apart
+
+  swapped_at : (key : ℕ) → value_at (after_call (after_call m p.call p.response) a.call a.response) key
+      ≡ value_at (after_call (after_call m a.call a.response) p.call p.response) key
+  swapped_at key =
+      let first = after_call (after_call m p.call p.response) a.call a.response in
+      let second = after_call (after_call m a.call a.response) p.call p.response in
+      ⊎_elim
+      (λ here. value_in (low_key a.call) (high_key a.call) key first second here (kept_range m a p p_outside))
+      (λ out. ⊎_elim
+      (λ here. sym (value_in (low_key p.call) (high_key p.call) key second first here (kept_range m p a a_outside)))
+      (λ beside. (value_left (after_call m p.call p.response) a key out ∙ value_left m p key beside)
+      ∙ sym (value_left (after_call m a.call a.response) p key beside ∙ value_left m a key out))
+      (in_or_out (low_key p.call) (high_key p.call) key))
+      (in_or_out (low_key a.call) (high_key a.call) key)
+
+  swapped : after_call (after_call m p.call p.response) a.call a.response ≡ after_call (after_call m a.call a.response) p.call p.response
+  swapped = same_pairs (after_call (after_call m p.call p.response) a.call a.response)
+      (after_call (after_call m a.call a.response) p.call p.response)
+      (rising_kept (after_call m p.call p.response) a (rising_kept m p rising))
+      (rising_kept (after_call m a.call a.response) p (rising_kept m a rising)) swapped_at
+
+changes_none : (m : Contents) (call : Call) → may_change call ≡ false → after m call ≡ m
+changes_none m (Get key) h = refl
+changes_none m (Insert key value) h = absurd (false≢true (sym h))
+changes_none m (Remove key) h = absurd (false≢true (sym h))
+changes_none m (Scan low high) h = refl
+changes_none m (Replace key expected value) h = absurd (false≢true (sym h))
+
+-- a pending call that changes none of the keys of another
+either_way : (m : Contents) (a p : Operation) → IsRising m → p.response ≡ None → IsOutside (low_key a.call) (high_key a.call) p.call
+    → after_call (after_call m p.call p.response) a.call a.response ≡ after_call (after_call m a.call a.response) p.call p.response
+either_way m a p rising pending out = ⊎_elim
+    (λ same. let leaves : (n : Contents) → after_call n p.call p.response ≡ n =
+    λ n. ap (λ o. after_call n p.call o) pending ∙ changes_none n p.call same in
+    ap (λ (n : Contents). after_call n a.call a.response) (leaves m) ∙ sym (leaves (after_call m a.call a.response)))
+    (λ apart. swapped m a p rising apart)
+    out
+
+-- a call goes before pending ones that change none of its keys
+pub goes_before : (m : Contents) (front back : List Operation) (a : Operation) → IsRising m
+    → All (λ p. (p.response ≡ None) × IsOutside (low_key a.call) (high_key a.call) p.call) front
+    → IsLegal m (front ++ a ∷ back) → IsLegal m (a ∷ (front ++ back))
+goes_before m [] back a rising free h = h
+goes_before m (p ∷ front) back a rising free h =
+    let here = All-head (λ p. (p.response ≡ None) × IsOutside (low_key a.call) (high_key a.call) p.call) p front free in
+    let next = after_call m p.call p.response in
+    let later = goes_before next front back a (rising_kept m p rising)
+    (All-tail (λ p. (p.response ≡ None) × IsOutside (low_key a.call) (high_key a.call) p.call) p front free) h.1 in (
+      (IsLegalCall-within (low_key a.call) (high_key a.call) m a.call a.response (own_keys a)).1
+          (subst (λ (n : Contents). IsLegalCall n a.call a.response)
+          (within_left_call (low_key a.call) (high_key a.call) m p.call p.response here.1)
+          ((IsLegalCall-within (low_key a.call) (high_key a.call) next a.call a.response (own_keys a)).0 later.0)),
+      (
+        subst (λ o. IsLegalCall (after_call m a.call a.response) p.call o) (sym here.0) tt,
+        subst (λ (n : Contents). IsLegal n (front ++ back)) (either_way m a p rising here.0 here.1) later.1,
+      ),
+    )
+
+-- calls that do not change a key leave its value
+pub value_stays : (m : Contents) (front : List Operation) (key : ℕ) → All (λ p. IsOutside key key p.call) front
+    → value_at (after_calls m front) key ≡ value_at m key
+value_stays m [] key free = refl
+value_stays m (p ∷ front) key free =
+    let next = after_call m p.call p.response in
+    value_stays next front key (All-tail (λ p. IsOutside key key p.call) p front free)
+    ∙ (value_alone next key
+    ∙ (ap (λ (n : Contents). value_at n key)
+    (within_left_call key key m p.call p.response (All-head (λ p. IsOutside key key p.call) p front free))
+    ∙ sym (value_alone m key)))
