@@ -86,8 +86,11 @@ static inline void potzendai_tell_stream(struct potzendai_following *f)
         small.text = (char *)calloc(1, small.length + 1);
         if (small.text)
             memcpy(small.text, few, small.length);
-        if (small.text && potzendai_explained(&small) == POTZENDAI_IS_NO)
+        if (small.text && potzendai_explained(&small) == POTZENDAI_IS_NO) {
+            fputs("events and processes are numbered anew here and in the files, for the calls \"invoked\" above that had not taken effect, "
+                  "in that order:\n", stderr);
             potzendai_tell_no(f->tester, &small);
+        }
         potzendai_forget(&small);
     }
     potzendai_tell_again(f->tester, 0);

@@ -1513,20 +1513,21 @@ func (r *run) refutedStream() []string {
 	said := []string{report}
 	if small != "" {
 		if status, explained := r.program.askTwice("explain", small); status == no {
-			said = append(said, r.shown(small, explained, roundOf(small))...)
+			said = append(append(said, saidAnew), r.shown(small, explained, roundOf(small))...)
 		}
 	}
 	return append(said, saidAgain+r.options.again(0))
 }
 
-// What a report of explain says of a history, and the files that show it.
+// What a report of explain says of a history, and the files that show it. The words and the picture have the processes and events of the first
+// file.
 func (r *run) shown(text, report string, one *round) []string {
 	lines, few := saidReport(report, one)
-	said, drawn := append(lines, r.keep(".json", text)), text
+	said := append(lines, r.keep(".json", text))
 	if few != "" {
-		said, drawn = append(said, r.keep("-few.json", few)), few
+		said = append(said, r.keep("-few.json", few))
 	}
-	_, picture := r.program.ask("draw", drawn, r.options.budget)
+	_, picture := r.program.askTwice("draw", text)
 	return append(said, r.keep(".svg", picture))
 }
 
@@ -1599,6 +1600,8 @@ func (o *options) less(how int) *options {
 	return &less
 }
 
+const saidAnew = "events and processes are numbered anew here and in the files, for the calls \"invoked\" above that had not taken effect, in " +
+	"that order:"
 const saidAgain = "  again (draws the same calls; threads may interleave otherwise): "
 
 // The words that repeat the draws of a run of so many rounds.
@@ -1638,9 +1641,6 @@ func readWords(name string, words []string) *options {
 		seed: uint64(time.Now().UnixNano()) % 1000000007}
 	info, err := os.Stderr.Stat()
 	o.shows = err == nil && info.Mode()&os.ModeCharDevice != 0
-	if isOneOf("--help", words...) {
-		fail(badWords, "usage: %s [WORDS]\n%s", name, usage)
-	}
 	for i := 0; i < len(words); i += 2 {
 		if words[i] == "--stream" {
 			o.isStream = true
@@ -1742,6 +1742,8 @@ func (o *options) fit(has functions) {
 	} else if o.seconds == 0 {
 		o.seconds = 1000000000
 	}
+	most := uint64(mostCalls) / (o.threads + 1)
+	size := fmt.Sprintf("at most %d with %d threads, since a round has at most %d calls", most, o.threads, mostCalls)
 	switch {
 	case o.total() == 0:
 		fail(badWords, "--mix: no share")
@@ -1755,9 +1757,12 @@ func (o *options) fit(has functions) {
 		fail(badWords, "--void: own: each thread needs a key")
 	case o.isStream && o.rounds > 0:
 		fail(badWords, "--rounds: a stream has none; --seconds, or --calls of each thread")
-	case !o.isStream && (o.threads > processes-2 || o.calls > mostCalls || (o.threads+1)*o.calls > mostCalls || (o.threads+1)*o.keys > mostCalls):
-		fail(badWords, "--calls: a round has at most 62 threads, and 4096 calls: those of each thread, or as many as there are keys, for the "+
-			"threads and one more; --stream has no such end")
+	case !o.isStream && o.threads > processes-2:
+		fail(badWords, "--threads: at most 62 in rounds; --stream has no such end")
+	case !o.isStream && o.keys > most:
+		fail(badWords, "--keys: %s, behind which all keys are got; --stream has no such end", size)
+	case !o.isStream && o.calls > most:
+		fail(badWords, "--calls: %s; --stream has no such end", size)
 	}
 }
 
@@ -1848,6 +1853,9 @@ func allBroken(o *options, make func() Map, p *program, has functions) (int, []s
 
 // Run is a whole program: it says how it went, and answers the status. `make` makes a new and empty map, for each run.
 func Run(name string, make func() Map, words ...string) int {
+	if isOneOf("--help", words...) {
+		return printed(yes, fmt.Sprintf("usage: %s [WORDS]\n%s", name, strings.TrimSpace(usage)))
+	}
 	status, said, last, wrong := tested(name, make, words)
 	if wrong != nil {
 		fmt.Fprintln(os.Stderr, wrong.line)
@@ -1859,7 +1867,12 @@ func Run(name string, make func() Map, words ...string) int {
 	if last == "" {
 		return status
 	}
-	if _, err := fmt.Println(last); err != nil {
+	return printed(status, last)
+}
+
+// Prints a text, and answers the status: where standard output has no room that of a yes is another one.
+func printed(status int, text string) int {
+	if _, err := fmt.Println(text); err != nil {
 		fmt.Fprintln(os.Stderr, "standard output: not written")
 		if status == yes {
 			return badFile

@@ -442,6 +442,8 @@ def stamps(processes):
 
 
 RUNNING, OVER, FAILED = range(3)
+ANEW = ("events and processes are numbered anew here and in the files, for the calls \"invoked\" above that had not taken effect, in that "
+        "order:")
 AGAIN = "  again (draws the same calls; threads may interleave otherwise): "
 REPORT_SHOWN = 1000  # characters of the report of a stream without order
 
@@ -754,7 +756,8 @@ class Library(Judge):
             raise Stop(FILE, "--library: %s" % error)
 
     def ask(self, command, text, budget):
-        status, answer = self.told("potzendai_" + command, ctypes.c_char_p(text.encode()), ctypes.c_size_t(len(text.encode())),
+        name = {"draw": "potzendai_draw_part"}.get(command, "potzendai_" + command)
+        status, answer = self.told(name, ctypes.c_char_p(text.encode()), ctypes.c_size_t(len(text.encode())),
                                    ctypes.c_uint32(budget))
         if status > UNDECIDED:
             raise Stop(status, "%s: %s" % (command, answer.rstrip()))
@@ -1037,8 +1040,11 @@ class Parser(argparse.ArgumentParser):
     def error(self, message):
         raise Stop(WORDS, message.replace("argument ", "", 1))
 
-    def exit(self, status=0, message=None):
-        sys.exit(WORDS)
+    def print_help(self, file=None):
+        try:
+            print(self.format_help(), end="", flush=True)
+        except OSError:
+            raise Stop(FILE, "standard output: not written")
 
 
 def number(least, most):
@@ -1121,9 +1127,14 @@ def fit(options, has):
         wrong("--void", "own: each thread needs a key")
     options.seconds = options.seconds or (10 ** 9 if options.rounds else 10)
     options.calls = options.calls or (0 if options.stream else min(CALLS // (options.threads + 2), 200))
-    if not options.stream and (options.threads > PROCESSES - 2 or (options.threads + 1) * max(options.calls, options.keys) > CALLS):
-        wrong("--calls", "a round has at most 62 threads, and 4096 calls: those of each thread, or as many as there are keys, for the threads "
-              "and one more; --stream has no such end")
+    most = CALLS // (options.threads + 1)
+    size = "at most %d with %d threads, since a round has at most %d calls" % (most, options.threads, CALLS)
+    if not options.stream and options.threads > PROCESSES - 2:
+        wrong("--threads", "at most 62 in rounds; --stream has no such end")
+    if not options.stream and options.keys > most:
+        wrong("--keys", size + ", behind which all keys are got; --stream has no such end")
+    if not options.stream and options.calls > most:
+        wrong("--calls", size + "; --stream has no such end")
     options.shows, options.shown = sys.stderr.isatty(), time.monotonic()
     return options
 
@@ -1183,15 +1194,16 @@ def refuted_stream(run):
     status, told_of = run.program.asked("explain", small) if small else (UNDECIDED, "")
     if status == NO:
         whole = json.loads(small)
-        said += shown(run, small, told_of, types.SimpleNamespace(events=whole["events"], start=dict(whole.get("start", []))))
+        said += [ANEW] + shown(run, small, told_of, types.SimpleNamespace(events=whole["events"], start=dict(whole.get("start", []))))
     return said + [AGAIN + words_again(run.options, 0)]
 
 
 def shown(run, text, report, one):
-    """What a report of `explain` says of a history, and the files that show it."""
+    """What a report of `explain` says of a history, and the files that show it. The words and the picture have the processes and events of the
+    first file."""
     said, few = said_report(report, one)
     said += [keep(run.options, ".json", text)] + ([keep(run.options, "-few.json", few + "\n")] if few else [])
-    return said + [keep(run.options, ".svg", run.program.ask("draw", few + "\n" if few else text, run.options.budget)[1])]
+    return said + [keep(run.options, ".svg", run.program.asked("draw", text)[1])]
 
 
 def refuted(run):
