@@ -78,6 +78,7 @@ static inline void potzendai_tell_stream(struct potzendai_following *f)
     const char *few = potzendai_next_line(f->told.report);
     struct potzendai_told small;
     memset(&small, 0, sizeof small);
+    small.is_left = true;
     size_t length = strcspn(f->told.report, "\n");
     bool is_long = length > (size_t)POTZENDAI_SHOWN;
     fprintf(stderr, "%.*s%s\n", (int)(is_long ? (size_t)POTZENDAI_SHOWN : length), f->told.report, is_long ? ".." : "");

@@ -25,7 +25,7 @@ struct potzendai_tester {
 };
 
 /* A recording as a text, and what the library says of it. */
-struct potzendai_told { char *text, *report; size_t length, room; };
+struct potzendai_told { char *text, *report; size_t length, room; bool is_left; };
 
 static inline void potzendai_forget(struct potzendai_told *told)
 {
@@ -407,7 +407,7 @@ static inline void potzendai_keep_picture(struct potzendai_tester *tester, const
 /* Tells a no: in words, and by files. The words and the picture have the processes and events of the first file. */
 static inline void potzendai_tell_no(struct potzendai_tester *tester, const struct potzendai_told *told)
 {
-    const char *few = potzendai_tell(stderr, told->text, told->report);
+    const char *few = potzendai_tell(stderr, told->text, told->report, told->is_left);
     potzendai_keep(tester, ".json", told->text, told->length);
     if (few)
         potzendai_keep(tester, "-few.json", few, strcspn(few, "\n"));

@@ -987,16 +987,17 @@ func (c *crew) closeAll() {
 
 // A round as a history, and what its threads met.
 type round struct {
-	start          map[uint64]uint64
-	events         []event
-	pending        []*call
-	met            map[uint64]bool
-	calls, overlap uint64
+	start           map[uint64]uint64
+	events          []event
+	pending         []*call
+	met             map[uint64]bool
+	calls, overlap  uint64
+	atStart, nobody string
 }
 
 // Each thread, and each of its lives, becomes a process; calls that have no answer from before are the first.
 func newRound(events []event, start map[uint64]uint64, before []*call) *round {
-	r := &round{start: start, met: map[uint64]bool{}}
+	r := &round{start: start, met: map[uint64]bool{}, atStart: "at the start", nobody: "nobody"}
 	for i, one := range before {
 		r.events = append(r.events, event{call: one, process: i})
 	}
@@ -1072,7 +1073,7 @@ func roundOf(text string) *round {
 	if err := decoder.Decode(&whole); err != nil {
 		fail(badFile, "follow: %s", err)
 	}
-	r := &round{start: map[uint64]uint64{}}
+	r := &round{start: map[uint64]uint64{}, atStart: "before these calls", nobody: "none of these calls"}
 	for _, one := range whole.Events {
 		read := event{process: one.Process}
 		if len(one.Invoke) > 0 {
@@ -1424,10 +1425,10 @@ func saidWriter(r *round, answer interface{}) string {
 	}
 	for _, held := range r.start {
 		if fmt.Sprint(held) == value.String() {
-			return fmt.Sprintf("; %v was there at the start", value)
+			return fmt.Sprintf("; %v was there %s", value, r.atStart)
 		}
 	}
-	return fmt.Sprintf("; %v is what nobody put", value)
+	return fmt.Sprintf("; %v is what %s put", value, r.nobody)
 }
 
 // A line of a report: what it is of is seen by its members.
@@ -1440,16 +1441,16 @@ type reported struct {
 }
 
 // Who put a value that the few calls read and none of them put.
-func saidOrigin(line reported) string {
+func saidOrigin(r *round, line reported) string {
 	var who []string
 	if line.Start == true {
-		who = append(who, "what was there at the start")
+		who = append(who, "what was there "+r.atStart)
 	}
 	for _, put := range line.Puts {
 		who = append(who, fmt.Sprintf("what process %v put (event %v)", put.Process, put.Event))
 	}
 	if len(who) == 0 {
-		who = append(who, "what nobody put")
+		who = append(who, fmt.Sprintf("what %s put", r.nobody))
 	}
 	return fmt.Sprintf("  %v at %v is %s", line.Value, line.Key, strings.Join(who, ", "))
 }
@@ -1477,7 +1478,7 @@ func saidReport(report string, r *round) (said []string, few string) {
 			said = append(said, fmt.Sprintf("  event %-6d process %-3d %s, answered %s", event, process, saidCall(line.Call),
 				saidAnswer(line.Answer)+saidWriter(r, line.Answer)))
 		case line.Key != "":
-			said = append(said, saidOrigin(line))
+			said = append(said, saidOrigin(r, line))
 		case line.Front != nil:
 			front := strings.ReplaceAll(fmt.Sprint(line.Front), " ", ",")
 			said = append(said, "  an order of them gets as far as the events "+front+"; the map then holds "+saidPairs(line.Holds))

@@ -896,13 +896,16 @@ public final class Potzendai {
         final List<Call> pending;
         final List<Event> events = new ArrayList<>();
         final Set<Long> met = new HashSet<>();
+        String atStart = "at the start", nobody = "nobody";
         long calls, overlap;
 
-        /** A history, as far as what is said of it needs that. */
+        /** A history of what a follower still had, as far as what is said of it needs that. */
         Round(String history) {
             Map<?, ?> whole = (Map<?, ?>) Json.of(history);
             start = new TreeMap<>();
             pending = List.of();
+            atStart = "before these calls";
+            nobody = "none of these calls";
             for (Object pair : whole.get("start") instanceof List<?> pairs ? pairs : List.of())
                 start.put((Long) ((List<?>) pair).get(0), (Long) ((List<?>) pair).get(1));
             for (Object each : (List<?>) whole.get("events")) {
@@ -1250,18 +1253,18 @@ public final class Potzendai {
             if (call != null && (call.name.equals("insert") || call.name.equals("replace")) && call.words[call.words.length - 1] == value)
                 return "; " + saidAnswer(value) + " is what process " + round.events.get(i).thread + " put (event " + i + ")";
         }
-        return "; " + saidAnswer(value) + (round.start.containsValue(value) ? " was there at the start" : " is what nobody put");
+        return "; " + saidAnswer(value) + (round.start.containsValue(value) ? " was there " + round.atStart : " is what " + round.nobody + " put");
     }
 
     /** Who put a value that the few calls read and none of them put. */
-    private static String saidOrigin(Map<?, ?> line) {
+    private static String saidOrigin(Round round, Map<?, ?> line) {
         List<String> who = new ArrayList<>();
         if (Boolean.TRUE.equals(line.get("start")))
-            who.add("what was there at the start");
+            who.add("what was there " + round.atStart);
         for (Object put : (List<?>) line.get("puts"))
             who.add("what process " + ((Map<?, ?>) put).get("process") + " put (event " + ((Map<?, ?>) put).get("event") + ")");
         return "  " + saidAnswer(line.get("value")) + " at " + saidAnswer(line.get("key")) + " is "
-            + (who.isEmpty() ? "what nobody put" : String.join(", ", who));
+            + (who.isEmpty() ? "what " + round.nobody + " put" : String.join(", ", who));
     }
 
     /** A report of `explain` in words. */
@@ -1275,7 +1278,7 @@ public final class Potzendai {
                 said.add(String.format("  event %-6d process %-3d %s, answered %s%s", line.get("event"), line.get("process"),
                     saidCall((List<?>) line.get("call")), saidAnswer(line.get("answer")), saidWriter(round, line.get("answer"))));
             if (line.containsKey("puts"))
-                said.add(saidOrigin(line));
+                said.add(saidOrigin(round, line));
             if (!line.containsKey("front"))
                 continue;
             said.add("  an order of them gets as far as the events " + line.get("front").toString().replace(" ", "") + "; the map then holds "

@@ -625,6 +625,8 @@ class Crew:
 class Round:
     """What one round recorded, as a history, and what its threads met."""
 
+    at_start, nobody = "at the start", "nobody"
+
     def __init__(self, logs, start, pending):
         lines = sorted((line for log in logs for line in log), key=lambda line: line[0])
         numbers = {}
@@ -991,14 +993,14 @@ def said_writer(one, value):
         call = event.get("invoke", ("",))
         if call[0] in ("insert", "replace") and call[-1] == value:
             return "; %d is what process %d put (event %d)" % (value, event["process"], number)
-    return "; %d %s" % (value, "was there at the start" if value in one.start.values() else "is what nobody put")
+    return "; %d %s" % (value, "was there " + one.at_start if value in one.start.values() else "is what %s put" % one.nobody)
 
 
-def said_origin(line):
+def said_origin(one, line):
     """Who put a value that the few calls read and none of them put."""
-    start = ["what was there at the start"] if line["start"] else []
+    start = ["what was there " + one.at_start] if line["start"] else []
     puts = ["what process %d put (event %d)" % (put["process"], put["event"]) for put in line["puts"]]
-    return "  %d at %d is %s" % (line["value"], line["key"], ", ".join(start + puts) or "what nobody put")
+    return "  %d at %d is %s" % (line["value"], line["key"], ", ".join(start + puts) or "what %s put" % one.nobody)
 
 
 def said_report(report, one):
@@ -1013,7 +1015,7 @@ def said_report(report, one):
             said.append("  event %-6d process %-3d %s, answered %s%s" % (
                 line["event"], line["process"], said_call(line["call"]), said_answer(line["answer"]), said_writer(one, line["answer"])))
         elif "puts" in line:
-            said.append(said_origin(line))
+            said.append(said_origin(one, line))
         elif "front" in line:
             said.append("  an order of them gets as far as the events %s; the map then holds %s" % (
                 json.dumps(line["front"], separators=(",", ":")), said_pairs(line["holds"])))
@@ -1194,7 +1196,8 @@ def refuted_stream(run):
     status, told_of = run.program.asked("explain", small) if small else (UNDECIDED, "")
     if status == NO:
         whole = json.loads(small)
-        said += [ANEW] + shown(run, small, told_of, types.SimpleNamespace(events=whole["events"], start=dict(whole.get("start", []))))
+        said += [ANEW] + shown(run, small, told_of, types.SimpleNamespace(
+            events=whole["events"], start=dict(whole.get("start", [])), at_start="before these calls", nobody="none of these calls"))
     return said + [AGAIN + words_again(run.options, 0)]
 
 

@@ -893,6 +893,8 @@ struct Round {
     met: HashSet<u64>,
     calls: u64,
     overlap: u64,
+    at_start: &'static str,
+    nobody: &'static str,
 }
 
 impl Round {
@@ -906,7 +908,8 @@ impl Round {
             let process = *numbers.entry((event.thread, event.life)).or_insert(next);
             events.push((process, event.what));
         }
-        let mut round = Round { start, events, pending: vec![], met: HashSet::new(), calls: 0, overlap: 0 };
+        let (at_start, nobody) = ("at the start", "nobody");
+        let mut round = Round { start, events, pending: vec![], met: HashSet::new(), calls: 0, overlap: 0, at_start, nobody };
         round.measure();
         round
     }
@@ -951,7 +954,8 @@ impl Round {
             events.push((event.member("process").number() as usize, what));
         }
         let start = whole.member("start").items().iter().map(|pair| (pair.word(0), pair.word(1))).collect();
-        Round { start: Arc::new(start), events, pending: vec![], met: HashSet::new(), calls: 0, overlap: 0 }
+        let (at_start, nobody) = ("before these calls", "none of these calls");
+        Round { start: Arc::new(start), events, pending: vec![], met: HashSet::new(), calls: 0, overlap: 0, at_start, nobody }
     }
 
     fn text(&self) -> String {
@@ -1573,17 +1577,17 @@ fn said_writer(round: &Round, answer: &Json) -> String {
         }
     }
     let was_there = round.start.values().any(|held| held == value);
-    format!("; {value} {}", if was_there { "was there at the start" } else { "is what nobody put" })
+    if was_there { format!("; {value} was there {}", round.at_start) } else { format!("; {value} is what {} put", round.nobody) }
 }
 
 /// Who put a value that the few calls read and none of them put.
-fn said_origin(line: &Json) -> String {
+fn said_origin(round: &Round, line: &Json) -> String {
     let start = *line.member("start") == Json::Bool(true);
-    let mut who = if start { vec!["what was there at the start".to_string()] } else { vec![] };
+    let mut who = if start { vec![format!("what was there {}", round.at_start)] } else { vec![] };
     for put in line.member("puts").items() {
         who.push(format!("what process {} put (event {})", put.member("process").number(), put.member("event").number()));
     }
-    let who = if who.is_empty() { "what nobody put".to_string() } else { who.join(", ") };
+    let who = if who.is_empty() { format!("what {} put", round.nobody) } else { who.join(", ") };
     format!("  {} at {} is {who}", line.member("value").number(), line.member("key").number())
 }
 
@@ -1604,7 +1608,7 @@ fn said_report(report: &str, round: &Round) -> (Vec<String>, Option<String>) {
             let answer = said_answer(line.member("answer"));
             said.push(format!("  event {event:<6} process {process:<3} {call}, answered {answer}{writer}"));
         } else if *line.member("puts") != Json::Null {
-            said.push(said_origin(&line));
+            said.push(said_origin(round, &line));
         } else if *line.member("front") != Json::Null {
             let front: Vec<String> = line.member("front").items().iter().map(|event| event.number().to_string()).collect();
             let holds = said_answer(line.member("holds"));
