@@ -46,14 +46,16 @@ fn push_refuted(out: &mut String, lo: u64, hi: u64) -> Result<(), Memory>
     ensures { OnOk result (string_bytes out.new ≡ string_bytes out.old ++ verdict_text (NoOrder lo hi)) }
 {
     out.push_str("Not linearizable: ")?;
-    push_keys(out, lo, hi)
+    push_keys(out, lo, hi)?;
+    Ok(())
 }
 
 fn push_undecided(out: &mut String, lo: u64, hi: u64) -> Result<(), Memory>
     ensures { OnOk result (string_bytes out.new ≡ string_bytes out.old ++ verdict_text (Undecided lo hi)) }
 {
     out.push_str("Undecided: ")?;
-    push_keys(out, lo, hi)
+    push_keys(out, lo, hi)?;
+    Ok(())
 }
 
 /// Adds a range of keys, or the only key of it.
