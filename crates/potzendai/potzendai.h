@@ -1,6 +1,6 @@
 /* Potzendai's library: judges, locates, explains and draws histories of a concurrent ordered map, and follows streams of their
- * events, as `bench judge`, `bench locate`, `bench explain`, `bench draw --calls 0` and `bench follow` do. Link libpotzendai.a;
- * docs/LIBRARY.md says how it is built, and what each call promises.
+ * events, as `bench judge`, `bench locate`, `bench explain`, `bench draw --calls 0` and `bench follow` do; potzendai_draw_part draws
+ * what `bench draw` shows, of a no few calls. Link libpotzendai.a; docs/LIBRARY.md says how it is built, and what each call promises.
  *
  *     char report[POTZENDAI_REPORT] = "";
  *     size_t length;
@@ -50,6 +50,7 @@ uint32_t potzendai_judge(const char *text, size_t text_length, uint32_t budget, 
 uint32_t potzendai_locate(const char *text, size_t text_length, uint32_t budget, char *room, size_t room_length, size_t *length);
 uint32_t potzendai_explain(const char *text, size_t text_length, uint32_t budget, char *room, size_t room_length, size_t *length);
 uint32_t potzendai_draw(const char *text, size_t text_length, uint32_t budget, char *room, size_t room_length, size_t *length);
+uint32_t potzendai_draw_part(const char *text, size_t text_length, uint32_t budget, char *room, size_t room_length, size_t *length);
 uint32_t potzendai_follow(const char *text, size_t text_length, uint32_t budget, char *room, size_t room_length, size_t *length);
 
 /* A stream that is followed while it is recorded. Made by `= {0}`, and read and written by these calls alone; it is not copied, and

@@ -78,6 +78,7 @@ static inline void potzendai_tell_stream(struct potzendai_following *f)
     const char *few = potzendai_next_line(f->told.report);
     struct potzendai_told small;
     memset(&small, 0, sizeof small);
+    small.is_left = true;
     size_t length = strcspn(f->told.report, "\n");
     bool is_long = length > (size_t)POTZENDAI_SHOWN;
     fprintf(stderr, "%.*s%s\n", (int)(is_long ? (size_t)POTZENDAI_SHOWN : length), f->told.report, is_long ? ".." : "");
@@ -86,8 +87,11 @@ static inline void potzendai_tell_stream(struct potzendai_following *f)
         small.text = (char *)calloc(1, small.length + 1);
         if (small.text)
             memcpy(small.text, few, small.length);
-        if (small.text && potzendai_explained(&small) == POTZENDAI_IS_NO)
+        if (small.text && potzendai_explained(&small) == POTZENDAI_IS_NO) {
+            fputs("events and processes are numbered anew here and in the files, for the calls \"invoked\" above that had not taken effect, "
+                  "in that order:\n", stderr);
             potzendai_tell_no(f->tester, &small);
+        }
         potzendai_forget(&small);
     }
     potzendai_tell_again(f->tester, 0);

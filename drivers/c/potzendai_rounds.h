@@ -25,7 +25,7 @@ struct potzendai_tester {
 };
 
 /* A recording as a text, and what the library says of it. */
-struct potzendai_told { char *text, *report; size_t length, room; };
+struct potzendai_told { char *text, *report; size_t length, room; bool is_left; };
 
 static inline void potzendai_forget(struct potzendai_told *told)
 {
@@ -315,13 +315,20 @@ static inline enum potzendai_status potzendai_ask_library(potzendai_question *qu
     }
 }
 
-/* The verdict on a recording: once more at ten times the budget where it is undecided. */
-static inline enum potzendai_status potzendai_explained(struct potzendai_told *told)
+/* The same: once more at ten times the budget where it is undecided. */
+static inline enum potzendai_status potzendai_ask_twice(potzendai_question *question, const char *text, size_t length, char **report,
+                                                        size_t *room)
 {
     enum potzendai_status status = POTZENDAI_IS_UNDECIDED;
     for (uint32_t budget = POTZENDAI_BUDGET; status == POTZENDAI_IS_UNDECIDED && budget <= 10 * POTZENDAI_BUDGET; budget *= 10)
-        status = potzendai_ask_library(potzendai_explain, told->text, told->length, budget, &told->report, &told->room);
+        status = potzendai_ask_library(question, text, length, budget, report, room);
     return status;
+}
+
+/* The verdict on a recording. */
+static inline enum potzendai_status potzendai_explained(struct potzendai_told *told)
+{
+    return potzendai_ask_twice(potzendai_explain, told->text, told->length, &told->report, &told->room);
 }
 
 /* Records the round once more, as large as the run now says, and answers whether it has no order. What it says is in `told`. */
@@ -385,27 +392,26 @@ static inline void potzendai_smaller(struct potzendai_tester *tester, struct pot
     }
 }
 
-/* Draws a history, and keeps the picture. */
+/* Draws the few calls of a history that show a no, and keeps the picture: once more at ten times the budget where it is undecided. */
 static inline void potzendai_keep_picture(struct potzendai_tester *tester, const char *text, size_t length)
 {
     char *picture = NULL;
     size_t room = 0;
-    if (potzendai_ask_library(potzendai_draw, text, length, POTZENDAI_BUDGET, &picture, &room) > POTZENDAI_IS_UNDECIDED)
+    if (potzendai_ask_twice(potzendai_draw_part, text, length, &picture, &room) > POTZENDAI_IS_UNDECIDED)
         fputs("picture: not drawn\n", stderr);
     else
         potzendai_keep(tester, ".svg", picture, strlen(picture));
     free(picture);
 }
 
-/* Tells a no: in words, and by files. */
+/* Tells a no: in words, and by files. The words and the picture have the processes and events of the first file. */
 static inline void potzendai_tell_no(struct potzendai_tester *tester, const struct potzendai_told *told)
 {
-    const char *few = potzendai_tell(stderr, told->text, told->report);
-    size_t length = few ? strcspn(few, "\n") : 0;
+    const char *few = potzendai_tell(stderr, told->text, told->report, told->is_left);
     potzendai_keep(tester, ".json", told->text, told->length);
     if (few)
-        potzendai_keep(tester, "-few.json", few, length);
-    potzendai_keep_picture(tester, few ? few : told->text, few ? length : told->length);
+        potzendai_keep(tester, "-few.json", few, strcspn(few, "\n"));
+    potzendai_keep_picture(tester, told->text, told->length);
 }
 
 /* The words that draw the same calls again, of a run of so many rounds. */

@@ -101,8 +101,20 @@ static inline bool potzendai_is_at_start(const char *text, const char *value, si
     return false;
 }
 
+/* When what a history starts from was there, and who put a value that none of its calls puts: of the history of a round, or of what a
+ * follower still had of a stream. */
+static inline const char *potzendai_at_start(bool is_left)
+{
+    return is_left ? "was there before these calls" : "was there at the start";
+}
+
+static inline const char *potzendai_nobody(bool is_left)
+{
+    return is_left ? "what none of these calls put" : "what nobody put";
+}
+
 /* Writes who put a value, where one event of the history says that: `text` is the whole history. */
-static inline void potzendai_tell_writer(FILE *out, const char *text, const char *value)
+static inline void potzendai_tell_writer(FILE *out, const char *text, const char *value, bool is_left)
 {
     size_t digits = strspn(value, "0123456789");
     uint64_t event = 0;
@@ -119,18 +131,19 @@ static inline void potzendai_tell_writer(FILE *out, const char *text, const char
             return;
         }
     }
-    if (digits > 0)
-        fprintf(out, "; %.*s %s", (int)digits, value,
-                potzendai_is_at_start(text, value, digits) ? "was there at the start" : "is what nobody put");
+    if (digits > 0 && potzendai_is_at_start(text, value, digits))
+        fprintf(out, "; %.*s %s", (int)digits, value, potzendai_at_start(is_left));
+    else if (digits > 0)
+        fprintf(out, "; %.*s is %s", (int)digits, value, potzendai_nobody(is_left));
 }
 
 /* Writes who put a value that the few calls read and none of them put. */
-static inline void potzendai_tell_origin(FILE *out, const char *line)
+static inline void potzendai_tell_origin(FILE *out, const char *line, bool is_left)
 {
     const char *at = potzendai_member(line, "\"puts\":["), *comma = "";
     fprintf(out, "  %" PRIu64 " at %" PRIu64 " is ", potzendai_number(line, "\"value\":"), potzendai_number(line, "\"key\":"));
     if (potzendai_member(line, "\"start\":true")) {
-        fputs("what was there at the start", out);
+        fprintf(out, "what %s", potzendai_at_start(is_left));
         comma = ", ";
     }
     for (; at && *at == '{'; at = strchr(at, '}') + 1, at += *at == ',') {
@@ -138,11 +151,11 @@ static inline void potzendai_tell_origin(FILE *out, const char *line)
                 potzendai_number(at, "\"event\":"));
         comma = ", ";
     }
-    fputs(*comma ? "\n" : "what nobody put\n", out);
+    fprintf(out, "%s\n", *comma ? "" : potzendai_nobody(is_left));
 }
 
 /* How far an order of the few calls gets, and what the map would answer to each call that could come next. */
-static inline void potzendai_tell_front(FILE *out, const char *text, const char *line)
+static inline void potzendai_tell_front(FILE *out, const char *text, const char *line, bool is_left)
 {
     const char *front = potzendai_member(line, "\"front\":["), *holds = potzendai_member(line, "\"holds\":");
     const char *next = potzendai_member(line, "\"next\":[");
@@ -158,13 +171,14 @@ static inline void potzendai_tell_front(FILE *out, const char *text, const char 
         fputs(", and would be answered ", out);
         if (would)
             potzendai_tell_answer(out, would);
-        potzendai_tell_writer(out, text, answer);
+        potzendai_tell_writer(out, text, answer, is_left);
         fputs("\n", out);
     }
 }
 
-/* Writes a report of `explain` in words; `text` is the history. Answers the line that is the few calls' history, or NULL. */
-static inline const char *potzendai_tell(FILE *out, const char *text, const char *report)
+/* Writes a report of `explain` in words; `text` is the history, of a round or of what a follower still had. Answers the line that is the few
+ * calls' history, or NULL. */
+static inline const char *potzendai_tell(FILE *out, const char *text, const char *report, bool is_left)
 {
     const char *few = NULL, *line = potzendai_next_line(report);
     fprintf(out, "%.*s\n", (int)strcspn(report, "\n"), report);
@@ -175,16 +189,16 @@ static inline const char *potzendai_tell(FILE *out, const char *text, const char
         if (strncmp(line, "{\"events\"", 9) == 0)
             few = line;
         else if (strncmp(line, "{\"front\"", 8) == 0)
-            potzendai_tell_front(out, text, line);
+            potzendai_tell_front(out, text, line, is_left);
         else if (strncmp(line, "{\"key\"", 6) == 0)
-            potzendai_tell_origin(out, line);
+            potzendai_tell_origin(out, line, is_left);
         else if (answer && call) {
             fprintf(out, "  event %-6" PRIu64 " process %-3" PRIu64 " ", potzendai_number(line, "\"event\":"),
                     potzendai_number(line, "\"process\":"));
             potzendai_tell_call(out, call);
             fputs(", answered ", out);
             potzendai_tell_answer(out, answer);
-            potzendai_tell_writer(out, text, answer);
+            potzendai_tell_writer(out, text, answer, is_left);
             fputs("\n", out);
         }
     }

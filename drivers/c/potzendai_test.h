@@ -143,6 +143,8 @@ static inline int potzendai_test_main(int argc, char **argv, const struct potzen
     struct potzendai_options options;
     struct potzendai_broken broken;
     struct potzendai_tester tester;
+    if (potzendai_asks_help(argc, argv))
+        return potzendai_help(argv[0]);
     int status = potzendai_read_words(&options, argc, argv, map);
     if (status)
         return status;

@@ -223,6 +223,15 @@ static inline uint64_t potzendai_calls_where_none(const struct potzendai_options
     return calls < POTZENDAI_CALLS ? calls : (uint64_t)POTZENDAI_CALLS;
 }
 
+/* Complains of a number that has no room in a round, which is as large as its recording. */
+static inline int potzendai_complain_of_round(const struct potzendai_options *o, const char *word, const char *behind)
+{
+    char text[160];
+    snprintf(text, sizeof text, "at most %" PRIu64 " with %" PRIu64 " threads, since a round has at most %d calls%s; --stream has no such end",
+             RECORDING_CALLS / (o->threads + 1), o->threads, RECORDING_CALLS, behind);
+    return potzendai_complain(word, text);
+}
+
 static inline int potzendai_check_sizes(struct potzendai_options *o)
 {
     if (o->hot > o->keys)
@@ -233,13 +242,33 @@ static inline int potzendai_check_sizes(struct potzendai_options *o)
         return o->rounds > 0 ? potzendai_complain("--rounds", "a stream has none; --seconds, or --calls of each thread") : 0;
     if (o->calls == 0)
         o->calls = potzendai_calls_where_none(o);
-    if (o->threads >= RECORDING_PROCESSES || o->calls > RECORDING_CALLS || (o->threads + 1) * potzendai_calls_each(o) > RECORDING_CALLS)
-        return potzendai_complain("--calls", "a round has at most 63 threads, and 4096 calls: those of each thread, or as many as there are"
-                                             " keys, for the threads and one more; --stream has no such end");
-    return 0;
+    if (o->threads >= RECORDING_PROCESSES)
+        return potzendai_complain("--threads", "at most 63 in rounds; --stream has no such end");
+    if (o->keys > RECORDING_CALLS / (o->threads + 1))
+        return potzendai_complain_of_round(o, "--keys", ", behind which all keys are got");
+    return o->calls > RECORDING_CALLS / (o->threads + 1) ? potzendai_complain_of_round(o, "--calls", "") : 0;
 }
 
-/* Reads all words. 0, or the status of what is wrong with them, or of help, which is printed. */
+/* Whether the words ask for help. */
+static inline bool potzendai_asks_help(int argc, char **argv)
+{
+    for (int at = 1; at < argc; at++)
+        if (strcmp(argv[at], "--help") == 0)
+            return true;
+    return false;
+}
+
+/* Prints it: 0, or the status of standard output that has no room. */
+static inline int potzendai_help(const char *program)
+{
+    printf("usage: %s [WORDS]\n%s", program, potzendai_usage);
+    if (fflush(stdout) == 0)
+        return POTZENDAI_IS_YES;
+    fputs("standard output: not written\n", stderr);
+    return POTZENDAI_BAD_FILE;
+}
+
+/* Reads all words. 0, or the status of what is wrong with them. */
 static inline int potzendai_read_words(struct potzendai_options *o, int argc, char **argv, const struct potzendai_map *map)
 {
     struct timespec now;
@@ -250,10 +279,6 @@ static inline int potzendai_read_words(struct potzendai_options *o, int argc, ch
     o->broken = POTZENDAI_UNBROKEN;
     o->out = ".";
     for (int at = 1; at < argc; at++) {
-        if (strcmp(argv[at], "--help") == 0) {
-            fprintf(stderr, "usage: %s [WORDS]\n%s", argv[0], potzendai_usage);
-            return POTZENDAI_BAD_WORDS;
-        }
         int status = potzendai_read_word(o, argv, &at);
         if (status)
             return status;

@@ -987,16 +987,17 @@ func (c *crew) closeAll() {
 
 // A round as a history, and what its threads met.
 type round struct {
-	start          map[uint64]uint64
-	events         []event
-	pending        []*call
-	met            map[uint64]bool
-	calls, overlap uint64
+	start           map[uint64]uint64
+	events          []event
+	pending         []*call
+	met             map[uint64]bool
+	calls, overlap  uint64
+	atStart, nobody string
 }
 
 // Each thread, and each of its lives, becomes a process; calls that have no answer from before are the first.
 func newRound(events []event, start map[uint64]uint64, before []*call) *round {
-	r := &round{start: start, met: map[uint64]bool{}}
+	r := &round{start: start, met: map[uint64]bool{}, atStart: "at the start", nobody: "nobody"}
 	for i, one := range before {
 		r.events = append(r.events, event{call: one, process: i})
 	}
@@ -1072,7 +1073,7 @@ func roundOf(text string) *round {
 	if err := decoder.Decode(&whole); err != nil {
 		fail(badFile, "follow: %s", err)
 	}
-	r := &round{start: map[uint64]uint64{}}
+	r := &round{start: map[uint64]uint64{}, atStart: "before these calls", nobody: "none of these calls"}
 	for _, one := range whole.Events {
 		read := event{process: one.Process}
 		if len(one.Invoke) > 0 {
@@ -1424,10 +1425,10 @@ func saidWriter(r *round, answer interface{}) string {
 	}
 	for _, held := range r.start {
 		if fmt.Sprint(held) == value.String() {
-			return fmt.Sprintf("; %v was there at the start", value)
+			return fmt.Sprintf("; %v was there %s", value, r.atStart)
 		}
 	}
-	return fmt.Sprintf("; %v is what nobody put", value)
+	return fmt.Sprintf("; %v is what %s put", value, r.nobody)
 }
 
 // A line of a report: what it is of is seen by its members.
@@ -1440,16 +1441,16 @@ type reported struct {
 }
 
 // Who put a value that the few calls read and none of them put.
-func saidOrigin(line reported) string {
+func saidOrigin(r *round, line reported) string {
 	var who []string
 	if line.Start == true {
-		who = append(who, "what was there at the start")
+		who = append(who, "what was there "+r.atStart)
 	}
 	for _, put := range line.Puts {
 		who = append(who, fmt.Sprintf("what process %v put (event %v)", put.Process, put.Event))
 	}
 	if len(who) == 0 {
-		who = append(who, "what nobody put")
+		who = append(who, fmt.Sprintf("what %s put", r.nobody))
 	}
 	return fmt.Sprintf("  %v at %v is %s", line.Value, line.Key, strings.Join(who, ", "))
 }
@@ -1477,7 +1478,7 @@ func saidReport(report string, r *round) (said []string, few string) {
 			said = append(said, fmt.Sprintf("  event %-6d process %-3d %s, answered %s", event, process, saidCall(line.Call),
 				saidAnswer(line.Answer)+saidWriter(r, line.Answer)))
 		case line.Key != "":
-			said = append(said, saidOrigin(line))
+			said = append(said, saidOrigin(r, line))
 		case line.Front != nil:
 			front := strings.ReplaceAll(fmt.Sprint(line.Front), " ", ",")
 			said = append(said, "  an order of them gets as far as the events "+front+"; the map then holds "+saidPairs(line.Holds))
@@ -1513,20 +1514,21 @@ func (r *run) refutedStream() []string {
 	said := []string{report}
 	if small != "" {
 		if status, explained := r.program.askTwice("explain", small); status == no {
-			said = append(said, r.shown(small, explained, roundOf(small))...)
+			said = append(append(said, saidAnew), r.shown(small, explained, roundOf(small))...)
 		}
 	}
 	return append(said, saidAgain+r.options.again(0))
 }
 
-// What a report of explain says of a history, and the files that show it.
+// What a report of explain says of a history, and the files that show it. The words and the picture have the processes and events of the first
+// file.
 func (r *run) shown(text, report string, one *round) []string {
 	lines, few := saidReport(report, one)
-	said, drawn := append(lines, r.keep(".json", text)), text
+	said := append(lines, r.keep(".json", text))
 	if few != "" {
-		said, drawn = append(said, r.keep("-few.json", few)), few
+		said = append(said, r.keep("-few.json", few))
 	}
-	_, picture := r.program.ask("draw", drawn, r.options.budget)
+	_, picture := r.program.askTwice("draw", text)
 	return append(said, r.keep(".svg", picture))
 }
 
@@ -1599,6 +1601,8 @@ func (o *options) less(how int) *options {
 	return &less
 }
 
+const saidAnew = "events and processes are numbered anew here and in the files, for the calls \"invoked\" above that had not taken effect, in " +
+	"that order:"
 const saidAgain = "  again (draws the same calls; threads may interleave otherwise): "
 
 // The words that repeat the draws of a run of so many rounds.
@@ -1638,9 +1642,6 @@ func readWords(name string, words []string) *options {
 		seed: uint64(time.Now().UnixNano()) % 1000000007}
 	info, err := os.Stderr.Stat()
 	o.shows = err == nil && info.Mode()&os.ModeCharDevice != 0
-	if isOneOf("--help", words...) {
-		fail(badWords, "usage: %s [WORDS]\n%s", name, usage)
-	}
 	for i := 0; i < len(words); i += 2 {
 		if words[i] == "--stream" {
 			o.isStream = true
@@ -1742,6 +1743,8 @@ func (o *options) fit(has functions) {
 	} else if o.seconds == 0 {
 		o.seconds = 1000000000
 	}
+	most := uint64(mostCalls) / (o.threads + 1)
+	size := fmt.Sprintf("at most %d with %d threads, since a round has at most %d calls", most, o.threads, mostCalls)
 	switch {
 	case o.total() == 0:
 		fail(badWords, "--mix: no share")
@@ -1755,9 +1758,12 @@ func (o *options) fit(has functions) {
 		fail(badWords, "--void: own: each thread needs a key")
 	case o.isStream && o.rounds > 0:
 		fail(badWords, "--rounds: a stream has none; --seconds, or --calls of each thread")
-	case !o.isStream && (o.threads > processes-2 || o.calls > mostCalls || (o.threads+1)*o.calls > mostCalls || (o.threads+1)*o.keys > mostCalls):
-		fail(badWords, "--calls: a round has at most 62 threads, and 4096 calls: those of each thread, or as many as there are keys, for the "+
-			"threads and one more; --stream has no such end")
+	case !o.isStream && o.threads > processes-2:
+		fail(badWords, "--threads: at most 62 in rounds; --stream has no such end")
+	case !o.isStream && o.keys > most:
+		fail(badWords, "--keys: %s, behind which all keys are got; --stream has no such end", size)
+	case !o.isStream && o.calls > most:
+		fail(badWords, "--calls: %s; --stream has no such end", size)
 	}
 }
 
@@ -1848,6 +1854,9 @@ func allBroken(o *options, make func() Map, p *program, has functions) (int, []s
 
 // Run is a whole program: it says how it went, and answers the status. `make` makes a new and empty map, for each run.
 func Run(name string, make func() Map, words ...string) int {
+	if isOneOf("--help", words...) {
+		return printed(yes, fmt.Sprintf("usage: %s [WORDS]\n%s", name, strings.TrimSpace(usage)))
+	}
 	status, said, last, wrong := tested(name, make, words)
 	if wrong != nil {
 		fmt.Fprintln(os.Stderr, wrong.line)
@@ -1859,7 +1868,12 @@ func Run(name string, make func() Map, words ...string) int {
 	if last == "" {
 		return status
 	}
-	if _, err := fmt.Println(last); err != nil {
+	return printed(status, last)
+}
+
+// Prints a text, and answers the status: where standard output has no room that of a yes is another one.
+func printed(status int, text string) int {
+	if _, err := fmt.Println(text); err != nil {
 		fmt.Fprintln(os.Stderr, "standard output: not written")
 		if status == yes {
 			return badFile

@@ -151,6 +151,8 @@ public final class Potzendai {
     private static final int STREAM_PROCESSES = 65536, STREAM_KEYS = 16384, AHEAD = 8192, BATCH = 65536;
     private static final int RUNNING = 0, OVER = 1, FAILED = 2;
     private static final int REPORT_SHOWN = 1000;
+    private static final String ANEW =
+        "events and processes are numbered anew here and in the files, for the calls \"invoked\" above that had not taken effect, in that order:";
     private static final String AGAIN = "  again (draws the same calls; threads may interleave otherwise): ";
     private static final Set<String> LESS = Set.of("\"done\"", "\"found\"", "\"other\"");
     private static final Map<String, Kind> BREAKS = new LinkedHashMap<>();
@@ -894,13 +896,16 @@ public final class Potzendai {
         final List<Call> pending;
         final List<Event> events = new ArrayList<>();
         final Set<Long> met = new HashSet<>();
+        String atStart = "at the start", nobody = "nobody";
         long calls, overlap;
 
-        /** A history, as far as what is said of it needs that. */
+        /** A history of what a follower still had, as far as what is said of it needs that. */
         Round(String history) {
             Map<?, ?> whole = (Map<?, ?>) Json.of(history);
             start = new TreeMap<>();
             pending = List.of();
+            atStart = "before these calls";
+            nobody = "none of these calls";
             for (Object pair : whole.get("start") instanceof List<?> pairs ? pairs : List.of())
                 start.put((Long) ((List<?>) pair).get(0), (Long) ((List<?>) pair).get(1));
             for (Object each : (List<?>) whole.get("events")) {
@@ -1248,18 +1253,18 @@ public final class Potzendai {
             if (call != null && (call.name.equals("insert") || call.name.equals("replace")) && call.words[call.words.length - 1] == value)
                 return "; " + saidAnswer(value) + " is what process " + round.events.get(i).thread + " put (event " + i + ")";
         }
-        return "; " + saidAnswer(value) + (round.start.containsValue(value) ? " was there at the start" : " is what nobody put");
+        return "; " + saidAnswer(value) + (round.start.containsValue(value) ? " was there " + round.atStart : " is what " + round.nobody + " put");
     }
 
     /** Who put a value that the few calls read and none of them put. */
-    private static String saidOrigin(Map<?, ?> line) {
+    private static String saidOrigin(Round round, Map<?, ?> line) {
         List<String> who = new ArrayList<>();
         if (Boolean.TRUE.equals(line.get("start")))
-            who.add("what was there at the start");
+            who.add("what was there " + round.atStart);
         for (Object put : (List<?>) line.get("puts"))
             who.add("what process " + ((Map<?, ?>) put).get("process") + " put (event " + ((Map<?, ?>) put).get("event") + ")");
         return "  " + saidAnswer(line.get("value")) + " at " + saidAnswer(line.get("key")) + " is "
-            + (who.isEmpty() ? "what nobody put" : String.join(", ", who));
+            + (who.isEmpty() ? "what " + round.nobody + " put" : String.join(", ", who));
     }
 
     /** A report of `explain` in words. */
@@ -1273,7 +1278,7 @@ public final class Potzendai {
                 said.add(String.format("  event %-6d process %-3d %s, answered %s%s", line.get("event"), line.get("process"),
                     saidCall((List<?>) line.get("call")), saidAnswer(line.get("answer")), saidWriter(round, line.get("answer"))));
             if (line.containsKey("puts"))
-                said.add(saidOrigin(line));
+                said.add(saidOrigin(round, line));
             if (!line.containsKey("front"))
                 continue;
             said.add("  an order of them gets as far as the events " + line.get("front").toString().replace(" ", "") + "; the map then holds "
@@ -1307,20 +1312,23 @@ public final class Potzendai {
         said.add(report.length() > REPORT_SHOWN ? report.substring(0, REPORT_SHOWN) + ".." : report);
         String small = lines.size() > 1 ? lines.get(1) + "\n" : null;
         Program.Answer explained = small == null ? null : run.program.askTwice("explain", small);
-        if (explained != null && explained.status == NO)
+        if (explained != null && explained.status == NO) {
+            said.add(ANEW);
             said.addAll(shown(run, small, explained.text, new Round(small)));
+        }
         said.add(AGAIN + run.options.again(0));
         return said;
     }
 
-    /** What a report of `explain` says of a history, and the files that show it. */
+    /** What a report of `explain` says of a history, and the files that show it. The words and the picture have the processes and events of the
+     * first file. */
     private static List<String> shown(Run run, String text, String explained, Round round) {
         List<String> report = explained.lines().toList(), said = saidReport(report, round);
         String few = report.stream().filter(line -> line.startsWith("{\"events\"")).findFirst().map(line -> line + "\n").orElse(null);
         said.add(keep(run, ".json", text));
         if (few != null)
             said.add(keep(run, "-few.json", few));
-        said.add(keep(run, ".svg", run.program.ask("draw", few != null ? few : text, run.options.budget).text));
+        said.add(keep(run, ".svg", run.program.askTwice("draw", text).text));
         return said;
     }
 
@@ -1399,8 +1407,6 @@ public final class Potzendai {
 
         Options(String name, String[] words) {
             this.name = name;
-            if (List.of(words).contains("--help"))
-                throw new Stop(WORDS, "usage: " + name + " [WORDS]\n" + USAGE.stripTrailing());
             for (int i = 0; i < words.length; i++)
                 if (words[i].equals("--stream"))
                     isStream = true;
@@ -1491,9 +1497,11 @@ public final class Potzendai {
             calls = calls > 0 || isStream ? calls : Math.min(CALLS / (threads + 2), 200);
             seconds = seconds > 0 ? seconds : rounds > 0 ? 1000000000 : 10;
             wrong(isStream && rounds > 0, "--rounds: a stream has none; --seconds, or --calls of each thread");
-            wrong(!isStream && (threads > PROCESSES - 2 || Math.max(calls, keys) > CALLS / (threads + 1)), "--calls: a round has at most 62 "
-                + "threads, and 4096 calls: those of each thread, or as many as there are keys, for the threads and one more; --stream has no "
-                + "such end");
+            long most = CALLS / (threads + 1);
+            String size = "at most " + most + " with " + threads + " threads, since a round has at most " + CALLS + " calls";
+            wrong(!isStream && threads > PROCESSES - 2, "--threads: at most 62 in rounds; --stream has no such end");
+            wrong(!isStream && keys > most, "--keys: " + size + ", behind which all keys are got; --stream has no such end");
+            wrong(!isStream && calls > most, "--calls: " + size + "; --stream has no such end");
         }
     }
 
@@ -1567,17 +1575,23 @@ public final class Potzendai {
             : new Outcome(NO, said, "no: each broken map was refuted");
     }
 
+    /** Prints a text, and answers the status: where standard output has no room that of a yes is another one. */
+    private static int printed(int status, String text) {
+        System.out.println(text);
+        if (!System.out.checkError())
+            return status;
+        System.err.println("standard output: not written");
+        return status == YES ? FILE : status;
+    }
+
     /** A whole program: says how it went, and answers the status. `make` makes a new and empty map, for each run. */
     public static int run(String name, Supplier<? extends Index> make, String... words) {
         try {
+            if (List.of(words).contains("--help"))
+                return printed(YES, "usage: " + name + " [WORDS]\n" + USAGE.stripTrailing());
             Outcome outcome = tested(name, make, words);
             outcome.said.forEach(System.err::println);
-            if (!outcome.last.isEmpty())
-                System.out.println(outcome.last);
-            if (!System.out.checkError())
-                return outcome.status;
-            System.err.println("standard output: not written");
-            return outcome.status == YES ? FILE : outcome.status;
+            return outcome.last.isEmpty() && !System.out.checkError() ? outcome.status : printed(outcome.status, outcome.last);
         } catch (Stop stop) {
             System.err.println(stop.getMessage());
             return stop.status;

@@ -442,6 +442,8 @@ def stamps(processes):
 
 
 RUNNING, OVER, FAILED = range(3)
+ANEW = ("events and processes are numbered anew here and in the files, for the calls \"invoked\" above that had not taken effect, in that "
+        "order:")
 AGAIN = "  again (draws the same calls; threads may interleave otherwise): "
 REPORT_SHOWN = 1000  # characters of the report of a stream without order
 
@@ -623,6 +625,8 @@ class Crew:
 class Round:
     """What one round recorded, as a history, and what its threads met."""
 
+    at_start, nobody = "at the start", "nobody"
+
     def __init__(self, logs, start, pending):
         lines = sorted((line for log in logs for line in log), key=lambda line: line[0])
         numbers = {}
@@ -754,7 +758,8 @@ class Library(Judge):
             raise Stop(FILE, "--library: %s" % error)
 
     def ask(self, command, text, budget):
-        status, answer = self.told("potzendai_" + command, ctypes.c_char_p(text.encode()), ctypes.c_size_t(len(text.encode())),
+        name = {"draw": "potzendai_draw_part"}.get(command, "potzendai_" + command)
+        status, answer = self.told(name, ctypes.c_char_p(text.encode()), ctypes.c_size_t(len(text.encode())),
                                    ctypes.c_uint32(budget))
         if status > UNDECIDED:
             raise Stop(status, "%s: %s" % (command, answer.rstrip()))
@@ -988,14 +993,14 @@ def said_writer(one, value):
         call = event.get("invoke", ("",))
         if call[0] in ("insert", "replace") and call[-1] == value:
             return "; %d is what process %d put (event %d)" % (value, event["process"], number)
-    return "; %d %s" % (value, "was there at the start" if value in one.start.values() else "is what nobody put")
+    return "; %d %s" % (value, "was there " + one.at_start if value in one.start.values() else "is what %s put" % one.nobody)
 
 
-def said_origin(line):
+def said_origin(one, line):
     """Who put a value that the few calls read and none of them put."""
-    start = ["what was there at the start"] if line["start"] else []
+    start = ["what was there " + one.at_start] if line["start"] else []
     puts = ["what process %d put (event %d)" % (put["process"], put["event"]) for put in line["puts"]]
-    return "  %d at %d is %s" % (line["value"], line["key"], ", ".join(start + puts) or "what nobody put")
+    return "  %d at %d is %s" % (line["value"], line["key"], ", ".join(start + puts) or "what %s put" % one.nobody)
 
 
 def said_report(report, one):
@@ -1010,7 +1015,7 @@ def said_report(report, one):
             said.append("  event %-6d process %-3d %s, answered %s%s" % (
                 line["event"], line["process"], said_call(line["call"]), said_answer(line["answer"]), said_writer(one, line["answer"])))
         elif "puts" in line:
-            said.append(said_origin(line))
+            said.append(said_origin(one, line))
         elif "front" in line:
             said.append("  an order of them gets as far as the events %s; the map then holds %s" % (
                 json.dumps(line["front"], separators=(",", ":")), said_pairs(line["holds"])))
@@ -1037,8 +1042,11 @@ class Parser(argparse.ArgumentParser):
     def error(self, message):
         raise Stop(WORDS, message.replace("argument ", "", 1))
 
-    def exit(self, status=0, message=None):
-        sys.exit(WORDS)
+    def print_help(self, file=None):
+        try:
+            print(self.format_help(), end="", flush=True)
+        except OSError:
+            raise Stop(FILE, "standard output: not written")
 
 
 def number(least, most):
@@ -1121,9 +1129,14 @@ def fit(options, has):
         wrong("--void", "own: each thread needs a key")
     options.seconds = options.seconds or (10 ** 9 if options.rounds else 10)
     options.calls = options.calls or (0 if options.stream else min(CALLS // (options.threads + 2), 200))
-    if not options.stream and (options.threads > PROCESSES - 2 or (options.threads + 1) * max(options.calls, options.keys) > CALLS):
-        wrong("--calls", "a round has at most 62 threads, and 4096 calls: those of each thread, or as many as there are keys, for the threads "
-              "and one more; --stream has no such end")
+    most = CALLS // (options.threads + 1)
+    size = "at most %d with %d threads, since a round has at most %d calls" % (most, options.threads, CALLS)
+    if not options.stream and options.threads > PROCESSES - 2:
+        wrong("--threads", "at most 62 in rounds; --stream has no such end")
+    if not options.stream and options.keys > most:
+        wrong("--keys", size + ", behind which all keys are got; --stream has no such end")
+    if not options.stream and options.calls > most:
+        wrong("--calls", size + "; --stream has no such end")
     options.shows, options.shown = sys.stderr.isatty(), time.monotonic()
     return options
 
@@ -1183,15 +1196,17 @@ def refuted_stream(run):
     status, told_of = run.program.asked("explain", small) if small else (UNDECIDED, "")
     if status == NO:
         whole = json.loads(small)
-        said += shown(run, small, told_of, types.SimpleNamespace(events=whole["events"], start=dict(whole.get("start", []))))
+        said += [ANEW] + shown(run, small, told_of, types.SimpleNamespace(
+            events=whole["events"], start=dict(whole.get("start", [])), at_start="before these calls", nobody="none of these calls"))
     return said + [AGAIN + words_again(run.options, 0)]
 
 
 def shown(run, text, report, one):
-    """What a report of `explain` says of a history, and the files that show it."""
+    """What a report of `explain` says of a history, and the files that show it. The words and the picture have the processes and events of the
+    first file."""
     said, few = said_report(report, one)
     said += [keep(run.options, ".json", text)] + ([keep(run.options, "-few.json", few + "\n")] if few else [])
-    return said + [keep(run.options, ".svg", run.program.ask("draw", few + "\n" if few else text, run.options.budget)[1])]
+    return said + [keep(run.options, ".svg", run.program.asked("draw", text)[1])]
 
 
 def refuted(run):

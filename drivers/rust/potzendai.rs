@@ -127,6 +127,8 @@ const STREAM_PROCESSES: usize = 65536;
 const STREAM_KEYS: u64 = 16384;
 const REPORT_SHOWN: usize = 1000;
 const AGAIN: &str = "  again (draws the same calls; threads may interleave otherwise): ";
+const ANEW: &str = "events and processes are numbered anew here and in the files, for the calls \"invoked\" above that had not taken effect, in \
+                    that order:";
 const AHEAD: u64 = 8192;
 const BATCH: usize = 65536;
 
@@ -891,6 +893,8 @@ struct Round {
     met: HashSet<u64>,
     calls: u64,
     overlap: u64,
+    at_start: &'static str,
+    nobody: &'static str,
 }
 
 impl Round {
@@ -904,7 +908,8 @@ impl Round {
             let process = *numbers.entry((event.thread, event.life)).or_insert(next);
             events.push((process, event.what));
         }
-        let mut round = Round { start, events, pending: vec![], met: HashSet::new(), calls: 0, overlap: 0 };
+        let (at_start, nobody) = ("at the start", "nobody");
+        let mut round = Round { start, events, pending: vec![], met: HashSet::new(), calls: 0, overlap: 0, at_start, nobody };
         round.measure();
         round
     }
@@ -949,7 +954,8 @@ impl Round {
             events.push((event.member("process").number() as usize, what));
         }
         let start = whole.member("start").items().iter().map(|pair| (pair.word(0), pair.word(1))).collect();
-        Round { start: Arc::new(start), events, pending: vec![], met: HashSet::new(), calls: 0, overlap: 0 }
+        let (at_start, nobody) = ("before these calls", "none of these calls");
+        Round { start: Arc::new(start), events, pending: vec![], met: HashSet::new(), calls: 0, overlap: 0, at_start, nobody }
     }
 
     fn text(&self) -> String {
@@ -1084,7 +1090,7 @@ struct Follower {
 extern "C" {
     fn potzendai_judge(text: *const u8, size: usize, budget: u32, room: *mut u8, room_size: usize, length: *mut usize) -> u32;
     fn potzendai_explain(text: *const u8, size: usize, budget: u32, room: *mut u8, room_size: usize, length: *mut usize) -> u32;
-    fn potzendai_draw(text: *const u8, size: usize, budget: u32, room: *mut u8, room_size: usize, length: *mut usize) -> u32;
+    fn potzendai_draw_part(text: *const u8, size: usize, budget: u32, room: *mut u8, room_size: usize, length: *mut usize) -> u32;
     fn potzendai_follow(text: *const u8, size: usize, budget: u32, room: *mut u8, room_size: usize, length: *mut usize) -> u32;
     fn potzendai_follow_open(follower: *mut Follower, budget: u32) -> u32;
     fn potzendai_follow_event(follower: *mut Follower, lines: *const u8, size: usize) -> u32;
@@ -1130,7 +1136,7 @@ impl Program {
         let question = match command {
             "judge" => potzendai_judge,
             "explain" => potzendai_explain,
-            _ => potzendai_draw,
+            _ => potzendai_draw_part,
         };
         let (text, budget) = (text.as_bytes(), budget as u32);
         Program::answered(command, |room, size, length| unsafe { question(text.as_ptr(), text.len(), budget, room, size, length) })
@@ -1571,17 +1577,17 @@ fn said_writer(round: &Round, answer: &Json) -> String {
         }
     }
     let was_there = round.start.values().any(|held| held == value);
-    format!("; {value} {}", if was_there { "was there at the start" } else { "is what nobody put" })
+    if was_there { format!("; {value} was there {}", round.at_start) } else { format!("; {value} is what {} put", round.nobody) }
 }
 
 /// Who put a value that the few calls read and none of them put.
-fn said_origin(line: &Json) -> String {
+fn said_origin(round: &Round, line: &Json) -> String {
     let start = *line.member("start") == Json::Bool(true);
-    let mut who = if start { vec!["what was there at the start".to_string()] } else { vec![] };
+    let mut who = if start { vec![format!("what was there {}", round.at_start)] } else { vec![] };
     for put in line.member("puts").items() {
         who.push(format!("what process {} put (event {})", put.member("process").number(), put.member("event").number()));
     }
-    let who = if who.is_empty() { "what nobody put".to_string() } else { who.join(", ") };
+    let who = if who.is_empty() { format!("what {} put", round.nobody) } else { who.join(", ") };
     format!("  {} at {} is {who}", line.member("value").number(), line.member("key").number())
 }
 
@@ -1602,7 +1608,7 @@ fn said_report(report: &str, round: &Round) -> (Vec<String>, Option<String>) {
             let answer = said_answer(line.member("answer"));
             said.push(format!("  event {event:<6} process {process:<3} {call}, answered {answer}{writer}"));
         } else if *line.member("puts") != Json::Null {
-            said.push(said_origin(&line));
+            said.push(said_origin(round, &line));
         } else if *line.member("front") != Json::Null {
             let front: Vec<String> = line.member("front").items().iter().map(|event| event.number().to_string()).collect();
             let holds = said_answer(line.member("holds"));
@@ -1635,19 +1641,20 @@ fn refuted_stream(run: &Run, program: &Program) -> Result<Vec<String>, Stop> {
     let mut said = vec![if report.len() > REPORT_SHOWN { format!("{}..", &report[..REPORT_SHOWN]) } else { report.to_string() }];
     let (status, explained) = if small.is_empty() { (UNDECIDED, String::new()) } else { program.ask_twice("explain", small)? };
     if status == NO {
+        said.push(ANEW.to_string());
         said.extend(shown(run, small, &explained, &Round::read(small), program)?);
     }
     said.push(format!("{AGAIN}{}", run.options.again(0)));
     Ok(said)
 }
 
-/// What a report of `explain` says of a history, and the files that show it.
+/// What a report of `explain` says of a history, and the files that show it. The words and the picture have the processes and events of the
+/// first file.
 fn shown(run: &Run, text: &str, report: &str, round: &Round, program: &Program) -> Result<Vec<String>, Stop> {
     let (mut said, few) = said_report(report, round);
     said.push(keep(run, ".json", text));
     said.extend(few.as_ref().map(|few| keep(run, "-few.json", few)));
-    let picture = program.ask("draw", few.as_deref().unwrap_or(text), run.options.budget)?.1;
-    said.push(keep(run, ".svg", &picture));
+    said.push(keep(run, ".svg", &program.ask_twice("draw", text)?.1));
     Ok(said)
 }
 
@@ -1721,9 +1728,6 @@ impl Options {
             seconds: 0, rounds: 0, threads: 4, keys: 0, hot: 0, calls: 0, seed, yields: 0, budget: 100_000,
             is_stream: false, has_void: false, has_mix: false, shares: [0; 9], shows: std::io::stderr().is_terminal(), shown: Instant::now(),
         };
-        if words.iter().any(|word| word == "--help") {
-            return fail(BAD_WORDS, format!("usage: {name} [WORDS]\n{USAGE}"));
-        }
         let mut words = words.iter();
         while let Some(word) = words.next() {
             if word == "--stream" {
@@ -1814,6 +1818,10 @@ impl Options {
         self.keys = if self.keys > 0 { self.keys } else if self.is_stream { 1000 } else { 16 };
         self.calls = if self.calls > 0 || self.is_stream { self.calls } else { 200.min(CALLS / (self.threads + 2)) };
         self.seconds = if self.seconds > 0 { self.seconds } else if self.rounds > 0 { 1_000_000_000 } else { 10 };
+        let (most, threads) = (CALLS / (self.threads + 1), self.threads);
+        let size = format!("at most {most} with {threads} threads, since a round has at most {CALLS} calls");
+        let many_keys = format!("--keys: {size}, behind which all keys are got; --stream has no such end");
+        let many_calls = format!("--calls: {size}; --stream has no such end");
         let is_unbroken = self.broken.as_ref().map_or(true, |how| how == "all" || self.is_called(how));
         let rows = [
             (self.shares.iter().sum::<u64>() == 0, "--mix: no share"),
@@ -1822,11 +1830,9 @@ impl Options {
             (self.hot > self.keys, "--hot: more than there are keys"),
             (self.void == "own" && self.keys < self.threads, "--void: own: each thread needs a key"),
             (self.is_stream && self.rounds > 0, "--rounds: a stream has none; --seconds, or --calls of each thread"),
-            (
-                !self.is_stream && (self.threads > PROCESSES as u64 - 2 || self.calls.max(self.keys) > CALLS / (self.threads + 1)),
-                "--calls: a round has at most 62 threads, and 4096 calls: those of each thread, or as many as there are keys, for the threads \
-                 and one more; --stream has no such end",
-            ),
+            (!self.is_stream && threads > PROCESSES as u64 - 2, "--threads: at most 62 in rounds; --stream has no such end"),
+            (!self.is_stream && self.keys > most, &many_keys),
+            (!self.is_stream && self.calls > most, &many_calls),
         ];
         rows.iter().find(|(is_wrong, _)| *is_wrong).map_or(Ok(()), |(_, line)| fail(BAD_WORDS, *line))
     }
@@ -1929,16 +1935,25 @@ fn all_broken<M: Map>(
     })
 }
 
+/// Prints a text, and answers the status: where standard output has no room that of a yes is another one.
+fn printed(status: i32, text: &str) -> i32 {
+    if writeln!(std::io::stdout(), "{text}").is_ok() {
+        return status;
+    }
+    eprintln!("standard output: not written");
+    if status == YES { BAD_FILE } else { status }
+}
+
 /// A whole program: says how it went, and answers the status. `make` makes a new and empty map: one for each run.
 pub fn run<M: Map>(name: &str, make: impl Fn() -> M, words: impl Iterator<Item = String>) -> i32 {
-    match tested(name, &make, &words.collect::<Vec<_>>()) {
+    let words: Vec<String> = words.collect();
+    if words.iter().any(|word| word == "--help") {
+        return printed(YES, &format!("usage: {name} [WORDS]\n{USAGE}"));
+    }
+    match tested(name, &make, &words) {
         Ok((status, said, last)) => {
             said.iter().for_each(|line| eprintln!("{line}"));
-            let written = if last.is_empty() { Ok(()) } else { writeln!(std::io::stdout(), "{last}") };
-            if written.is_err() {
-                eprintln!("standard output: not written");
-            }
-            if written.is_err() && status == YES { BAD_FILE } else { status }
+            if last.is_empty() { status } else { printed(status, &last) }
         }
         Err(Stop(status, line)) => {
             eprintln!("{line}");

@@ -27,9 +27,9 @@ def main():
     passed = failed = 0
     scans = [(f"a scan of {listed} pairs", started(*scan_from_pairs(MOST_PAIRS, listed)).encode()) for listed in (MOST_PAIRS, 0)]
     for name, text in [*texts(), *scans, ("no text", b""), ("no JSON", b"\xff{")]:
-        for word in ("judge", "locate", "explain", "draw", "follow"):
+        for word in ("judge", "locate", "explain", "draw", "draw_part", "follow"):
             for budget in (1, 3, 100_000, 1_000_000):
-                words = [word, "--budget", str(budget), *(["--calls", "0"] if word == "draw" else [])]
+                words = [word.partition("_")[0], "--budget", str(budget), *(["--calls", "0"] if word == "draw" else [])]
                 wanted, output, faults = answer(words, text)
                 if faults:
                     # A refusal has a hint, which a terminal alone shows, and the library tells.

@@ -3,11 +3,12 @@
 
 Each is XML of the elements of SVG that a picture has, without a script and without a reference to anything outside. It has a lane for
 each process, one bar for each call, with the call and its answer in the bar's title, drawn as wrong, with stripes, where `locate` names
-the call, and one mark for each call of the order where the verdict is a yes, with its call in its title. Starting pairs that are cut stand
-whole in a title. Its status is that of `judge`. Parts of the pictures have the lanes, bars and marks that a window over the columns has
-which is worked out here, and say what they leave out; a part with room for the whole picture is the picture. Where nothing is asked for, a
-no shows the calls that `explain` names alone, with those that put what they read from outside, which are worked out here. Pictures of at
-most 12 such calls are at most 1,200 wide. The last line counts what passed and failed.
+the call, and one mark for each call of the order where the verdict is a yes, with its call in its title. A call's number ends before the
+next circle, and a place is no wider than its circle. Starting pairs that are cut stand whole in a title. Its status is that of `judge`.
+Parts of the pictures have the lanes, bars and marks that a window over the columns has which is worked out here, and say what they leave
+out; a part with room for the whole picture is the picture. Where nothing is asked for, a no shows the calls that `explain` names alone, with
+those that put what they read from outside, which are worked out here. Pictures of at most 12 such calls are at most 1,200 wide. The last
+line counts what passed and failed.
 """
 
 import glob
@@ -72,6 +73,28 @@ def groups_of(picture):
     if re.search(rb"url\(|@import|href|http(?!://www\.w3\.org/2000/svg')", picture):
         return groups, "a reference to something outside"
     return groups, None
+
+
+def fault_of_numbers(groups, picture):
+    """What is wrong with the numbers of a picture's calls, which end before the next circle in their lanes, or with the places, which their
+    circles are wide enough for, or nothing. A letter of a monospaced font is 0.602 of its size wide.
+    """
+    style = picture.decode()
+    sizes = {name: float(re.search(re.escape(rule) + r"\{[^}]*font-size:([\d.]+)px", style)[1]) for name, rule in (
+        ("number", ".number"), ("number long", ".number.long"), (None, ".mark text"), ("long", ".mark text.long"))}
+    circles = {}
+    for mark in groups.get("mark", []):
+        circle, place = mark.find(NAMESPACE + "circle"), mark.find(NAMESPACE + "text")
+        if 0.602 * sizes[place.get("class")] * len(place.text) > 2 * float(circle.get("r")):
+            return f"the place {place.text} is wider than its circle"
+        circles.setdefault(int(circle.get("cy")), []).append(int(circle.get("cx")) - float(circle.get("r")))
+    for bar in (bar for name in ("call", "pale", "wrong") for bar in groups.get(name, [])):
+        number = next(text for text in bar.findall(NAMESPACE + "text") if text.get("class"))
+        begin, middle = int(number.get("x")), int(number.get("y")) - 4
+        end = begin + 0.602 * sizes[number.get("class")] * len(number.text)
+        if any(begin < left < end for left in circles.get(middle, [])):
+            return f"the number {number.text} runs under a circle"
+    return None
 
 
 def titles_in(groups, *names):
@@ -203,6 +226,9 @@ def fault_of_part(text, words, around, calls):
     room = 60 if calls is None else 3 * calls
     if few is None and (room == 0 or len(history["events"]) + len(marks) <= room):
         return None if picture == whole else "not the whole picture, where all of it has room"
+    fault = fault_of_numbers(groups, picture)
+    if fault is not None:
+        return fault
     bars, places, lanes, notes = window_of(history, verdict, located, marks, 8192 if around is None else around, room, few)
     if few is not None and len(bars) <= 12 and int(xml.etree.ElementTree.fromstring(picture).get("width")) > 1200:
         return "more than 1,200 wide, of twelve calls"
@@ -246,6 +272,9 @@ def fault_of(text, words):
     places = places_in(groups)
     if titles_in(groups, "mark") != [f"place {place}: {every[call]}" for place, call in places]:
         return "a mark with the title of another call"
+    fault = fault_of_numbers(groups, picture)
+    if fault is not None:
+        return fault
     if verdict["verdict"] == "yes":
         if places != list(enumerate(verdict["order"])):
             return "marks that are not those of the order"

@@ -26,6 +26,10 @@ import subprocess
 import sys
 
 TOP = os.path.dirname(os.path.dirname(os.path.dirname(os.path.abspath(__file__))))
+sys.dont_write_bytecode = True
+sys.path.insert(0, os.path.join(TOP, "drivers", "python"))
+import stream_of  # noqa: E402
+
 PROGRAM = os.path.join(TOP, "crates", "bench", "out", "bench")
 EXAMPLES = os.path.join(TOP, "examples")
 SEED = 20_261_124
@@ -49,9 +53,8 @@ def text_of(history):
 
 
 def lines_of(history):
-    """The stream of a history: a first line where it has starting pairs, and a line for each event."""
-    first = [{"start": history["start"], "version": history["version"]}] if "start" in history else []
-    return b"".join(text_of(line) + b"\n" for line in [*first, *history["events"]])
+    """The stream of a history."""
+    return "".join(stream_of.lines_of(history)).encode()
 
 
 def answer_of(held, name, key, *others):

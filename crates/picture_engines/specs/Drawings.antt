@@ -38,6 +38,10 @@ IsWrongEvent budget history (verdicts.Undecided segment) wrong = wrong ≡ None
 abbrev pub whole : View
 whole = record { around = 0; calls = 0 }
 
+-- the view that asks for nothing, since no history has such an event, or so many calls
+abbrev pub unasked : View
+unasked = record { around = 8192; calls = 4097 }
+
 -- the part is what this choice shows of a picture of the verdict with this front
 pub record IsPartShown (choice : Choice) (view : View) (history : HistoryView) (verdict : Verdict) (wrong : Option ℕ) (front : List ℕ)
     (part : Picture) : Type 0 where
@@ -81,3 +85,7 @@ pub record IsViewAnswer (budget : ℕ) (view : View) (text : List ℕ) (answer :
 -- or with the whole picture
 abbrev pub IsDrawAnswer : ℕ → List ℕ → Answer → List ℕ → Type 0
 IsDrawAnswer budget text answer bytes = IsViewAnswer budget whole text answer bytes
+
+-- or with what is shown of it where nothing is asked for
+abbrev pub IsUnaskedAnswer : ℕ → List ℕ → Answer → List ℕ → Type 0
+IsUnaskedAnswer budget text answer bytes = IsViewAnswer budget unasked text answer bytes

@@ -12,7 +12,7 @@ ghost use Rattle.outcomes.specs.Outcomes.{IsTextOutcome, OnAnswered};
 ghost use Rattle.outcomes.specs.Reads.{IsTextRead};
 ghost use Rattle.outcomes.specs.Runs.{IsRun};
 ghost use Rattle.outcomes.specs.Statuses.{OnAnswerStatus};
-ghost use Rattle.picture_engines.specs.Drawings.{event_of, whole, IsDrawAnswer, IsViewAnswer, IsDrawing, IsDrawnText, IsPartShown, IsWrongEvent};
+ghost use Rattle.picture_engines.specs.Drawings.{event_of, IsViewAnswer, IsDrawing, IsDrawnText, IsPartShown, IsWrongEvent};
 ghost use Rattle.picture_engines.specs.Choices.{IsShownAs};
 ghost use Rattle.picture_engines.specs.Outcomes.{IsDrawOutcome};
 ghost use Rattle.pictures.specs.Marks.{IsMarkable};
@@ -96,13 +96,13 @@ pub fn draw_outcome<R: Threads + Sync, G: Gate + Sync>(
     }
 }
 
-/// The same as `draw_outcome` of the whole picture, drawn by one thread: it starts no thread and waits for nobody.
-pub fn draw_outcome_alone(alloc: Global, text: &[u8], budget: u32) -> Outcome
+/// The same as `draw_outcome`, drawn by one thread: it starts no thread and waits for nobody.
+pub fn draw_outcome_alone(alloc: Global, text: &[u8], budget: u32, view: View) -> Outcome
     requires { (1 ≤ budget) × (budget ≤ budget_limit) }
-    ensures { IsTextOutcome (IsDrawAnswer budget) IsHistoryRefusal (Some text.now) result }
+    ensures { IsTextOutcome (IsViewAnswer budget view) IsHistoryRefusal (Some text.now) result }
 {
     match read_history(alloc, text) {
-        Ok(history) => outcome_of(drawing_alone(alloc, &history, budget)),
+        Ok(history) => outcome_of(drawing_alone(alloc, &history, budget, view)),
         Err(fault) => refused_text(alloc, text, &fault),
     }
 }
@@ -156,17 +156,18 @@ fn drawing_of_verdict(
     drawing_with(alloc, history, budget, verdict, wrong, view)
 }
 
-/// The same of the whole picture, where one thread judges.
-fn drawing_alone(alloc: Global, history: &History, budget: u32) -> Result<(Answer, String), Memory>
+/// The same, where one thread judges.
+fn drawing_alone(
+    alloc: Global,
+    history: &History,
+    budget: u32,
+    view: View,
+) -> Result<(Answer, String), Memory>
     requires { (1 ≤ budget) × (budget ≤ budget_limit) }
-    ensures { IfOk result (λ drawn. IsDrawing budget whole history.now drawn.0 (string_bytes drawn.1)) }
+    ensures { IfOk result (λ drawn. IsDrawing budget view history.now drawn.0 (string_bytes drawn.1)) }
 {
-    let whole = View {
-        around: 0,
-        calls: 0,
-    };
     let verdict = judge_alone(alloc, history, budget)?;
-    drawing_of_verdict(alloc, history, budget, whole, &verdict)
+    drawing_of_verdict(alloc, history, budget, view, &verdict)
 }
 
 /// The text of what a view shows of a picture of this verdict on a history, with this event marked as wrong, and the answer that

@@ -1,5 +1,5 @@
 -- The bars of a text. Each definition gives the text so far with one part more behind it.
-use Rattle.std.specs.Prelude.{ℕ, ◌+◌, ◌-◌, Bool, true, false, if◌then◌else◌, List, [], ◌∷◌, ◌++◌, Option, Some, None, option_map, codes}
+use Rattle.std.specs.Prelude.{ℕ, ◌+◌, ◌-◌, nat_lt, Bool, true, false, if◌then◌else◌, List, [], ◌∷◌, ◌++◌, Option, Some, None, option_map, codes}
 use Rattle.std.specs.Prelude.{decimal, string_bytes}
 use Rattle.pictures.specs.declared.bars.Bar.{Bar}
 use Rattle.picture_text.specs.Content.{escaped, shown}
@@ -85,11 +85,15 @@ abbrev pub with_stripes : List ℕ → ℕ → ℕ → Bar → List ℕ
 with_stripes text width columns bar =
     if bar.is_wrong then text ++ stripes_text (x_of width bar.from) (y_of bar.lane + 28) (x_of width (end_of columns bar)) else text
 
+-- how the number of a call is drawn: one of more than three digits smaller, so that it ends before the circle in the next column
+abbrev pub number_class : ℕ → List ℕ
+number_class number = if nat_lt 999 number then codes "number long" else codes "number"
+
 -- the number of a bar's call
 abbrev pub number_text : ℕ → Bar → List ℕ
 number_text width bar =
-    codes "<text class='number' x='" ++ (decimal (x_of width bar.from + 4) ++ (codes "' y='" ++ (decimal (y_of bar.lane + 32) ++ (codes "'>"
-    ++ (decimal bar.number ++ codes "</text>")))))
+    codes "<text class='" ++ (number_class bar.number ++ (codes "' x='" ++ (decimal (x_of width bar.from + 3) ++ (codes "' y='"
+    ++ (decimal (y_of bar.lane + 32) ++ (codes "'>" ++ (decimal bar.number ++ codes "</text>")))))))
 
 -- words at a place, cut to their room
 abbrev pub with_label : List ℕ → ℕ → ℕ → List ℕ → ℕ → List ℕ

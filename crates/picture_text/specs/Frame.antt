@@ -1,5 +1,5 @@
 -- What stands around the bars of a text.
-use Rattle.std.specs.Prelude.{ℕ, ◌+◌, nat_le, Bool, true, false, if◌then◌else◌, List, [], ◌∷◌, ◌++◌, length, codes, decimal}
+use Rattle.std.specs.Prelude.{ℕ, ◌+◌, ◌==◌, nat_le, Bool, true, false, if◌then◌else◌, List, [], ◌∷◌, ◌++◌, length, codes, decimal}
 use Rattle.std.specs.List.{list_any}
 use Rattle.pictures.specs.declared.bars.Bar.{Bar}
 use Rattle.pictures.specs.declared.pictures_of.Heading.{Heading}
@@ -14,15 +14,15 @@ head_text width height =
     codes "<svg xmlns='http://www.w3.org/2000/svg' width='" ++ (decimal width ++ (codes "' height='" ++ (decimal height ++ (codes "'>"
     ++ 10 ∷ []))))
 
--- a range of keys
+-- a range of keys, or the only key of it
 abbrev pub keys_text : ℕ → ℕ → List ℕ
-keys_text lo hi = decimal lo ++ (codes " to " ++ decimal hi)
+keys_text lo hi = if lo == hi then codes "key " ++ decimal lo else codes "keys " ++ (decimal lo ++ (codes " to " ++ decimal hi))
 
 -- the verdict in words
 abbrev pub verdict_text : Heading → List ℕ
 verdict_text Order = codes "Linearizable"
-verdict_text (NoOrder lo hi) = codes "Not linearizable: keys " ++ keys_text lo hi
-verdict_text (Undecided lo hi) = codes "Undecided: keys " ++ keys_text lo hi
+verdict_text (NoOrder lo hi) = codes "Not linearizable: " ++ keys_text lo hi
+verdict_text (Undecided lo hi) = codes "Undecided: " ++ keys_text lo hi
 
 -- what a picture says at its top
 abbrev pub with_heading : List ℕ → Heading → List ℕ

@@ -1,5 +1,5 @@
 -- The marks of a text. The last definition gives the text so far with a mark more behind it.
-use Rattle.std.specs.Prelude.{ℕ, ◌+◌, ◌==◌, List, [], ◌∷◌, ◌++◌, Option, Some, None, find, codes, decimal}
+use Rattle.std.specs.Prelude.{ℕ, ◌+◌, ◌==◌, nat_lt, if◌then◌else◌, List, [], ◌∷◌, ◌++◌, Option, Some, None, find, codes, decimal}
 use Rattle.pictures.specs.declared.bars.Bar.{Bar}
 use Rattle.pictures.specs.declared.marks.Mark.{Mark}
 use Rattle.picture_text.specs.Bars.{with_call}
@@ -26,11 +26,15 @@ with_mark_title text bars mark = with_call_of (text ++ place_title mark.place) m
 abbrev pub circle_text : ℕ → ℕ → List ℕ
 circle_text x y = codes "<circle cx='" ++ (decimal x ++ (codes "' cy='" ++ (decimal y ++ codes "' r='8'/>")))
 
+-- how a place is drawn: one of more than three digits smaller, so that it fits the circle
+abbrev pub place_class : ℕ → List ℕ
+place_class place = if nat_lt 999 place then codes " class='long'" else codes ""
+
 -- the place in the order
 abbrev pub place_text : ℕ → ℕ → ℕ → List ℕ
 place_text x y place =
-    codes "<text x='" ++ (decimal x ++ (codes "' y='" ++ (decimal y ++ (codes "'>" ++ (decimal place ++ (codes "</text></g>"
-    ++ 10 ∷ []))))))
+    codes "<text" ++ (place_class place ++ (codes " x='" ++ (decimal x ++ (codes "' y='" ++ (decimal y ++ (codes "'>" ++ (decimal place
+    ++ (codes "</text></g>" ++ 10 ∷ []))))))))
 
 -- a mark of a picture with these bars: a circle at its column and in its lane, with its place
 unfoldable pub with_mark : List ℕ → ℕ → List Bar → Mark → List ℕ

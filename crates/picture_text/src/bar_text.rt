@@ -1,7 +1,7 @@
 // The bars of a text.
 ghost use Rattle.std.specs.Prelude.{◌≡◌, ◌++◌, OnOk, option_map, string_bytes};
 ghost use Rattle.picture_text.specs.Bars.{class_of, opening_text, called_text, answered_text, with_reply, with_call, with_title, with_shape, rectangle_text, with_open};
-ghost use Rattle.picture_text.specs.Bars.{number_text, with_label, reply_label, with_words, with_bar};
+ghost use Rattle.picture_text.specs.Bars.{number_class, number_text, with_label, reply_label, with_words, with_bar};
 ghost use Rattle.picture_text.specs.Bars.{turn_text, dashes_text, with_left_open, with_both_open, stripes_text, with_stripes};
 
 use crate::content::{push_content, push_shown};
@@ -187,14 +187,26 @@ fn push_dashed(out: &mut String, x: u128, y: u128, end: u128) -> Result<(), Memo
     Ok(())
 }
 
+/// How the number of a call is drawn: one of more than three digits smaller, so that it ends before the circle in the next column.
+fn number_class(number: usize) -> &'static str
+    ensures { result.now ≡ number_class number }
+{
+    if number > 999 {
+        "number long"
+    } else {
+        "number"
+    }
+}
+
 /// Adds the number of a bar's call.
 fn push_number(out: &mut String, width: u8, bar: &Bar) -> Result<(), Memory>
     ensures { OnOk result (string_bytes out.new ≡ string_bytes out.old ++ number_text width bar.now) }
 {
-    let x = x_of(width, bar.from) + 4;
+    let x = x_of(width, bar.from) + 3;
     let y = y_of(bar.lane) + 32;
     let number = bar.number;
-    write!(out, "<text class='number' x='{x}' y='{y}'>{number}</text>")?;
+    let class = number_class(number);
+    write!(out, "<text class='{class}' x='{x}' y='{y}'>{number}</text>")?;
     Ok(())
 }
 

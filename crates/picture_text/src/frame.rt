@@ -1,7 +1,7 @@
 // What stands around the bars of a text: its head, the words at its top, and its lanes.
 ghost use Rattle.std.specs.Prelude.{◌≡◌, ◌++◌, OnOk, string_bytes};
 ghost use Rattle.pictures.specs.declared.pictures_of.Heading.TheVariants.{NoOrder, Undecided};
-ghost use Rattle.picture_text.specs.Frame.{head_text, verdict_text, with_heading, whole_text, with_start, with_start_words, ground_text, name_text, with_lane, has_wrong, marks_text};
+ghost use Rattle.picture_text.specs.Frame.{head_text, keys_text, verdict_text, with_heading, whole_text, with_start, with_start_words, ground_text, name_text, with_lane, has_wrong, marks_text};
 ghost use Rattle.picture_text.specs.Frame.{with_legend};
 
 use crate::content::{push_content, push_shown};
@@ -45,14 +45,28 @@ fn push_verdict(out: &mut String, heading: &Heading) -> Result<(), Memory>
 fn push_refuted(out: &mut String, lo: u64, hi: u64) -> Result<(), Memory>
     ensures { OnOk result (string_bytes out.new ≡ string_bytes out.old ++ verdict_text (NoOrder lo hi)) }
 {
-    write!(out, "Not linearizable: keys {lo} to {hi}")?;
+    out.push_str("Not linearizable: ")?;
+    push_keys(out, lo, hi)?;
     Ok(())
 }
 
 fn push_undecided(out: &mut String, lo: u64, hi: u64) -> Result<(), Memory>
     ensures { OnOk result (string_bytes out.new ≡ string_bytes out.old ++ verdict_text (Undecided lo hi)) }
 {
-    write!(out, "Undecided: keys {lo} to {hi}")?;
+    out.push_str("Undecided: ")?;
+    push_keys(out, lo, hi)?;
+    Ok(())
+}
+
+/// Adds a range of keys, or the only key of it.
+fn push_keys(out: &mut String, lo: u64, hi: u64) -> Result<(), Memory>
+    ensures { OnOk result (string_bytes out.new ≡ string_bytes out.old ++ keys_text lo hi) }
+{
+    if lo == hi {
+        write!(out, "key {lo}")?;
+    } else {
+        write!(out, "keys {lo} to {hi}")?;
+    }
     Ok(())
 }
 

@@ -1,6 +1,6 @@
 // The marks of a text.
 ghost use Rattle.std.specs.Prelude.{◌≡◌, ◌++◌, None, OnOk, option_copied, string_bytes};
-ghost use Rattle.picture_text.specs.Marks.{place_title, bar_of, with_call_of, with_mark_title, circle_text, place_text, with_mark};
+ghost use Rattle.picture_text.specs.Marks.{place_title, bar_of, with_call_of, with_mark_title, circle_text, place_class, place_text, with_mark};
 
 use crate::bar_text::push_call;
 use crate::layout::{x_of, y_of};
@@ -73,10 +73,18 @@ fn push_circle(out: &mut String, x: u128, y: u128) -> Result<(), Memory>
     Ok(())
 }
 
+/// How a place is drawn: one of more than three digits smaller, so that it fits the circle.
+fn place_class(place: usize) -> &'static str
+    ensures { result.now ≡ place_class place }
+{
+    if place > 999 { " class='long'" } else { "" }
+}
+
 /// Adds the place in the order.
 fn push_place(out: &mut String, x: u128, y: u128, place: usize) -> Result<(), Memory>
     ensures { OnOk result (string_bytes out.new ≡ string_bytes out.old ++ place_text x y place) }
 {
-    write!(out, "<text x='{x}' y='{y}'>{place}</text></g>\n")?;
+    let class = place_class(place);
+    write!(out, "<text{class} x='{x}' y='{y}'>{place}</text></g>\n")?;
     Ok(())
 }

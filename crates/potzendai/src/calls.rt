@@ -12,7 +12,7 @@ use crate::told::{is_budget, tell, tell_budget};
 use explain_engines::explain_outcome;
 use history_engines::judge_outcome_alone;
 use location_engines::locate_outcome;
-use picture_engines::draw_outcome_alone;
+use picture_engines::{draw_outcome_alone, whole};
 use std::alloc::Global;
 
 /// Judges the history that the text spells, by a search of at most `budget` configurations in each of its segments. The room
@@ -99,7 +99,7 @@ pub extern "C" fn potzendai_draw(
         budget room.old room.new size.new result }
 {
     if is_budget(budget) {
-        let outcome = draw_outcome_alone(alloc, text, budget);
+        let outcome = draw_outcome_alone(alloc, text, budget, whole());
         tell(&outcome, room, size)
     } else {
         tell_budget(room, size)

@@ -7,6 +7,7 @@
 
 mod by_lines;
 mod calls;
+mod draws;
 mod follows;
 mod handle;
 mod loose;
@@ -16,5 +17,6 @@ pub use by_lines::{
     potzendai_follow_close, potzendai_follow_event, potzendai_follow_open, potzendai_follow_verdict,
 };
 pub use calls::{potzendai_draw, potzendai_explain, potzendai_judge, potzendai_locate};
+pub use draws::potzendai_draw_part;
 pub use follows::potzendai_follow;
 pub use handle::PotzendaiFollower;

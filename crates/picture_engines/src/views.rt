@@ -1,0 +1,28 @@
+// Views that hold for every history.
+ghost use Rattle.std.specs.Prelude.{◌≡◌, ℕ, ◌*◌, ◌≤◌, true};
+ghost use Rattle.events.specs.Limits.{call_limit};
+ghost use Rattle.picture_engines.specs.Choices.{asks_for_nothing};
+ghost use Rattle.picture_engines.specs.Drawings.{unasked, whole};
+
+use pictures::View;
+
+/// The view that shows a whole picture.
+pub fn whole() -> View
+    ensures { result ≡ whole }
+{
+    View {
+        around: 0,
+        calls: 0,
+    }
+}
+
+/// The view that asks for nothing: for an event, and for a number of calls, that no history has.
+pub fn unasked() -> View
+    ensures view { result ≡ unasked }
+    ensures asked { (events : ℕ) → events ≤ 2 * call_limit → asks_for_nothing events result ≡ true }
+{
+    View {
+        around: 8192,
+        calls: 4097,
+    }
+}

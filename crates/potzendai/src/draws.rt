@@ -1,0 +1,32 @@
+// The call that draws what is shown of a verdict where nothing is asked for.
+ghost use Rattle.std.specs.Prelude.{Some};
+ghost use Rattle.history_engines.specs.Answers.{IsHistoryRefusal};
+ghost use Rattle.outcomes.specs.Outcomes.{IsTextOutcome};
+ghost use Rattle.picture_engines.specs.Drawings.{IsUnaskedAnswer};
+ghost use Rattle.potzendai.specs.Calls.{IsCall};
+
+use crate::told::{is_budget, tell, tell_budget};
+use picture_engines::{draw_outcome_alone, unasked};
+use std::alloc::Global;
+
+/// Draws of the verdict on the history that the text spells what `bench draw` shows where nothing else is asked for: of a no few calls
+/// that show it, by their processes and events in the text, with those that put what they read; else the whole picture, or a part of one
+/// that is wide. Else as `potzendai_judge`.
+#[unsafe(no_mangle)]
+pub extern "C" fn potzendai_draw_part(
+    alloc: Global,
+    text: &[u8],
+    budget: u32,
+    room: &mut [u8],
+    size: &mut usize,
+) -> u32
+    ensures { IsCall (IsTextOutcome (IsUnaskedAnswer budget) IsHistoryRefusal (Some text.now))
+        budget room.old room.new size.new result }
+{
+    if is_budget(budget) {
+        let outcome = draw_outcome_alone(alloc, text, budget, unasked());
+        tell(&outcome, room, size)
+    } else {
+        tell_budget(room, size)
+    }
+}
