@@ -1,5 +1,5 @@
 -- Bytes at places of words, and the first place in which lists of bytes differ.
-use Rattle.std.proofs.Common.{◌≡◌, ℕ, zero, suc, ◌+◌, ◌*◌, ◌/◌, ◌%◌, ◌^◌, ◌<◌, ◌≤◌, List, [], ◌∷◌, length, map, slice_index}
+use Rattle.std.proofs.Common.{◌≡◌, ℕ, zero, suc, ◌+◌, ◌*◌, ◌/◌, ◌%◌, ◌^◌, ◌<◌, ◌≤◌, List, [], ◌∷◌, length, slice_index}
 use Rattle.std.proofs.Common.{Option, Some, None, option_map, Bool, true, false, refl, sym, ap, subst, ⊎_elim, ◌∙◌, ◌==◌, if◌then◌else◌, arith}
 use Rattle.std.proofs.Math.Nat.{div-one}
 use Rattle.std.proofs.lemmas.Bool.{cases_lt}
@@ -7,7 +7,7 @@ use Rattle.std.proofs.lemmas.Bool.Decides.{nat_tests}
 use Rattle.std.proofs.lemmas.List.{get_or_past}
 use Rattle.std.proofs.lemmas.Nat.{shr-shr}
 use Rattle.art_rows.specs.declared.table.Kind.{Kind}
-use Rattle.art_rows.specs.Words.{low_bytes, key_bytes, kind_code, info_of, entry_of, entries_of, first_difference}
+use Rattle.art_rows.specs.Words.{low_bytes, key_bytes, kind_code, info_of, first_difference}
 use Rattle.art_rows.proofs.WriterLemmas.{length-low_bytes}
 
 -- a byte of a word, by a shift
@@ -18,19 +18,6 @@ low_byte (suc n) (suc k) w h =
     low_byte n k (w / 256) (omega (arith, h))
     ∙ ap (λ (v : ℕ). v % 256) (shr-shr w 8 (8 * k))
     ∙ ap (λ (m : ℕ). w / 2 ^ m % 256) (omega arith)
-
--- past the last byte
-pub low_byte-past : (n k w : ℕ) → n ≤ k → slice_index (low_bytes n w) k ≡ 0
-low_byte-past n k w h = get_or_past (low_bytes n w) k 0 (omega (arith, length-low_bytes n w, h))
-
--- an entry of an index word
-pub entry_byte : (w k : ℕ) → entry_of (slice_index (low_bytes 8 w) k) ≡ slice_index (entries_of w) k
-entry_byte w k = go (low_bytes 8 w) k
-  where
-    go : (xs : List ℕ) (k : ℕ) → entry_of (slice_index xs k) ≡ slice_index (map entry_of xs) k
-    go [] k = refl
-    go (x ∷ xs) zero = refl
-    go (x ∷ xs) (suc k) = go xs k
 
 -- the path of an info word
 path_is : (kind : Kind) (w : ℕ) → (info_of kind w).path ≡ low_bytes (info_of kind w).level (w / 256)
