@@ -14,9 +14,11 @@ ghost use Rattle.art_stages.specs.declared.stage.Outcome.TheVariants.{Value, Ref
 ghost use Rattle.art_setting.specs.Sound.{is_sound, is_sound_target, is_sound_finding, is_sound_work, has_keys};
 ghost use Rattle.art_setting.specs.Settings.{setting_of};
 
-use crate::found::{among, below, checked, entered, find, found, over};
+use crate::found::{
+    find_checked, find_done, first_loaded, info_loaded, keys_loaded, over, row_entered,
+};
 use crate::grown::{copied, entries, fill, keys_stored, leaf_stored, spread_on};
-use crate::works::{moves, release, taken};
+use crate::works::{moves, release, row_taken};
 use art_rows::{Kind, child_word, row_word, version_is_locked, version_is_obsolete};
 use art_setting::{Setting, next_kind};
 use art_stages::{
@@ -25,7 +27,7 @@ use art_stages::{
 };
 
 /// Where LOCK is after a load of the version.
-fn locked(setting: &Setting, target: &Target, version: u64, stage: &mut Stage)
+fn lock_loaded(setting: &Setting, target: &Target, version: u64, stage: &mut Stage)
     requires { is_sound_target target.now ≡ true }
     ensures stage { stage.new ≡ stage_after (setting_of setting.now) (Lock target.now true) version }
     ensures sound { is_sound stage.new ≡ true }
@@ -44,13 +46,13 @@ fn locked(setting: &Setting, target: &Target, version: u64, stage: &mut Stage)
 }
 
 /// Where LOCK is after an exchange of the version.
-fn exchanged(setting: &Setting, target: &Target, version: u64, got: u64, stage: &mut Stage)
+fn lock_exchanged(setting: &Setting, target: &Target, version: u64, got: u64, stage: &mut Stage)
     requires { is_sound_target target.now ≡ true }
     ensures stage { stage.new ≡ stage_after (setting_of setting.now) (Exchange target.now version) got }
     ensures sound { is_sound stage.new ≡ true }
 {
     if got == version {
-        entered(setting, target, version, stage);
+        row_entered(setting, target, version, stage);
     } else {
         *stage = Stage::Lock {
             target: *target,
@@ -60,7 +62,7 @@ fn exchanged(setting: &Setting, target: &Target, version: u64, got: u64, stage: 
 }
 
 /// Where WAIT is after a load of the version.
-fn waited(setting: &Setting, target: &Target, version: u64, stage: &mut Stage)
+fn wait_loaded(setting: &Setting, target: &Target, version: u64, stage: &mut Stage)
     requires { is_sound_target target.now ≡ true }
     ensures stage { stage.new ≡ stage_after (setting_of setting.now) (Wait target.now) version }
     ensures sound { is_sound stage.new ≡ true }
@@ -70,7 +72,7 @@ fn waited(setting: &Setting, target: &Target, version: u64, stage: &mut Stage)
     } else if version_is_obsolete(version) {
         *stage = setting.start();
     } else {
-        entered(setting, target, version, stage);
+        row_entered(setting, target, version, stage);
     }
 }
 
@@ -86,7 +88,7 @@ fn between_passed(setting: &Setting, down: &Down, kept: u64, got: u64, stage: &m
 }
 
 /// The word of a child that is moved: as it was read, or 0 where it is of no form.
-fn moved(setting: &Setting, word: u64) -> u64
+fn moved_word(setting: &Setting, word: u64) -> u64
     ensures { result ≡ child_word (child_of setting.now.shape word) }
 {
     child_word(setting.shape.child(word))
@@ -169,7 +171,7 @@ fn row_checked(setting: &Setting, place: &Position, finding: &Finding, got: u64,
     ensures sound { is_sound stage.new ≡ true }
 {
     if got == place.row.kept {
-        found(setting, place, finding, stage);
+        find_checked(setting, place, finding, stage);
     } else {
         *stage = setting.start();
     }
@@ -185,13 +187,15 @@ pub fn make_stage(setting: &Setting, stage: &mut Stage, got: u64)
     // It is read from a copy, and the next one written where it is kept.
     let old = *stage;
     match &old {
-        Stage::Lock { target, .. } => locked(setting, target, got, stage),
-        Stage::Exchange { target, version } => exchanged(setting, target, *version, got, stage),
-        Stage::Wait { target } => waited(setting, target, got, stage),
-        Stage::Leave { down } => left(down, stage),
+        Stage::Lock { target, .. } => lock_loaded(setting, target, got, stage),
+        Stage::Exchange { target, version } => lock_exchanged(
+            setting, target, *version, got, stage,
+        ),
+        Stage::Wait { target } => wait_loaded(setting, target, got, stage),
+        Stage::Leave { down } => row_left(down, stage),
         Stage::Between { down, kept } => between_passed(setting, down, *kept, got, stage),
-        Stage::Info { down, kept } => below(setting, down, *kept, got, stage),
-        Stage::Find { place } => find(setting, place, got, stage),
+        Stage::Info { down, kept } => info_loaded(setting, down, *kept, got, stage),
+        Stage::Find { place } => first_loaded(setting, place, got, stage),
         Stage::FindKeys { place, count } => first_found(place, *count, got, stage),
         Stage::FindMore {
             place,
@@ -202,8 +206,8 @@ pub fn make_stage(setting: &Setting, stage: &mut Stage, got: u64)
         Stage::Slot { place, slot } => child_found(setting, place, *slot, got, stage),
         Stage::Check { place, finding } => row_checked(setting, place, finding, got, stage),
         Stage::CheckLast { row } => last_checked(setting, row, got, stage),
-        Stage::LetGo { place, finding, .. } => found(setting, place, finding, stage),
-        Stage::Take { taking } => tried(setting, taking, got, stage),
+        Stage::LetGo { place, finding, .. } => find_checked(setting, place, finding, stage),
+        Stage::Take { taking } => take_exchanged(setting, taking, got, stage),
         Stage::Write { hold, reply, .. } => answering(hold, *reply, stage),
         Stage::ClaimPair { hold, pair } => pair_claimed(setting, hold, pair, got, stage),
         Stage::StorePair {
@@ -260,8 +264,8 @@ pub fn make_stage(setting: &Setting, stage: &mut Stage, got: u64)
             place,
             left,
         } => keys_stored(growing, *place, *left, stage),
-        Stage::GrowCount { growing } => counted(growing, stage),
-        Stage::Hang { growing } => hung(&growing.hold, stage),
+        Stage::GrowCount { growing } => grow_counted(growing, stage),
+        Stage::Hang { growing } => grow_hung(&growing.hold, stage),
         Stage::Obsolete { hold } => obsolete_left(setting, hold, stage),
         Stage::Unlock { hold, outcome } => release(setting, &hold.above, *outcome, stage),
         Stage::Over { .. } => unreachable!(),
@@ -321,7 +325,7 @@ fn put_done(hold: &Hold, stage: &mut Stage)
 // Where an access leads that makes a stage of several parts. Each stands apart, since a function clears the room of all that it
 // may make when it is entered.
 
-fn left(down: &Down, stage: &mut Stage)
+fn row_left(down: &Down, stage: &mut Stage)
     ensures stage { stage.new ≡ Lock (Below down.now) true }
     ensures sound { is_sound stage.new ≡ true }
 {
@@ -358,7 +362,7 @@ fn more_found(
         second,
         count,
     };
-    among(setting, place, keys, stage);
+    keys_loaded(setting, place, keys, stage);
 }
 
 fn count_found(setting: &Setting, place: &Position, index: u64, count: u64, stage: &mut Stage)
@@ -370,7 +374,7 @@ fn count_found(setting: &Setting, place: &Position, index: u64, count: u64, stag
         second: 0,
         count,
     };
-    checked(setting, place, Finding::Lacks { keys }, stage);
+    find_done(setting, place, Finding::Lacks { keys }, stage);
 }
 
 fn child_found(setting: &Setting, place: &Position, slot: usize, word: u64, stage: &mut Stage)
@@ -378,7 +382,7 @@ fn child_found(setting: &Setting, place: &Position, slot: usize, word: u64, stag
     ensures sound { is_sound stage.new ≡ true }
 {
     let child = setting.shape.child(word);
-    checked(setting, place, Finding::Has { slot, child }, stage);
+    find_done(setting, place, Finding::Has { slot, child }, stage);
 }
 
 fn last_checked(setting: &Setting, row: &Held, got: u64, stage: &mut Stage)
@@ -392,13 +396,13 @@ fn last_checked(setting: &Setting, row: &Held, got: u64, stage: &mut Stage)
     }
 }
 
-fn tried(setting: &Setting, taking: &Taking, got: u64, stage: &mut Stage)
+fn take_exchanged(setting: &Setting, taking: &Taking, got: u64, stage: &mut Stage)
     requires { is_sound_work taking.now.work ≡ true }
     ensures stage { stage.new ≡ stage_after (setting_of setting.now) (Take taking.now) got }
     ensures sound { is_sound stage.new ≡ true }
 {
     if got == taking.row.kept {
-        taken(setting, taking, taking.row.kept, stage);
+        row_taken(setting, taking, taking.row.kept, stage);
     } else {
         release(setting, &taking.held, None, stage);
     }
@@ -423,7 +427,7 @@ fn put_loaded(setting: &Setting, hold: &Hold, keys: &Keys, left: u32, word: u64,
         hold: *hold,
         keys: *keys,
         left,
-        word: moved(setting, word),
+        word: moved_word(setting, word),
     };
 }
 
@@ -463,7 +467,7 @@ fn grow_loaded(
         growing: *growing,
         place,
         left,
-        word: moved(setting, word),
+        word: moved_word(setting, word),
     };
 }
 
@@ -498,7 +502,7 @@ fn spread_loaded(
         spread: *spread,
         entry,
         after,
-        word: moved(setting, word),
+        word: moved_word(setting, word),
     };
 }
 
@@ -514,14 +518,14 @@ fn obsolete_left(setting: &Setting, hold: &Hold, stage: &mut Stage)
     );
 }
 
-fn counted(growing: &Growing, stage: &mut Stage)
+fn grow_counted(growing: &Growing, stage: &mut Stage)
     ensures stage { stage.new ≡ HangRow growing.now }
     ensures sound { is_sound stage.new ≡ true }
 {
     *stage = Stage::Hang { growing: *growing };
 }
 
-fn hung(hold: &Hold, stage: &mut Stage)
+fn grow_hung(hold: &Hold, stage: &mut Stage)
     ensures stage { stage.new ≡ Obsolete hold.now }
     ensures sound { is_sound stage.new ≡ true }
 {

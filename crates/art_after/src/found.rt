@@ -18,7 +18,7 @@ ghost use Rattle.art_stages.specs.declared.stage.Outcome.TheVariants.{Value};
 ghost use Rattle.art_setting.specs.Sound.{is_sound, is_sound_finding, is_sound_work, is_sound_target};
 ghost use Rattle.art_setting.specs.Settings.{setting_of};
 
-use crate::works::{begin_work, take_above, take_alone, taken};
+use crate::works::{begin_work, row_taken, take_above, take_alone};
 use art_rows::{
     Child, Kind, child_word, index_entry, info_level, key_byte, key_difference, path_byte,
     path_difference,
@@ -297,7 +297,12 @@ fn insert_at_leaf(
 }
 
 /// Where a call is once FIND is done and its row is checked, where its variant checks it.
-pub(crate) fn found(setting: &Setting, place: &Position, finding: &Finding, stage: &mut Stage)
+pub(crate) fn find_checked(
+    setting: &Setting,
+    place: &Position,
+    finding: &Finding,
+    stage: &mut Stage,
+)
     requires { is_sound_finding finding.now ≡ true }
     ensures stage { stage.new ≡ after_found (setting_of setting.now) place.now finding.now }
     ensures sound { is_sound stage.new ≡ true }
@@ -314,13 +319,13 @@ pub(crate) fn found(setting: &Setting, place: &Position, finding: &Finding, stag
 }
 
 /// Where a call is once FIND is done.
-pub(crate) fn checked(setting: &Setting, place: &Position, finding: Finding, stage: &mut Stage)
+pub(crate) fn find_done(setting: &Setting, place: &Position, finding: Finding, stage: &mut Stage)
     requires { is_sound_finding finding ≡ true }
     ensures stage { stage.new ≡ after_finding (setting_of setting.now) place.now finding }
     ensures sound { is_sound stage.new ≡ true }
 {
     if setting.locks() || setting.leaves_out_check() {
-        found(setting, place, &finding, stage);
+        find_checked(setting, place, &finding, stage);
     } else {
         *stage = Stage::Check {
             place: *place,
@@ -330,12 +335,12 @@ pub(crate) fn checked(setting: &Setting, place: &Position, finding: Finding, sta
 }
 
 /// Where a call is once the key words of its row are loaded.
-pub(crate) fn among(setting: &Setting, place: &Position, keys: Keys, stage: &mut Stage)
+pub(crate) fn keys_loaded(setting: &Setting, place: &Position, keys: Keys, stage: &mut Stage)
     ensures stage { stage.new ≡ after_words (setting_of setting.now) place.now keys }
     ensures sound { is_sound stage.new ≡ true }
 {
     match key_among(place.row.kind, keys, setting.byte(place.row)) {
-        None => checked(setting, place, Finding::Lacks { keys }, stage),
+        None => find_done(setting, place, Finding::Lacks { keys }, stage),
 
         Some(i) => *stage = Stage::Slot {
             place: *place,
@@ -345,7 +350,7 @@ pub(crate) fn among(setting: &Setting, place: &Position, keys: Keys, stage: &mut
 }
 
 /// Where a call is once the index word of its byte is loaded.
-fn indexed(setting: &Setting, place: &Position, index: u64, stage: &mut Stage)
+fn index_found(setting: &Setting, place: &Position, index: u64, stage: &mut Stage)
     requires { place.now.row.kind ≡ Kind.FortyEight }
     ensures stage { stage.new ≡ after_index (setting_of setting.now) place.now index }
     ensures sound { is_sound stage.new ≡ true }
@@ -362,7 +367,7 @@ fn indexed(setting: &Setting, place: &Position, index: u64, stage: &mut Stage)
             index,
         };
     } else {
-        checked(
+        find_done(
             setting,
             place,
             Finding::Lacks {
@@ -374,30 +379,30 @@ fn indexed(setting: &Setting, place: &Position, index: u64, stage: &mut Stage)
 }
 
 /// Where a call is once the first word of FIND is loaded.
-pub(crate) fn find(setting: &Setting, place: &Position, got: u64, stage: &mut Stage)
+pub(crate) fn first_loaded(setting: &Setting, place: &Position, got: u64, stage: &mut Stage)
     ensures stage { stage.new ≡ after_first (setting_of setting.now) place.now got }
     ensures sound { is_sound stage.new ≡ true }
 {
     match place.row.kind {
-        Kind::Four => among(setting, place, keys_one(got), stage),
+        Kind::Four => keys_loaded(setting, place, keys_one(got), stage),
 
         Kind::Sixteen => *stage = Stage::FindKeys {
             place: *place,
             count: got,
         },
 
-        Kind::FortyEight => indexed(setting, place, got, stage),
+        Kind::FortyEight => index_found(setting, place, got, stage),
 
         Kind::Full => {
             let slot = child_slot(Kind::Full, place.row.base, setting.byte(place.row));
             let child = setting.shape.child(got);
-            checked(setting, place, Finding::Has { slot, child }, stage);
+            find_done(setting, place, Finding::Has { slot, child }, stage);
         }
     }
 }
 
 /// Where a call is once the row below its own is locked or waited for.
-fn arrived(setting: &Setting, down: &Down, kept: u64, stage: &mut Stage)
+fn row_reached(setting: &Setting, down: &Down, kept: u64, stage: &mut Stage)
     ensures stage { stage.new ≡ after_arrival (setting_of setting.now) down.now kept }
     ensures sound { is_sound stage.new ≡ true }
 {
@@ -413,7 +418,7 @@ fn arrived(setting: &Setting, down: &Down, kept: u64, stage: &mut Stage)
     }
 }
 
-pub(crate) fn entered(setting: &Setting, target: &Target, kept: u64, stage: &mut Stage)
+pub(crate) fn row_entered(setting: &Setting, target: &Target, kept: u64, stage: &mut Stage)
     requires { is_sound_target target.now ≡ true }
     ensures stage { stage.new ≡ after_entry (setting_of setting.now) target.now kept }
     ensures sound { is_sound stage.new ≡ true }
@@ -432,14 +437,14 @@ pub(crate) fn entered(setting: &Setting, target: &Target, kept: u64, stage: &mut
             },
         },
 
-        Target::Below { down } => arrived(setting, down, kept, stage),
+        Target::Below { down } => row_reached(setting, down, kept, stage),
 
-        Target::Taken { taking } => taken(setting, taking, kept, stage),
+        Target::Taken { taking } => row_taken(setting, taking, kept, stage),
     }
 }
 
 /// Where a call is once the info of the row below its own is loaded.
-pub(crate) fn below(setting: &Setting, down: &Down, kept: u64, info: u64, stage: &mut Stage)
+pub(crate) fn info_loaded(setting: &Setting, down: &Down, kept: u64, info: u64, stage: &mut Stage)
     ensures stage { stage.new ≡ after_info (setting_of setting.now) down.now (held down.now.base down.now.kind info kept) }
     ensures sound { is_sound stage.new ≡ true }
 {
@@ -458,12 +463,12 @@ pub(crate) fn below(setting: &Setting, down: &Down, kept: u64, info: u64, stage:
             },
         },
 
-        Some(level) => beside(setting, *down, row, level, stage),
+        Some(level) => path_differs(setting, *down, row, level, stage),
     }
 }
 
 /// Where a call is once its key has turned out to differ at this level from the path of the row below its own.
-fn beside(setting: &Setting, down: Down, row: Held, level: u32, stage: &mut Stage)
+fn path_differs(setting: &Setting, down: Down, row: Held, level: u32, stage: &mut Stage)
     ensures stage { stage.new ≡ below_at (locks setting.now.variant) (is_insert setting.now.call) (setting_of setting.now) down row
         (Some level) }
     ensures sound { is_sound stage.new ≡ true }

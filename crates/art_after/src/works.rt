@@ -64,7 +64,7 @@ pub(crate) fn take_above(setting: &Setting, above: Held, row: Held, work: Work, 
 }
 
 /// Where a call is once it has taken a row, with this version.
-pub(crate) fn taken(setting: &Setting, taking: &Taking, kept: u64, stage: &mut Stage)
+pub(crate) fn row_taken(setting: &Setting, taking: &Taking, kept: u64, stage: &mut Stage)
     requires { is_sound_work taking.now.work ≡ true }
     ensures stage { stage.new ≡ taken_at (setting_of setting.now) taking.now.held taking.now.below taking.now.work
         (record taking.now.row { kept = kept }) }
@@ -116,14 +116,14 @@ pub(crate) fn begin_work(setting: &Setting, hold: Hold, work: Work, stage: &mut 
 
         Work::Pair { pair } => *stage = Stage::ClaimPair { hold, pair },
 
-        Work::Put { keys } => put(setting, hold, keys, stage),
+        Work::Put { keys } => begin_put(setting, hold, keys, stage),
 
         Work::Grow { slot, keys } => *stage = Stage::ClaimGrow { hold, slot, keys },
     }
 }
 
 /// Where PUT begins.
-fn put(setting: &Setting, hold: Hold, keys: Keys, stage: &mut Stage)
+fn begin_put(setting: &Setting, hold: Hold, keys: Keys, stage: &mut Stage)
     ensures stage { stage.new ≡ put_at hold.row.kind (setting_of setting.now) hold keys }
     ensures sound { is_sound stage.new ≡ true }
 {

@@ -1,6 +1,6 @@
 // Where the rows of a table stand.
 ghost use Rattle.std.specs.Prelude.{◌≡◌, ℕ, ◌<◌, ◌≤◌, ◌^◌, true, IfOk};
-ghost use Rattle.art_rows.specs.Table.{first_base, row_words, rows_of, table_words, root_base, is_base_of, kind_at, opening, base_of};
+ghost use Rattle.art_rows.specs.Table.{first_base, rows_of, table_words, root_base, is_base_of, kind_at, opening, base_of};
 ghost use Rattle.art_rows.specs.Table.{IsWithinLimits};
 ghost use Rattle.art_rows.specs.Words.{child_of as child_in, is_small_child};
 
@@ -10,25 +10,11 @@ use std::alloc::{AllocError, Global};
 /// The words before the first row: the clock, and the claims of each kind.
 const FIRST_ROW: u64 = 5;
 
-// how many words a row of each kind has
-const WORDS4: u64 = 7;
+/// The word that counts the claims of rows of kind 256.
+const FULL_CLAIMS: usize = 4;
 
-const WORDS16: u64 = 21;
-
-const WORDS48: u64 = 83;
-
-const WORDS256: u64 = 258;
-
-fn row_size(kind: Kind) -> u64
-    ensures { result ≡ row_words kind }
-{
-    match kind {
-        Kind::Four => WORDS4,
-        Kind::Sixteen => WORDS16,
-        Kind::FortyEight => WORDS48,
-        Kind::Full => WORDS256,
-    }
-}
+/// The info of the root: of kind 256, on level 0, with no path.
+const ROOT_INFO: u64 = 3;
 
 impl Shape {
     /// How many rows of a kind there are.
@@ -48,15 +34,17 @@ impl Shape {
     {
         match kind {
             Kind::Four => FIRST_ROW,
-            Kind::Sixteen => FIRST_ROW + WORDS4 * u64::from(self.rows4),
+            Kind::Sixteen => FIRST_ROW + Kind::Four.words() * u64::from(self.rows4),
             Kind::FortyEight => {
-                FIRST_ROW + WORDS4 * u64::from(self.rows4) + WORDS16 * u64::from(self.rows16)
+                FIRST_ROW
+                    + Kind::Four.words() * u64::from(self.rows4)
+                    + Kind::Sixteen.words() * u64::from(self.rows16)
             }
             Kind::Full => {
                 FIRST_ROW
-                    + WORDS4 * u64::from(self.rows4)
-                    + WORDS16 * u64::from(self.rows16)
-                    + WORDS48 * u64::from(self.rows48)
+                    + Kind::Four.words() * u64::from(self.rows4)
+                    + Kind::Sixteen.words() * u64::from(self.rows16)
+                    + Kind::FortyEight.words() * u64::from(self.rows48)
             }
         }
     }
@@ -66,8 +54,8 @@ impl Shape {
     {
         let first = self.first(kind);
         first <= word
-            && (word - first) % row_size(kind) == 0
-            && (word - first) / row_size(kind) < self.rows(kind)
+            && (word - first) % kind.words() == 0
+            && (word - first) / kind.words() < self.rows(kind)
     }
 
     /// The kind of the row that begins at this word.
@@ -93,7 +81,7 @@ impl Shape {
         requires number { number < rows_of self.now kind }
         ensures { result ≡ base_of self.now kind number }
     {
-        (self.first(kind) + row_size(kind) * number) as u32
+        (self.first(kind) + kind.words() * number) as u32
     }
 
     /// The base of the root.
@@ -107,7 +95,7 @@ impl Shape {
     pub fn words(&self) -> usize
         ensures { result ≡ table_words self.now }
     {
-        self.root() + WORDS256 as usize * self.rows256 as usize
+        self.root() + Kind::Full.words() as usize * self.rows256 as usize
     }
 
     /// The words of the table as it is opened.
@@ -116,8 +104,8 @@ impl Shape {
         ensures { IfOk result (λ words. words.items ≡ opening self.now) }
     {
         let mut words = vec![in alloc; 0; self.words()]?;
-        words[4] = 1;
-        words[self.root() + 1] = 3;
+        words[FULL_CLAIMS] = 1;
+        words[self.root() + 1] = ROOT_INFO;
         Ok(words)
     }
 

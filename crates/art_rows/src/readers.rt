@@ -1,7 +1,7 @@
 // What a word says.
-ghost use Rattle.std.specs.Prelude.{◌≡◌, ℕ, ◌≤◌, ◌<◌, ◌%◌, slice_index, unwrap_or, IfSome};
+ghost use Rattle.std.specs.Prelude.{◌≡◌, ℕ, ◌≤◌, ◌<◌, ◌%◌, length, slice_index, unwrap_or, IfSome};
 ghost use Rattle.art_rows.specs.Words.{is_locked, is_obsolete, low_bytes, count_of, entry_of, entries_of, locked_word, released_word};
-ghost use Rattle.art_rows.specs.Words.{kind_code, info_of, keys4_of, keys16_of, place_of as place_in, first_difference, key_bytes};
+ghost use Rattle.art_rows.specs.Words.{info_of, keys4_of, keys16_of, place_of as place_in, first_difference, key_bytes};
 
 use crate::table::Kind;
 
@@ -26,24 +26,12 @@ pub fn version_released(version: u64) -> u64
     version.wrapping_add(4)
 }
 
-pub(crate) fn code(kind: Kind) -> u64
-    ensures code { result ≡ kind_code kind }
-    ensures most { result ≤ 3 }
-{
-    match kind {
-        Kind::Four => 0,
-        Kind::Sixteen => 1,
-        Kind::FortyEight => 2,
-        Kind::Full => 3,
-    }
-}
-
 /// The level that an info word says.
 pub fn info_level(kind: Kind, info: u64) -> u32
     ensures level { result ≡ (info_of kind info).level }
     ensures most { result ≤ 3 }
 {
-    if info % 4 == code(kind) {
+    if info % 4 == kind.code() {
         (info / 4 % 4) as u32
     } else {
         0
@@ -54,12 +42,21 @@ pub fn info_level(kind: Kind, info: u64) -> u32
 pub fn key_byte(key: u32, level: u32) -> u32
     ensures { result ≡ slice_index (key_bytes key) level }
 {
-    match level {
-        0 => key / 2u32.pow(24) % 256,
-        1 => key / 2u32.pow(16) % 256,
-        2 => key / 2u32.pow(8) % 256,
-        3 => key % 256,
-        _ => 0,
+    if level < 4 {
+        (key >> (24 - 8 * level)) % 256
+    } else {
+        0
+    }
+}
+
+/// A byte of a word, the lowest first.
+pub(crate) fn word_byte(word: u64, place: u32) -> u32
+    ensures { result ≡ slice_index (low_bytes 8 word) place }
+{
+    if place < 8 {
+        ((word >> (8 * place)) % 256) as u32
+    } else {
+        0
     }
 }
 
@@ -67,55 +64,22 @@ pub fn key_byte(key: u32, level: u32) -> u32
 pub fn path_difference(kind: Kind, info: u64, key: u32) -> Option<u32>
     ensures { result ≡ first_difference (info_of kind info).path (key_bytes key) }
 {
-    let a = info / 256 % 256 != u64::from(key_byte(key, 0));
-    let b = info / 256 / 256 % 256 != u64::from(key_byte(key, 1));
-    let c = info / 256 / 256 / 256 % 256 != u64::from(key_byte(key, 2));
-    match info_level(kind, info) {
-        1 => if a { Some(0) } else { None },
-        2 => if a {
-            Some(0)
-        } else if b {
-            Some(1)
-        } else {
-            None
-        },
-        3 => if a {
-            Some(0)
-        } else if b {
-            Some(1)
-        } else if c {
-            Some(2)
-        } else {
-            None
-        },
-        _ => None,
+    for place in 0..info_level(kind, info) {
+        if path_byte(kind, info, place) != key_byte(key, place) {
+            return Some(place);
+        }
     }
+    None
 }
 
 /// A byte of the path that an info word says.
 pub fn path_byte(kind: Kind, info: u64, place: u32) -> u32
     ensures { result ≡ slice_index (info_of kind info).path place }
 {
-    let a = (info / 256 % 256) as u32;
-    let b = (info / 256 / 256 % 256) as u32;
-    let c = (info / 256 / 256 / 256 % 256) as u32;
-    match info_level(kind, info) {
-        1 => match place {
-            0 => a,
-            _ => 0,
-        },
-        2 => match place {
-            0 => a,
-            1 => b,
-            _ => 0,
-        },
-        3 => match place {
-            0 => a,
-            1 => b,
-            2 => c,
-            _ => 0,
-        },
-        _ => 0,
+    if place < info_level(kind, info) {
+        word_byte(info / 256, place)
+    } else {
+        0
     }
 }
 
@@ -123,14 +87,21 @@ pub fn path_byte(kind: Kind, info: u64, place: u32) -> u32
 pub fn key_difference(a: u32, b: u32) -> u32
     ensures { result ≡ unwrap_or (first_difference (key_bytes a) (key_bytes b)) 0 }
 {
-    if key_byte(a, 0) != key_byte(b, 0) {
-        0
-    } else if key_byte(a, 1) != key_byte(b, 1) {
-        1
-    } else if key_byte(a, 2) != key_byte(b, 2) {
-        2
-    } else if key_byte(a, 3) != key_byte(b, 3) {
-        3
+    for level in 0..4 {
+        if key_byte(a, level) != key_byte(b, level) {
+            return level;
+        }
+    }
+    0
+}
+
+/// How many keys a row of kind 4 has.
+pub fn keys_count(keys: u64) -> u32
+    ensures count { result ≡ length (keys4_of keys) }
+    ensures most { result ≤ 4 }
+{
+    if keys % 256 <= 4 {
+        (keys % 256) as u32
     } else {
         0
     }
@@ -141,42 +112,7 @@ pub fn key_place(keys: u64, x: u32) -> Option<u32>
     ensures place { result ≡ place_in x (keys4_of keys) }
     ensures below { IfSome result (λ i. i < 4) }
 {
-    let x = u64::from(x);
-    let a = keys / 256 % 256 == x;
-    let b = keys / 256 / 256 % 256 == x;
-    let c = keys / 256 / 256 / 256 % 256 == x;
-    let d = keys / 256 / 256 / 256 / 256 % 256 == x;
-    match keys % 256 {
-        1 => if a { Some(0) } else { None },
-        2 => if a {
-            Some(0)
-        } else if b {
-            Some(1)
-        } else {
-            None
-        },
-        3 => if a {
-            Some(0)
-        } else if b {
-            Some(1)
-        } else if c {
-            Some(2)
-        } else {
-            None
-        },
-        4 => if a {
-            Some(0)
-        } else if b {
-            Some(1)
-        } else if c {
-            Some(2)
-        } else if d {
-            Some(3)
-        } else {
-            None
-        },
-        _ => None,
-    }
+    place_among(keys / 256, keys_count(keys), x)
 }
 
 /// Is the row of this version obsolete?
@@ -218,17 +154,7 @@ pub fn entry_at(index: u64, place: u32) -> u32
     ensures entry { result ≡ slice_index (entries_of index) place }
     ensures most { result ≤ 48 }
 {
-    entry(match place {
-        0 => index % 256,
-        1 => index / 256 % 256,
-        2 => index / 256 / 256 % 256,
-        3 => index / 256 / 256 / 256 % 256,
-        4 => index / 256 / 256 / 256 / 256 % 256,
-        5 => index / 256 / 256 / 256 / 256 / 256 % 256,
-        6 => index / 256 / 256 / 256 / 256 / 256 / 256 % 256,
-        7 => index / 256 / 256 / 256 / 256 / 256 / 256 / 256 % 256,
-        _ => 0,
-    })
+    entry(u64::from(word_byte(index, place)))
 }
 
 pub(crate) fn entry(byte: u64) -> u32

@@ -5,7 +5,7 @@ ghost use Rattle.art_rows.specs.Words.{packed, low_bytes, key_bytes, obsolete_wo
 ghost use Rattle.art_rows.specs.Words.{keys16_word, more_keys16_word, with_key, new_place, count_of, entry_of, entries_of, entries_word};
 ghost use Rattle.art_rows.specs.Words.{row_word, child_word, is_small_child};
 
-use crate::readers::{code, entry, info_level, key_byte, key_count};
+use crate::readers::{entry, info_level, key_byte, key_count, keys_count, word_byte};
 use crate::table::{Child, Kind};
 
 /// The version of a row that is released as obsolete, and that was locked from this one.
@@ -57,7 +57,7 @@ pub fn moved_info(old: Kind, info: u64, new: Kind) -> u64
     ensures { result ≡ info_word new (info_of old info).level (info_of old info).path }
 {
     let level = info_level(old, info);
-    code(new) + 4 * u64::from(level) + 256 * low(info / 256, level)
+    new.code() + 4 * u64::from(level) + 256 * low(info / 256, level)
 }
 
 /// The keys of a row of kind 4 with two bytes.
@@ -112,18 +112,6 @@ fn inserted(bytes: u64, count: u32, place: u32, byte: u32) -> u64
         u64::from(byte) + 256 * low(bytes, count)
     } else {
         bytes % 256 + 256 * inserted(bytes / 256, count - 1, place - 1, byte)
-    }
-}
-
-/// How many keys a row of kind 4 has.
-pub fn keys_count(keys: u64) -> u32
-    ensures count { result ≡ length (keys4_of keys) }
-    ensures most { result ≤ 4 }
-{
-    if keys % 256 <= 4 {
-        (keys % 256) as u32
-    } else {
-        0
     }
 }
 
@@ -196,8 +184,7 @@ pub fn more_keys16_with(count: u64, first: u64, second: u64, byte: u32) -> u64
     if count < 8 {
         0
     } else if place < 8 {
-        first / 256 / 256 / 256 / 256 / 256 / 256 / 256 % 256
-            + 256 * low(second, (count - 8).min(7))
+        u64::from(word_byte(first, 7)) + 256 * low(second, (count - 8).min(7))
     } else if place < 16 {
         inserted(second, (count - 8).min(7), place - 8, byte)
     } else {

@@ -36,11 +36,5 @@ pub fn count(kind: Kind, keys: Keys) -> u32
 pub fn is_full(kind: Kind, keys: Keys) -> bool
     ensures { result ≡ (count_in kind keys == capacity kind) }
 {
-    let most = match kind {
-        Kind::Four => 4,
-        Kind::Sixteen => 16,
-        Kind::FortyEight => 48,
-        Kind::Full => 256,
-    };
-    count(kind, keys) == most
+    count(kind, keys) == kind.capacity()
 }

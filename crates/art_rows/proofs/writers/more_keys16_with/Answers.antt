@@ -1,4 +1,4 @@
-use Rattle.std.proofs.Common.{◌-◌, ◌/◌, ◌%◌, ap, ◌∙◌, arith}
+use Rattle.std.proofs.Common.{ℕ, ◌+◌, ◌-◌, ◌*◌, ap, ◌∙◌, arith}
 use Rattle.art_rows.proofs.WriterLemmas.{byte_fits, second_few, second_many, second_put, second_kept, put_in}
 use Rattle.art_rows.specs.Words.{packed, low_bytes}
 use Rattle.art_rows.proofs.writers.more_keys16_with.Goals as goal
@@ -14,8 +14,9 @@ pub overflow_add-result : goal.overflow_add-result
 overflow_add-result c =
     omega (
       arith,
-      byte_fits c.min.result c.low.result (c.args.first / 256 / 256 / 256 / 256 / 256 / 256 / 256 % 256) (omega (arith, c.min.ensures))
-          (omega arith) c.low.ensures.below,
+      c.from.ensures,
+      byte_fits c.min.result c.low.result c.word_byte.result (omega (arith, c.min.ensures)) (omega (arith, c.word_byte.ensures))
+          c.low.ensures.below,
     )
 
 pub returns-then-count-lt8 : goal.returns-then-count-lt8
@@ -25,7 +26,8 @@ returns-then-count-lt8 c =
 
 pub returns-then-place-lt8 : goal.returns-then-place-lt8
 returns-then-place-lt8 c =
-    second_many c.args.byte c.args.count c.args.first c.args.second c.key_count-count.result c.new_key_place16-place.result c.low.result
+    ap (λ (byte : ℕ). byte + 256 * c.low.result) (c.from.ensures ∙ c.word_byte.ensures)
+    ∙ second_many c.args.byte c.args.count c.args.first c.args.second c.key_count-count.result c.new_key_place16-place.result c.low.result
     c.key_count-count.ensures.count c.new_key_place16-place.ensures.place (omega arith) (omega arith)
     (c.low.ensures.bytes ∙ ap (λ k. packed (low_bytes k c.args.second)) c.min.ensures)
 
