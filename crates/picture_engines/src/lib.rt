@@ -4,5 +4,5 @@
 mod choice;
 mod drawing;
 
-pub use drawing::{draw_outcome, draw_outcome_alone, run_draw};
+pub use drawing::{draw_outcome, run_draw};
 pub use pictures::View;
