@@ -1,13 +1,17 @@
 // What the words of the command line ask of a history, done.
-ghost use Rattle.std.specs.Prelude.{◌≡◌, ◌<◌};
+ghost use Rattle.std.specs.Prelude.{◌≡◌, ◌<◌, ◌≤◌};
 ghost use Rattle.clap.specs.Walk.{texts};
 ghost use Rattle.outcomes.specs.Ends.{change};
 ghost use Rattle.outcomes.specs.Runs.{IsRun};
 ghost use Rattle.outcomes.specs.Statuses.{words_status};
+ghost use Rattle.pool.specs.Limits.{worker_limit};
+ghost use Rattle.search.specs.Limits.{budget_limit};
 ghost use Rattle.history_bench.specs.Outcomes.{IsHistoryWordsOutcome};
 
 use command_line::Line;
+use events::History;
 use history_engines::{run_check, run_judge};
+use judge::{ByCalls, judge};
 use line_outcomes::{asked_line, elsewhere};
 use outcomes::write_outcome;
 use pool::OpenGate;
@@ -48,9 +52,14 @@ pub fn run<R: Threads + Sync, S: Source, O: Sink, F: Sink, H: Sink>(
     match line {
         Line::Check { order } => run_check(alloc, source, output, faults, hints, &order),
         Line::Judge { budget, workers } => {
-            run_judge(
-                rt, alloc, source, output, faults, hints, budget, workers, &OpenGate,
-            )
+            let judge = ByCalls {
+                budget,
+                answer: |history: &History|
+                    requires budget { (1 ≤ budget) × (budget ≤ budget_limit) }
+                    requires workers { (1 ≤ workers) × (workers ≤ worker_limit) }
+                { judge(rt, alloc, history, budget, workers, &OpenGate) },
+            };
+            run_judge(alloc, source, output, faults, hints, &judge)
         }
         _ => {
             let outcome = elsewhere(alloc, "error: this program checks and judges alone\n");

@@ -1,4 +1,4 @@
 pub mod WholeHistories
-pub mod PassedTexts
+pub mod HeldTexts
 mod JudgedTexts
 mod FirstLines

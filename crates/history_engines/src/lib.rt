@@ -9,4 +9,4 @@ mod verdict;
 pub use check::{check_outcome, run_check};
 pub use laws::faults_are_found;
 pub use refusals::refused_text;
-pub use verdict::{answer_of, judge_outcome, judge_outcome_alone, run_judge};
+pub use verdict::{answer_of, judge_outcome, run_judge};

@@ -1,65 +1,54 @@
 // `bench judge`: whether the history on the input has an order at all.
-ghost use Rattle.std.specs.Prelude.{◌≡◌, ℕ, ◌<◌, ◌≤◌, List, Some, IfOk, IfErr, IfSome, IsOk, string_bytes};
+ghost use Rattle.std.specs.Prelude.{◌≡◌, ℕ, ◌<◌, List, Some, IfOk, IfSome, IsOk, string_bytes};
 ghost use Rattle.answer_hints.specs.Hints.{verdict_hint};
 ghost use Rattle.answer_hints.specs.Outcomes.{IsHintedBy, IsHintedOutcome};
 ghost use Rattle.events.specs.Operations.{operations};
-ghost use Rattle.history_engines.specs.Answers.{IsHistoryRefusal, IsHintedJudgeAnswer, IsJudgeAnswer, IsTextOf, answer_of};
+ghost use Rattle.history_engines.specs.Answers.{IsHistoryRefusal, IsHintedJudgeAnswer, IsTextOf, answer_of};
 ghost use Rattle.history_text.specs.Limits.{text_limit};
 ghost use Rattle.judge.specs.Exact.{IsExactVerdict};
-ghost use Rattle.judge.specs.Gates.{WasPassedForText};
-ghost use Rattle.judge.specs.Judged.{IsJudged, IsUnjudged};
+ghost use Rattle.judge.specs.Gates.{HoldsForText};
 ghost use Rattle.judge.specs.Shown.{IsShown};
 ghost use Rattle.outcomes.specs.Ends.{change};
 ghost use Rattle.history_engines.specs.Outcomes.{IsJudgeOutcome};
-ghost use Rattle.outcomes.specs.Outcomes.{IsTextOutcome, OnAnswered};
+ghost use Rattle.outcomes.specs.Outcomes.{OnAnswered};
 ghost use Rattle.outcomes.specs.Reads.{IsTextRead};
 ghost use Rattle.outcomes.specs.Runs.{IsRun};
 ghost use Rattle.outcomes.specs.Statuses.{OnAnswerStatus};
-ghost use Rattle.pool.specs.Limits.{worker_limit};
-ghost use Rattle.search.specs.Limits.{budget_limit};
 
 use crate::refusals::refused_text;
 use answer_hints::{hinted_no, hinted_undecided, hinted_yes, overlap_of};
 use events::{History, Memory};
 use history_text::{MAX_TEXT, read_history};
-use judge::{JudgeFault, Verdict, judge, judge_text_alone, report};
+use judge::{Judge, Verdict, report};
 use outcomes::{Answer, Outcome, line_of, text_from, write_outcome};
-use pool::Gate;
 use std::alloc::{AllocError, Global};
-use std::thread::Threads;
 use streams::{Sink, Source};
 
-/// Reads a history text to the end of the source, or until it is too long, and judges it: so many workers
-/// search its segments side by side, at most `budget` configurations of each, and pass the gate before each
-/// segment. Answers the exit status.
-pub fn run_judge<R: Threads + Sync, S: Source, O: Sink, F: Sink, H: Sink, G: Gate + Sync>(
-    rt: &R,
+/// Reads a history text to the end of the source, or until it is too long, and has it judged. Answers the exit status.
+pub fn run_judge<S: Source, O: Sink, F: Sink, H: Sink, J: Judge>(
     alloc: Global,
     source: &mut S,
     output: &mut O,
     faults: &mut F,
     hints: &mut H,
-    budget: u32,
-    workers: u32,
-    gate: &G,
+    judge: &J,
 ) -> u8
-    requires budget { (1 ≤ budget) × (budget ≤ budget_limit) }
-    requires workers { (1 ≤ workers) × (workers ≤ worker_limit) }
+    requires ready { J.ready judge.now }
     requires source { S.failures source.old < u64.MAX }
     requires output { O.failures output.old < u64.MAX }
     requires faults { F.failures faults.old < u64.MAX }
     requires hints { H.failures hints.old < u64.MAX }
     ensures run { IsRun
-        (IsJudgeOutcome budget (change S.remaining S.failures source.old source.new))
+        (IsJudgeOutcome (J.budget judge.now) (change S.remaining S.failures source.old source.new))
         (change O.written O.failures output.old output.new)
         (change F.written F.failures faults.old faults.new)
         (change H.written H.failures hints.old hints.new) result }
     ensures read { IsTextRead text_limit (change S.remaining S.failures source.old source.new) result }
-    ensures passed { OnAnswerStatus result (IfSome (S.remaining source.old) (WasPassedForText (G.was_passed gate.now))) }
+    ensures asked { OnAnswerStatus result (IfSome (S.remaining source.old) (HoldsForText (J.was_asked judge.now))) }
 {
     match text_from(alloc, source, MAX_TEXT) {
         Ok(text) => {
-            let outcome = judge_outcome(rt, alloc, &text, budget, workers, gate);
+            let outcome = judge_outcome(alloc, &text, judge);
             write_outcome(output, faults, hints, &outcome)
         }
         Err(outcome) => write_outcome(output, faults, hints, &outcome),
@@ -67,22 +56,14 @@ pub fn run_judge<R: Threads + Sync, S: Source, O: Sink, F: Sink, H: Sink, G: Gat
 }
 
 /// The verdict on the history that the text spells, as its report, with a hint on it, where it has one.
-pub fn judge_outcome<R: Threads + Sync, G: Gate + Sync>(
-    rt: &R,
-    alloc: Global,
-    text: &[u8],
-    budget: u32,
-    workers: u32,
-    gate: &G,
-) -> Outcome
-    requires budget { (1 ≤ budget) × (budget ≤ budget_limit) }
-    requires workers { (1 ≤ workers) × (workers ≤ worker_limit) }
-    ensures outcome { IsHintedOutcome (IsHintedJudgeAnswer budget) IsHistoryRefusal (Some text.now) result }
-    ensures passed { OnAnswered result (WasPassedForText (G.was_passed gate.now) text.now) }
+pub fn judge_outcome<J: Judge>(alloc: Global, text: &[u8], judge: &J) -> Outcome
+    requires { J.ready judge.now }
+    ensures outcome { IsHintedOutcome (IsHintedJudgeAnswer (J.budget judge.now)) IsHistoryRefusal (Some text.now) result }
+    ensures asked { OnAnswered result (HoldsForText (J.was_asked judge.now) text.now) }
 {
     match read_history(alloc, text) {
         Ok(history) => {
-            let judged = judge(rt, alloc, &history, budget, workers, gate);
+            let judged = judge.verdict_on(&history);
             hinted_outcome_of(alloc, &history, judged)
         }
         Err(fault) => refused_text(alloc, text, &fault),
@@ -125,27 +106,6 @@ fn hinted(
         ),
         Verdict::No(_) => hinted_no(alloc, line),
         Verdict::Undecided(_) => hinted_undecided(alloc, line),
-    }
-}
-
-/// The same as `judge_outcome` without hints on answers, found by one thread: it starts no thread and waits for nobody.
-pub fn judge_outcome_alone(alloc: Global, text: &[u8], budget: u32) -> Outcome
-    requires { (1 ≤ budget) × (budget ≤ budget_limit) }
-    ensures { IsTextOutcome (IsJudgeAnswer budget) IsHistoryRefusal (Some text.now) result }
-{
-    outcome_of(alloc, text, judge_text_alone(alloc, text, budget))
-}
-
-/// How the judge's answer to a text comes out.
-fn outcome_of(alloc: Global, text: &[u8], judged: Result<(Verdict, String), JudgeFault>) -> Outcome
-    ensures { (budget : ℕ) → IfOk judged (λ answer. IsJudged budget text.now answer.0 (string_bytes answer.1))
-        → IfErr judged (IsUnjudged text.now)
-        → IsTextOutcome (IsJudgeAnswer budget) IsHistoryRefusal (Some text.now) result }
-{
-    match judged {
-        Ok((verdict, report)) => Outcome::answered(answer_of(&verdict), line_of(report)),
-        Err(JudgeFault::History(fault)) => refused_text(alloc, text, &fault),
-        Err(JudgeFault::Memory) => Outcome::Memory,
     }
 }
 

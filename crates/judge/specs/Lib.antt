@@ -6,3 +6,4 @@ pub mod Judged
 pub mod Reports
 pub mod Laws
 pub mod Gates
+pub mod Judging

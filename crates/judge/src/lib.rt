@@ -7,6 +7,7 @@
 mod alone;
 mod conclusion;
 mod fault;
+mod judges;
 mod laws;
 mod reports;
 mod texts;
@@ -15,9 +16,10 @@ mod workers;
 
 pub use alone::judge_alone;
 pub use fault::JudgeFault;
+pub use judges::{ByCalls, Judge, OneThread};
 pub use laws::{finished_verdicts_agree, one_call_is_decided, one_exact_verdict, one_report};
 pub use reports::report;
 pub use search::MAX_BUDGET;
-pub use texts::{judge_text, judge_text_alone};
+pub use texts::{judge_text, judge_text_by};
 pub use verdict::Verdict;
 pub use workers::judge;

@@ -1,14 +1,18 @@
 // What a line asks of a history or of a stream, done.
-ghost use Rattle.std.specs.Prelude.{◌≡◌, ◌<◌};
+ghost use Rattle.std.specs.Prelude.{◌≡◌, ◌<◌, ◌≤◌};
 ghost use Rattle.command_line.specs.Lines.{IsWithinLimits};
 ghost use Rattle.outcomes.specs.Ends.{change};
 ghost use Rattle.outcomes.specs.Runs.{IsRun};
 ghost use Rattle.outcomes.specs.Statuses.{words_status};
+ghost use Rattle.pool.specs.Limits.{worker_limit};
+ghost use Rattle.search.specs.Limits.{budget_limit};
 ghost use Rattle.judge_lines.specs.Outcomes.{IsJudgeLineOutcome};
 
 use command_line::Line;
+use events::History;
 use explain_engines::run_explain;
 use history_engines::{run_check, run_judge};
+use judge::{ByCalls, judge};
 use line_outcomes::elsewhere;
 use location_engines::run_locate;
 use outcomes::write_outcome;
@@ -51,9 +55,14 @@ pub fn run_line<R: Threads + Sync, S: Source, O: Sink, F: Sink, H: Sink, P: Prog
     match line {
         Line::Check { order } => run_check(alloc, source, output, faults, hints, &order),
         Line::Judge { budget, workers } => {
-            run_judge(
-                rt, alloc, source, output, faults, hints, budget, workers, &OpenGate,
-            )
+            let judge = ByCalls {
+                budget,
+                answer: |history: &History|
+                    requires budget { (1 ≤ budget) × (budget ≤ budget_limit) }
+                    requires workers { (1 ≤ workers) × (workers ≤ worker_limit) }
+                { judge(rt, alloc, history, budget, workers, &OpenGate) },
+            };
+            run_judge(alloc, source, output, faults, hints, &judge)
         }
         Line::Locate { budget } => run_locate(alloc, source, output, faults, hints, budget),
         Line::Explain { budget } => run_explain(alloc, source, output, faults, hints, budget),
@@ -63,10 +72,15 @@ pub fn run_line<R: Threads + Sync, S: Source, O: Sink, F: Sink, H: Sink, P: Prog
             around,
             calls,
         } => {
+            let judge = ByCalls {
+                budget,
+                answer: |history: &History|
+                    requires budget { (1 ≤ budget) × (budget ≤ budget_limit) }
+                    requires workers { (1 ≤ workers) × (workers ≤ worker_limit) }
+                { judge(rt, alloc, history, budget, workers, &OpenGate) },
+            };
             let view = View { around, calls };
-            run_draw(
-                rt, alloc, source, output, faults, hints, budget, workers, view, &OpenGate,
-            )
+            run_draw(alloc, source, output, faults, hints, &judge, view)
         }
         Line::Follow { budget } => run_follow(
             alloc, source, output, faults, hints, budget, progress,

@@ -6,7 +6,10 @@ use crate::worked::{THREE_KEYS, TWO_KEYS, inserts};
 use cutter::cut;
 use events::{History, MAX_CALLS, Memory};
 use history_text::read_history;
-use judge::{MAX_BUDGET, judge_alone, report};
+use judge::{
+    Judge, JudgeFault, MAX_BUDGET, OneThread, Verdict, judge_alone, judge_text, judge_text_by,
+    report,
+};
 use pool::{MAX_WORKERS, OpenGate, search_all, search_alone};
 use search::Found;
 use segments::Segment;
@@ -41,6 +44,28 @@ fn histories_are_judged_by_one_thread(rt: HostRuntime) -> Result<(), Fail> {
     let undecided = r#"{"calls":[0,1],"hi":1,"lo":1,"verdict":"undecided"}"#;
     assert!(rt; is_judged(rt.alloc(), TWO_KEYS, 3, undecided)?);
     Ok(())
+}
+
+#[test]
+fn whoever_judges_has_a_budget(rt: HostRuntime) -> Result<(), Fail> {
+    let undecided = r#"{"calls":[0,1],"hi":1,"lo":1,"verdict":"undecided"}"#;
+    let alone = OneThread {
+        alloc: rt.alloc(),
+        budget: 3,
+    };
+    assert!(rt; alone.budget() == 3);
+    assert!(rt; is_reported(&judge_text_by(rt.alloc(), TWO_KEYS, &alone), undecided));
+    let by_two = judge_text(&rt, rt.alloc(), TWO_KEYS, 3, 2, &OpenGate);
+    assert!(rt; is_reported(&by_two, undecided));
+    Ok(())
+}
+
+/// Whether the report on a text is this.
+fn is_reported(judged: &Result<(Verdict, String), JudgeFault>, want: &str) -> bool {
+    match judged {
+        Ok((_, line)) => line.as_str() == want,
+        Err(_) => false,
+    }
 }
 
 #[test]

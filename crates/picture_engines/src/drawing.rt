@@ -5,7 +5,7 @@ ghost use Rattle.events.specs.Operations.{operations};
 ghost use Rattle.history_engines.specs.Answers.{IsHistoryRefusal, IsTextOf};
 ghost use Rattle.history_text.specs.Limits.{text_limit};
 ghost use Rattle.judge.specs.Exact.{IsExactVerdict};
-ghost use Rattle.judge.specs.Gates.{WasPassedForEach, WasPassedForText};
+ghost use Rattle.judge.specs.Gates.{HoldsForText};
 ghost use Rattle.judge.specs.Shown.{IsShown};
 ghost use Rattle.outcomes.specs.Ends.{change};
 ghost use Rattle.outcomes.specs.Outcomes.{IsTextOutcome, OnAnswered};
@@ -18,57 +18,50 @@ ghost use Rattle.picture_engines.specs.Outcomes.{IsDrawOutcome};
 ghost use Rattle.pictures.specs.Marks.{IsMarkable};
 ghost use Rattle.pictures.specs.Pictures.{marked};
 ghost use Rattle.pictures.specs.declared.windows.View.{View};
-ghost use Rattle.pool.specs.Limits.{worker_limit};
 ghost use Rattle.search.specs.Limits.{budget_limit};
 
 use crate::choice::{Choice, choice_of};
 use events::{History, Memory};
 use history_engines::{answer_of, refused_text};
 use history_text::{MAX_TEXT, read_history};
-use judge::{Verdict, judge, judge_alone};
+use judge::{Judge, Verdict};
 use locating::{Location, locate};
 use outcomes::{Answer, Outcome, line_of, text_from, write_outcome};
 use picture_text::svg;
 use pictures::{Picture, View, few_of, front_of, part_of, picture_of};
-use pool::Gate;
 use std::alloc::Global;
-use std::thread::Threads;
 use streams::{Sink, Source};
 
-/// Reads a history text to the end of the source, or until it is too long, and draws the verdict on it, which is found
-/// as `run_judge` finds it; for a no the event at which the history goes wrong is marked, where the budget suffices to
+/// Reads a history text to the end of the source, or until it is too long, has it judged, and draws the verdict; for a no the
+/// event at which the history goes wrong is marked, where the judge's budget suffices to
 /// locate it, and for a no or an undecided the longest front that a search of the named segment meets. Of the picture the part
 /// that the view asks for is drawn; where it asks for nothing, of a no few calls that show it, with those that put what they read,
 /// unless their search meets more configurations than the budget. Answers the exit status, that of the verdict.
-pub fn run_draw<R: Threads + Sync, S: Source, O: Sink, F: Sink, H: Sink, G: Gate + Sync>(
-    rt: &R,
+pub fn run_draw<S: Source, O: Sink, F: Sink, H: Sink, J: Judge>(
     alloc: Global,
     source: &mut S,
     output: &mut O,
     faults: &mut F,
     hints: &mut H,
-    budget: u32,
-    workers: u32,
+    judge: &J,
     view: View,
-    gate: &G,
 ) -> u8
-    requires budget { (1 ≤ budget) × (budget ≤ budget_limit) }
-    requires workers { (1 ≤ workers) × (workers ≤ worker_limit) }
+    requires ready { J.ready judge.now }
     requires source { S.failures source.old < u64.MAX }
     requires output { O.failures output.old < u64.MAX }
     requires faults { F.failures faults.old < u64.MAX }
     requires hints { H.failures hints.old < u64.MAX }
     ensures run { IsRun
-        (IsDrawOutcome budget view (change S.remaining S.failures source.old source.new))
+        (IsDrawOutcome (J.budget judge.now) view (change S.remaining S.failures source.old source.new))
         (change O.written O.failures output.old output.new)
         (change F.written F.failures faults.old faults.new)
         (change H.written H.failures hints.old hints.new) result }
     ensures read { IsTextRead text_limit (change S.remaining S.failures source.old source.new) result }
-    ensures passed { OnAnswerStatus result (IfSome (S.remaining source.old) (WasPassedForText (G.was_passed gate.now))) }
+    ensures asked { OnAnswerStatus result (IfSome (S.remaining source.old) (HoldsForText (J.was_asked judge.now))) }
 {
     match text_from(alloc, source, MAX_TEXT) {
         Ok(text) => {
-            let outcome = draw_outcome(rt, alloc, &text, budget, workers, view, gate);
+            let outcome = draw_outcome(alloc, &text, judge, view);
             write_outcome(output, faults, hints, &outcome)
         }
         Err(outcome) => write_outcome(output, faults, hints, &outcome),
@@ -76,33 +69,13 @@ pub fn run_draw<R: Threads + Sync, S: Source, O: Sink, F: Sink, H: Sink, G: Gate
 }
 
 /// The part that the view asks for of a picture of the verdict on the history that the text spells.
-pub fn draw_outcome<R: Threads + Sync, G: Gate + Sync>(
-    rt: &R,
-    alloc: Global,
-    text: &[u8],
-    budget: u32,
-    workers: u32,
-    view: View,
-    gate: &G,
-) -> Outcome
-    requires budget { (1 ≤ budget) × (budget ≤ budget_limit) }
-    requires workers { (1 ≤ workers) × (workers ≤ worker_limit) }
-    ensures outcome { IsTextOutcome (IsViewAnswer budget view) IsHistoryRefusal (Some text.now) result }
-    ensures passed { OnAnswered result (WasPassedForText (G.was_passed gate.now) text.now) }
+pub fn draw_outcome<J: Judge>(alloc: Global, text: &[u8], judge: &J, view: View) -> Outcome
+    requires { J.ready judge.now }
+    ensures outcome { IsTextOutcome (IsViewAnswer (J.budget judge.now) view) IsHistoryRefusal (Some text.now) result }
+    ensures asked { OnAnswered result (HoldsForText (J.was_asked judge.now) text.now) }
 {
     match read_history(alloc, text) {
-        Ok(history) => outcome_of(drawing_of(rt, alloc, &history, budget, workers, view, gate)),
-        Err(fault) => refused_text(alloc, text, &fault),
-    }
-}
-
-/// The same as `draw_outcome`, drawn by one thread: it starts no thread and waits for nobody.
-pub fn draw_outcome_alone(alloc: Global, text: &[u8], budget: u32, view: View) -> Outcome
-    requires { (1 ≤ budget) × (budget ≤ budget_limit) }
-    ensures { IsTextOutcome (IsViewAnswer budget view) IsHistoryRefusal (Some text.now) result }
-{
-    match read_history(alloc, text) {
-        Ok(history) => outcome_of(drawing_alone(alloc, &history, budget, view)),
+        Ok(history) => outcome_of(drawing_of(alloc, &history, judge, view)),
         Err(fault) => refused_text(alloc, text, &fault),
     }
 }
@@ -121,53 +94,20 @@ fn outcome_of(drawn: Result<(Answer, String), Memory>) -> Outcome
 }
 
 /// The text of a picture of the verdict on a history, with the answer that the verdict is.
-fn drawing_of<R: Threads + Sync, G: Gate + Sync>(
-    rt: &R,
+fn drawing_of<J: Judge>(
     alloc: Global,
     history: &History,
-    budget: u32,
-    workers: u32,
-    view: View,
-    gate: &G,
-) -> Result<(Answer, String), Memory>
-    requires budget { (1 ≤ budget) × (budget ≤ budget_limit) }
-    requires workers { (1 ≤ workers) × (workers ≤ worker_limit) }
-    ensures drawing { IfOk result (λ drawn. IsDrawing budget view history.now drawn.0 (string_bytes drawn.1)) }
-    ensures passed { OnOk result (WasPassedForEach (G.was_passed gate.now) history.now) }
-{
-    let verdict = judge(rt, alloc, history, budget, workers, gate)?;
-    drawing_of_verdict(alloc, history, budget, view, &verdict)
-}
-
-/// The same of this verdict.
-fn drawing_of_verdict(
-    alloc: Global,
-    history: &History,
-    budget: u32,
-    view: View,
-    verdict: &Verdict,
-) -> Result<(Answer, String), Memory>
-    requires budget { (1 ≤ budget) × (budget ≤ budget_limit) }
-    requires shown { IsShown history.now.start budget (operations history.now.events) verdict.now }
-    requires exact { IsExactVerdict history.now.start budget (operations history.now.events) verdict.now }
-    ensures { IfOk result (λ drawn. IsDrawing budget view history.now drawn.0 (string_bytes drawn.1)) }
-{
-    let wrong = wrong_event(alloc, history, verdict, budget)?;
-    drawing_with(alloc, history, budget, verdict, wrong, view)
-}
-
-/// The same, where one thread judges.
-fn drawing_alone(
-    alloc: Global,
-    history: &History,
-    budget: u32,
+    judge: &J,
     view: View,
 ) -> Result<(Answer, String), Memory>
-    requires { (1 ≤ budget) × (budget ≤ budget_limit) }
-    ensures { IfOk result (λ drawn. IsDrawing budget view history.now drawn.0 (string_bytes drawn.1)) }
+    requires { J.ready judge.now }
+    ensures drawing { IfOk result (λ drawn. IsDrawing (J.budget judge.now) view history.now drawn.0 (string_bytes drawn.1)) }
+    ensures asked { OnOk result (J.was_asked judge.now history.now) }
 {
-    let verdict = judge_alone(alloc, history, budget)?;
-    drawing_of_verdict(alloc, history, budget, view, &verdict)
+    let verdict = judge.verdict_on(history)?;
+    let budget = judge.budget();
+    let wrong = wrong_event(alloc, history, &verdict, budget)?;
+    drawing_with(alloc, history, budget, &verdict, wrong, view)
 }
 
 /// The text of what a view shows of a picture of this verdict on a history, with this event marked as wrong, and the answer that

@@ -5,6 +5,6 @@ mod choice;
 mod drawing;
 mod views;
 
-pub use drawing::{draw_outcome, draw_outcome_alone, run_draw};
+pub use drawing::{draw_outcome, run_draw};
 pub use pictures::View;
 pub use views::{unasked, whole};

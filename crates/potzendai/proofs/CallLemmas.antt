@@ -10,7 +10,8 @@ use Rattle.outcomes.specs.declared.outcome.Answer.TheVariants.{Yes, No, Undecide
 use Rattle.outcomes.specs.declared.outcome.Outcome.{Outcome}
 use Rattle.outcomes.specs.declared.outcome.Outcome.TheVariants.{Answered, Noted, Refused, Memory, Words, Failed}
 use Rattle.outcomes.specs.Outcomes.{IsTextOutcome}
-use Rattle.history_engines.specs.Answers.{answer_of, IsHistoryRefusal, IsJudgeAnswer}
+use Rattle.answer_hints.specs.Outcomes.{IsHintedOutcome}
+use Rattle.history_engines.specs.Answers.{answer_of, IsHistoryRefusal, IsHintedJudgeAnswer, IsJudgeAnswer}
 use Rattle.explain_engines.specs.Answers.{IsExplainAnswer}
 use Rattle.potzendai.specs.Calls.{IsBudget, IsCall, status_of, text_of, written}
 use Rattle.potzendai.specs.Verdicts.{SpellsLinearizable, SpellsUnlinearizable}
@@ -26,6 +27,24 @@ IsCall-outcome IsOutcome budget before after size status outcome within comes st
   size_is = size_is;
   room = room;
 }
+
+-- what is told of a verdict with its hint is told of one without
+pub record IsToldAs (budget : ℕ) (text : List ℕ) (outcome : Outcome) : Type 0 where
+  pub plain : Outcome
+  pub comes : IsTextOutcome (IsJudgeAnswer budget) IsHistoryRefusal (Some text) plain
+  pub status_is : status_of outcome ≡ status_of plain
+  pub text_is : text_of outcome ≡ text_of plain
+
+pub without_note : (budget : ℕ) (text : List ℕ) (outcome : Outcome)
+    → IsHintedOutcome (IsHintedJudgeAnswer budget) IsHistoryRefusal (Some text) outcome → IsToldAs budget text outcome
+without_note budget text (Answered answer bytes) h =
+    record { plain = Answered answer bytes; comes = h.answered; status_is = refl; text_is = refl }
+without_note budget text (Noted answer bytes note) h =
+    record { plain = Answered answer bytes; comes = h.answered; status_is = refl; text_is = refl }
+without_note budget text (Refused bytes hint) h = record { plain = Refused bytes hint; comes = h; status_is = refl; text_is = refl }
+without_note budget text Memory h = record { plain = Memory; comes = tt; status_is = refl; text_is = refl }
+without_note budget text (Words bytes) h = absurd h
+without_note budget text Failed h = absurd h
 
 order_of_yes : (budget : ℕ) (history : HistoryView) (verdict : Verdict) → Yes ≡ answer_of verdict
     → IsShown history.start budget (operations history.events) verdict → IsLinearizableHistory history

@@ -10,9 +10,10 @@ ghost use Rattle.potzendai.specs.Verdicts.{SpellsLinearizable, SpellsUnlineariza
 
 use crate::told::{is_budget, tell, tell_budget};
 use explain_engines::explain_outcome;
-use history_engines::judge_outcome_alone;
+use history_engines::judge_outcome;
+use judge::OneThread;
 use location_engines::locate_outcome;
-use picture_engines::{draw_outcome_alone, whole};
+use picture_engines::{draw_outcome, whole};
 use std::alloc::Global;
 
 /// Judges the history that the text spells, by a search of at most `budget` configurations in each of its segments. The room
@@ -34,7 +35,7 @@ pub extern "C" fn potzendai_judge(
     ensures no { result ≡ 1 → SpellsUnlinearizable text.now }
 {
     if is_budget(budget) {
-        let outcome = judge_outcome_alone(alloc, text, budget);
+        let outcome = judge_outcome(alloc, text, &OneThread { alloc, budget });
         tell(&outcome, room, size)
     } else {
         tell_budget(room, size)
@@ -99,7 +100,7 @@ pub extern "C" fn potzendai_draw(
         budget room.old room.new size.new result }
 {
     if is_budget(budget) {
-        let outcome = draw_outcome_alone(alloc, text, budget, whole());
+        let outcome = draw_outcome(alloc, text, &OneThread { alloc, budget }, whole());
         tell(&outcome, room, size)
     } else {
         tell_budget(room, size)

@@ -6,7 +6,8 @@ ghost use Rattle.picture_engines.specs.Drawings.{IsUnaskedAnswer};
 ghost use Rattle.potzendai.specs.Calls.{IsCall};
 
 use crate::told::{is_budget, tell, tell_budget};
-use picture_engines::{draw_outcome_alone, unasked};
+use judge::OneThread;
+use picture_engines::{draw_outcome, unasked};
 use std::alloc::Global;
 
 /// Draws of the verdict on the history that the text spells what `bench draw` shows where nothing else is asked for: of a no few calls
@@ -24,7 +25,7 @@ pub extern "C" fn potzendai_draw_part(
         budget room.old room.new size.new result }
 {
     if is_budget(budget) {
-        let outcome = draw_outcome_alone(alloc, text, budget, unasked());
+        let outcome = draw_outcome(alloc, text, &OneThread { alloc, budget }, unasked());
         tell(&outcome, room, size)
     } else {
         tell_budget(room, size)

@@ -2,6 +2,7 @@
 use Rattle.std.proofs.Common.{◌≡◌, ◌≢◌, ℕ, ◌≤◌, List, [], ◌++◌, length, drop, Some, refl, sym, ap, subst, ◌∙◌, arith, inl, inr}
 use Rattle.std.proofs.Common.{string_bytes, length-append, append-nil}
 use Rattle.std.proofs.Math.Seq.{drop-append_seam}
+use Rattle.std.specs.Prelude.{⊤}
 use Rattle.std.specs.Io.KnownBytes.{Appends, Keeps}
 use Rattle.std.proofs.lemmas.Option.{none-some}
 use Rattle.serde_json.specs.Data.{Data}
@@ -23,22 +24,11 @@ use Rattle.outcomes.specs.Outcomes.{IsTextOutcome, IsUnread, IsReadOutcome}
 use Rattle.outcomes.specs.Runs.{Leaves, IsRun}
 use Rattle.outcomes.specs.Statuses.{answer_status}
 use Rattle.answer_hints.specs.Outcomes.{IsHintedOutcome, IsHintedRead}
-use Rattle.history_engines.specs.Answers.{IsJudgeAnswer, IsHintedJudgeAnswer, IsHistoryRefusal, answer_of}
+use Rattle.history_engines.specs.Answers.{IsHintedJudgeAnswer, IsHistoryRefusal, answer_of}
 use Rattle.tree_verdicts.specs.Laws.{IsNoRefutation, LinearizableTextsAreNeverRefuted}
-use Rattle.tree_verdicts.specs.Writes.{output_of, IsNotNo, AreNeverRefuted, AreRefutedByNoRun, WasWritten}
+use Rattle.tree_verdicts.specs.Writes.{output_of, AreNeverRefuted, AreRefutedByNoRun, WasWritten}
 
 -- ---- the bytes of an outcome
-
--- an outcome of bytes, where no answer to them is No
-not_no : (budget : ℕ) (text : List ℕ) (judged : Outcome)
-    → ((answer : Answer) (bytes : List ℕ) → IsJudgeAnswer budget text answer bytes → answer ≢ No)
-    → IsTextOutcome (IsJudgeAnswer budget) IsHistoryRefusal (Some text) judged → IsNotNo judged
-not_no budget text (Answered answer bytes) never h = never answer (string_bytes bytes) h
-not_no budget text (Noted answer bytes note) never h = absurd h
-not_no budget text (Refused bytes hint) never h = tt
-not_no budget text Memory never h = tt
-not_no budget text (Words bytes) never h = tt
-not_no budget text Failed never h = tt
 
 -- a verdict that refutes nothing is not answered as No
 not_answered : (v : Verdict) → IsNoRefutation v → answer_of v ≢ No
@@ -50,12 +40,11 @@ not_answered (verdicts.Undecided segment) h = λ is. cc
 module _ (linearizable : LinearizableTextsAreNeverRefuted) (between : SpellsBetweenWhiteSpace) (bytes : List ℕ) (history : HistoryView)
     (spelled : length bytes ≤ text_limit → Spells bytes history) (order : IsLinearizableHistory history) where
   pub history_never : AreNeverRefuted bytes
-  history_never before behind h k budget judged outcome =
-      not_no budget (before ++ (bytes ++ behind)) judged (λ answer report is.
+  history_never before behind h k budget answer report is =
       let fits = is.judged.spelled.json.fits in
       let few : length bytes ≤ text_limit = omega (arith, fits, length-append before (bytes ++ behind), length-append bytes behind) in
       subst (λ a. a ≢ No) (sym is.answer_is) (not_answered is.verdict (linearizable budget (before ++ (bytes ++ behind)) is.report history is.verdict
-      (between before bytes behind history h k fits (spelled few)) order is.judged))) outcome
+      (between before bytes behind history h k fits (spelled few)) order is.judged))
 
 -- nothing is no JSON
 no_value : (d : Data) → read [] ≡ Some d → ⊥
@@ -63,11 +52,19 @@ unfolding serde_json_on_literals
 no_value d h = none-some d h
 
 pub nothing_never : WhiteSpaceTellsNothing → AreNeverRefuted []
-nothing_never nothing before behind h k budget judged outcome =
-    not_no budget (before ++ ([] ++ behind)) judged (λ answer report is.
-    absurd (no_value is.judged.spelled.value (sym (nothing before [] behind h k) ∙ is.judged.spelled.json.value))) outcome
+nothing_never nothing before behind h k budget answer report is =
+    absurd (no_value is.judged.spelled.value (sym (nothing before [] behind h k) ∙ is.judged.spelled.json.value))
 
 -- ---- the bytes of a run
+
+-- an outcome is not the answer No
+abbrev IsNotNo : Outcome → Type 0
+IsNotNo (Answered answer bytes) = answer ≢ No
+IsNotNo (Noted answer bytes note) = answer ≢ No
+IsNotNo (Refused bytes hint) = ⊤
+IsNotNo Memory = ⊤
+IsNotNo (Words bytes) = ⊤
+IsNotNo Failed = ⊤
 
 -- a run of `judge` ends with No only where its outcome is No
 no_status : (outcome : Outcome) (output faults hints : Change) (status : ℕ) → IsNotNo outcome → Leaves outcome output faults hints status
@@ -100,8 +97,8 @@ run_never bytes never before behind h k budget source output faults hints status
   where
     by_outcome : (outcome : Outcome)
         → IsHintedOutcome (IsHintedJudgeAnswer budget) IsHistoryRefusal (Some (before ++ (bytes ++ behind))) outcome → IsNotNo outcome
-    by_outcome (Answered answer report) c = never before behind h k budget (Answered answer report) c.answered
-    by_outcome (Noted answer report note) c = never before behind h k budget (Answered answer report) c.answered
+    by_outcome (Answered answer report) c = never before behind h k budget answer (string_bytes report) c.answered
+    by_outcome (Noted answer report note) c = never before behind h k budget answer (string_bytes report) c.answered
     by_outcome (Refused report hint) c = tt
     by_outcome Memory c = tt
     by_outcome (Words report) c = tt

@@ -1,17 +1,17 @@
 -- What an engine writes of the run of a full tree, and what is never answered to it.
-use Rattle.std.specs.Prelude.{◌≡◌, ◌≢◌, ◌⊎◌, ⊤, ℕ, List, [], ◌++◌, Some, string_bytes}
+use Rattle.std.specs.Prelude.{◌≡◌, ◌≢◌, ◌⊎◌, ℕ, List, [], ◌++◌, Some, string_bytes}
 use Rattle.art_steps.specs.declared.variant.Variant.{Variant}
 use Rattle.art_steps.specs.declared.variant.Variant.TheVariants.{Coupled, Optimistic}
 use Rattle.replay_text.specs.Replays.{ReplayView}
 use Rattle.replay_text.specs.ReplayTexts.{SpellsReplay}
+use Rattle.outcomes.specs.declared.outcome.Answer.{Answer}
 use Rattle.outcomes.specs.declared.outcome.Answer.TheVariants.{No}
 use Rattle.outcomes.specs.declared.outcome.Outcome.{Outcome}
 use Rattle.outcomes.specs.declared.outcome.Outcome.TheVariants.{Answered, Noted, Refused, Memory, Words, Failed}
 use Rattle.outcomes.specs.Ends.{Change}
-use Rattle.outcomes.specs.Outcomes.{IsTextOutcome}
 use Rattle.outcomes.specs.Runs.{IsRun}
 use Rattle.outcomes.specs.Statuses.{answer_status}
-use Rattle.history_engines.specs.Answers.{IsJudgeAnswer, IsHistoryRefusal}
+use Rattle.history_engines.specs.Answers.{IsJudgeAnswer}
 use Rattle.history_engines.specs.Outcomes.{IsJudgeOutcome}
 use Rattle.white_space.specs.WhiteSpace.{AreWhiteSpace}
 
@@ -32,20 +32,11 @@ output_of Memory = []
 output_of (Words bytes) = []
 output_of Failed = []
 
--- an outcome is not the answer No
-abbrev pub IsNotNo : Outcome → Type 0
-IsNotNo (Answered answer bytes) = answer ≢ No
-IsNotNo (Noted answer bytes note) = answer ≢ No
-IsNotNo (Refused bytes hint) = ⊤
-IsNotNo Memory = ⊤
-IsNotNo (Words bytes) = ⊤
-IsNotNo Failed = ⊤
-
--- No outcome of `judge` of these bytes, with any white space around them, and at whatever budget, is the answer No.
+-- No answer of `judge` to these bytes, with any white space around them, and at whatever budget, is No.
 abbrev pub AreNeverRefuted : List ℕ → Type 0
 AreNeverRefuted bytes =
-    (before behind : List ℕ) → AreWhiteSpace before → AreWhiteSpace behind → (budget : ℕ) (judged : Outcome)
-    → IsTextOutcome (IsJudgeAnswer budget) IsHistoryRefusal (Some (before ++ (bytes ++ behind))) judged → IsNotNo judged
+    (before behind : List ℕ) → AreWhiteSpace before → AreWhiteSpace behind → (budget : ℕ) (answer : Answer) (report : List ℕ)
+    → IsJudgeAnswer budget (before ++ (bytes ++ behind)) answer report → answer ≢ No
 
 -- Nor does a run of `judge` that reads them so end with the status of No.
 abbrev pub AreRefutedByNoRun : List ℕ → Type 0

@@ -1,17 +1,13 @@
-use Rattle.std.specs.Prelude.{◌≡◌, Ok}
-use Rattle.std.proofs.lemmas.Result.{IfOk-weaker}
-use Rattle.judge.specs.Gates.{WasPassedForText}
+use Rattle.std.proofs.Common.{rules}
+use Rattle.std.proofs.lemmas.Result.{on_ok_weaker}
 use Rattle.judge.proofs.texts.judge_text.Goals as goal
 
--- where there is an answer, its verdict is one for which the gate was passed
+-- the verdict that the closure answered is one for which `judge` had the gate passed
 pub returns-clause-passed : goal.returns-clause-passed
 returns-clause-passed g c =
-    IfOk-weaker c.with_report.result (λ answer. c.judge.result ≡ Ok answer.0)
-    (λ _. WasPassedForText (g.G.Gate.was_passed c.args.gate.now) c.args.text.now)
-    (λ answer found. record {
-      history = c.in_ok-history.history;
-      spelled = c.in_ok-history.ensures.spelled;
-      is_history = c.in_ok-history.ensures.history;
-      passed = rw found at c.judge.ensures.passed;
-    })
-    c.with_report.ensures.verdict
+    on_ok_weaker c.judge_text_by.result
+    (λ h.
+    let shows = h.holds.1.shows in
+    let met = h.holds.1.says.met in
+    record { history = h.history; spelled = h.spelled; is_history = h.is_history; holds = search rules })
+    c.judge_text_by.ensures.asked

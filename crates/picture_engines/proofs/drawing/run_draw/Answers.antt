@@ -1,11 +1,11 @@
 use Rattle.std.specs.Prelude.{IfSome}
 use Rattle.history_text.specs.Limits.{text_limit}
 use Rattle.history_engines.specs.Answers.{IsHistoryRefusal}
-use Rattle.judge.specs.Gates.{WasPassedForText}
+use Rattle.judge.specs.Gates.{HoldsForText}
 use Rattle.outcomes.specs.Ends.{change}
 use Rattle.outcomes.proofs.ReadText.{IsReadOutcome-read}
 use Rattle.outcomes.proofs.Reading.{IsTextRead-unread, told-status, unread-status}
-use Rattle.history_engines.proofs.PassedTexts.{passed-whole}
+use Rattle.history_engines.proofs.HeldTexts.{held-whole}
 use Rattle.history_engines.proofs.WholeHistories.{IsHistoryRefusal-whole}
 use Rattle.picture_engines.specs.Drawings.{IsViewAnswer}
 use Rattle.picture_engines.proofs.DrawingLemmas.{IsViewAnswer-whole}
@@ -13,7 +13,7 @@ use Rattle.picture_engines.proofs.drawing.run_draw.Goals as goal
 
 pub returns-in-Ok-clause-run : goal.returns-in-Ok-clause-run
 returns-in-Ok-clause-run g c =
-    let budget = c.args.budget in
+    let budget = g.J.Judge.budget c.args.judge.now in
     let source = change g.S.Source.remaining g.S.Source.failures c.args.source.now c.text_from.new.source in
     record {
       outcome = c.draw_outcome-outcome.result;
@@ -35,19 +35,19 @@ returns-in-Err-clause-read g c =
     c.write_outcome-in-Err.result
     c.in-Err.ensures.unread c.text_from.ensures.most c.write_outcome-in-Err.ensures
 
-pub returns-in-Ok-clause-passed : goal.returns-in-Ok-clause-passed
-returns-in-Ok-clause-passed g c =
-    let WasPassed = g.G.Gate.was_passed c.args.gate.now in
-    told-status (WasPassedForText WasPassed) text_limit (g.S.Source.remaining c.args.source.now) c.deref.result.now
+pub returns-in-Ok-clause-asked : goal.returns-in-Ok-clause-asked
+returns-in-Ok-clause-asked g c =
+    let WasAsked = g.J.Judge.was_asked c.args.judge.now in
+    told-status (HoldsForText WasAsked) text_limit (g.S.Source.remaining c.args.source.now) c.deref.result.now
     c.draw_outcome-outcome.result
     (change g.O.Sink.written g.O.Sink.failures c.args.output.now c.write_outcome.new.output)
     (change g.F.Sink.written g.F.Sink.failures c.args.faults.now c.write_outcome.new.faults)
-    (change g.H.Sink.written g.H.Sink.failures c.args.hints.now c.write_outcome.new.hints) c.write_outcome.result (passed-whole WasPassed)
-    (rw c.deref.ensures.value c.in-Ok.ensures.text) c.write_outcome.ensures c.draw_outcome-outcome.ensures.passed
+    (change g.H.Sink.written g.H.Sink.failures c.args.hints.now c.write_outcome.new.hints) c.write_outcome.result (held-whole WasAsked)
+    (rw c.deref.ensures.value c.in-Ok.ensures.text) c.write_outcome.ensures c.draw_outcome-outcome.ensures.asked
 
-pub returns-in-Err-clause-passed : goal.returns-in-Err-clause-passed
-returns-in-Err-clause-passed g c =
-    unread-status (IfSome (g.S.Source.remaining c.args.source.now) (WasPassedForText (g.G.Gate.was_passed c.args.gate.now)))
+pub returns-in-Err-clause-asked : goal.returns-in-Err-clause-asked
+returns-in-Err-clause-asked g c =
+    unread-status (IfSome (g.S.Source.remaining c.args.source.now) (HoldsForText (g.J.Judge.was_asked c.args.judge.now)))
     (change g.S.Source.remaining g.S.Source.failures c.args.source.now c.text_from.new.source)
     (change g.O.Sink.written g.O.Sink.failures c.args.output.now c.write_outcome-in-Err.new.output)
     (change g.F.Sink.written g.F.Sink.failures c.args.faults.now c.write_outcome-in-Err.new.faults)

@@ -1,19 +1,22 @@
-use Rattle.std.proofs.Common.{sym, ◌∙◌}
-use Rattle.potzendai.proofs.CallLemmas.{IsCall-outcome, yes_is_linearizable, no_is_unlinearizable}
+use Rattle.std.proofs.Common.{length, ap, sym, ◌∙◌}
+use Rattle.potzendai.specs.Calls.{written}
+use Rattle.potzendai.proofs.CallLemmas.{IsCall-outcome, without_note, yes_is_linearizable, no_is_unlinearizable}
 use Rattle.potzendai.proofs.calls.potzendai_judge.Goals as goal
 
 pub returns-then-is_budget-clause-call : goal.returns-then-is_budget-clause-call
 returns-then-is_budget-clause-call c =
-    IsCall-outcome _ c.args.budget c.args.room.now c.tell.new.room c.tell.new.size c.tell.result c.judge_outcome_alone-outcome.result
-    (c.is_budget.ensures.0 c.if-is_budget.true) c.judge_outcome_alone-outcome.ensures c.tell.ensures.status c.tell.ensures.size
-    c.tell.ensures.room
+    let told = without_note c.args.budget c.args.text.now c.judge_outcome-outcome.result c.judge_outcome-outcome.ensures.outcome in
+    IsCall-outcome _ c.args.budget c.args.room.now c.tell.new.room c.tell.new.size c.tell.result told.plain
+    (c.is_budget.ensures.0 c.if-is_budget.true) told.comes (c.tell.ensures.status ∙ told.status_is)
+    (c.tell.ensures.size ∙ ap length told.text_is)
+    (c.tell.ensures.room ∙ ap (λ text. written text c.args.room.now) told.text_is)
 
 pub returns-then-is_budget-clause-yes : goal.returns-then-is_budget-clause-yes
 returns-then-is_budget-clause-yes c = λ zero.
-    yes_is_linearizable c.args.budget c.args.text.now c.judge_outcome_alone-outcome.result c.judge_outcome_alone-outcome.ensures
-    (sym c.tell.ensures.status ∙ zero)
+    let told = without_note c.args.budget c.args.text.now c.judge_outcome-outcome.result c.judge_outcome-outcome.ensures.outcome in
+    yes_is_linearizable c.args.budget c.args.text.now told.plain told.comes (sym (c.tell.ensures.status ∙ told.status_is) ∙ zero)
 
 pub returns-then-is_budget-clause-no : goal.returns-then-is_budget-clause-no
 returns-then-is_budget-clause-no c = λ one.
-    no_is_unlinearizable c.args.budget c.args.text.now c.judge_outcome_alone-outcome.result c.judge_outcome_alone-outcome.ensures
-    (sym c.tell.ensures.status ∙ one)
+    let told = without_note c.args.budget c.args.text.now c.judge_outcome-outcome.result c.judge_outcome-outcome.ensures.outcome in
+    no_is_unlinearizable c.args.budget c.args.text.now told.plain told.comes (sym (c.tell.ensures.status ∙ told.status_is) ∙ one)
