@@ -2,6 +2,7 @@
 ghost use Rattle.std.specs.Prelude.{◌≡◌, length, AllPairs, ◌<◌, ◌≢◌, All, IfOk};
 ghost use Rattle.kept_keys.specs.Steps.{get_of, HasGet};
 
+use crate::guess::make_room;
 use crate::kept::KeptKey;
 use events::{Call, Memory, Operation, Reply, Response};
 use std::alloc::Global;
@@ -22,6 +23,7 @@ impl KeptKey {
         ensures { IfOk result (HasGet key name number value self) }
     {
         let place = self.calls.partition_point(|call| call.inv < number);
+        make_room(&mut self.guess, place);
         self.names.insert(place, name)?;
         self.calls.insert(place, get_at(key, number, value))?;
         Ok(self)

@@ -26,6 +26,7 @@ impl KeptKey {
         self.configurations.clear();
         self.names.clear();
         self.calls.clear();
+        self.guess = None;
         Ok(self)
     }
 
@@ -55,15 +56,12 @@ impl KeptKey {
             mut configurations,
             mut names,
             mut calls,
+            guess: _,
         } = self;
         configurations.retain_mut(|c| narrow(c, &calls));
         names.clear();
         calls.clear();
-        Ok(KeptKey {
-            configurations,
-            names,
-            calls,
-        })
+        Ok(KeptKey::of(configurations, names, calls))
     }
 }
 

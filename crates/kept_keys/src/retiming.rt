@@ -24,6 +24,7 @@ impl KeptKey {
             configurations,
             names,
             mut calls,
+            guess,
         } = self;
         retime_calls(&names, &mut calls, numbers);
         if stand_by_number(&calls) {
@@ -31,14 +32,11 @@ impl KeptKey {
                 configurations,
                 names,
                 calls,
+                guess,
             });
         }
         let (names, calls) = sorted(alloc, names, calls)?;
-        Ok(KeptKey {
-            configurations,
-            names,
-            calls,
-        })
+        Ok(KeptKey::of(configurations, names, calls))
     }
 }
 
