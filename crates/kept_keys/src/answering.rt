@@ -11,9 +11,9 @@ ghost use Rattle.kept_keys.specs.Answering.{names_call, less_of, IsAdded, with_r
 ghost use Rattle.kept_keys.specs.Views.{place_limit};
 
 use crate::configuration::{Ahead, Configuration};
-use crate::guess::{forget, note};
 use crate::kept::{KeptKey, WIDTH};
 use events::{Call, Memory, Operation, Reply, Response};
+use order_guesses::{forget, note};
 use std::alloc::Global;
 
 impl KeptKey {

@@ -2,9 +2,9 @@
 ghost use Rattle.std.specs.Prelude.{◌≡◌, ◌↔◌, IsTrue, IfOk};
 
 use crate::configuration::{Ahead, Configuration};
-use crate::guess::copied_guess;
 use crate::kept::KeptKey;
 use events::{Memory, Operation, Reply, Response};
+use order_guesses::copied_guess;
 use std::alloc::Global;
 
 impl KeptKey {

@@ -2,9 +2,9 @@
 ghost use Rattle.std.specs.Prelude.{◌≡◌, length, AllPairs, ◌<◌, ◌≢◌, All, IfOk};
 ghost use Rattle.kept_keys.specs.Steps.{get_of, HasGet};
 
-use crate::guess::make_room;
 use crate::kept::KeptKey;
 use events::{Call, Memory, Operation, Reply, Response};
+use order_guesses::make_room;
 use std::alloc::Global;
 
 impl KeptKey {

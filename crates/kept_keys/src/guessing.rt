@@ -9,13 +9,13 @@ ghost use Rattle.kept_keys.specs.Judging.{HasOrder, HasOrderFrom};
 
 use crate::configuration::Configuration;
 use crate::few::{FEW, is_before, is_of};
-use crate::guess::{Guess, places_but, within};
 use crate::judging::calls_but;
 use crate::kept::KeptKey;
-use crate::mending::{mended_order, order_with};
-use crate::scout::{guessed_order, rounds_for};
 use crate::uniting::is_value_among;
 use events::{Memory, Operation};
+use order_guesses::{
+    Guess, guessed_order, mended_order, order_with, places_but, rounds_for, within,
+};
 use past_choices::{may_be_answered, value_behind};
 use std::alloc::Global;
 

@@ -4,8 +4,8 @@ ghost use Rattle.kept_keys.specs.Steps.{with_call};
 ghost use Rattle.kept_keys.specs.Views.{fresh, place_limit};
 
 use crate::configuration::Configuration;
-use crate::guess::Guess;
 use events::{Call, Memory, Operation};
+use order_guesses::Guess;
 use std::alloc::Global;
 use std::marker::Model;
 

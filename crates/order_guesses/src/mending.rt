@@ -1,6 +1,5 @@
 // An order that was found before is mended where calls came since: what is found is a guess, to be checked.
-use crate::few::is_before;
-use crate::guess::value_after;
+use crate::guess::{is_ended, value_after};
 use crate::scout::{answer_of, guessed_order, left_by};
 use events::{Memory, Operation};
 use past_choices::{is_read, may_be_answered, value_behind};
@@ -8,7 +7,7 @@ use std::alloc::Global;
 
 /// An order with one call besides, if it is not there yet: as far behind as it may stand, where that is found; else the order as it is. Only its end is
 /// looked at.
-pub(crate) fn order_with(
+pub fn order_with(
     alloc: Global,
     value: Option<u64>,
     calls: &[Operation],
@@ -54,7 +53,7 @@ fn last_room(
 /// Whether a call begins when the one at this place has ended.
 fn is_behind(calls: &[Operation], call: &Operation, place: usize) -> bool {
     match calls.get(place) {
-        Some(other) => is_before(&other.response, call.inv),
+        Some(other) => is_ended(other, call.inv),
         None => false,
     }
 }
@@ -94,7 +93,7 @@ fn reach(value: Option<u64>, calls: &[Operation], order: &[usize]) -> usize {
         let Some(call) = calls.get(*place) else {
             return depth;
         };
-        if !may_be_answered(found, call) || is_before(&call.response, latest) {
+        if !may_be_answered(found, call) || is_ended(call, latest) {
             return depth;
         }
         latest = latest.max(call.inv);
@@ -104,7 +103,7 @@ fn reach(value: Option<u64>, calls: &[Operation], order: &[usize]) -> usize {
 }
 
 /// An order that is like this one as far as it may be, with all completed calls, where one is found soon.
-pub(crate) fn mended_order(
+pub fn mended_order(
     alloc: Global,
     value: Option<u64>,
     calls: &[Operation],

@@ -5,7 +5,7 @@ use std::alloc::Global;
 
 /// An order of calls of one key from a value, or none, by their places, where one is found soon. The calls are tried as they stand. Else it goes by depth: reads at once, then the call that has to be answered first; and back where
 /// a value is told of by calls left that none of them puts.
-pub(crate) fn guessed_order(
+pub fn guessed_order(
     alloc: Global,
     value: Option<u64>,
     calls: &[Operation],
@@ -18,7 +18,7 @@ pub(crate) fn guessed_order(
 }
 
 /// A scout that begins with nothing takes so many calls at most that are no reads.
-pub(crate) fn rounds_for(calls: &[Operation]) -> usize {
+pub fn rounds_for(calls: &[Operation]) -> usize {
     calls.len().saturating_mul(16).saturating_add(1000)
 }
 
