@@ -26,8 +26,8 @@ pub enum Judged {
 }
 
 impl KeptKey {
-    /// Judges the calls left: an order is guessed near the one that was found last, or at from each value of each configuration, and where none is found so, they are searched for
-    /// one from each, until one is found. Each search meets at most `budget` positions.
+    /// Judges the calls left: an order is guessed near the one that was found last, or anew from each value of each configuration. Where none is found
+    /// so, they are searched for one from each, until one is found. Each search meets at most `budget` positions. What is found is kept as a guess.
     pub fn judge(&mut self, alloc: Global, key: u64, budget: u32) -> Result<Judged, Memory>
         requires each { length self.old.names ≡ length self.old.calls }
         requires rising { AllPairs (λ x y. x.inv < y.inv) self.old.calls }

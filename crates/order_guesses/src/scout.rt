@@ -3,8 +3,8 @@ use events::{Call, Memory, Operation, Reply};
 use past_choices::{is_read, may_be_answered, value_behind};
 use std::alloc::Global;
 
-/// An order of calls of one key from a value, or none, by their places, where one is found soon. The calls are tried as they stand. Else it goes by depth: reads at once, then the call that has to be answered first; and back where
-/// a value is told of by calls left that none of them puts.
+/// An order of calls of one key from a value, or none, by their places, where one is found soon. The calls are tried as they stand. Else it goes by
+/// depth: reads at once, then the call that has to be answered first; and back where a value is told of by calls left that none of them puts.
 pub fn guessed_order(
     alloc: Global,
     value: Option<u64>,
