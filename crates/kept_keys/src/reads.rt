@@ -61,7 +61,12 @@ impl KeptKey {
         configurations.retain_mut(|c| narrow(c, &calls));
         names.clear();
         calls.clear();
-        Ok(KeptKey::of(configurations, names, calls))
+        Ok(KeptKey {
+            configurations,
+            names,
+            calls,
+            guess: None,
+        })
     }
 }
 

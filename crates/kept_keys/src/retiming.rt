@@ -36,7 +36,12 @@ impl KeptKey {
             });
         }
         let (names, calls) = sorted(alloc, names, calls)?;
-        Ok(KeptKey::of(configurations, names, calls))
+        Ok(KeptKey {
+            configurations,
+            names,
+            calls,
+            guess: None,
+        })
     }
 }
 
