@@ -43,11 +43,11 @@ fn few_calls_come_in_any_order(rt: HostRuntime) -> Result<(), Fail> {
     let alloc = rt.alloc();
     let insert = answered(Call::Insert(7, 2), 0, 3, Reply::Some(1));
     let get = answered(Call::Get(7), 1, 2, Reply::Some(1));
-    let mut key = KeptKey {
-        configurations: vec![in alloc; chosen(alloc, &[], &[Some(2), None])?]?,
-        names: vec![in alloc; 0, 1]?,
-        calls: vec![in alloc; insert, get]?,
-    };
+    let mut key = KeptKey::of(
+        vec![in alloc; chosen(alloc, &[], &[Some(2), None])?]?,
+        vec![in alloc; 0, 1]?,
+        vec![in alloc; insert, get]?,
+    );
     assert!(rt; matches!(key.judge(alloc, 7, 100)?, Judged::NoOrder));
     key.configurations
         .push(chosen(alloc, &[], &[Some(3), Some(1)])?)?;
@@ -61,11 +61,11 @@ fn calls_taken_come_no_more(rt: HostRuntime) -> Result<(), Fail> {
     let alloc = rt.alloc();
     let insert = open(Call::Insert(7, 2), 0);
     let get = answered(Call::Get(7), 1, 2, Reply::Some(2));
-    let mut key = KeptKey {
-        configurations: vec![in alloc; chosen(alloc, &[0], &[Some(1)])?]?,
-        names: vec![in alloc; 0, 1]?,
-        calls: vec![in alloc; insert, get]?,
-    };
+    let mut key = KeptKey::of(
+        vec![in alloc; chosen(alloc, &[0], &[Some(1)])?]?,
+        vec![in alloc; 0, 1]?,
+        vec![in alloc; insert, get]?,
+    );
     assert!(rt; matches!(key.judge(alloc, 7, 100)?, Judged::NoOrder));
     key.configurations.push(chosen(alloc, &[], &[Some(1)])?)?;
     assert!(rt; matches!(key.judge(alloc, 7, 100)?, Judged::Order));
@@ -81,11 +81,11 @@ fn more_calls_are_guessed(rt: HostRuntime) -> Result<(), Fail> {
     let second = answered(Call::Insert(7, 2), 2, 12, Reply::Done);
     let third = answered(Call::Insert(7, 3), 3, 13, Reply::Done);
     let fourth = answered(Call::Insert(7, 4), 4, 14, Reply::Done);
-    let key = KeptKey {
-        configurations: vec![in alloc; chosen(alloc, &[], &[None])?]?,
-        names: vec![in alloc; 0, 1, 2, 3, 4]?,
-        calls: vec![in alloc; get, first, second, third, fourth]?,
-    };
+    let mut key = KeptKey::of(
+        vec![in alloc; chosen(alloc, &[], &[None])?]?,
+        vec![in alloc; 0, 1, 2, 3, 4]?,
+        vec![in alloc; get, first, second, third, fourth]?,
+    );
     assert!(rt; matches!(key.judge(alloc, 7, 1000)?, Judged::Order));
     assert!(rt; matches!(key.judge(alloc, 7, 1)?, Judged::Order));
     Ok(())
@@ -100,11 +100,11 @@ fn more_calls_are_searched(rt: HostRuntime) -> Result<(), Fail> {
     let second = answered(Call::Insert(7, 2), 2, 12, Reply::Done);
     let third = answered(Call::Insert(7, 3), 3, 13, Reply::Done);
     let fourth = answered(Call::Insert(7, 4), 4, 14, Reply::Done);
-    let key = KeptKey {
-        configurations: vec![in alloc; chosen(alloc, &[], &[None])?]?,
-        names: vec![in alloc; 0, 1, 2, 3, 4]?,
-        calls: vec![in alloc; get, first, second, third, fourth]?,
-    };
+    let mut key = KeptKey::of(
+        vec![in alloc; chosen(alloc, &[], &[None])?]?,
+        vec![in alloc; 0, 1, 2, 3, 4]?,
+        vec![in alloc; get, first, second, third, fourth]?,
+    );
     assert!(rt; matches!(key.judge(alloc, 7, 1000)?, Judged::NoOrder));
     assert!(rt; matches!(key.judge(alloc, 7, 1)?, Judged::Spent));
     Ok(())

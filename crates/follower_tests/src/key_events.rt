@@ -29,11 +29,11 @@ fn with_choices(alloc: Global) -> Result<KeptKey, Memory>
 {
     let first = chosen(alloc, &[None, Some(7)], 1)?;
     let second = chosen(alloc, &[Some(8)], 2)?;
-    let mut key = KeptKey {
-        configurations: vec![in alloc; first, second]?,
-        names: Vec::new(alloc),
-        calls: Vec::new(alloc),
-    };
+    let mut key = KeptKey::of(
+        vec![in alloc; first, second]?,
+        Vec::new(alloc),
+        Vec::new(alloc),
+    );
     key.begin_call(3, Call::Insert(4, 1))?;
     key.begin_call(5, Call::Insert(4, 2))?;
     Ok(key)

@@ -47,11 +47,11 @@ fn read_twice(alloc: Global) -> Result<KeptKey, Memory>
     let insert = answered(Call::Insert(7, 1), WIDTH, 3 * WIDTH, Reply::Some(1));
     let two = of_values(vec![in alloc; Some(1), Some(2)]?, alloc);
     let none = of_values(vec![in alloc; None]?, alloc);
-    KeptKey {
-        configurations: vec![in alloc; two, none]?,
-        names: vec![in alloc; 1]?,
-        calls: vec![in alloc; insert]?,
-    }
+    KeptKey::of(
+        vec![in alloc; two, none]?,
+        vec![in alloc; 1]?,
+        vec![in alloc; insert]?,
+    )
     .take_get(alloc, 7, 2, 3 * WIDTH + 4, Some(1))
 }
 

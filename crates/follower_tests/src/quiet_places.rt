@@ -44,11 +44,11 @@ fn open_get(invoked: usize) -> Operation
 #[test]
 fn a_key_is_quiet_between_calls(rt: HostRuntime) -> Result<(), Fail> {
     let alloc = rt.alloc();
-    let key = KeptKey {
-        configurations: Vec::new(alloc),
-        names: vec![in alloc; 0, 2, 5]?,
-        calls: vec![in alloc; get(0, 3), get(2, 4), get(5, 6)]?,
-    };
+    let key = KeptKey::of(
+        Vec::new(alloc),
+        vec![in alloc; 0, 2, 5]?,
+        vec![in alloc; get(0, 3), get(2, 4), get(5, 6)]?,
+    );
     assert!(rt; key.quiet_place(7, 7) == Some(7));
     assert!(rt; key.quiet_place(6, 7) == Some(5));
     assert!(rt; key.quiet_place(4, 7) == Some(0));
@@ -59,11 +59,11 @@ fn a_key_is_quiet_between_calls(rt: HostRuntime) -> Result<(), Fail> {
 #[test]
 fn a_key_with_an_open_call_is_not_quiet(rt: HostRuntime) -> Result<(), Fail> {
     let alloc = rt.alloc();
-    let key = KeptKey {
-        configurations: Vec::new(alloc),
-        names: vec![in alloc; 1, 2, 4]?,
-        calls: vec![in alloc; open_get(1), get(2, 3), open_get(4)]?,
-    };
+    let key = KeptKey::of(
+        Vec::new(alloc),
+        vec![in alloc; 1, 2, 4]?,
+        vec![in alloc; open_get(1), get(2, 3), open_get(4)]?,
+    );
     assert!(rt; key.quiet_place(5, 5) == Some(1));
     assert!(rt; key.quiet_place(0, 5).is_none());
     // At 4 one is open, and one has ended; at 5 two are open; at 1 and 2 none has ended.

@@ -67,11 +67,11 @@ fn what_ended_goes(rt: HostRuntime) -> Result<(), Fail> {
     let alloc = rt.alloc();
     let insert = answered(Call::Insert(7, 3), 2 * WIDTH, 4 * WIDTH, Reply::Done);
     let get = open(Call::Get(7), 5 * WIDTH);
-    let key = KeptKey {
-        configurations: vec![in alloc; choice(alloc, &[], &[Some(1), None], None)?]?,
-        names: vec![in alloc; 2, 5]?,
-        calls: vec![in alloc; insert, get]?,
-    };
+    let key = KeptKey::of(
+        vec![in alloc; choice(alloc, &[], &[Some(1), None], None)?]?,
+        vec![in alloc; 2, 5]?,
+        vec![in alloc; insert, get]?,
+    );
     let Some(settled) = key.settled(alloc, 7, 5, 1000)? else {
         panic!(rt; "more positions than there are");
     };
@@ -88,11 +88,11 @@ fn what_was_open_may_have_come(rt: HostRuntime) -> Result<(), Fail> {
     let replace = open(Call::Replace(7, 1, 2), WIDTH);
     let insert = answered(Call::Insert(7, 1), 2 * WIDTH, 4 * WIDTH, Reply::Done);
     let get = open(Call::Get(7), 3 * WIDTH);
-    let key = KeptKey {
-        configurations: vec![in alloc; choice(alloc, &[3], &[None], Some((3, None)))?]?,
-        names: vec![in alloc; 1, 2, 3]?,
-        calls: vec![in alloc; replace, insert, get]?,
-    };
+    let key = KeptKey::of(
+        vec![in alloc; choice(alloc, &[3], &[None], Some((3, None)))?]?,
+        vec![in alloc; 1, 2, 3]?,
+        vec![in alloc; replace, insert, get]?,
+    );
     let Some(settled) = key.settled(alloc, 7, 5, 1000)? else {
         panic!(rt; "more positions than there are");
     };

@@ -10,7 +10,7 @@ use Rattle.std.proofs.lemmas.Option.{slice_get_within}
 use Rattle.events.specs.declared.operation.Operation.{Operation}
 use Rattle.events.specs.declared.operation.Response.{Response}
 use Rattle.events.specs.Precedence.{is_before, precedes}
-use Rattle.list_laws.proofs.Lists.{All-at, All-from_contains}
+use Rattle.list_laws.proofs.Lists.{All-from_contains}
 use Rattle.map_object.specs.MapObject.{Contents}
 use Rattle.orders.specs.Orders.{IsLegalCall, IsLegal, after_call, after_calls, calls_at, KeepsPrecedence}
 use Rattle.orders.proofs.OrderLemmas.{IsLegal-append, after_calls-push, calls_at-push}
@@ -48,18 +48,15 @@ not_earlier (Some r) n m e low = let past = ltb-false r.res m e in le-ltb r.res 
 -- one call more
 pub checked_more : (key : ℕ) (first : Option ℕ) (calls : List Operation) (path more : List ℕ) (n : ℕ) (a : Operation) (value : Option ℕ)
     (latest later : ℕ) (taken marked : List Bool) → more ≡ path ++ n ∷ [] → marked ≡ slice_set taken n true
-    → All (λ a. IsCallOf key a.call) calls → slice_get calls n ≡ Some a → (slice_get taken n ≡ Some true → ⊥)
+    → IsCallOf key a.call → slice_get calls n ≡ Some a → (slice_get taken n ≡ Some true → ⊥)
     → MayBeAnswered value a.call a.response → is_before a.response latest ≡ false → latest ≤ later → a.inv ≤ later
     → IsChecked key first calls path value latest taken
     → IsChecked key first calls more (value_behind_call value a.call a.response) later marked
-checked_more key first calls path more n a value latest later taken marked is marks of_key here not_taken may not_before low begins c =
+checked_more key first calls path more n a value latest later taken marked is marks of_it here not_taken may not_before low begins c =
     subst (λ (l : List ℕ). IsChecked key first calls l (value_behind_call value a.call a.response) later marked) (sym is)
     (subst (λ (t : List Bool). IsChecked key first calls (path ++ n ∷ []) (value_behind_call value a.call a.response) later t) (sym marks)
     checked)
   where
-    of_it : IsCallOf key a.call
-    of_it = All-at (λ a. IsCallOf key a.call) calls n a of_key here
-
     push : calls_at calls (path ++ n ∷ []) ≡ calls_at calls path ++ a ∷ []
     push = calls_at-push calls path n a here
 

@@ -13,6 +13,7 @@ ghost use Rattle.kept_keys.specs.Views.{place_limit};
 use crate::configuration::{Ahead, Configuration};
 use crate::kept::{KeptKey, WIDTH};
 use events::{Call, Memory, Operation, Reply, Response};
+use order_guesses::{forget, note};
 use std::alloc::Global;
 
 impl KeptKey {
@@ -34,23 +35,28 @@ impl KeptKey {
         let configurations = narrowed(alloc, self.configurations, name, call, &reply, silent)?;
         let mut names = self.names;
         let mut calls = self.calls;
+        let mut guess = self.guess;
         if silent {
+            forget(&mut guess, &names, name);
             remove_call(&mut names, &mut calls, name);
             return Ok(KeptKey {
                 configurations,
                 names,
                 calls,
+                guess,
             });
         }
         let response = Response {
             res: WIDTH * place,
             reply,
         };
+        note(&mut guess, &names, name);
         respond_at(alloc, &names, &mut calls, name, &response)?;
         Ok(KeptKey {
             configurations,
             names,
             calls,
+            guess,
         })
     }
 }

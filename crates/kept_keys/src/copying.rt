@@ -4,6 +4,7 @@ ghost use Rattle.std.specs.Prelude.{◌≡◌, ◌↔◌, IsTrue, IfOk};
 use crate::configuration::{Ahead, Configuration};
 use crate::kept::KeptKey;
 use events::{Memory, Operation, Reply, Response};
+use order_guesses::copied_guess;
 use std::alloc::Global;
 
 impl KeptKey {
@@ -15,6 +16,7 @@ impl KeptKey {
             configurations: copied_configurations(alloc, &self.configurations)?,
             names: Vec::from_slice(alloc, &self.names)?,
             calls: copied_calls(alloc, &self.calls)?,
+            guess: copied_guess(alloc, &self.guess)?,
         })
     }
 

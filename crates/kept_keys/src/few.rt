@@ -107,7 +107,7 @@ pub(crate) fn are_of(key: u64, calls: &[Operation]) -> bool
 }
 
 /// Whether a call is of a key.
-fn is_of(key: u64, call: &Call) -> bool
+pub(crate) fn is_of(key: u64, call: &Call) -> bool
     ensures { IsTrue result ↔ IsCallOf key call.now }
 {
     match call {

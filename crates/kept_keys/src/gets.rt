@@ -4,6 +4,7 @@ ghost use Rattle.kept_keys.specs.Steps.{get_of, HasGet};
 
 use crate::kept::KeptKey;
 use events::{Call, Memory, Operation, Reply, Response};
+use order_guesses::make_room;
 use std::alloc::Global;
 
 impl KeptKey {
@@ -22,6 +23,7 @@ impl KeptKey {
         ensures { IfOk result (HasGet key name number value self) }
     {
         let place = self.calls.partition_point(|call| call.inv < number);
+        make_room(&mut self.guess, place);
         self.names.insert(place, name)?;
         self.calls.insert(place, get_at(key, number, value))?;
         Ok(self)

@@ -1,71 +1,248 @@
 // Orders that are guessed at, and checked.
-ghost use Rattle.std.specs.Prelude.{◌≡◌, ℕ, true, false, length, slice_get, Some, Any, IfOk, IsTrue};
+ghost use Rattle.std.specs.Prelude.{◌≡◌, ℕ, true, false, length, slice_get, Some, Any, IfOk, IfSome, IsTrue};
 ghost use Rattle.events.specs.Precedence.{is_before};
 ghost use Rattle.following.specs.keys.KeyStates.{one_key};
 ghost use Rattle.orders.specs.Orders.{IsCompletedAt, IsLinearizable};
 ghost use Rattle.past_choices.specs.Values.{MayBeAnswered};
+ghost use Rattle.kept_keys.specs.Calls.{calls_but};
 ghost use Rattle.kept_keys.specs.Judging.{HasOrder, HasOrderFrom};
 
 use crate::configuration::Configuration;
-use crate::few::{FEW, are_of, is_before};
+use crate::few::{FEW, is_before, is_of};
 use crate::judging::calls_but;
 use crate::kept::KeptKey;
-use crate::scout::guessed_order;
+use crate::uniting::is_value_among;
 use events::{Memory, Operation};
+use order_guesses::{
+    Guess, guessed_order, mended_order, order_with, places_but, rounds_for, within,
+};
 use past_choices::{may_be_answered, value_behind};
 use std::alloc::Global;
 
 impl KeptKey {
-    /// Whether an order of the calls left is guessed, where they are not few.
-    pub(crate) fn is_guessed(&self, alloc: Global, key: u64) -> Result<bool, Memory>
-        requires each { length self.now.names ≡ length self.now.calls }
-        ensures { IfOk result (λ is. is ≡ true → HasOrder key self.now) }
+    /// Whether an order of the calls left is guessed, where they are not few. It is kept, and the next one is looked for near it.
+    pub(crate) fn is_guessed(&mut self, alloc: Global, key: u64) -> Result<bool, Memory>
+        requires each { length self.old.names ≡ length self.old.calls }
+        ensures same { self.new ≡ self.old }
+        ensures guessed { IfOk result (λ is. is ≡ true → HasOrder key self.old) }
     {
         if self.calls.len() <= FEW {
             return Ok(false);
         }
-        for configuration in &self.configurations {
-            if self.is_guessed_from(alloc, key, configuration)? {
-                return Ok(true);
+        match self.guessed(alloc, key)? {
+            Some(guess) => {
+                self.guess = Some(Box::new(alloc, guess)?);
+                Ok(true)
             }
+            None => Ok(false),
         }
-        Ok(false)
     }
 
-    /// Whether one is guessed of those that a configuration has not taken.
-    fn is_guessed_from(
+    /// An order of the calls left from some value of some configuration, where one is found soon: near the one that was found last, or anew.
+    fn guessed(&self, alloc: Global, key: u64) -> Result<Option<Guess>, Memory>
+        requires each { length self.now.names ≡ length self.now.calls }
+        ensures { IfOk result (λ found. IfSome found (λ guess. HasOrder key self.now)) }
+    {
+        let found = self.guessed_again(alloc, key)?;
+        if found.is_some() {
+            return Ok(found);
+        }
+        self.guessed_anew(alloc, key)
+    }
+
+    /// One near that which was found last.
+    fn guessed_again(&self, alloc: Global, key: u64) -> Result<Option<Guess>, Memory>
+        requires each { length self.now.names ≡ length self.now.calls }
+        ensures { IfOk result (λ found. IfSome found (λ guess. HasOrder key self.now)) }
+    {
+        match &self.guess {
+            Some(guess) => self.guessed_near(alloc, key, guess),
+            None => Ok(None),
+        }
+    }
+
+    /// One near another, from the configuration and the value of that one.
+    fn guessed_near(&self, alloc: Global, key: u64, guess: &Guess) -> Result<Option<Guess>, Memory>
+        requires each { length self.now.names ≡ length self.now.calls }
+        ensures { IfOk result (λ found. IfSome found (λ guess. HasOrder key self.now)) }
+    {
+        for configuration in &self.configurations {
+            if configuration.taken == guess.taken {
+                return self.guessed_from(alloc, key, configuration, Some(guess));
+            }
+        }
+        Ok(None)
+    }
+
+    /// One from any configuration.
+    fn guessed_anew(&self, alloc: Global, key: u64) -> Result<Option<Guess>, Memory>
+        requires each { length self.now.names ≡ length self.now.calls }
+        ensures { IfOk result (λ found. IfSome found (λ guess. HasOrder key self.now)) }
+    {
+        for configuration in &self.configurations {
+            let found = self.guessed_from(alloc, key, configuration, None)?;
+            if found.is_some() {
+                return Ok(found);
+            }
+        }
+        Ok(None)
+    }
+
+    /// One of the calls that a configuration has not taken, near another one or anew.
+    fn guessed_from(
         &self,
         alloc: Global,
         key: u64,
         configuration: &Configuration,
-    ) -> Result<bool, Memory>
+        near: Option<&Guess>,
+    ) -> Result<Option<Guess>, Memory>
         requires each { length self.now.names ≡ length self.now.calls }
-        ensures { IfOk result (λ is. is ≡ true → Any (HasOrderFrom key self.now configuration.now) configuration.now.values) }
+        ensures { IfOk result (λ found. IfSome found (λ guess. Any (HasOrderFrom key self.now configuration.now) configuration.now.values)) }
     {
-        if configuration.taken.as_slice().is_empty() {
-            return is_guessed_of(alloc, key, &configuration.values, &self.calls);
-        }
-        let calls = calls_but(alloc, &configuration.taken, &self.names, &self.calls)?;
-        is_guessed_of(alloc, key, &configuration.values, &calls)
+        order_of_left(
+            alloc,
+            key,
+            &configuration.taken,
+            &configuration.values,
+            &self.names,
+            &self.calls,
+            near,
+        )
     }
 }
 
-/// Whether an order of calls is guessed from some of these values.
-fn is_guessed_of(
+/// An order of the calls that are not taken, from one of some values: near another one or anew.
+fn order_of_left(
+    alloc: Global,
+    key: u64,
+    taken: &[usize],
+    values: &[Option<u64>],
+    names: &[usize],
+    calls: &[Operation],
+    near: Option<&Guess>,
+) -> Result<Option<Guess>, Memory>
+    requires { length names.now ≡ length calls.now }
+    ensures { IfOk result (λ found. IfSome found (λ guess. Any (λ value. IsLinearizable (one_key key value) (calls_but taken.now names.now calls.now)) values.now)) }
+{
+    if taken.is_empty() {
+        return order_of(alloc, key, values, calls, near);
+    }
+    let left = calls_but(alloc, taken, names, calls)?;
+    let places = places_but(alloc, taken, names)?;
+    let near = within(alloc, near, &places)?;
+    match order_of(alloc, key, values, &left, near.as_ref())? {
+        Some(guess) => Ok(Some(guess.among(alloc, taken, &places)?)),
+        None => Ok(None),
+    }
+}
+
+/// An order of calls from one of some values: near another one or anew.
+fn order_of(
     alloc: Global,
     key: u64,
     values: &[Option<u64>],
     calls: &[Operation],
-) -> Result<bool, Memory>
-    ensures { IfOk result (λ is. is ≡ true → Any (λ value. IsLinearizable (one_key key value) calls.now) values.now) }
+    near: Option<&Guess>,
+) -> Result<Option<Guess>, Memory>
+    ensures { IfOk result (λ found. IfSome found (λ guess. Any (λ value. IsLinearizable (one_key key value) calls.now) values.now)) }
+{
+    match near {
+        Some(guess) => order_near(alloc, key, values, calls, guess),
+        None => order_anew(alloc, key, values, calls),
+    }
+}
+
+/// One near another, from the value of that one, if it is one of these.
+fn order_near(
+    alloc: Global,
+    key: u64,
+    values: &[Option<u64>],
+    calls: &[Operation],
+    guess: &Guess,
+) -> Result<Option<Guess>, Memory>
+    ensures { IfOk result (λ found. IfSome found (λ guess. Any (λ value. IsLinearizable (one_key key value) calls.now) values.now)) }
+{
+    let value = guess.value;
+    if !is_value_among(values, value) {
+        return Ok(None);
+    }
+    order_mended(alloc, key, value, calls, guess)
+}
+
+/// One from a value, or none, near another one: with the call that came since, or with another end.
+fn order_mended(
+    alloc: Global,
+    key: u64,
+    value: Option<u64>,
+    calls: &[Operation],
+    guess: &Guess,
+) -> Result<Option<Guess>, Memory>
+    ensures { IfOk result (λ found. IfSome found (λ guess. IsLinearizable (one_key key value) calls.now)) }
+{
+    let order = order_with(alloc, value, calls, &guess.order, guess.new)?;
+    let found = checked(alloc, key, value, calls, order)?;
+    if found.is_some() {
+        return Ok(found);
+    }
+    match mended_order(alloc, value, calls, &guess.order)? {
+        Some(order) => checked(alloc, key, value, calls, order),
+        None => Ok(None),
+    }
+}
+
+/// One from any of these values.
+fn order_anew(
+    alloc: Global,
+    key: u64,
+    values: &[Option<u64>],
+    calls: &[Operation],
+) -> Result<Option<Guess>, Memory>
+    ensures { IfOk result (λ found. IfSome found (λ guess. Any (λ value. IsLinearizable (one_key key value) calls.now) values.now)) }
 {
     for value in values {
-        let order = guessed_order(alloc, *value, calls)?;
-        if is_order(alloc, key, *value, calls, &order)? {
-            return Ok(true);
+        let found = order_scouted(alloc, key, *value, calls)?;
+        if found.is_some() {
+            return Ok(found);
         }
     }
-    Ok(false)
+    Ok(None)
+}
+
+/// One from a value, or none.
+fn order_scouted(
+    alloc: Global,
+    key: u64,
+    value: Option<u64>,
+    calls: &[Operation],
+) -> Result<Option<Guess>, Memory>
+    ensures { IfOk result (λ found. IfSome found (λ guess. IsLinearizable (one_key key value) calls.now)) }
+{
+    match guessed_order(alloc, value, calls, rounds_for(calls))? {
+        Some(order) => checked(alloc, key, value, calls, order),
+        None => Ok(None),
+    }
+}
+
+/// Places of calls, if they are an order of all from a value, or none.
+fn checked(
+    alloc: Global,
+    key: u64,
+    value: Option<u64>,
+    calls: &[Operation],
+    order: Vec<usize>,
+) -> Result<Option<Guess>, Memory>
+    ensures { IfOk result (λ found. IfSome found (λ guess. IsLinearizable (one_key key value) calls.now)) }
+{
+    if !is_order(alloc, key, value, calls, &order)? {
+        return Ok(None);
+    }
+    let taken = Vec::new(alloc);
+    Ok(Some(Guess {
+        taken,
+        value,
+        order,
+        new: None,
+    }))
 }
 
 /// Whether calls of a key, by their places, are an order of all from a value, or none.
@@ -78,9 +255,6 @@ fn is_order(
 ) -> Result<bool, Memory>
     ensures { IfOk result (λ is. is ≡ true → IsLinearizable (one_key key value) calls.now) }
 {
-    if !are_of(key, calls) {
-        return Ok(false);
-    }
     let mut taken = vec![in alloc; false; calls.len()]?;
     let mut found = value;
     let mut latest = 0;
@@ -92,6 +266,9 @@ fn is_order(
             return Ok(false);
         }
         let call = &calls[*place];
+        if !is_of(key, &call.call) {
+            return Ok(false);
+        }
         if !may_follow(found, latest, call) {
             return Ok(false);
         }

@@ -12,7 +12,6 @@ use crate::kept::KeptKey;
 use call_search::{Found, search_calls};
 use events::{Memory, Operation};
 use map_object::SortedMap;
-use orders::{apply, may_come_next};
 use std::alloc::Global;
 
 /// Whether the calls left of a key have an order.
@@ -27,14 +26,15 @@ pub enum Judged {
 }
 
 impl KeptKey {
-    /// Judges the calls left: an order is guessed at from each value of each configuration, and where none is found so, they are searched for
-    /// one from each, until one is found. Each search meets at most `budget` positions.
-    pub fn judge(&self, alloc: Global, key: u64, budget: u32) -> Result<Judged, Memory>
-        requires each { length self.now.names ≡ length self.now.calls }
-        requires rising { AllPairs (λ x y. x.inv < y.inv) self.now.calls }
-        requires apart { NonePrecedesItself self.now.calls }
-        ensures judged { IfOk result (IsJudged budget key self.now) }
-        ensures spent { IfOk result (λ verdict. verdict ≡ Judged.Spent → NoneWasFound budget key self.now) }
+    /// Judges the calls left: an order is guessed near the one that was found last, or anew from each value of each configuration. Where none is found
+    /// so, they are searched for one from each, until one is found. Each search meets at most `budget` positions. What is found is kept as a guess.
+    pub fn judge(&mut self, alloc: Global, key: u64, budget: u32) -> Result<Judged, Memory>
+        requires each { length self.old.names ≡ length self.old.calls }
+        requires rising { AllPairs (λ x y. x.inv < y.inv) self.old.calls }
+        requires apart { NonePrecedesItself self.old.calls }
+        ensures same { self.new ≡ self.old }
+        ensures judged { IfOk result (IsJudged budget key self.old) }
+        ensures spent { IfOk result (λ verdict. verdict ≡ Judged.Spent → NoneWasFound budget key self.old) }
     {
         if self.is_guessed(alloc, key)? {
             return Ok(Judged::Order);
@@ -124,7 +124,7 @@ fn judge_values(
     Ok(verdict)
 }
 
-/// Judges calls from one value: few are tried in each order, and more first as they stand, then by a search.
+/// Judges calls from one value: few are tried in each order, and more are searched.
 fn judge_value(
     alloc: Global,
     key: u64,
@@ -139,33 +139,12 @@ fn judge_value(
     if calls.len() <= FEW && are_of(key, calls) {
         return Ok(order_if(few_have_order(key, value, calls)));
     }
-    let mut map = map_of(alloc, key, value)?;
-    if come_in_turn(alloc, &mut map, calls)? {
-        return Ok(Judged::Order);
-    }
     let map = map_of(alloc, key, value)?;
     match search_calls(alloc, map, calls, budget)? {
         Found::Order(_) => Ok(Judged::Order),
         Found::NoOrder => Ok(Judged::NoOrder),
         Found::Spent => Ok(Judged::Spent),
     }
-}
-
-/// Whether the completed calls may come as they stand, each after those before it.
-fn come_in_turn(alloc: Global, map: &mut SortedMap, calls: &[Operation]) -> Result<bool, Memory>
-    requires rising { AllPairs (λ x y. x.inv < y.inv) calls.now }
-    requires apart { NonePrecedesItself calls.now }
-    ensures { IfOk result (λ may. may ≡ true → IsLinearizable map.old calls.now) }
-{
-    for call in calls {
-        if call.is_completed() {
-            if !may_come_next(map, call) {
-                return Ok(false);
-            }
-            apply(alloc, map, call)?;
-        }
-    }
-    Ok(true)
 }
 
 /// The map of a key and its value, or the empty one.

@@ -5,6 +5,7 @@ ghost use Rattle.kept_keys.specs.Views.{fresh, place_limit};
 
 use crate::configuration::Configuration;
 use events::{Call, Memory, Operation};
+use order_guesses::Guess;
 use std::alloc::Global;
 use std::marker::Model;
 
@@ -21,6 +22,7 @@ pub struct KeptKey {
     pub configurations: Vec<Configuration>,
     pub names: Vec<usize>,
     pub calls: Vec<Operation>,
+    pub(crate) guess: Option<Box<Guess>>,
 }
 
 impl Model for KeptKey {
@@ -32,6 +34,22 @@ impl Model for KeptKey {
 }
 
 impl KeptKey {
+    /// A key of these parts.
+    pub fn of(
+        configurations: Vec<Configuration>,
+        names: Vec<usize>,
+        calls: Vec<Operation>,
+    ) -> KeptKey
+        ensures { result ≡ record { configurations = configurations.items; names = names.items; calls = calls.items } }
+    {
+        KeptKey {
+            configurations,
+            names,
+            calls,
+            guess: None,
+        }
+    }
+
     /// A key with this value, or none, of which no call is left.
     pub fn fresh(alloc: Global, value: Option<u64>) -> Result<KeptKey, Memory>
         ensures { IfOk result (λ k. k ≡ fresh value) }
@@ -44,11 +62,7 @@ impl KeptKey {
             values,
             ahead: Vec::new(alloc),
         })?;
-        Ok(KeptKey {
-            configurations,
-            names: Vec::new(alloc),
-            calls: Vec::new(alloc),
-        })
+        Ok(KeptKey::of(configurations, Vec::new(alloc), Vec::new(alloc)))
     }
 
     /// Takes the invocation of a call of the key, at its place in the stream.

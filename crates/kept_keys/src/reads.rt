@@ -26,6 +26,7 @@ impl KeptKey {
         self.configurations.clear();
         self.names.clear();
         self.calls.clear();
+        self.guess = None;
         Ok(self)
     }
 
@@ -55,6 +56,7 @@ impl KeptKey {
             mut configurations,
             mut names,
             mut calls,
+            guess: _,
         } = self;
         configurations.retain_mut(|c| narrow(c, &calls));
         names.clear();
@@ -63,6 +65,7 @@ impl KeptKey {
             configurations,
             names,
             calls,
+            guess: None,
         })
     }
 }

@@ -24,6 +24,7 @@ impl KeptKey {
             configurations,
             names,
             mut calls,
+            guess,
         } = self;
         retime_calls(&names, &mut calls, numbers);
         if stand_by_number(&calls) {
@@ -31,6 +32,7 @@ impl KeptKey {
                 configurations,
                 names,
                 calls,
+                guess,
             });
         }
         let (names, calls) = sorted(alloc, names, calls)?;
@@ -38,6 +40,7 @@ impl KeptKey {
             configurations,
             names,
             calls,
+            guess: None,
         })
     }
 }

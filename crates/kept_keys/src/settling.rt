@@ -42,10 +42,12 @@ impl KeptKey {
         let apart = united(alloc, outcomes)?;
         let configurations = joined(alloc, apart)?;
         let rest = rest_of(alloc, &self.names, &self.calls, limit)?;
+        let guess = self.guess_left(alloc, limit)?;
         Ok(Some(KeptKey {
             configurations,
             names: rest.names,
             calls: rest.calls,
+            guess,
         }))
     }
 

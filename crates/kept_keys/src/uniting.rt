@@ -75,7 +75,7 @@ fn is_alike(one: &Configuration, other: &Configuration) -> bool
 }
 
 /// Whether a value is among some.
-fn is_value_among(values: &[Option<u64>], value: Option<u64>) -> bool
+pub(crate) fn is_value_among(values: &[Option<u64>], value: Option<u64>) -> bool
     ensures { IsTrue result ↔ Contains values.now value }
 {
     values.contains(&value)

@@ -87,7 +87,7 @@ fn place_key(
 {
     let retimed = kept.copy(alloc)?.retimed(alloc, key, numbers)?;
     let number = number_of(scans, told.scan.name);
-    let placed = retimed.take_get(alloc, key, told.scan.name, number, told.value(key))?;
+    let mut placed = retimed.take_get(alloc, key, told.scan.name, number, told.value(key))?;
     match placed.judge(alloc, key, budget)? {
         Judged::Order => Ok(Placed::Ordered(placed)),
         Judged::NoOrder => Ok(Placed::Unordered(placed)),

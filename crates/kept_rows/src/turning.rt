@@ -45,7 +45,7 @@ pub(crate) fn turn_key(
     ensures { IfOk result (IsKeyTurned (answer_of answer.now) scans.now limit budget kept) }
 {
     let reply = answer.reply.copy(alloc)?;
-    let answered = kept.answer(alloc, answer.place, answer.name, &answer.call, reply)?;
+    let mut answered = kept.answer(alloc, answer.place, answer.name, &answer.call, reply)?;
     match answered.judge(alloc, answer.key, budget)? {
         Judged::Order => {
             let now = answer.place + 1;

@@ -95,11 +95,7 @@ fn take_at(alloc: Global, keys: &mut Vec<(u64, KeptKey)>, at: usize) -> KeptKey
     ensures taken { (other : ℕ × KeptView) → result ≡ (slice_index_or keys.old.items at other).1 }
     ensures left { (nothing : KeptView) × HasOther at nothing keys.old.items keys.new.items }
 {
-    let nothing = KeptKey {
-        configurations: Vec::new(alloc),
-        names: Vec::new(alloc),
-        calls: Vec::new(alloc),
-    };
+    let nothing = KeptKey::of(Vec::new(alloc), Vec::new(alloc), Vec::new(alloc));
     mem::replace(&mut keys[at].1, nothing)
 }
 

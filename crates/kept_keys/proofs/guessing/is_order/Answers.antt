@@ -21,6 +21,6 @@ loop-place-preserved c =
     subst (λ (value : Option ℕ). IsChecked key c.args.value calls (take (i + 1) order) value c.max-latest.result (slice_set taken n true))
     (sym c.value_behind-found.ensures)
     (checked_more key c.args.value calls (take i order) (take (i + 1) order) n a c.loop-place.found c.loop-place.latest c.max-latest.result
-    taken (slice_set taken n true) (take_more order i 0 c.loop-place-test.true) refl (c.are_of.ensures.0 c.if-not-are_of.false) here
+    taken (slice_set taken n true) (take_more order i 0 c.loop-place-test.true) refl (c.is_of.ensures.0 c.if-not-is_of.false) here
     (λ h. both_ways c.index.result.now c.if-index.false (c.index.ensures ∙ get_or_from_slice_get taken n true c.index.result.now h))
     follows.0 follows.1 (omega (arith, c.max-latest.ensures)) (omega (arith, c.max-latest.ensures)) c.loop-place.invariant)

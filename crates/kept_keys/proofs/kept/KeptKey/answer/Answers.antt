@@ -39,7 +39,7 @@ returns c =
     subst (λ (l : List Operation). AreRespondedTo name (record { res = width * place; reply = reply }) names l c.respond_at.new.calls)
     c.deref_mut.ensures.value
     (subst (λ (l : List ℕ). AreRespondedTo name (record { res = width * place; reply = reply }) l c.deref_mut.result.now c.respond_at.new.calls)
-    c.deref.ensures.value c.in_ok-respond_at.ensures.answered) in
+    c.deref-3.ensures.value c.in_ok-respond_at.ensures.answered) in
     let count : length c.respond_at.new.calls ≡ length calls = c.in_ok-respond_at.ensures.each ∙ ap length c.deref_mut.ensures.value in
     subst (λ (l : List Operation). IsAnswered place name call reply c.args.self (record { configurations = new; names = names; calls = l }))
     (sym (with_items_is c.self.inside.calls c.respond_at.new.calls (count ∙ sym c.self.inside.calls.ok.0)))

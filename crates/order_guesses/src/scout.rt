@@ -3,18 +3,23 @@ use events::{Call, Memory, Operation, Reply};
 use past_choices::{is_read, may_be_answered, value_behind};
 use std::alloc::Global;
 
-/// An order of calls of one key from a value, or none, by their places, where one is found soon; else any places.
-/// The calls are tried as they stand. Else it goes by depth: reads at once, then the call that has to be answered first; and back where
-/// a value is told of by calls left that none of them puts.
-pub(crate) fn guessed_order(
+/// An order of calls of one key from a value, or none, by their places, where one is found soon. The calls are tried as they stand. Else it goes by
+/// depth: reads at once, then the call that has to be answered first; and back where a value is told of by calls left that none of them puts.
+pub fn guessed_order(
     alloc: Global,
     value: Option<u64>,
     calls: &[Operation],
-) -> Result<Vec<usize>, Memory> {
+    rounds: usize,
+) -> Result<Option<Vec<usize>>, Memory> {
     if come_as_they_stand(value, calls) {
-        return completed(alloc, calls);
+        return Ok(Some(completed(alloc, calls)?));
     }
-    scouted_order(alloc, value, calls)
+    scouted_order(alloc, value, calls, rounds)
+}
+
+/// A scout that begins with nothing takes so many calls at most that are no reads.
+pub fn rounds_for(calls: &[Operation]) -> usize {
+    calls.len().saturating_mul(16).saturating_add(1000)
 }
 
 /// Whether the completed calls may come as they stand.
@@ -42,36 +47,28 @@ fn completed(alloc: Global, calls: &[Operation]) -> Result<Vec<usize>, Memory> {
     Ok(places)
 }
 
-/// An order that is found by depth, or places that are none.
+/// An order that is found by depth, where so many calls are taken at most that are no reads.
 fn scouted_order(
     alloc: Global,
     value: Option<u64>,
     calls: &[Operation],
-) -> Result<Vec<usize>, Memory> {
+    rounds: usize,
+) -> Result<Option<Vec<usize>>, Memory> {
     let mut scout = open(alloc, value, calls)?;
-    for _ in 0..calls
-        .len()
-        .saturating_mul(ROUNDS)
-        .saturating_add(FIRST_ROUNDS)
-    {
+    for _ in 0..rounds {
         scout.take_reads(calls)?;
         if scout.left == 0 {
-            break;
+            return Ok(Some(places_of(alloc, &scout.turns)?));
         }
         scout.look_on(alloc, calls)?;
         let Some(way) = scout.ways.pop() else {
-            break;
+            return Ok(None);
         };
         scout.go_back(way.depth, calls);
         scout.take(way.place, calls)?;
     }
-    places_of(alloc, &scout.turns)
+    Ok(None)
 }
-
-/// A scout takes so many calls at most that are no reads, for each of those that it was given and besides.
-const ROUNDS: usize = 16;
-
-const FIRST_ROUNDS: usize = 1000;
 
 /// So many digests of positions are kept, which is 2 to the 12.
 const SEEN: usize = 4096;
@@ -182,6 +179,17 @@ fn put_by(call: &Call) -> Option<Option<u64>> {
         Call::Insert(_, value) | Call::Replace(_, _, value) => Some(Some(*value)),
         Call::Remove(_) => Some(None),
         Call::Get(_) | Call::Scan(_, _) => None,
+    }
+}
+
+/// The value that a call leaves, or none, where that does not hang on what it found.
+pub(crate) fn left_by(call: &Operation) -> Option<Option<u64>> {
+    match (&call.call, &call.response) {
+        (_, Some(response)) if matches!(response.reply, Reply::Refused) => None,
+        (Call::Insert(_, value), _) => Some(Some(*value)),
+        (Call::Remove(_), _) => Some(None),
+        (Call::Get(_), _) => told_by(call),
+        _ => None,
     }
 }
 
@@ -485,7 +493,7 @@ impl Scout {
 }
 
 /// The place of a call's answer, or the greatest number.
-fn answer_of(call: &Operation) -> usize {
+pub(crate) fn answer_of(call: &Operation) -> usize {
     match &call.response {
         Some(response) => response.res,
         None => usize::MAX,
