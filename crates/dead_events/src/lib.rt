@@ -1,6 +1,6 @@
 //! Events that the moment of a scan may pass alone, with the scans that are tied to it: rows that differ in the gap of the scan on both sides of one
 //! join. Where a call ends, a scan may pass it back; where one begins, on; the other way where the event is dead: no order has the
-//! call on the side of the scan that the event allows. Laws alone; nothing stands on them yet.
+//! call on the side of the scan that the event allows. Laws alone: of ends and begins `kept_rows` uses, of dead events nothing uses yet.
 #![tactic(auto)]
 
 mod laws;
