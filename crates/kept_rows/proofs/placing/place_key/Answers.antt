@@ -1,4 +1,4 @@
-use Rattle.std.proofs.Common.{◌≡◌, ℕ, ◌*◌, List, Option, sym, ap, subst}
+use Rattle.std.proofs.Common.{◌≡◌, ℕ, List, Option, sym, ap, subst}
 use Rattle.map_object.specs.MapObject.{value_at}
 use Rattle.kept_keys.specs.Judging.{HasOrder, IsBeyond, IsJudged}
 use Rattle.kept_keys.specs.Retiming.{IsRetimed}
@@ -52,8 +52,8 @@ judge-requires-clause-rising c =
     (ap (λ (s : ScanAnswer). s.name) c.told.view_is) c.number_of-number.ensures c.value.ensures c.in_ok-placed.ensures in
     ((c.requires.gets retimed is).behind placed get).rising
 
-pub returns-in-Order : goal.returns-in-Order
-returns-in-Order c =
+pub returns-in-Order-clause-placed : goal.returns-in-Order-clause-placed
+returns-in-Order-clause-placed c =
     let s = c.args.told.now in
     let key = c.args.key in
     let scans = c.args.scans.now in
@@ -69,8 +69,8 @@ returns-in-Order c =
           (subst (IsJudged c.args.budget key placed) c.in-Order.is c.in_ok-judge.ensures.judged),
     )
 
-pub returns-in-NoOrder : goal.returns-in-NoOrder
-returns-in-NoOrder c =
+pub returns-in-NoOrder-clause-placed : goal.returns-in-NoOrder-clause-placed
+returns-in-NoOrder-clause-placed c =
     let s = c.args.told.now in
     let key = c.args.key in
     let scans = c.args.scans.now in
@@ -85,8 +85,8 @@ returns-in-NoOrder c =
           (subst (HasOrder key) c.judge.ensures.same has),
     )
 
-pub returns-in-Spent : goal.returns-in-Spent
-returns-in-Spent c = (
+pub returns-in-Spent-clause-halt : goal.returns-in-Spent-clause-halt
+returns-in-Spent-clause-halt c = (
   c.requires.range,
   subst (IsBeyond c.args.budget c.args.key) (sym c.judge.ensures.same)
       (subst (IsJudged c.args.budget c.args.key c.in_ok-placed.placed) c.in-Spent.is c.in_ok-judge.ensures.judged),
