@@ -1,4 +1,5 @@
 use Rattle.std.proofs.Common.{Option, ℕ, None, get_or}
+use Rattle.std.specs.Prelude.{Any}
 use Rattle.std.proofs.lemmas.List.{get_or_default}
 use Rattle.std.proofs.lemmas.Option.{IfSome_then}
 use Rattle.orders.specs.Orders.{IsLinearizable}
