@@ -38,10 +38,10 @@ AgreeOn call m n = (key : ℕ) → low_key call ≤ key → key ≤ high_key cal
 
 -- ---- the value at a key after a call
 
-put_value : (m : Contents) (key value : ℕ) → value_at (put key value m) key ≡ Some value
+pub put_value : (m : Contents) (key value : ℕ) → value_at (put key value m) key ≡ Some value
 put_value m key value = value_at_found key value (below key m) (above key m) (AreBelow-below m key) (AreAbove-above m key)
 
-removed_value : (m : Contents) (key : ℕ) → value_at (below key m ++ above key m) key ≡ None
+pub removed_value : (m : Contents) (key : ℕ) → value_at (below key m ++ above key m) key ≡ None
 removed_value m key = value_at_gap key (below key m) (above key m) (AreBelow-below m key) (AreAbove-above m key)
 
 -- keys that a call does not name are left
@@ -178,7 +178,7 @@ other_value m (Replace at expected value) key low high other =
     subst (λ k. not (is_just (value_at m k) expected) ≡ true) here (other_not expected (value_at m at) other)
 
 -- whether only is told that a call was done which makes the same of whatever it finds
-abbrev is_blank : Call → Reply → Bool
+abbrev pub is_blank : Call → Reply → Bool
 is_blank call replies.None = false
 is_blank call (replies.Some value) = false
 is_blank call (replies.Pairs pairs) = false
@@ -197,7 +197,7 @@ blank_done call replies.Found blank = absurd (false≢true blank)
 blank_done call replies.Other blank = absurd (false≢true blank)
 
 -- each other answer depends on the values that it tells of
-told_value : (m : Contents) (call : Call) (reply : Reply) (key : ℕ) → low_key call ≤ key → key ≤ high_key call
+pub told_value : (m : Contents) (call : Call) (reply : Reply) (key : ℕ) → low_key call ≤ key → key ≤ high_key call
     → is_blank call reply ≡ false → TellsOf call (reply_to m call) reply → depends_on call reply key (value_at m key) ≡ true
 told_value m call replies.None key low high sees tells =
     subst (λ r. depends_on call r key (value_at m key) ≡ true) (sym tells) (whole_value m call key low high)

@@ -1,5 +1,5 @@
-mod AnyLemmas
-mod AgreeLemmas
+pub mod AnyLemmas
+pub mod AgreeLemmas
 mod RelaxedLemmas
 mod RestLemmas
 mod EnoughLemmas

@@ -24,4 +24,5 @@ mod windows;
 pub use explaining::explain;
 pub use explanation::{Explained, Explanation, Reason};
 pub use laws::{relaxed_calls_have_orders, rests_are_relaxed};
-pub use telling::{put_by, put_of};
+pub use rests::precedes;
+pub use telling::{depends_on, is_sure, names_key, put_by, put_of, tells_put};

@@ -193,7 +193,7 @@ fn is_between(first: &Operation, put: &Operation, second: &Operation) -> bool
 }
 
 /// Whether a call was answered before another was invoked.
-fn precedes(first: &Operation, second: &Operation) -> bool
+pub fn precedes(first: &Operation, second: &Operation) -> bool
     ensures { result ≡ precedes first.now second.now }
 {
     match &first.response {

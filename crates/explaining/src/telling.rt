@@ -9,7 +9,7 @@ ghost use Rattle.explaining.specs.Tells.{tells_put};
 use events::{Call, Operation, Reply, Response};
 
 /// Whether a call tells what another may put.
-pub(crate) fn tells_put(call: &Operation, other: &Operation) -> bool
+pub fn tells_put(call: &Operation, other: &Operation) -> bool
     ensures { result ≡ tells_put call.now other.now }
 {
     match put_of(&other.call, &other.response) {
@@ -27,7 +27,7 @@ pub(crate) fn puts(call: &Operation) -> bool
 
 /// Whether a call, as far as its response says, does what it may do. A pending one may not be done, and a replace of which only is
 /// told that it was done, or that it found a value, may have found another one than it expects.
-pub(crate) fn is_sure(call: &Operation) -> bool
+pub fn is_sure(call: &Operation) -> bool
     ensures { result ≡ is_sure call.now.call call.now.response }
 {
     match &call.response {
@@ -88,7 +88,7 @@ fn tells(call: &Operation, key: u64, value: Option<u64>) -> bool
 }
 
 /// Whether a key is among those that a call names.
-fn names_key(call: &Call, key: u64) -> bool
+pub fn names_key(call: &Call, key: u64) -> bool
     ensures { result ≡ names_key call.now key }
 {
     call.low_key() <= key && key <= call.high_key()
@@ -126,7 +126,7 @@ fn is_just(value: Option<u64>, expected: u64) -> bool
 
 /// Whether a call that was answered so depends on a key having this value, or none: with another one there it could not be
 /// answered so, or could leave another one.
-fn depends_on(call: &Call, reply: &Reply, key: u64, value: Option<u64>) -> bool
+pub fn depends_on(call: &Call, reply: &Reply, key: u64, value: Option<u64>) -> bool
     ensures { result ≡ depends_on call.now reply.now key value }
 {
     match reply {

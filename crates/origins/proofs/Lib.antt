@@ -1,3 +1,4 @@
 mod OrderLemmas
 mod ExternalLemmas
 mod PutLemmas
+mod MissedLemmas

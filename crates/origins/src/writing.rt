@@ -57,7 +57,7 @@ pub(crate) fn is_put(put: Option<Option<u64>>, value: u64) -> bool
 }
 
 /// Whether a call was answered, and so that it was not done.
-fn is_undone(call: &Call, response: &Option<Response>) -> bool
+pub(crate) fn is_undone(call: &Call, response: &Option<Response>) -> bool
     ensures { result ≡ is_undone call.now response.now }
 {
     match response {

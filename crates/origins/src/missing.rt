@@ -1,0 +1,144 @@
+// Which calls another one misses.
+ghost use Rattle.std.specs.Prelude.{◌≡◌, map, IfOk};
+ghost use Rattle.std.specs.List.{list_any};
+ghost use Rattle.origins.specs.Missed.{left_by, says_found, is_other, is_gainsaid, gainsays, may_mend, gainsays_later, is_missed};
+ghost use Rattle.origins.specs.Missed.{missed_by, missed_of};
+
+use crate::writing::is_undone;
+use events::{Call, Memory, Operation, Reply, Response};
+use explaining::{depends_on, is_sure, names_key, precedes, put_by, tells_put};
+use std::alloc::Global;
+
+/// A call that another one misses: what was called, and the event of its invocation.
+#[derive(Clone, Copy, Debug)]
+pub struct Missed {
+    pub call: Call,
+    pub event: usize,
+}
+
+/// Of some calls, in the order in which they began, those that one of them misses: it was answered as where their keys have other values
+/// than those that they left there, though they were answered before it began, and no call may have put there again what it
+/// tells. Of each key it is one at most, the last. Each call is compared with all of them at worst.
+pub fn missed_by(
+    alloc: Global,
+    calls: &[Operation],
+    call: &Operation,
+) -> Result<Vec<Missed>, Memory>
+    ensures { IfOk result (λ missed. missed.items ≡ map missed_of (missed_by call.now calls.now)) }
+{
+    let mut missed = Vec::new(alloc);
+    for (number, other) in calls.iter().enumerate() {
+        if is_missed(calls, call, other, &calls[number + 1..]) {
+            missed.push(missed_of(other))?;
+        }
+    }
+    Ok(missed)
+}
+
+/// What is told of a call that another misses.
+fn missed_of(call: &Operation) -> Missed
+    ensures { result ≡ missed_of call.now }
+{
+    Missed {
+        call: call.call,
+        event: call.inv,
+    }
+}
+
+/// Whether of some calls one misses another, behind which these began.
+fn is_missed(calls: &[Operation], call: &Operation, other: &Operation, later: &[Operation]) -> bool
+    ensures { result ≡ is_missed calls.now call.now other.now later.now }
+{
+    gainsays(call, other) && !gainsays_later(call, other, later) && !is_mended(calls, call, other)
+}
+
+/// Whether a call gainsays one of these of the same key.
+fn gainsays_later(call: &Operation, other: &Operation, later: &[Operation]) -> bool
+    ensures { result ≡ gainsays_later call.now other.now later.now }
+{
+    for third in later {
+        if third.call.low_key() == other.call.low_key() && gainsays(call, third) {
+            return true;
+        }
+    }
+    false
+}
+
+/// Whether one of these may have put behind the second call what the first tells.
+fn is_mended(calls: &[Operation], call: &Operation, other: &Operation) -> bool
+    ensures { result ≡ list_any (may_mend call.now other.now) calls.now }
+{
+    for third in calls {
+        if may_mend(call, other, third) {
+            return true;
+        }
+    }
+    false
+}
+
+/// Whether a third call may have put at the second one's key, behind it and before the first, what the first tells.
+fn may_mend(call: &Operation, other: &Operation, third: &Operation) -> bool
+    ensures { result ≡ may_mend call.now other.now third.now }
+{
+    third.inv != call.inv
+        && third.call.low_key() == other.call.low_key()
+        && tells_put(call, third)
+        && !precedes(third, other)
+        && !precedes(call, third)
+}
+
+/// Whether a call was answered as where one of its keys has another value than what another call left there before it began.
+fn gainsays(call: &Operation, other: &Operation) -> bool
+    ensures { result ≡ gainsays call.now other.now }
+{
+    let key = other.call.low_key();
+    precedes(other, call)
+        && names_key(&call.call, key)
+        && is_gainsaid(&call.call, &call.response, key, left_by(other))
+}
+
+/// Whether a call was answered as where a key has another value than what was left there, if anything was.
+fn is_gainsaid(
+    call: &Call,
+    response: &Option<Response>,
+    key: u64,
+    left: Option<Option<u64>>,
+) -> bool
+    ensures { result ≡ is_gainsaid call.now response.now key left }
+{
+    match response {
+        Some(response) => is_other(call, &response.reply, key, left),
+        None => false,
+    }
+}
+
+/// The same of a reply.
+fn is_other(call: &Call, reply: &Reply, key: u64, left: Option<Option<u64>>) -> bool
+    ensures { result ≡ is_other call.now reply.now key left }
+{
+    match left {
+        Some(value) => says_found(reply) && !depends_on(call, reply, key, value),
+        None => false,
+    }
+}
+
+/// What a call left at its key, as its answer says: a value, or none in place of one.
+fn left_by(call: &Operation) -> Option<Option<u64>>
+    ensures { result ≡ left_by call.now }
+{
+    if is_sure(call) && !is_undone(&call.call, &call.response) {
+        put_by(&call.call)
+    } else {
+        None
+    }
+}
+
+/// Whether an answer says something of what its call found.
+fn says_found(reply: &Reply) -> bool
+    ensures { result ≡ says_found reply.now }
+{
+    match reply {
+        Reply::None | Reply::Some(_) | Reply::Pairs(_) | Reply::Found | Reply::Other => true,
+        Reply::Refused | Reply::Done => false,
+    }
+}
