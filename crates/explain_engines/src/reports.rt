@@ -12,7 +12,7 @@ ghost use Rattle.outcomes.specs.Lines.{line};
 ghost use Rattle.explaining.specs.Explained.{IsExplanation};
 ghost use Rattle.orders.specs.Orders.{IsLinearizable};
 ghost use Rattle.small_histories.specs.SmallHistories.{IsWrittenAs};
-ghost use Rattle.explain_engines.specs.Answers.{AreDetailsOf, AreHistoryLines, AreLinesOf, AreTwoLines, IsFrontOf};
+ghost use Rattle.explain_engines.specs.Answers.{AreFew, AreHistoryLines, AreLinesOf, AreTwoLines, IsFrontOf};
 ghost use Rattle.explain_engines.specs.Reports.{answer_data, was_answered, kept_data, process_at, reason_word, missing_row_data, row_data, rows};
 
 use crate::fronts::front_line;
@@ -40,7 +40,7 @@ pub(crate) fn few_lines(
 ) -> Result<String, Memory>
     requires { (1 ≤ budget) × (budget ≤ budget_limit) }
     ensures { IsExplanation segment.now.start segment.now.calls budget few
-        → IfOk result (λ text. AreDetailsOf budget history.now segment.now (string_bytes text)) }
+        → IfOk result (λ text. AreFew budget history.now segment.now (string_bytes text)) }
 {
     let start = segment.start();
     let calls = few.calls.as_slice();
