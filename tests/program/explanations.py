@@ -4,10 +4,11 @@
     tests/program/explanations.py [HISTORIES]
 
 Histories are those of the examples that are not refused, and drawn ones as in tests/program/streams.py, half of them with answers that tell
-less, until so many of them have no order, 300 where no number is given. `explain` has to print the report of `judge` first; of a no then a line for each of few
-calls, each of them a call of the history with its answer, or without where it may tell what a call that is not named put; a line for each
-value that these read and none of them put, with each call of the history that put it; the history of these calls alone, of which `judge` says no; and how far an order of them gets. Without any one of them, and without the
-answers that tell what it put, `judge` says yes or undecided of the others, as the reason says. The front of the last line is a list of
+less, until so many of them have no order, 300 where no number is given. `explain` has to print the report of `judge` first; of a no then a
+line for each of few calls, each of them a call of the history with its answer, or without where it may tell what a call that is not named
+put, and with those that it misses; a line for each value that these read and none of them put, with each call of the history that put it; the
+history of these calls alone, of which `judge` says no; and how far an order of them gets. Without any one of them, and without the answers
+that tell what it put, `judge` says yes or undecided of the others, as the reason says. The front of the last line is a list of
 these calls that a map allows, each behind all that were answered before it began, and none is longer; behind it stand what the map then
 holds, and each call that could come next, with what it was answered, which is not what the map would answer. Then long ones: of 4,000
 calls of one key one answer is wrong, in the middle or near the end, and the explanation has fewer than 20 calls. And scans that disagree:
@@ -132,6 +133,34 @@ def origins_of(history, calls, left, start):
         }
         for pair in outside
     ]
+
+
+def left_by(call):
+    """What a call, by its answer, left at its key, None in place of a value, in a list; no list where it may not have been done."""
+    name, _, *values = call["call"]
+    if name in ("get", "scan") or "answer" not in call or is_undone(call) or name == "replace" and call["answer"] in UNTOLD:
+        return []
+    return [None] if name == "remove" else values[-1:]
+
+
+def missed_by(call, calls):
+    """The calls that one misses: of each key the last that left there, before it began, what its answer does not tell, where no other may have
+    put there what it tells but before that one began, or behind its own answer."""
+    if call.get("answer", "refused") in ("refused", "done"):
+        return []
+    last = {}
+    for other in calls:
+        name, low, *others = call["call"]
+        key = other["call"][1]
+        if precedes(other, call) and low <= key <= (others[0] if name == "scan" else low):
+            if any(not tells(call, key, value) for value in left_by(other)):
+                last[key] = other
+
+    def is_mended(key, other):
+        menders = (third for third in calls if third["event"] != call["event"] and not precedes(third, other) and not precedes(call, third))
+        return any(third["call"][1] == key and tells(call, key, value) for third in menders for value in put_by(third))
+
+    return sorted((other for key, other in last.items() if not is_mended(key, other)), key=lambda other: other["event"])
 
 
 def rest_of(calls, kept):
@@ -272,6 +301,9 @@ def wrong_with_few(history, rows, origins, small, front):
         word = "left out" if "answer" in said_of else "open"
         if row["answer"] != call.get("answer", word) or row["answer"] != left[row["event"]].get("answer", word):
             return f"{row}, with an answer that it has not"
+        missed = [{name: other[name] for name in ("call", "event", "process")} for other in missed_by(left[row["event"]], whole)]
+        if row.get("misses") != (missed or None):
+            return f"{row}, which misses {missed}"
     wanted = origins_of(history, whole, list(left.values()), small.get("start", []))
     if origins != wanted:
         return f"{origins}, and from outside come {wanted}"

@@ -41,7 +41,7 @@ DRAWN = "generate --seed 42 --processes {} --calls 2 --get 100 --insert 0 --remo
 REFUTED = '{"calls":[0,1],"hi":5,"lo":5,"verdict":"no"}\n'
 EXPLAINED = (
     '{"answer":null,"call":["insert",5,7],"event":0,"process":0,"reason":"order"}\n'
-    '{"answer":null,"call":["get",5],"event":2,"process":1,"reason":"order"}\n'
+    '{"answer":null,"call":["get",5],"event":2,"misses":[{"call":["insert",5,7],"event":0,"process":0}],"process":1,"reason":"order"}\n'
     '{"events":[{"invoke":["insert",5,7],"process":0},{"answer":null,"process":0},'
     '{"invoke":["get",5],"process":0},{"answer":null,"process":0}],"version":1}\n'
     '{"front":[0],"holds":[[5,7]],"next":[{"answer":null,"event":2,"would":7}]}\n'

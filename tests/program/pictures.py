@@ -7,8 +7,8 @@ the call, and one mark for each call of the order where the verdict is a yes, wi
 next circle, and a place is no wider than its circle. Starting pairs that are cut stand whole in a title. Its status is that of `judge`.
 Parts of the pictures have the lanes, bars and marks that a window over the columns has which is worked out here, and say what they leave
 out; a part with room for the whole picture is the picture. Where nothing is asked for, a no shows the calls that `explain` names alone, with
-those that put what they read from outside, which are worked out here. Pictures of at most 12 such calls are at most 1,200 wide. The last
-line counts what passed and failed.
+those that put what they read from outside, which are worked out here, and those that they miss. Pictures of at most 12 such calls are at
+most 1,200 wide. The last line counts what passed and failed.
 """
 
 import glob
@@ -182,14 +182,15 @@ def may_change(call, answer):
 
 
 def few_of(history, rows):
-    """The calls of a history, by number, of which the lines of an explanation tell, and those that put what these read from outside."""
+    """The calls of a history, by number, of which the lines of an explanation tell, those that put what these read from outside, and those that
+    they miss."""
     named = [(row["call"], row["answer"], row["event"]) for row in rows]
     changes = [(call[1], call[-1] if call[0] != "remove" else None) for call, answer, _ in named if may_change(call, answer)]
     start = {tuple(pair) for pair in history.get("start", [])}
     read = {pair for call, answer, _ in named for pair in told_by(call, answer)} - set(changes)
     read -= {pair for pair in start if pair[0] not in {key for key, _ in changes}}
     spans, call_at = spans_of(history["events"])
-    events = {event for _, _, event in named}
+    events = {event for _, _, event in named} | {missed["event"] for row in rows for missed in row.get("misses", [])}
     for _, inv, res in spans:
         call = history["events"][inv]["invoke"]
         answer = "open" if res is None else history["events"][res]["answer"]

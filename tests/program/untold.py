@@ -75,7 +75,7 @@ LOST_PUT = (
 )
 LOST_PUT_EXPLAINED = """{"calls":[0,1],"hi":5,"lo":5,"verdict":"no"}
 {"answer":"done","call":["insert",5,7],"event":0,"process":3,"reason":"order"}
-{"answer":null,"call":["get",5],"event":2,"process":9,"reason":"order"}
+{"answer":null,"call":["get",5],"event":2,"misses":[{"call":["insert",5,7],"event":0,"process":3}],"process":9,"reason":"order"}
 {"events":[{"invoke":["insert",5,7],"process":0},{"answer":"done","process":0},{"invoke":["get",5],"process":0},{"answer":null,"process":0}],"start":[],"version":3}
 {"front":[0],"holds":[[5,7]],"next":[{"answer":null,"event":2,"would":7}]}
 """

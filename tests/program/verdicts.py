@@ -395,23 +395,48 @@ def overwrites(count):
     return ",".join([*events, f'{{"invoke":["get",5],"process":0}},{{"answer":{count // 2},"process":0}}'])
 
 
+# What was removed is read again, beside an insert of another value that is never answered.
+REMOVED_VALUE_COMES_BACK = """
+    {"invoke":["insert",1,5],"process":0}, {"answer":null,"process":0},
+    {"invoke":["remove",1],"process":0}, {"answer":5,"process":0},
+    {"invoke":["insert",1,7],"process":1},
+    {"invoke":["get",1],"process":0}, {"answer":5,"process":0}"""
+# The second replace finds what the first one replaced.
+UPDATE_IS_LOST = """
+    {"invoke":["insert",1,5],"process":0}, {"answer":null,"process":0},
+    {"invoke":["replace",1,5,6],"process":0}, {"answer":5,"process":0},
+    {"invoke":["replace",1,5,7],"process":1}, {"answer":5,"process":1}"""
+# Of two inserts that were answered the scan lists one, and of key 2 what was overwritten before it began.
+SCAN_MISSES_AN_OVERWRITE = """
+    {"invoke":["insert",1,5],"process":0}, {"answer":null,"process":0},
+    {"invoke":["insert",2,6],"process":0}, {"answer":null,"process":0},
+    {"invoke":["insert",2,7],"process":0}, {"answer":6,"process":0},
+    {"invoke":["scan",1,2],"process":0}, {"answer":[[1,5],[2,6]],"process":0}"""
+
 # Events, a budget, and the calls that explain them: of each the event of its invocation, a question mark where it has no answer, an
-# exclamation mark where its answer is left out, and a letter for the reason; and the values that come from outside of these calls, by key,
-# each with the events of the calls that put it.
+# exclamation mark where its answer is left out, and a letter for the reason; the values that come from outside of these calls, by key,
+# each with the events of the calls that put it; and of each call that misses others its event and theirs.
 EXPLANATIONS = [
-    (GET_SEES_ANSWERED_INSERT, 1000, None, ""),
-    (GET_MISSES_ANSWERED_INSERT, 1000, "0o 2o", ""),
+    (GET_SEES_ANSWERED_INSERT, 1000, None, "", ""),
+    (GET_MISSES_ANSWERED_INSERT, 1000, "0o 2o", "", "2: [0]"),
     # Two configurations are met with both calls, and one without one of them.
-    (GET_MISSES_ANSWERED_INSERT, 2, "0o 2o", ""),
-    (GET_SEES_WHAT_NOBODY_INSERTED, 1000, "4o", "9: 1 []"),
-    (LATER_GET_MISSES_WHAT_WAS_SEEN, 1000, "0?o 1o 3o", ""),
+    (GET_MISSES_ANSWERED_INSERT, 2, "0o 2o", "", "2: [0]"),
+    (GET_SEES_WHAT_NOBODY_INSERTED, 1000, "4o", "9: 1 []", ""),
+    # No insert is answered before the gets, or the scans, begin.
+    (LATER_GET_MISSES_WHAT_WAS_SEEN, 1000, "0?o 1o 3o", "", ""),
+    (SCAN_MISSES_THE_FIRST_OF_TWO_INSERTS, 1000, "0o 1o 3o", "", ""),
     # Two inserts that are open or beside, and two scans that cannot both be right.
-    (SCANS_SEE_TWO_INSERTS_IN_DIFFERENT_ORDER, 1000, "0o 1o 2o 3o", ""),
-    # The insert of 7 overwrites what comes before it, whatever it found.
-    (READ_OF_AN_OVERWRITTEN_VALUE, 1000, "10!o 12o", "1: 5 [2]"),
-    (READ_OF_A_VALUE_THAT_CAME_BACK, 1000, "0o 2o 4?o 5o 7o", ""),
+    (SCANS_SEE_TWO_INSERTS_IN_DIFFERENT_ORDER, 1000, "0o 1o 2o 3o", "", ""),
+    # The insert of 7 overwrites what comes before it, whatever it found; that at key 2 comes later, and so does the first get.
+    (READ_OF_AN_OVERWRITTEN_VALUE, 1000, "10!o 12o", "1: 5 [2]", "12: [10]"),
+    # The open insert may have put the value again, and the second insert what is read at last.
+    (READ_OF_A_VALUE_THAT_CAME_BACK, 1000, "0o 2o 4?o 5o 7o", "", ""),
+    (REMOVED_VALUE_COMES_BACK, 1000, "2!o 5o", "1: 5 [0]", "5: [2]"),
+    # Without the insert the first replace waits for what it put.
+    (UPDATE_IS_LOST, 1000, "0h 2o 4o", "", "4: [2]"),
+    (SCAN_MISSES_AN_OVERWRITE, 1000, "0o 4!o 6o", "2: 6 [2]", "6: [4]"),
     # Of three hundred inserts the last stays, as it overwrites what is read behind it, and the read.
-    (overwrites(300), 100_000, "598!o 600o", "5: 150 [300]"),
+    (overwrites(300), 100_000, "598!o 600o", "5: 150 [300]", "600: [598]"),
 ]
 
 # A scan that misses a pair in the middle of those that are held, and its explanation, from the pairs within its keys.
@@ -454,12 +479,6 @@ PENDING_SCAN_HOLDS_ITS_KEYS_ALONE = """
     {"invoke":["scan",3,4],"process":3}, {"answer":[[3,5],[4,5]],"process":3},
     {"invoke":["insert",4,6],"process":4}, {"answer":5,"process":4},
     {"invoke":["get",4],"process":0}, {"answer":null,"process":0}"""
-# Of two inserts that were answered the scan lists one, and of key 2 what was overwritten before it began.
-SCAN_MISSES_AN_OVERWRITE = """
-    {"invoke":["insert",1,5],"process":0}, {"answer":null,"process":0},
-    {"invoke":["insert",2,6],"process":0}, {"answer":null,"process":0},
-    {"invoke":["insert",2,7],"process":0}, {"answer":6,"process":0},
-    {"invoke":["scan",1,2],"process":0}, {"answer":[[1,5],[2,6]],"process":0}"""
 SCAN_LISTS_WHAT_NOBODY_INSERTED = """
     {"invoke":["insert",1,5],"process":0}, {"answer":null,"process":0},
     {"invoke":["scan",1,3],"process":0}, {"answer":[[1,5],[3,9]],"process":0}"""
@@ -791,8 +810,8 @@ def by_each_part(events):
     return None
 
 
-def explained(events, budget, wanted, outside):
-    """What is wrong with the calls that explain a no, and with who put what they read."""
+def explained(events, budget, wanted, outside, missed):
+    """What is wrong with the calls that explain a no, with who put what they read, and with what they miss."""
     status, output, told = answer(["explain", "--budget", str(budget)], history(events))
     judged = answer(["judge", "--budget", str(budget)], history(events))
     report, *lines = output.splitlines(keepends=True)
@@ -801,7 +820,8 @@ def explained(events, budget, wanted, outside):
     found = " ".join(f"{call['event']}{marks.get(str(call['answer']), '')}{call['reason'][0]}" for call in calls)
     origins = [json.loads(line) for line in lines if line.startswith(b'{"key"')]
     put = ", ".join(f"{origin['key']}: {origin['value']} {[call['event'] for call in origin['puts']]}" for origin in origins)
-    if (status, report, told) != judged or status != int(wanted is not None) or (found, put) != (wanted or "", outside):
+    misses = ", ".join(f"{call['event']}: {[other['event'] for other in call['misses']]}" for call in calls if "misses" in call)
+    if (status, report, told) != judged or status != int(wanted is not None) or (found, put, misses) != (wanted or "", outside, missed):
         return f"{output} at {budget}, and wanted is {wanted} of {events[:300]}"
     return None
 

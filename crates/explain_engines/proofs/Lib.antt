@@ -3,6 +3,7 @@ mod LineLemmas
 mod LongestLemmas
 mod OriginLemmas
 mod OutcomeLemmas
+mod RefutedLemmas
 mod RowLemmas
 mod StuckLemmas
 mod ValueLemmas

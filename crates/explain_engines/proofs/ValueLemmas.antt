@@ -15,8 +15,14 @@ pushed f items value xs i x below is so_far told =
     ∙ ((λ j. so_far j ++ told j ∷ [])
     ∙ (ap (λ y. map f (take i xs) ++ f y ∷ []) is ∙ sym (map_more f xs i x below)))
 
--- the same of numbers
+-- the same of values that are copied as they are read
+pub pushed_copy : {X : Type 0} (f : X → Data) (items : List Value) (value : Value) (xs : List X) (i : ℕ) (other : X) → i < length xs
+    → map view items ≡ map f (take i xs) → view value ≡ f (slice_index_or xs i other)
+    → map view (items ++ value ∷ []) ≡ map f (take (i + 1) xs)
+pushed_copy f items value xs i other below so_far told =
+    map-append view items (value ∷ []) ∙ ((λ j. so_far j ++ told j ∷ []) ∙ sym (map_more f xs i other below))
+
+-- and of numbers
 pub pushed_number : (f : ℕ → Data) (items : List Value) (value : Value) (xs : List ℕ) (i : ℕ) → i < length xs
     → map view items ≡ map f (take i xs) → view value ≡ f (slice_index_or xs i 0) → map view (items ++ value ∷ []) ≡ map f (take (i + 1) xs)
-pushed_number f items value xs i below so_far told =
-    map-append view items (value ∷ []) ∙ ((λ j. so_far j ++ told j ∷ []) ∙ sym (map_more f xs i 0 below))
+pushed_number f items value xs i = pushed_copy f items value xs i 0

@@ -6,7 +6,6 @@ use Rattle.events.specs.declared.operation.Operation.{Operation}
 use Rattle.events.specs.Operations.{operations}
 use Rattle.map_object.specs.MapObject.{Contents}
 use Rattle.small_histories.specs.SmallHistories.{AreOfNoHistory, IsSmallHistory, IsWrittenAs, text_of}
-use Rattle.configurations.specs.Counts.{ReachesMoreThan}
 use Rattle.search.specs.LongestFront.{IsLongestFront}
 use Rattle.segments.specs.SegmentView.{SegmentView}
 use Rattle.segments.specs.WholeSegments.{IsWholeSegment}
@@ -68,19 +67,10 @@ pub record AreFew (budget : ℕ) (history : HistoryView) (segment : SegmentView)
   pub shown : AreHistoryLines budget segment.start few.calls.items small
   pub bytes_are : bytes ≡ rows history few.calls.items few.reasons.items ++ (outside ++ small)
 
--- nothing, where more configurations of the segment are reachable than the budget
-pub record AreNone (budget : ℕ) (segment : SegmentView) (bytes : List ℕ) : Type 0 where
-  pub none : bytes ≡ []
-  pub reaches : ReachesMoreThan segment.start segment.calls budget
-
--- what stands behind the report of a no that names a segment
-abbrev pub AreDetailsOf : ℕ → HistoryView → SegmentView → List ℕ → Type 0
-AreDetailsOf budget history segment bytes = AreNone budget segment bytes ⊎ AreFew budget history segment bytes
-
--- and behind that of each verdict on this history
+-- what stands behind the report of each verdict on this history
 abbrev pub AreDetails : ℕ → HistoryView → Verdict → List ℕ → Type 0
 AreDetails budget history (Yes order) bytes = bytes ≡ []
-AreDetails budget history (No segment) bytes = AreDetailsOf budget history segment bytes
+AreDetails budget history (No segment) bytes = AreFew budget history segment bytes
 AreDetails budget history (Undecided segment) bytes = bytes ≡ []
 
 -- what is told of a history: the report of its exact verdict, which is this answer, and of a no what shows it

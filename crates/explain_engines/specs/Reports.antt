@@ -1,8 +1,8 @@
 -- The lines of an explanation: JSON, with members by rising bytes.
-use Rattle.std.specs.Prelude.{ℕ, ◌==◌, ◌&&◌, Bool, if◌then◌else◌, List, [], ◌∷◌, ◌++◌, Option, Some, None, is_some, codes, slice_get}
+use Rattle.std.specs.Prelude.{ℕ, ◌==◌, ◌&&◌, Bool, if◌then◌else◌, List, [], ◌∷◌, ◌++◌, Option, Some, None, is_some, codes, slice_get, map}
 use Rattle.std.specs.List.{list_any}
 use Rattle.std.specs.Option.{option_map_or}
-use Rattle.serde_json.specs.Data.{Data, string, object, no_members, member}
+use Rattle.serde_json.specs.Data.{Data, Members, string, object, no_members, member, put}
 use Rattle.serde_json.specs.Written.{compact_text}
 use Rattle.events.specs.declared.event.Event.{Event}
 use Rattle.events.specs.declared.operation.Operation.{Operation}
@@ -10,8 +10,10 @@ use Rattle.events.specs.declared.operation.Response.{Response}
 use Rattle.events.specs.Events.{process_of}
 use Rattle.events.specs.HistoryView.{HistoryView}
 use Rattle.events.specs.Operations.{operations}
-use Rattle.history_text.specs.Texts.{number_data, call_data, reply_data}
+use Rattle.history_text.specs.Texts.{number_data, call_data, reply_data, list_data}
 use Rattle.outcomes.specs.Lines.{line}
+use Rattle.origins.specs.declared.missing.Missed.{Missed}
+use Rattle.origins.specs.Missed.{missed_by, missed_of}
 use Rattle.explaining.specs.declared.explanation.Reason.{Reason}
 use Rattle.explaining.specs.declared.explanation.Reason.TheVariants.{Order, Spent, Held}
 
@@ -39,14 +41,30 @@ reason_word (Order order) = codes "order"
 reason_word Spent = codes "spent"
 reason_word Held = codes "held"
 
--- a call of a history that is kept: what counts of its answer, what was called, the event of its invocation with its process, and why it is
--- kept
-abbrev pub row_data : HistoryView → Operation → Reason → Data
-row_data history a reason =
-    object (member (codes "answer") (kept_data (was_answered (operations history.events) a.inv) a.response)
+-- a call that another misses: what was called, and the event of its invocation with its process
+abbrev pub missed_data : List Event → Missed → Data
+missed_data events m =
+    object (member (codes "call") (call_data m.call) (member (codes "event") (number_data m.event)
+    (member (codes "process") (number_data (process_at events m.event)) no_members)))
+
+-- members, with one more for those that one misses, where it misses any
+abbrev pub with_missed : List Event → List Missed → Members → Members
+with_missed events [] members = members
+with_missed events (m ∷ missed) members = put (codes "misses") (list_data (map (missed_data events) (m ∷ missed))) members
+
+-- a call of a history that is kept: what counts of its answer, what was called, the event of its invocation, those that it misses, its
+-- process, and why it is kept
+abbrev pub missing_row_data : HistoryView → Operation → List Missed → Reason → Data
+missing_row_data history a missed reason =
+    object (with_missed history.events missed (
+    member (codes "answer") (kept_data (was_answered (operations history.events) a.inv) a.response)
     (member (codes "call") (call_data a.call) (member (codes "event") (number_data a.inv)
     (member (codes "process") (number_data (process_at history.events a.inv))
-    (member (codes "reason") (string (reason_word reason)) no_members)))))
+    (member (codes "reason") (string (reason_word reason)) no_members))))))
+
+-- the same, of all calls of the history that it misses
+abbrev pub row_data : HistoryView → Operation → Reason → Data
+row_data history a reason = missing_row_data history a (map missed_of (missed_by a (operations history.events))) reason
 
 -- a line for each call, with its reason
 abbrev pub rows : HistoryView → List Operation → List Reason → List ℕ

@@ -5,6 +5,7 @@ ghost use Rattle.events.specs.HistoryView.{HistoryView};
 ghost use Rattle.events.specs.Operations.{operations};
 ghost use Rattle.history_engines.specs.Answers.{IsHistoryRefusal, IsTextOf};
 ghost use Rattle.history_text.specs.Limits.{text_limit};
+ghost use Rattle.judge.specs.Exact.{IsExactVerdict, IsRefuted};
 ghost use Rattle.judge.specs.Reports.{verdict_data};
 ghost use Rattle.judge.specs.Shown.{IsShown};
 ghost use Rattle.outcomes.specs.Ends.{change};
@@ -13,8 +14,7 @@ ghost use Rattle.outcomes.specs.Outcomes.{IsTextOutcome};
 ghost use Rattle.outcomes.specs.Reads.{IsTextRead};
 ghost use Rattle.outcomes.specs.Runs.{IsRun};
 ghost use Rattle.search.specs.Limits.{budget_limit};
-ghost use Rattle.segments.specs.SegmentOrders.{HasNoOrder};
-ghost use Rattle.explain_engines.specs.Answers.{IsExplainAnswer, IsExplaining, AreDetails, AreDetailsOf};
+ghost use Rattle.explain_engines.specs.Answers.{IsExplainAnswer, IsExplaining, AreDetails, AreFew};
 ghost use Rattle.explain_engines.specs.Outcomes.{IsExplainOutcome};
 
 use crate::reports::few_lines;
@@ -60,8 +60,7 @@ pub fn run_explain<S: Source, O: Sink, F: Sink, H: Sink>(
     }
 }
 
-/// The verdict on the history that the text spells, as its report; and behind that of a no few calls that show it, unless their
-/// searches meet more configurations than the budget.
+/// The verdict on the history that the text spells, as its report; and behind that of a no few calls that show it.
 pub fn explain_outcome(alloc: Global, text: &[u8], budget: u32) -> Outcome
     requires { (1 ≤ budget) × (budget ≤ budget_limit) }
     ensures { IsTextOutcome (IsExplainAnswer budget) IsHistoryRefusal (Some text.now) result }
@@ -103,6 +102,7 @@ fn verdict_lines(
 ) -> Result<String, Memory>
     requires budget { (1 ≤ budget) × (budget ≤ budget_limit) }
     requires shown { IsShown history.now.start budget (operations history.now.events) verdict.now }
+    requires exact { IsExactVerdict history.now.start budget (operations history.now.events) verdict.now }
     ensures { IfOk result (λ text. (details : List ℕ) × AreDetails budget history.now verdict.now details
         × (string_bytes text ≡ line (compact_text (verdict_data verdict.now)) ++ details)) }
 {
@@ -121,6 +121,7 @@ fn details_of(
 ) -> Result<String, Memory>
     requires budget { (1 ≤ budget) × (budget ≤ budget_limit) }
     requires shown { IsShown history.now.start budget (operations history.now.events) verdict.now }
+    requires exact { IsExactVerdict history.now.start budget (operations history.now.events) verdict.now }
     ensures { IfOk result (λ text. AreDetails budget history.now verdict.now (string_bytes text)) }
 {
     match verdict {
@@ -129,7 +130,8 @@ fn details_of(
     }
 }
 
-/// Few calls of a segment that show that it has no order.
+/// Few calls of a segment that show that it has no order. Their search meets no more configurations than can be reached, so it is not spent.
+#[tactic(auto, using(crate::proofs::RefutedLemmas::refuted_within))]
 fn segment_details(
     alloc: Global,
     history: &History,
@@ -137,12 +139,12 @@ fn segment_details(
     budget: u32,
 ) -> Result<String, Memory>
     requires budget { (1 ≤ budget) × (budget ≤ budget_limit) }
-    requires none { HasNoOrder segment.now }
-    ensures { IfOk result (λ text. AreDetailsOf budget history.now segment.now (string_bytes text)) }
+    requires refuted { IsRefuted budget segment.now }
+    ensures { IfOk result (λ text. AreFew budget history.now segment.now (string_bytes text)) }
 {
     let start = SortedMap::of(alloc, segment.start())?;
     match explain(alloc, &start, segment.calls(), budget)? {
         Explained::Few(few) => few_lines(alloc, history, segment, few, budget),
-        Explained::Order(_) | Explained::Spent => Ok(String::new(alloc)),
+        Explained::Order(_) | Explained::Spent => unreachable!(),
     }
 }

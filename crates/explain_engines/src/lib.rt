@@ -5,6 +5,7 @@
 mod explained;
 mod fronts;
 mod laws;
+mod misses;
 mod reports;
 mod writers;
 

@@ -12,14 +12,16 @@ ghost use Rattle.outcomes.specs.Lines.{line};
 ghost use Rattle.explaining.specs.Explained.{IsExplanation};
 ghost use Rattle.orders.specs.Orders.{IsLinearizable};
 ghost use Rattle.small_histories.specs.SmallHistories.{IsWrittenAs};
-ghost use Rattle.explain_engines.specs.Answers.{AreDetailsOf, AreHistoryLines, AreLinesOf, AreTwoLines, IsFrontOf};
-ghost use Rattle.explain_engines.specs.Reports.{answer_data, was_answered, kept_data, process_at, reason_word, row_data, rows};
+ghost use Rattle.explain_engines.specs.Answers.{AreFew, AreHistoryLines, AreLinesOf, AreTwoLines, IsFrontOf};
+ghost use Rattle.explain_engines.specs.Reports.{answer_data, was_answered, kept_data, process_at, reason_word, missing_row_data, row_data, rows};
 
 use crate::fronts::front_line;
+use crate::misses::put_missed;
 use crate::writers::outside_lines;
 use events::{Event, History, Memory, Operation, Response};
 use explaining::{Explanation, Reason};
 use history_text::{call_value, reply_value};
+use origins::{Missed, missed_by};
 use outcomes::line_of;
 use search::longest_front;
 use segments::Segment;
@@ -38,7 +40,7 @@ pub(crate) fn few_lines(
 ) -> Result<String, Memory>
     requires { (1 ≤ budget) × (budget ≤ budget_limit) }
     ensures { IsExplanation segment.now.start segment.now.calls budget few
-        → IfOk result (λ text. AreDetailsOf budget history.now segment.now (string_bytes text)) }
+        → IfOk result (λ text. AreFew budget history.now segment.now (string_bytes text)) }
 {
     let start = segment.start();
     let calls = few.calls.as_slice();
@@ -146,23 +148,25 @@ fn row_line(
     history: &History,
     call: &Operation,
     reason: &Reason,
-) -> Result<String, AllocError>
+) -> Result<String, Memory>
     ensures { IfOk result (λ text. string_bytes text ≡ line (compact_text (row_data history.now call.now reason.now))) }
 {
-    let value = row_value(alloc, history, call, reason)?;
-    line_of(value.to_string(alloc)?)
+    let missed = missed_by(alloc, history.calls(), call)?;
+    let value = row_value(alloc, history, call, &missed, reason)?;
+    Ok(line_of(value.to_string(alloc)?)?)
 }
 
 fn row_value(
     alloc: Global,
     history: &History,
     call: &Operation,
+    missed: &[Missed],
     reason: &Reason,
 ) -> Result<Value, AllocError>
-    ensures { IfOk result (λ value. view value ≡ row_data history.now call.now reason.now) }
+    ensures { IfOk result (λ value. view value ≡ missing_row_data history.now call.now missed.now reason.now) }
 {
     let mut members = Map::new(alloc);
-    put_row(alloc, &mut members, history, call, reason)?;
+    put_row(alloc, &mut members, history, call, missed, reason)?;
     Ok(Value::Object(members))
 }
 
@@ -172,10 +176,12 @@ fn put_row(
     members: &mut Map<String, Value>,
     history: &History,
     call: &Operation,
+    missed: &[Missed],
     reason: &Reason,
 ) -> Result<(), AllocError>
     requires { members.old.entries ≡ [] }
-    ensures { OnOk result (object (members_view members.new.entries) ≡ row_data history.now call.now reason.now) }
+    ensures { OnOk result (object (members_view members.new.entries)
+        ≡ missing_row_data history.now call.now missed.now reason.now) }
 {
     let answered = was_answered(history.calls(), call.inv);
     put_call(alloc, members, answered, call)?;
@@ -186,7 +192,8 @@ fn put_row(
         alloc,
         "reason",
         Value::try_from_str(alloc, reason_word(reason))?,
-    )
+    )?;
+    put_missed(alloc, members, history.events(), missed)
 }
 
 /// Puts what counts of a call's answer, what was called, and the event of its invocation.

@@ -1,4 +1,5 @@
--- Which calls a picture shows: where nothing is asked for, of a no the few that show it, with those that put what they read.
+-- Which calls a picture shows: where nothing is asked for, of a no the few that show it, with those that put what they read, and those that they
+-- miss.
 use Rattle.std.specs.Prelude.{◌≡◌, ℕ, ◌&&◌, Bool, not, nat_lt, List, [], ◌∷◌, ◌++◌, length, map, Option, MatchBool}
 use Rattle.events.specs.HistoryView.{HistoryView}
 use Rattle.events.specs.Limits.{call_limit}
@@ -12,6 +13,7 @@ use Rattle.explaining.specs.declared.explanation.Explanation.{Explanation}
 use Rattle.explaining.specs.Explained.{IsExplanation}
 use Rattle.origins.specs.External.{AreExternal}
 use Rattle.origins.specs.Writers.{writers_of}
+use Rattle.origins.specs.Missed.{missed_by}
 use Rattle.pictures.specs.declared.pictures_of.Picture.{Picture}
 use Rattle.pictures.specs.declared.windows.View.{View}
 use Rattle.pictures.specs.Few.{IsFewOf}
@@ -32,14 +34,21 @@ abbrev pub places_put : List Operation → List (ℕ × ℕ) → List ℕ
 places_put calls [] = []
 places_put calls (pair ∷ pairs) = places_of (writers_of pair calls) ++ places_put calls pairs
 
--- the events at which few calls of a segment are invoked that have no order, which is why it has none, and those calls of the history that
--- put what these read from outside
+-- those at which the calls are invoked that one of some calls misses, one after another
+abbrev pub places_missed : List Operation → List Operation → List ℕ
+places_missed calls [] = []
+places_missed calls (a ∷ few) = places_of (missed_by a calls) ++ places_missed calls few
+
+-- the events at which few calls of a segment are invoked that have no order, which is why it has none, those calls of the history that put
+-- what these read from outside, and those that they miss
 pub record AreFewPlaces (budget : ℕ) (history : HistoryView) (segment : SegmentView) (places : List ℕ) : Type 0 where
   pub few : Explanation
   pub pairs : List (ℕ × ℕ)
   pub explains : IsExplanation segment.start segment.calls budget few
   pub external : AreExternal segment.start few.calls.items pairs
-  pub places_are : places ≡ places_of few.calls.items ++ places_put (operations history.events) pairs
+  pub places_are :
+      places ≡ (places_of few.calls.items ++ places_put (operations history.events) pairs)
+      ++ places_missed (operations history.events) few.calls.items
 
 -- few calls of a segment without order are shown, but where more configurations of it are reachable than the budget
 abbrev pub IsFewChoice : ℕ → HistoryView → SegmentView → Choice → Type 0

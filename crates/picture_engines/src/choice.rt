@@ -1,20 +1,23 @@
 // Which calls a picture shows.
-ghost use Rattle.std.specs.Prelude.{◌≡◌, ℕ, ◌++◌, List, length, IfOk, MatchBool, OnOk};
+ghost use Rattle.std.specs.Prelude.{◌≡◌, ℕ, ◌++◌, List, length, map, IfOk, MatchBool, OnOk};
 ghost use Rattle.events.specs.Operations.{operations};
 ghost use Rattle.judge.specs.Shown.{IsShown};
 ghost use Rattle.search.specs.Limits.{budget_limit};
 ghost use Rattle.segments.specs.SegmentOrders.{HasNoOrder};
 ghost use Rattle.explaining.specs.Explained.{IsExplanation};
 ghost use Rattle.origins.specs.External.{AreExternal};
+ghost use Rattle.origins.specs.declared.missing.Missed.{Missed};
+ghost use Rattle.origins.specs.Missed.{missed_by};
 ghost use Rattle.origins.specs.Writers.{writers_of};
 ghost use Rattle.picture_engines.specs.declared.choice.Choice.TheVariants.{Part};
-ghost use Rattle.picture_engines.specs.Choices.{asks_for_nothing, places_of, places_put, IsChoiceOf, IsFewChoice};
+ghost use Rattle.picture_engines.specs.Choices.{asks_for_nothing, places_of, places_put, places_missed};
+ghost use Rattle.picture_engines.specs.Choices.{IsChoiceOf, IsFewChoice};
 
 use events::{History, MAX_CALLS, Memory, Operation};
 use explaining::{Explained, Explanation, explain};
 use judge::Verdict;
 use map_object::SortedMap;
-use origins::{external_pairs, writers_of};
+use origins::{Missed, external_pairs, missed_by, writers_of};
 use pictures::View;
 use segments::Segment;
 use std::alloc::Global;
@@ -29,7 +32,7 @@ pub(crate) enum Choice {
 }
 
 /// What is shown of a verdict: of a no, where nothing is asked for, few calls that show it with those that put what these read from
-/// outside; but for that where their search meets more configurations than the budget, and else, the part that is asked for.
+/// outside and those that these miss; but for that where their search meets more configurations than the budget, and else, the part that is asked for.
 pub(crate) fn choice_of(
     alloc: Global,
     history: &History,
@@ -89,7 +92,7 @@ fn few_choice(
     }
 }
 
-/// These few calls, with those that put what they read from outside.
+/// These few calls, with those that put what they read from outside, and those that they miss.
 fn few_shown(
     alloc: Global,
     history: &History,
@@ -104,7 +107,8 @@ fn few_shown(
     Ok(Choice::Few(places))
 }
 
-/// The events at which few calls of a segment are invoked, and those of the history that put what these read from outside.
+/// The events at which few calls of a segment are invoked, and those of the history that put what these read from outside, or that these
+/// miss.
 fn places_of_few(
     alloc: Global,
     history: &History,
@@ -112,14 +116,17 @@ fn places_of_few(
     few: &[Operation],
 ) -> Result<Vec<usize>, Memory>
     ensures { IfOk result (λ places. (pairs : List (ℕ × ℕ)) × AreExternal segment.now.start few.now pairs
-        × (places.items ≡ places_of few.now ++ places_put (operations history.now.events) pairs)) }
+        × (places.items ≡ (places_of few.now ++ places_put (operations history.now.events) pairs)
+        ++ places_missed (operations history.now.events) few.now)) }
 {
     let start = SortedMap::of(alloc, segment.start())?;
-    let places = few_places(alloc, history, &start, few)?;
+    let mut places = few_places(alloc, history, &start, few)?;
+    push_missed(alloc, &mut places, history.calls(), few)?;
     Ok(places)
 }
 
-/// The same, where the map holds these pairs at the start.
+/// The events at which few calls are invoked, and those of the history that put what these read from outside, where the map holds these pairs at
+/// the start.
 fn few_places(
     alloc: Global,
     history: &History,
@@ -156,4 +163,36 @@ fn push_puts(
         places.extend_from_slice(&put)?;
     }
     Ok(())
+}
+
+/// Adds those at which the calls are invoked that one of these few misses.
+fn push_missed(
+    alloc: Global,
+    places: &mut Vec<usize>,
+    calls: &[Operation],
+    few: &[Operation],
+) -> Result<(), Memory>
+    ensures { OnOk result (places.new.items ≡ places.old.items ++ places_missed calls.now few.now) }
+{
+    for call in few {
+        let missed = events_missed(alloc, calls, call)?;
+        places.extend_from_slice(&missed)?;
+    }
+    Ok(())
+}
+
+/// The events at which the calls are invoked that one misses.
+fn events_missed(alloc: Global, calls: &[Operation], call: &Operation) -> Result<Vec<usize>, Memory>
+    ensures { IfOk result (λ places. places.items ≡ places_of (missed_by call.now calls.now)) }
+{
+    let missed = missed_by(alloc, calls, call)?;
+    let places = events_of(alloc, &missed)?;
+    Ok(places)
+}
+
+/// The events of calls that are missed.
+fn events_of(alloc: Global, missed: &[Missed]) -> Result<Vec<usize>, Memory>
+    ensures { IfOk result (λ places. places.items ≡ map (λ (m : Missed). m.event) missed.now) }
+{
+    Ok(missed.iter().map(|missed| missed.event).collect(alloc)?)
 }

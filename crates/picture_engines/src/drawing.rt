@@ -35,8 +35,8 @@ use streams::{Sink, Source};
 /// Reads a history text to the end of the source, or until it is too long, has it judged, and draws the verdict; for a no the
 /// event at which the history goes wrong is marked, where the judge's budget suffices to
 /// locate it, and for a no or an undecided the longest front that a search of the named segment meets. Of the picture the part
-/// that the view asks for is drawn; where it asks for nothing, of a no few calls that show it, with those that put what they read,
-/// unless their search meets more configurations than the budget. Answers the exit status, that of the verdict.
+/// that the view asks for is drawn; where it asks for nothing, of a no few calls that show it, with those that put what they read and
+/// those that they miss, unless their search meets more configurations than the budget. Answers the exit status, that of the verdict.
 pub fn run_draw<S: Source, O: Sink, F: Sink, H: Sink, J: Judge>(
     alloc: Global,
     source: &mut S,
