@@ -4,7 +4,7 @@ use Rattle.events.specs.declared.event.Reply.{Reply}
 use Rattle.kept_keys.specs.Judging.{IsJudged}
 use Rattle.kept_keys.specs.Steps.{IsAnswered}
 use Rattle.kept_keys.specs.Views.{KeptView}
-use Rattle.kept_keys.specs.declared.judging.Judged.TheVariants.{Order, NoOrder}
+use Rattle.kept_keys.specs.declared.judging.Judged.TheVariants.{Order, NoOrder, Spent}
 use Rattle.kept_rows.proofs.turning.turn_key.Goals as goal
 
 -- src/turning.rt:43:1
@@ -34,4 +34,17 @@ returns-in-NoOrder c =
           (subst (λ (reply : Reply). IsAnswered a.place a.name a.call reply c.args.kept old) c.in_ok-reply.ensures c.in_ok-answered.ensures);
       none = subst (λ (k : KeptView). IsJudged c.args.budget a.key k NoOrder) same
           (subst (IsJudged c.args.budget a.key old) c.in-NoOrder.is c.in_ok-judge.ensures.judged);
+    }
+
+-- src/turning.rt:43:1
+pub returns-in-Spent : goal.returns-in-Spent
+returns-in-Spent c =
+    let a = c.args.answer.now in
+    let old = c.in_ok-answered.answered in
+    let same = sym c.judge.ensures.same in
+    record {
+      is_answered = subst (λ (k : KeptView). IsAnswered a.place a.name a.call a.reply c.args.kept k) same
+          (subst (λ (reply : Reply). IsAnswered a.place a.name a.call reply c.args.kept old) c.in_ok-reply.ensures c.in_ok-answered.ensures);
+      beyond = subst (λ (k : KeptView). IsJudged c.args.budget a.key k Spent) same
+          (subst (IsJudged c.args.budget a.key old) c.in-Spent.is c.in_ok-judge.ensures.judged);
     }
