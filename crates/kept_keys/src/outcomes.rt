@@ -17,7 +17,7 @@ use events::{Memory, Operation};
 use past_choices::{Answer, PastChoice, Start, may_be_answered, past_choices, value_behind};
 use std::alloc::Global;
 
-/// The calls taken that have not ended, and the chosen ones, by rising name.
+/// The calls taken that have not ended, and the chosen ones, by rising name, each once.
 fn taken_with(
     alloc: Global,
     taken: &[usize],
@@ -31,6 +31,7 @@ fn taken_with(
 {
     let mut all = taken_and_chosen(alloc, taken, gone, names, chosen)?;
     all.sort_unstable();
+    all.dedup();
     Ok(all)
 }
 
