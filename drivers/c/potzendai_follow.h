@@ -4,8 +4,9 @@
 
 #include "potzendai_rounds.h"
 
-/* Slots of the stream, processes for threads that go on as others, and characters of the report of one without order. */
-enum { POTZENDAI_SLOTS = 8192, POTZENDAI_OTHERS = 4096, POTZENDAI_SHOWN = 1000 };
+/* Slots of the stream, processes for threads that go on as others, characters of the report of one without order, the most bytes of a stream
+ * that are kept for a file, and for how many of them there is room at first. */
+enum { POTZENDAI_SLOTS = 8192, POTZENDAI_OTHERS = 4096, POTZENDAI_SHOWN = 1000, POTZENDAI_KEPT = 1 << 26, POTZENDAI_KEPT_FIRST = 1 << 16 };
 
 /* A stream, who takes its lines, and how far it is. */
 struct potzendai_following {
@@ -19,6 +20,9 @@ struct potzendai_following {
     struct potzendai_follower follower;
     char report[POTZENDAI_REPORT];
     struct potzendai_told told;
+    char *kept; /* the stream so far, while it is kept */
+    size_t kept_length, kept_room;
+    bool is_long, is_unkept;
 #endif
 };
 
@@ -46,11 +50,44 @@ static inline void potzendai_follow_progress(struct potzendai_following *f)
     potzendai_progress(f->tester);
 }
 
+/* Makes room for so many bytes more of the stream: false where they are too many to be kept, or where memory is refused. */
+static inline bool potzendai_grow_kept(struct potzendai_following *f, size_t length)
+{
+    size_t room = f->kept_room ? f->kept_room : (size_t)POTZENDAI_KEPT_FIRST;
+    f->is_long = length > (size_t)POTZENDAI_KEPT - f->kept_length;
+    while (!f->is_long && room < f->kept_length + length)
+        room *= 2;
+    if (f->is_long || room == f->kept_room)
+        return !f->is_long;
+    char *kept = (char *)realloc(f->kept, room);
+    if (!kept)
+        return false;
+    f->kept = kept;
+    f->kept_room = room;
+    return true;
+}
+
+/* Keeps lines of the stream for a file, or nothing of it any more where there is no room: it is followed all the same. */
+static inline void potzendai_keep_lines(struct potzendai_following *f, const char *text, size_t length)
+{
+    if (f->is_unkept)
+        return;
+    if (!potzendai_grow_kept(f, length)) {
+        free(f->kept);
+        f->kept = NULL;
+        f->is_unkept = true;
+        return;
+    }
+    memcpy(f->kept + f->kept_length, text, length);
+    f->kept_length += length;
+}
+
 /* Takes lines: other than 0 where the stream is no yes any more. */
 static inline int potzendai_take_lines(void *to, const char *text, size_t length)
 {
     struct potzendai_following *f = (struct potzendai_following *)to;
     uint32_t status = potzendai_follow_event(&f->follower, text, length);
+    potzendai_keep_lines(f, text, length);
     potzendai_follow_progress(f);
     return status == POTZENDAI_YES ? 0 : -1;
 }
@@ -71,29 +108,57 @@ static inline enum potzendai_status potzendai_stream_verdict(struct potzendai_fo
     return status;
 }
 
-/* A stream without order: the calls left at a key are a history, where that says it all, which is explained. Where scans overlap much, not all
- * keys of the report are shown. */
+/* Says why few of the calls left at a key are not shown, by what comes of asking for them. */
+static inline void potzendai_tell_unexplained(enum potzendai_status status, const char *report)
+{
+    if (status <= POTZENDAI_IS_UNDECIDED)
+        fprintf(stderr, "few calls are not shown: they are not found within a budget of %d\n", 10 * POTZENDAI_BUDGET);
+    else if (status == POTZENDAI_NO_MEMORY)
+        fputs("few calls are not shown: memory: they were not sought to the end\n", stderr);
+    else
+        fprintf(stderr, "few calls are not shown: %.*s\n", (int)strcspn(report, "\n"), report);
+}
+
+/* The history of the calls left at a key, and few of it that have no order. Where these are not found, the history alone is kept. */
+static inline void potzendai_tell_left(struct potzendai_following *f, const char *text)
+{
+    struct potzendai_told left;
+    memset(&left, 0, sizeof left);
+    left.is_left = true;
+    left.length = strlen(text);
+    left.text = (char *)calloc(1, left.length + 1);
+    if (left.text)
+        memcpy(left.text, text, left.length);
+    enum potzendai_status status = left.text ? potzendai_explained(&left) : POTZENDAI_NO_MEMORY;
+    if (status <= POTZENDAI_IS_UNDECIDED && strstr(left.report, "\n{\"answer\":")) {
+        fputs("events and processes are numbered anew here and in the files, for the calls \"invoked\" above that had not taken effect, "
+              "in that order:\n", stderr);
+        potzendai_tell_no(f->tester, &left);
+    } else {
+        potzendai_tell_unexplained(status, left.report);
+        potzendai_keep(f->tester, ".json", text, strlen(text));
+    }
+    potzendai_forget(&left);
+}
+
+/* A stream without order: the calls left at a key are a history, where that says it all, which is explained; else it is said why not. Kept is
+ * the stream so far, unless it is long, and of the report what is not shown, or all where nothing else is kept. */
 static inline void potzendai_tell_stream(struct potzendai_following *f)
 {
-    const char *few = potzendai_next_line(f->told.report);
-    struct potzendai_told small;
-    memset(&small, 0, sizeof small);
-    small.is_left = true;
-    size_t length = strcspn(f->told.report, "\n");
-    bool is_long = length > (size_t)POTZENDAI_SHOWN;
-    fprintf(stderr, "%.*s%s\n", (int)(is_long ? (size_t)POTZENDAI_SHOWN : length), f->told.report, is_long ? ".." : "");
-    if (few) {
-        small.length = strlen(few);
-        small.text = (char *)calloc(1, small.length + 1);
-        if (small.text)
-            memcpy(small.text, few, small.length);
-        if (small.text && potzendai_explained(&small) == POTZENDAI_IS_NO) {
-            fputs("events and processes are numbered anew here and in the files, for the calls \"invoked\" above that had not taken effect, "
-                  "in that order:\n", stderr);
-            potzendai_tell_no(f->tester, &small);
-        }
-        potzendai_forget(&small);
-    }
+    const char *left = potzendai_next_line(f->told.report);
+    bool is_whole = potzendai_tell_keys(stderr, f->told.report, (size_t)POTZENDAI_SHOWN);
+    if (left)
+        potzendai_tell_left(f, left);
+    else
+        fprintf(stderr, "few calls are not shown: %s\n", potzendai_why_not_few(f->told.report));
+    if (!f->is_unkept)
+        potzendai_keep(f->tester, ".jsonl", f->kept ? f->kept : "", f->kept_length);
+    else if (f->is_long)
+        fprintf(stderr, "the stream is not kept, since it is longer than %d bytes\n", POTZENDAI_KEPT);
+    else
+        fputs("the stream is not kept, since memory for it was refused\n", stderr);
+    if (!is_whole || (!left && f->is_unkept))
+        potzendai_keep(f->tester, "-report.json", f->told.report, strcspn(f->told.report, "\n"));
     potzendai_tell_again(f->tester, 0);
 }
 
@@ -241,6 +306,9 @@ static inline int potzendai_stream(struct potzendai_tester *tester)
     streaming_close(&f->stream);
     if (f->file && fclose(f->file) && status == 0)
         status = potzendai_fail(tester->run, POTZENDAI_BAD_FILE, "the stream was not written");
+#ifndef POTZENDAI_NO_LIBRARY
+    free(f->kept);
+#endif
     free(f);
     return status;
 }

@@ -9,7 +9,7 @@
 #include "potzendai.h"
 #endif
 
-enum { POTZENDAI_TRIES = 8, POTZENDAI_TRIES_SECONDS = 5, POTZENDAI_GETS = 1000, POTZENDAI_PATH = 4096, POTZENDAI_BITS = 40 };
+enum { POTZENDAI_TRIES = 8, POTZENDAI_TRIES_SECONDS = 5, POTZENDAI_GETS = 1000, POTZENDAI_BITS = 40 };
 
 /* A run with what comes of it. `session` is of the thread that runs all of it. */
 struct potzendai_tester {
@@ -91,8 +91,7 @@ static inline int potzendai_carry_on(struct potzendai_run *run)
     for (uint64_t i = 0; i < count; i++) {
         uint64_t p = atomic_fetch_add(&run->next_process, (uint64_t)1);
         if (p >= atomic_load(&run->processes))
-            return potzendai_fail(run, POTZENDAI_IS_UNDECIDED, "%" PRIu64 " calls are without an answer, which leaves no room for others",
-                                  count);
+            return potzendai_fail(run, POTZENDAI_IS_UNDECIDED, "calls without an answer leave no room for others: %" PRIu64, count);
         if (recording_add(run->recording, (unsigned)p, run->open_calls[i].call, run->open_calls[i].words[0], run->open_calls[i].words[1],
                           run->open_calls[i].words[2]))
             return potzendai_fail(run, POTZENDAI_NO_MEMORY, "memory: a round has no room");
@@ -243,18 +242,14 @@ static inline int potzendai_path(const struct potzendai_tester *tester, char pat
     return length > 0 && length < POTZENDAI_PATH ? 0 : -1;
 }
 
-/* Writes a text to a file of this run. Where that fails it is told. */
-static inline int potzendai_keep(const struct potzendai_tester *tester, const char *ending, const char *text, size_t length)
+/* Writes a text to a file of this run, whose path it answers too: 0, or -1 where that fails. */
+static inline int potzendai_write_file(const struct potzendai_tester *tester, const char *ending, const char *text, size_t length,
+                                       char path[POTZENDAI_PATH])
 {
-    char path[POTZENDAI_PATH];
     FILE *out = potzendai_path(tester, path, ending) ? NULL : fopen(path, "w");
     bool is_kept = out && fwrite(text, 1, length, out) == length;
     if (out && fclose(out))
         is_kept = false;
-    if (is_kept)
-        fprintf(stderr, "  file: %s\n", path);
-    else
-        fprintf(stderr, "file: not written: %s\n", path);
     return is_kept ? 0 : -1;
 }
 
@@ -273,26 +268,39 @@ static inline void potzendai_progress(struct potzendai_tester *tester)
         return;
     for (uint64_t key = 0; key < tester->options->keys; key++)
         met += atomic_load_explicit(&tester->run->keys[key].is_met, POTZENDAI_RELAXED);
-    fprintf(stderr, "%" PRIu64 " calls, %.0f a second, overlap %.1f a call, %.1f%% refused, ", tester->calls,
-            (double)tester->calls / seconds, potzendai_overlap_a_call(tester),
+    fprintf(stderr, "%" PRIu64 " call%s, %.0f a second, overlap %.1f a call, %.1f%% refused, ", tester->calls,
+            potzendai_plural(tester->calls), (double)tester->calls / seconds, potzendai_overlap_a_call(tester),
             100.0 * (double)tester->refused / (double)tester->calls);
-    fprintf(stderr, "two writers met on %" PRIu64 " of %" PRIu64 " keys\n", met, tester->options->keys);
+    fprintf(stderr, "two writers met on %" PRIu64 " of %" PRIu64 " key%s\n", met, tester->options->keys,
+            potzendai_plural(tester->options->keys));
     tester->told = now;
 }
 
 #ifdef POTZENDAI_NO_LIBRARY
 
-/* Nobody judges: histories are written. */
+/* Nobody judges: histories are written. Of their files the last line but one tells. */
 static inline int potzendai_take_round(struct potzendai_tester *tester, struct potzendai_told *told)
 {
+    char path[POTZENDAI_PATH];
     bool is_out = strcmp(tester->options->out, "-") == 0;
     if (is_out ? fwrite(told->text, 1, told->length, stdout) == told->length && fflush(stdout) == 0
-               : potzendai_keep(tester, ".json", told->text, told->length) == 0)
+               : potzendai_write_file(tester, ".json", told->text, told->length, path) == 0)
         return POTZENDAI_IS_YES;
+    if (!is_out)
+        fprintf(stderr, "file: not written: %s\n", path);
     return potzendai_fail(tester->run, POTZENDAI_BAD_FILE, "a history was not written");
 }
 
 #else
+
+/* Keeps a text as a file of this run, and says its path. Where that fails it is told. */
+static inline int potzendai_keep(const struct potzendai_tester *tester, const char *ending, const char *text, size_t length)
+{
+    char path[POTZENDAI_PATH];
+    int status = potzendai_write_file(tester, ending, text, length, path);
+    fprintf(stderr, status ? "file: not written: %s\n" : "  file: %s\n", path);
+    return status;
+}
 
 typedef uint32_t potzendai_question(const char *, size_t, uint32_t, char *, size_t, size_t *);
 

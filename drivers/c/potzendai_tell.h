@@ -91,6 +91,28 @@ static inline void potzendai_tell_call(FILE *out, const char *at)
         fprintf(out, "%s %s", name, numbers[0]);
 }
 
+/* The first event of a history's text from here on, or NULL. */
+static inline const char *potzendai_event_from(const char *at)
+{
+    while (at && strncmp(at, "{\"invoke\":", 10) != 0 && strncmp(at, "{\"answer\":", 10) != 0)
+        at = strstr(at + 1, "{\"");
+    return at;
+}
+
+/* Writes the events of a call: that of its invocation by a process, and that of its answer, where it has one. */
+static inline void potzendai_tell_events(FILE *out, const char *text, uint64_t invoked, uint64_t process)
+{
+    char events[64];
+    uint64_t event = 0;
+    const char *at = potzendai_event_from(text);
+    snprintf(events, sizeof events, "event %" PRIu64 " on", invoked);
+    for (; at && (event <= invoked || potzendai_number(at, "\"process\":") != process); event++)
+        at = potzendai_event_from(at + 1);
+    if (at)
+        snprintf(events, sizeof events, "events %" PRIu64 " to %" PRIu64, invoked, event);
+    fprintf(out, "  %-19s process %-3" PRIu64 " ", events, process);
+}
+
 /* Whether a value is in a pair that the history starts from. */
 static inline bool potzendai_is_at_start(const char *text, const char *value, size_t digits)
 {
@@ -118,12 +140,10 @@ static inline void potzendai_tell_writer(FILE *out, const char *text, const char
 {
     size_t digits = strspn(value, "0123456789");
     uint64_t event = 0;
-    for (const char *at = strstr(text, "{\""); at && digits > 0; at = strstr(at + 1, "{\""), event++) {
+    for (const char *at = potzendai_event_from(text); at && digits > 0; at = potzendai_event_from(at + 1), event++) {
         const char *call = strncmp(at, "{\"invoke\":", 10) == 0 ? at + 10 : NULL;
         const char *end = call ? strchr(call, ']') : NULL;
         bool puts = call && (strncmp(call, "[\"insert", 8) == 0 || strncmp(call, "[\"replace", 9) == 0);
-        if (event == 0 && strncmp(at, "{\"events\"", 9) == 0)
-            event--;
         if (puts && end && (size_t)(end - call) > digits && end[-(int)digits - 1] == ','
             && memcmp(end - digits, value, digits) == 0) {
             fprintf(out, "; %.*s is what process %" PRIu64 " put (event %" PRIu64 ")", (int)digits, value,
@@ -154,6 +174,33 @@ static inline void potzendai_tell_origin(FILE *out, const char *line, bool is_le
     fprintf(out, "%s\n", *comma ? "" : potzendai_nobody(is_left));
 }
 
+/* Writes from which value of a key the few calls have no order: the line stands behind an undecided alone. */
+static inline void potzendai_tell_from(FILE *out, const char *line, bool is_left)
+{
+    const char *value = line + strlen("{\"from\":"), *put = potzendai_member(line, "\"put\":{");
+    size_t digits = strspn(value, "0123456789");
+    fprintf(out, "  from key %" PRIu64 " holding %.*s", potzendai_number(line, "\"key\":"), digits ? (int)digits : 7, digits ? value : "nothing");
+    if (put)
+        fprintf(out, ", which process %" PRIu64 " put (event %" PRIu64 ")", potzendai_number(put, "\"process\":"),
+                potzendai_number(put, "\"event\":"));
+    else if (digits)
+        fprintf(out, ", which %s", potzendai_at_start(is_left));
+    fputs("\n", out);
+}
+
+/* Writes which calls one misses: they stand where `at` is, or it is NULL. */
+static inline void potzendai_tell_missed(FILE *out, const char *at)
+{
+    for (; at && *at == '{'; at = strchr(at, '}') + 1, at += *at == ',') {
+        const char *call = potzendai_member(at, "\"call\":");
+        if (!call)
+            break;
+        fputs("; it misses ", out);
+        potzendai_tell_call(out, call);
+        fprintf(out, " of process %" PRIu64 " (event %" PRIu64 ")", potzendai_number(at, "\"process\":"), potzendai_number(at, "\"event\":"));
+    }
+}
+
 /* How far an order of the few calls gets, and what the map would answer to each call that could come next. */
 static inline void potzendai_tell_front(FILE *out, const char *text, const char *line, bool is_left)
 {
@@ -176,29 +223,93 @@ static inline void potzendai_tell_front(FILE *out, const char *text, const char 
     }
 }
 
-/* Writes a report of `explain` in words; `text` is the history, of a round or of what a follower still had. Answers the line that is the few
- * calls' history, or NULL. */
+/* Why a no of a stream has no history of few calls behind it. */
+static inline const char *potzendai_why_not_few(const char *report)
+{
+    const char *first = potzendai_member(report, "\"key\":"), *values = potzendai_member(report, "\"values\":[");
+    if (!first || !values)
+        return "no map gives a scan the answer of this event";
+    if (potzendai_member(first, "\"key\":"))
+        return "scans may have taken effect in more than one way, and each goes wrong at one of these keys";
+    if (*values == ']')
+        return "the call had taken effect by then, and its answer gainsays what it found";
+    if (values[strcspn(values, ",]")] == ',')
+        return "the key may have had each of these values before the calls \"invoked\"";
+    return "the calls \"invoked\" fit no history: they are too many, or too many are open at once";
+}
+
+/* Where a report is shown, how many characters more, and whether it was cut. */
+struct potzendai_shown { FILE *out; size_t room; bool is_cut; };
+
+static inline void potzendai_show(struct potzendai_shown *shown, const char *text, size_t length)
+{
+    size_t some = length < shown->room ? length : shown->room;
+    if (shown->is_cut)
+        return;
+    fprintf(shown->out, "%.*s%s", (int)some, text, some < length ? ".." : "");
+    shown->room -= some;
+    shown->is_cut = some < length;
+}
+
+/* Whether a key of a report, of which this is what stands behind its calls, is among those from `keys` up to `end` with the same values. */
+static inline bool potzendai_is_shown(const char *keys, const char *end, const char *key)
+{
+    size_t length = strcspn(key, "}") + 1;
+    for (const char *at = strstr(keys, "\"key\":"); at && at < end; at = strstr(at + 1, "\"key\":"))
+        if (strncmp(at, key, length) == 0)
+            return true;
+    return false;
+}
+
+/* Writes the report of a stream without order: of ways in which scans may have taken effect each key once with its values, and no more than so
+ * many characters. Answers whether that is all of it. */
+static inline bool potzendai_tell_keys(FILE *out, const char *report, size_t most)
+{
+    struct potzendai_shown shown = {out, most, false};
+    const char *keys = potzendai_member(report, "\"keys\":["), *at = keys ? keys : report;
+    uint64_t all = 0, told = 0;
+    potzendai_show(&shown, report, (size_t)(at - report));
+    for (; *at == '{' && keys; at = strchr(at, '}') + 1, at += *at == ',', all++)
+        if (!potzendai_is_shown(keys, at, strstr(at, "\"key\":"))) {
+            potzendai_show(&shown, ",", told++ > 0);
+            potzendai_show(&shown, at, strcspn(at, "}") + 1);
+        }
+    potzendai_show(&shown, at, strcspn(at, "\n"));
+    fputs("\n", out);
+    if (told < all)
+        fprintf(out, "each key is shown once with its values, of %" PRIu64 " ways in which scans may have taken effect\n", all);
+    return told == all && !shown.is_cut;
+}
+
+/* Writes a report of `explain` in words; `text` is the history, of a round or of what a follower still had. Behind an undecided `locate` has a
+ * line, which is passed over. Answers the line that is the few calls' history, or NULL. */
 static inline const char *potzendai_tell(FILE *out, const char *text, const char *report, bool is_left)
 {
     const char *few = NULL, *line = potzendai_next_line(report);
     fprintf(out, "%.*s\n", (int)strcspn(report, "\n"), report);
+    while (line && potzendai_member(line, "\"verdict\":"))
+        line = potzendai_next_line(line);
     if (line)
-        fputs("these calls have no order, whatever else was done:\n", out);
+        fputs("these calls have no order, and no other could mend that:\n", out);
     for (; line; line = potzendai_next_line(line)) {
         const char *answer = potzendai_member(line, "{\"answer\":"), *call = potzendai_member(line, "\"call\":");
         if (strncmp(line, "{\"events\"", 9) == 0)
             few = line;
         else if (strncmp(line, "{\"front\"", 8) == 0)
             potzendai_tell_front(out, text, line, is_left);
+        else if (strncmp(line, "{\"from\"", 7) == 0)
+            potzendai_tell_from(out, line, is_left);
         else if (strncmp(line, "{\"key\"", 6) == 0)
             potzendai_tell_origin(out, line, is_left);
         else if (answer && call) {
-            fprintf(out, "  event %-6" PRIu64 " process %-3" PRIu64 " ", potzendai_number(line, "\"event\":"),
-                    potzendai_number(line, "\"process\":"));
+            /* The calls that it misses stand before its own process. */
+            const char *missed = potzendai_member(line, "\"misses\":["), *behind = missed ? strstr(missed, "}],") : line;
+            potzendai_tell_events(out, text, potzendai_number(line, "\"event\":"), behind ? potzendai_number(behind, "\"process\":") : 0);
             potzendai_tell_call(out, call);
             fputs(", answered ", out);
             potzendai_tell_answer(out, answer);
             potzendai_tell_writer(out, text, answer, is_left);
+            potzendai_tell_missed(out, missed);
             fputs("\n", out);
         }
     }

@@ -50,8 +50,8 @@ static inline void potzendai_tell_all(FILE *out, const struct potzendai_tester *
     const char *comma = ": ";
     fprintf(out, "%s: ", verdict);
     if (!tester->options->is_stream)
-        fprintf(out, "%" PRIu64 " rounds, ", tester->rounds);
-    fprintf(out, "%" PRIu64 " calls in %.1f seconds", tester->calls, potzendai_now() - tester->began);
+        fprintf(out, "%" PRIu64 " round%s, ", tester->rounds, potzendai_plural(tester->rounds));
+    fprintf(out, "%" PRIu64 " call%s in %.1f seconds", tester->calls, potzendai_plural(tester->calls), potzendai_now() - tester->began);
     if (!tester->options->is_stream || tester->has_overlap)
         fprintf(out, ", overlap %.2f a call", potzendai_overlap_a_call(tester));
     for (int said = 0; said < POTZENDAI_SAYINGS; said++)
@@ -62,6 +62,18 @@ static inline void potzendai_tell_all(FILE *out, const struct potzendai_tester *
     if (tester->undecided > 0)
         fprintf(out, "; %" PRIu64 " undecided", tester->undecided);
     fputc('\n', out);
+}
+
+/* Where nobody judges here: which files were written. That of a stream was told as it was opened. */
+static inline void potzendai_tell_files(const struct potzendai_tester *tester)
+{
+    const struct potzendai_options *o = tester->options;
+    if (strcmp(o->out, "-") == 0 || o->is_stream || tester->rounds == 0)
+        return;
+    fprintf(stderr, "  file%s: %s/%s-%" PRIu64 "-0.json", potzendai_plural(tester->rounds), o->out, tester->run->truly->name, o->seed);
+    if (tester->rounds > 1)
+        fprintf(stderr, " to -%" PRIu64 ".json", tester->rounds - 1);
+    fputs(", each for one bench judge\n", stderr);
 }
 
 /* Says how it went, and answers the status of the program. */
@@ -79,6 +91,7 @@ static inline int potzendai_finish(const struct potzendai_tester *tester, int st
     }
     potzendai_tell_calls(stderr, run);
     if (potzendai_is_unjudged(tester->options)) {
+        potzendai_tell_files(tester);
         potzendai_tell_all(stderr, tester, "not judged");
         return status;
     }

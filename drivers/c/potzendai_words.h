@@ -3,7 +3,10 @@
 #define POTZENDAI_WORDS_H
 
 #include "potzendai_map.h"
+#include <errno.h>
 #include <stdarg.h>
+#include <stdlib.h>
+#include <unistd.h>
 
 /* Statuses of a run, which are those of the program. */
 enum potzendai_status {
@@ -37,6 +40,9 @@ struct potzendai_options {
  * more, since its follower searches what is left of a key, and that is the less the fewer calls overlap there. */
 enum { POTZENDAI_SPAN = 16, POTZENDAI_CALLS = 200, POTZENDAI_KEYS = 16, POTZENDAI_STREAM_KEYS = 1000 };
 
+/* The most bytes of a path. */
+enum { POTZENDAI_PATH = 4096 };
+
 static const char potzendai_usage[] =
     "  --seconds N       how long (10, or as long as --rounds take)\n"
     "  --rounds N        at most so many rounds\n"
@@ -52,12 +58,22 @@ static const char potzendai_usage[] =
     "  --yield N         of a thousand points between and in calls, so many give way to other threads (0)\n"
     "  --break HOW       makes the map wrong now and then: drop, race, replay, stale, zombie, torn or cas\n"
     "  --stream          one stream that is followed, in the place of rounds\n"
+#ifdef POTZENDAI_NO_LIBRARY
+    "  --out FOLDER      where each round, or the stream, is put as a file, or - for standard output; nobody judges them here\n";
+#else
     "  --out FOLDER      where files are put (.), or - for standard output: all histories or the stream, which nobody judges then\n";
+#endif
 
 static inline int potzendai_complain(const char *word, const char *what)
 {
     fprintf(stderr, "%s: %s\n", word, what);
     return POTZENDAI_BAD_WORDS;
+}
+
+/* What stands behind a noun, of which there are so many. */
+static inline const char *potzendai_plural(uint64_t count)
+{
+    return count == 1 ? "" : "s";
 }
 
 /* Reads a number up to a limit; -1 where the text is none. */
@@ -249,11 +265,28 @@ static inline int potzendai_check_sizes(struct potzendai_options *o)
     return o->calls > RECORDING_CALLS / (o->threads + 1) ? potzendai_complain_of_round(o, "--calls", "") : 0;
 }
 
+/* Whether a file can be put into the folder for files: one of a name that none has yet is put there, and taken away. */
+static inline int potzendai_check_out(const struct potzendai_options *o)
+{
+    char path[POTZENDAI_PATH];
+    if (!o->out)
+        return potzendai_complain("--out", "a folder for files, of each round or of the stream, or - for standard output: nobody judges them here");
+    if (strcmp(o->out, "-") == 0)
+        return 0;
+    int length = snprintf(path, sizeof path, "%s/.potzendai-XXXXXX", o->out);
+    errno = ENAMETOOLONG;
+    int file = length > 0 && length < POTZENDAI_PATH ? mkstemp(path) : -1;
+    if (file >= 0 && close(file) == 0 && unlink(path) == 0)
+        return 0;
+    fprintf(stderr, "--out: no file can be put into %s: %s\n", o->out, strerror(errno));
+    return POTZENDAI_BAD_FILE;
+}
+
 /* Whether the words ask for help. */
 static inline bool potzendai_asks_help(int argc, char **argv)
 {
     for (int at = 1; at < argc; at++)
-        if (strcmp(argv[at], "--help") == 0)
+        if (strcmp(argv[at], "--help") == 0 || strcmp(argv[at], "-h") == 0)
             return true;
     return false;
 }
@@ -277,7 +310,9 @@ static inline int potzendai_read_words(struct potzendai_options *o, int argc, ch
     o->threads = 4;
     o->seed = ((uint64_t)now.tv_sec * 1000003u + (uint64_t)now.tv_nsec) % 1000000007u;
     o->broken = POTZENDAI_UNBROKEN;
+#ifndef POTZENDAI_NO_LIBRARY
     o->out = ".";
+#endif
     for (int at = 1; at < argc; at++) {
         int status = potzendai_read_word(o, argv, &at);
         if (status)
@@ -293,7 +328,8 @@ static inline int potzendai_read_words(struct potzendai_options *o, int argc, ch
         potzendai_take_shares(o, map);
     int status = potzendai_check_shares(o, map);
     status = status ? status : potzendai_check_break(o);
-    return status ? status : potzendai_check_sizes(o);
+    status = status ? status : potzendai_check_sizes(o);
+    return status ? status : potzendai_check_out(o);
 }
 
 /* Writes the words that repeat the draws of a run of so many rounds. */

@@ -94,7 +94,8 @@ const (
 	// Limits of a stream and of its keys; how many stamps a thread may be in front of what is handed over; how many bytes are at once.
 	streamProcesses, streamKeys, ahead, batch = 65536, 16384, 8192, 65536
 	running, over, failed                     = 0, 1, 2
-	reportShown                               = 1000 // bytes of the report of a stream without order
+	reportShown                               = 1000    // bytes of the report of a stream without order
+	mostKept                                  = 1 << 26 // bytes of a stream that are kept for a file
 )
 
 var (
@@ -731,7 +732,8 @@ type stream struct {
 	done          chan bool
 	open          map[int]*call
 	writers       map[uint64]int
-	text          []byte
+	text, kept    []byte // what is to be handed over; and the stream so far, while it is no longer than is kept
+	isLong        bool
 	out           io.Writer
 	asked         *exec.Cmd
 	answer        bytes.Buffer
@@ -829,6 +831,7 @@ func (s *stream) handAll() error {
 			return io.ErrUnexpectedEOF
 		}
 		if len(s.text) >= batch || times > 0 {
+			s.keep()
 			if _, err := s.out.Write(s.text); err != nil {
 				return err
 			}
@@ -841,6 +844,16 @@ func (s *stream) handAll() error {
 			rest(times)
 		}
 	}
+}
+
+// Keeps what is to be handed over for a file, or nothing of the stream any more where it is too long.
+func (s *stream) keep() {
+	s.isLong = s.isLong || len(s.kept)+len(s.text) > mostKept
+	if s.isLong || s.asked == nil {
+		s.kept = nil
+		return
+	}
+	s.kept = append(s.kept, s.text...)
 }
 
 // The line of an event, and what is counted: as of a round, but that nothing is kept of calls that are over.
@@ -1150,10 +1163,33 @@ func (p *program) judge(text string) int {
 
 func (p *program) askTwice(command, text string) (int, string) {
 	status, report := p.ask(command, text, p.budget)
-	if more := p.budget * 10; status == undecided && more <= 1000000 {
-		return p.ask(command, text, more)
+	if status == undecided {
+		return p.ask(command, text, p.more())
 	}
 	return status, report
+}
+
+// What explain says, or why it says nothing.
+func (p *program) explained(text string) (report string, wrong *stop) {
+	defer func() {
+		if met := recover(); met != nil {
+			it, is := met.(stop)
+			if !is {
+				panic(met)
+			}
+			wrong = &it
+		}
+	}()
+	_, report = p.askTwice("explain", text)
+	return report, nil
+}
+
+// The budget of what is asked again.
+func (p *program) more() uint64 {
+	if p.budget > 100000 {
+		return 1000000
+	}
+	return 10 * p.budget
 }
 
 func (p *program) ask(command, text string, budget uint64) (int, string) {
@@ -1198,6 +1234,7 @@ type run struct {
 	failed                             *round
 	cut                                []string
 	report                             string
+	kept                               []byte // of a stream
 }
 
 // Rounds from this number on, until one has no order, or the time is over; or one stream.
@@ -1216,7 +1253,7 @@ func newRun(o *options, make func() Map, p *program, number uint64) *run {
 	for r.failed == nil && !r.isOver() {
 		lives := (processes - 1 - len(pending)) / int(o.threads)
 		if lives == 0 {
-			r.cut = append(r.cut, fmt.Sprintf("%s: %d calls are without an answer, which leaves no room for others", o.name, len(pending)))
+			r.cut = append(r.cut, fmt.Sprintf("%s: calls without an answer leave no room for others: %d", o.name, len(pending)))
 			break
 		}
 		doubtful := map[uint64]bool{}
@@ -1269,7 +1306,7 @@ func (r *run) follow(c *crew) {
 
 // What the verdict on a stream says. One that was cut off has no yes.
 func (r *run) conclude(s *stream) {
-	r.report = s.answer.String()
+	r.report, r.kept = s.answer.String(), s.kept
 	isCut := s.state.Load() == failed
 	if s.status == yes && r.program != nil {
 		isCut = isCut || !strings.HasPrefix(r.report, fmt.Sprintf(`{"calls":%d,`, r.calls))
@@ -1330,10 +1367,18 @@ func (r *run) progress() {
 			all += count
 		}
 		o.shown = time.Now()
-		fmt.Fprintf(os.Stderr, "%d calls, %.0f a second, overlap %.1f a call, %.1f%% refused, two writers met on %d of %d keys\n", r.calls,
-			float64(r.calls)/seconds, float64(r.overlap)/float64(r.calls), 100*float64(r.sayings["refused"])/math.Max(float64(all), 1),
-			len(r.met), o.keys)
+		fmt.Fprintf(os.Stderr, "%s, %.0f a second, overlap %.1f a call, %.1f%% refused, two writers met on %d of %s\n",
+			counted(r.calls, "call"), float64(r.calls)/seconds, float64(r.overlap)/float64(r.calls),
+			100*float64(r.sayings["refused"])/math.Max(float64(all), 1), len(r.met), counted(o.keys, "key"))
 	}
+}
+
+// So many of a noun.
+func counted(count uint64, noun string) string {
+	if count == 1 {
+		return "1 " + noun
+	}
+	return fmt.Sprintf("%d %ss", count, noun)
 }
 
 // The verdict, and what it rests on.
@@ -1344,14 +1389,14 @@ func (r *run) summary(verdict string) string {
 			said = append(said, fmt.Sprintf("%d %s", r.sayings[word], word))
 		}
 	}
-	undecideds, rounds := "", fmt.Sprintf("%d rounds, ", r.rounds)
+	undecideds, rounds := "", counted(r.rounds, "round")+", "
 	if r.options.isStream {
 		rounds = ""
 	}
 	if r.undecideds > 0 {
 		undecideds = fmt.Sprintf("; %d undecided", r.undecideds)
 	}
-	return fmt.Sprintf("%s: %s%d calls in %.1f seconds, overlap %.2f a call: %s%s", verdict, rounds, r.calls,
+	return fmt.Sprintf("%s: %s%s in %.1f seconds, overlap %.2f a call: %s%s", verdict, rounds, counted(r.calls, "call"),
 		time.Since(r.began).Seconds(), float64(r.overlap)/math.Max(float64(r.calls), 1), strings.Join(said, ", "), undecideds)
 }
 
@@ -1400,7 +1445,11 @@ func saidAnswer(answer interface{}) string {
 	return said
 }
 
-func saidCall(words []interface{}) string {
+func saidCall(call interface{}) string {
+	words, is := call.([]interface{})
+	if !is || len(words) < 2 {
+		fail(badFile, "explain: %v is no call", call)
+	}
 	switch words[0] {
 	case "insert":
 		return fmt.Sprintf("put %v at %v", words[2], words[1])
@@ -1410,6 +1459,16 @@ func saidCall(words []interface{}) string {
 		return fmt.Sprintf("scan from %v to %v", words[1], words[2])
 	}
 	return fmt.Sprintf("%v %v", words[0], words[1])
+}
+
+// The events of a call: that of its invocation by a process, and that of its answer, where it has one.
+func saidEvents(r *round, invoked, process int64) string {
+	for i := int(invoked) + 1; i < len(r.events); i++ {
+		if r.events[i].process == int(process) {
+			return fmt.Sprintf("events %d to %d", invoked, i)
+		}
+	}
+	return fmt.Sprintf("event %d on", invoked)
 }
 
 // Who put a value.
@@ -1433,11 +1492,13 @@ func saidWriter(r *round, answer interface{}) string {
 
 // A line of a report: what it is of is seen by its members.
 type reported struct {
-	Answer, Would, Start       interface{}
-	Call, Front, Holds         []interface{}
+	Answer, Would, Start, Call interface{}
+	Front, Holds               []interface{}
 	Event, Process, Key, Value json.Number
-	Reason                     string
-	Next, Puts                 []reported
+	From                       json.Number
+	Verdict                    string
+	Put                        *reported
+	Next, Puts, Misses         []reported
 }
 
 // Who put a value that the few calls read and none of them put.
@@ -1455,13 +1516,32 @@ func saidOrigin(r *round, line reported) string {
 	return fmt.Sprintf("  %v at %v is %s", line.Value, line.Key, strings.Join(who, ", "))
 }
 
-// A report of explain in words, and the line that is the few calls' history, if it is there.
+// From which value of a key the few calls have no order: the line stands behind an undecided alone.
+func saidFrom(r *round, line reported) string {
+	if line.From == "" {
+		return fmt.Sprintf("  from key %v holding nothing", line.Key)
+	}
+	who := "was there " + r.atStart
+	if line.Put != nil {
+		who = fmt.Sprintf("process %v put (event %v)", line.Put.Process, line.Put.Event)
+	}
+	return fmt.Sprintf("  from key %v holding %v, which %s", line.Key, line.From, who)
+}
+
+// Which calls one misses.
+func saidMissed(line reported) string {
+	said := ""
+	for _, call := range line.Misses {
+		said += fmt.Sprintf("; it misses %s of process %v (event %v)", saidCall(call.Call), call.Process, call.Event)
+	}
+	return said
+}
+
+// A report of explain in words, and the line that is the few calls' history, if it is there. Behind an undecided locate has a line, which is
+// passed over.
 func saidReport(report string, r *round) (said []string, few string) {
 	lines := strings.Split(strings.TrimSpace(report), "\n")
 	said = append(said, lines[0])
-	if len(lines) > 1 {
-		said = append(said, "these calls have no order, whatever else was done:")
-	}
 	for _, text := range lines[1:] {
 		var line reported
 		decoder := json.NewDecoder(strings.NewReader(text))
@@ -1469,15 +1549,23 @@ func saidReport(report string, r *round) (said []string, few string) {
 		if err := decoder.Decode(&line); err != nil {
 			fail(badFile, "explain: %s", err)
 		}
+		if line.Verdict != "" {
+			continue
+		}
+		if len(said) == 1 {
+			said = append(said, "these calls have no order, and no other could mend that:")
+		}
 		event, _ := line.Event.Int64()
 		process, _ := line.Process.Int64()
 		switch {
 		case strings.HasPrefix(text, `{"events"`):
 			few = text + "\n"
-		case line.Reason != "":
-			said = append(said, fmt.Sprintf("  event %-6d process %-3d %s, answered %s", event, process, saidCall(line.Call),
-				saidAnswer(line.Answer)+saidWriter(r, line.Answer)))
-		case line.Key != "":
+		case strings.HasPrefix(text, `{"answer"`):
+			said = append(said, fmt.Sprintf("  %-19s process %-3d %s, answered %s", saidEvents(r, event, process), process,
+				saidCall(line.Call), saidAnswer(line.Answer)+saidWriter(r, line.Answer)+saidMissed(line)))
+		case strings.HasPrefix(text, `{"from"`):
+			said = append(said, saidFrom(r, line))
+		case line.Puts != nil:
 			said = append(said, saidOrigin(r, line))
 		case line.Front != nil:
 			front := strings.ReplaceAll(fmt.Sprint(line.Front), " ", ",")
@@ -1491,7 +1579,7 @@ func saidReport(report string, r *round) (said []string, few string) {
 	return said, few
 }
 
-// Writes a file of a round, and says how it is called.
+// Writes a file of a round, or of a stream, and says how it is called.
 func (r *run) keep(ending, text string) string {
 	number := r.rounds
 	if number > 0 {
@@ -1504,20 +1592,81 @@ func (r *run) keep(ending, text string) string {
 	return "  file: " + path
 }
 
-// A stream that has no order: the calls left at a key are a history, where that says it all, which is explained. Where scans overlap much, not all
-// keys of the report are shown.
+// A stream that has no order: the calls left at a key are a history, where that says it all, which is explained; else it is said why not. Kept
+// is the stream so far, unless it is long, and of the report what is not shown, or all where nothing else is kept.
 func (r *run) refutedStream() []string {
-	report, small, _ := strings.Cut(r.report, "\n")
-	if len(report) > reportShown {
-		report = report[:reportShown] + ".."
+	report, left, _ := strings.Cut(r.report, "\n")
+	said := saidKeys(report)
+	isWhole := len(said) == 1 && said[0] == report
+	if left != "" {
+		said = append(said, r.shownLeft(left)...)
+	} else {
+		said = append(said, "few calls are not shown: "+whyNotFew(report))
 	}
-	said := []string{report}
-	if small != "" {
-		if status, explained := r.program.askTwice("explain", small); status == no {
-			said = append(append(said, saidAnew), r.shown(small, explained, roundOf(small))...)
-		}
+	if r.kept != nil {
+		said = append(said, r.keep(".jsonl", string(r.kept)))
+	} else {
+		said = append(said, fmt.Sprintf("the stream is not kept, since it is longer than %d bytes", mostKept))
+	}
+	if !isWhole || left == "" && r.kept == nil {
+		said = append(said, r.keep("-report.json", report+"\n"))
 	}
 	return append(said, saidAgain+r.options.again(0))
+}
+
+// The report of a stream without order: of ways in which scans may have taken effect each key once with its values, and no more than so many
+// characters.
+func saidKeys(report string) []string {
+	begin, end := strings.Index(report, `"keys":[`)+len(`"keys":[`), strings.LastIndex(report, `],"verdict"`)
+	all, shown, once := strings.SplitAfter(report[begin:end], "},"), []string{}, map[string]bool{}
+	for _, key := range all {
+		key = strings.TrimSuffix(key, ",")
+		if own := key[strings.Index(key+`"key":`, `"key":`):]; !once[own] {
+			once[own] = true
+			shown = append(shown, key)
+		}
+	}
+	said := []string{report[:begin] + strings.Join(shown, ",") + report[end:]}
+	if len(said[0]) > reportShown {
+		said[0] = said[0][:reportShown] + ".."
+	}
+	if len(shown) < len(all) {
+		said = append(said, fmt.Sprintf("each key is shown once with its values, of %d ways in which scans may have taken effect", len(all)))
+	}
+	return said
+}
+
+// The history of the calls left at a key, and few of it that have no order. Where these are not found, the history alone is kept.
+func (r *run) shownLeft(left string) []string {
+	explained, wrong := r.program.explained(left)
+	if wrong != nil {
+		return []string{"few calls are not shown: " + wrong.line, r.keep(".json", left)}
+	}
+	if !strings.Contains(explained, "\n{\"answer\":") {
+		return []string{fmt.Sprintf("few calls are not shown: they are not found within a budget of %d", r.program.more()), r.keep(".json", left)}
+	}
+	return append([]string{saidAnew}, r.shown(left, explained, roundOf(left))...)
+}
+
+// Why a no of a stream has no history of few calls behind it.
+func whyNotFew(report string) string {
+	var told struct {
+		Keys []struct{ Values []interface{} }
+	}
+	if err := json.Unmarshal([]byte(report), &told); err != nil {
+		fail(badFile, "follow: %s", err)
+	}
+	switch {
+	case len(told.Keys) == 0:
+		return "no map gives a scan the answer of this event"
+	case len(told.Keys) > 1:
+		return "scans may have taken effect in more than one way, and each goes wrong at one of these keys"
+	case len(told.Keys[0].Values) == 0:
+		return "the call had taken effect by then, and its answer gainsays what it found"
+	case len(told.Keys[0].Values) > 1:
+		return "the key may have had each of these values before the calls \"invoked\""
+	}
+	return "the calls \"invoked\" fit no history: they are too many, or too many are open at once"
 }
 
 // What a report of explain says of a history, and the files that show it. The words and the picture have the processes and events of the first
@@ -1765,6 +1914,27 @@ func (o *options) fit(has functions) {
 	case !o.isStream && o.calls > most:
 		fail(badWords, "--calls: %s; --stream has no such end", size)
 	}
+	o.checkOut()
+}
+
+// Whether a file can be put into the folder for files: one is put there, and taken away.
+func (o *options) checkOut() {
+	if o.out == "-" {
+		return
+	}
+	file, err := os.CreateTemp(o.out, ".potzendai-*")
+	if err == nil {
+		file.Close()
+		err = os.Remove(file.Name())
+	}
+	if err != nil {
+		var cause *os.PathError
+		if errors.As(err, &cause) {
+			err = cause.Err
+		}
+		said := err.Error()
+		fail(badFile, "--out: no file can be put into %s: %s", o.out, strings.ToUpper(said[:1])+said[1:])
+	}
 }
 
 // How often the threads called each function of the map, and which functions it does not have.
@@ -1854,8 +2024,8 @@ func allBroken(o *options, make func() Map, p *program, has functions) (int, []s
 
 // Run is a whole program: it says how it went, and answers the status. `make` makes a new and empty map, for each run.
 func Run(name string, make func() Map, words ...string) int {
-	if isOneOf("--help", words...) {
-		return printed(yes, fmt.Sprintf("usage: %s [WORDS]\n%s", name, strings.TrimSpace(usage)))
+	if isOneOf("--help", words...) || isOneOf("-h", words...) {
+		return printed(yes, fmt.Sprintf("usage: %s [WORDS]\n%s", name, usage))
 	}
 	status, said, last, wrong := tested(name, make, words)
 	if wrong != nil {

@@ -1,8 +1,13 @@
+import java.io.ByteArrayOutputStream;
 import java.io.IOException;
 import java.io.OutputStream;
 import java.io.UncheckedIOException;
 import java.nio.charset.StandardCharsets;
+import java.nio.file.AccessDeniedException;
+import java.nio.file.FileSystemException;
 import java.nio.file.Files;
+import java.nio.file.InvalidPathException;
+import java.nio.file.NoSuchFileException;
 import java.nio.file.Path;
 import java.util.ArrayList;
 import java.util.Arrays;
@@ -150,7 +155,7 @@ public final class Potzendai {
     /** Limits of a stream and of its keys; how many stamps a thread may be in front of what is handed over; how many characters are at once. */
     private static final int STREAM_PROCESSES = 65536, STREAM_KEYS = 16384, AHEAD = 8192, BATCH = 65536;
     private static final int RUNNING = 0, OVER = 1, FAILED = 2;
-    private static final int REPORT_SHOWN = 1000;
+    private static final int REPORT_SHOWN = 1000, KEPT = 1 << 26; // of a report the characters shown, of a stream the bytes kept for a file
     private static final String ANEW =
         "events and processes are numbered anew here and in the files, for the calls \"invoked\" above that had not taken effect, in that order:";
     private static final String AGAIN = "  again (draws the same calls; threads may interleave otherwise): ";
@@ -648,6 +653,7 @@ public final class Potzendai {
         private volatile byte[] report = {};
         int status = YES;
         String answer = "";
+        ByteArrayOutputStream kept = new ByteArrayOutputStream(); // the stream so far, while it is no longer than is kept
         Throwable wrong;
 
         Stream(Run run, AtomicLong stamps, Map<Long, Long> start) {
@@ -742,7 +748,11 @@ public final class Potzendai {
         }
 
         private void flush(OutputStream out) throws IOException {
-            out.write(text.toString().getBytes(StandardCharsets.UTF_8));
+            byte[] lines = text.toString().getBytes(StandardCharsets.UTF_8);
+            kept = run.program == null || kept == null || kept.size() + lines.length > KEPT ? null : kept;
+            if (kept != null)
+                kept.writeBytes(lines);
+            out.write(lines);
             out.flush();
             if (out == System.out && System.out.checkError())
                 throw new IOException("not written");
@@ -976,8 +986,11 @@ public final class Potzendai {
         /** Asks once more at ten times the budget where the verdict is undecided. */
         Answer askTwice(String command, String text) {
             Answer answer = ask(command, text, budget);
-            return answer.status == UNDECIDED ? ask(command, text, Math.min(10 * budget, 1000000)) : answer;
+            return answer.status == UNDECIDED ? ask(command, text, more()) : answer;
         }
+
+        /** The budget of what is asked again. */
+        long more() { return Math.min(10 * budget, 1000000); }
 
         Answer ask(String command, String text, long budget) {
             try {
@@ -1021,6 +1034,7 @@ public final class Potzendai {
         long rounds, calls, overlap, undecided;
         Round failed;
         String report;
+        ByteArrayOutputStream kept; // of a stream
 
         Run(Options options, Supplier<? extends Index> make, Program program) {
             this.options = options;
@@ -1042,7 +1056,7 @@ public final class Potzendai {
                 while (!isOver() && failed == null) {
                     int lives = (PROCESSES - 1 - pending.size()) / (int) options.threads;
                     if (lives == 0) {
-                        cut.add(options.name + ": " + pending.size() + " calls are without an answer, which leaves no room for others");
+                        cut.add(options.name + ": calls without an answer leave no room for others: " + pending.size());
                         break;
                     }
                     Map<Long, Long> start = crew.contents;
@@ -1093,6 +1107,7 @@ public final class Potzendai {
             undecided += stream.status == UNDECIDED ? 1 : 0;
             failed = stream.status == NO ? new Round("{\"events\":[]}") : null;
             report = stream.answer;
+            kept = stream.kept;
             if (stream.processes.get() >= STREAM_PROCESSES)
                 cut.add(options.name + ": calls without an answer leave no room for others");
         }
@@ -1115,6 +1130,9 @@ public final class Potzendai {
 
         double seconds() { return (System.nanoTime() - began) / 1e9; }
 
+        /** So many of a noun. */
+        private static String counted(long count, String noun) { return count + " " + noun + (count == 1 ? "" : "s"); }
+
         /** At least one round is made. */
         private boolean isOver() {
             progress();
@@ -1126,9 +1144,9 @@ public final class Potzendai {
             if (options.shows && System.nanoTime() - options.shown > 1000000000L && calls > 0) {
                 options.shown = System.nanoTime();
                 long all = sayings.values().stream().mapToLong(Long::longValue).sum();
-                System.err.printf("%d calls, %.0f a second, overlap %.1f a call, %.1f%% refused, two writers met on %d of %d keys%n", calls,
-                    calls / seconds(), (double) overlap / calls, 100.0 * sayings.getOrDefault(Word.REFUSED, 0L) / Math.max(all, 1), met.size(),
-                    options.keys);
+                System.err.printf("%s, %.0f a second, overlap %.1f a call, %.1f%% refused, two writers met on %d of %s%n",
+                    counted(calls, "call"), calls / seconds(), (double) overlap / calls,
+                    100.0 * sayings.getOrDefault(Word.REFUSED, 0L) / Math.max(all, 1), met.size(), counted(options.keys, "key"));
             }
         }
 
@@ -1136,9 +1154,9 @@ public final class Potzendai {
         String summary(String verdict) {
             String said = sayings.entrySet().stream().map(one -> one.getValue() + " " + one.getKey().name().toLowerCase())
                 .collect(Collectors.joining(", "));
-            return String.format("%s: %s%d calls in %.1f seconds, overlap %.2f a call: %s%s", verdict,
-                options.isStream ? "" : rounds + " rounds, ", calls, seconds(), (double) overlap / Math.max(calls, 1), said,
-                undecided > 0 ? "; " + undecided + " undecided" : "");
+            return String.format("%s: %s%s in %.1f seconds, overlap %.2f a call: %s%s", verdict,
+                options.isStream ? "" : counted(rounds, "round") + ", ", counted(calls, "call"), seconds(),
+                (double) overlap / Math.max(calls, 1), said, undecided > 0 ? "; " + undecided + " undecided" : "");
         }
 
         /** The smallest run that failed, of some tries with half of the calls or keys, or a thread less. Threads interleave as they will. Where
@@ -1244,6 +1262,14 @@ public final class Potzendai {
         };
     }
 
+    /** The events of a call: that of its invocation by a process, and that of its answer, where it has one. */
+    private static String saidEvents(Round round, long invoked, long process) {
+        for (int i = (int) invoked + 1; i < round.events.size(); i++)
+            if (round.events.get(i).thread == process)
+                return "events " + invoked + " to " + i;
+        return "event " + invoked + " on";
+    }
+
     /** Who put a value. */
     private static String saidWriter(Round round, Object answer) {
         if (!(answer instanceof Long value))
@@ -1267,16 +1293,43 @@ public final class Potzendai {
             + (who.isEmpty() ? "what " + round.nobody + " put" : String.join(", ", who));
     }
 
-    /** A report of `explain` in words. */
+    /** From which value of a key the few calls have no order: the line stands behind an undecided alone. */
+    private static String saidFrom(Round round, Map<?, ?> line) {
+        String begin = "  from key " + saidAnswer(line.get("key")) + " holding ";
+        if (line.get("from") == null)
+            return begin + "nothing";
+        return begin + saidAnswer(line.get("from")) + ", which " + (line.get("put") instanceof Map<?, ?> put
+            ? "process " + put.get("process") + " put (event " + put.get("event") + ")" : "was there " + round.atStart);
+    }
+
+    /** Which calls one misses. */
+    private static String saidMissed(Map<?, ?> line) {
+        StringBuilder said = new StringBuilder();
+        for (Object missed : line.get("misses") instanceof List<?> all ? all : List.of()) {
+            Map<?, ?> call = (Map<?, ?>) missed;
+            said.append("; it misses ").append(saidCall((List<?>) call.get("call"))).append(" of process ").append(call.get("process"))
+                .append(" (event ").append(call.get("event")).append(")");
+        }
+        return said.toString();
+    }
+
+    /** A report of `explain` in words. Behind an undecided `locate` has a line, which is passed over. */
     private static List<String> saidReport(List<String> report, Round round) {
         List<String> said = new ArrayList<>(report.subList(0, 1));
-        if (report.size() > 1)
-            said.add("these calls have no order, whatever else was done:");
-        for (String text : report.subList(1, report.size())) {
-            Map<?, ?> line = (Map<?, ?>) Json.of(text);
-            if (line.containsKey("reason"))
-                said.add(String.format("  event %-6d process %-3d %s, answered %s%s", line.get("event"), line.get("process"),
-                    saidCall((List<?>) line.get("call")), saidAnswer(line.get("answer")), saidWriter(round, line.get("answer"))));
+        List<Map<?, ?>> lines = new ArrayList<>();
+        for (String text : report.subList(1, report.size()))
+            lines.add((Map<?, ?>) Json.of(text));
+        lines.removeIf(line -> line.containsKey("verdict"));
+        if (!lines.isEmpty())
+            said.add("these calls have no order, and no other could mend that:");
+        for (Map<?, ?> line : lines) {
+            if (line.containsKey("answer"))
+                said.add(String.format("  %-19s process %-3d %s, answered %s%s%s",
+                    saidEvents(round, (Long) line.get("event"), (Long) line.get("process")), line.get("process"),
+                    saidCall((List<?>) line.get("call")), saidAnswer(line.get("answer")), saidWriter(round, line.get("answer")),
+                    saidMissed(line)));
+            if (line.containsKey("from"))
+                said.add(saidFrom(round, line));
             if (line.containsKey("puts"))
                 said.add(saidOrigin(round, line));
             if (!line.containsKey("front"))
@@ -1292,32 +1345,84 @@ public final class Potzendai {
         return said;
     }
 
-    /** Writes a file of a round, and says how it is called. */
-    private static String keep(Run run, String ending, String text) {
+    /** Writes a file of a round, or of a stream, and says how it is called. */
+    private static String keep(Run run, String ending, byte[] text) {
         long round = Math.max(run.rounds - 1, 0);
         Path path = Path.of(run.options.out, run.options.name + "-" + Long.toUnsignedString(run.options.seed) + "-" + round + ending);
         try {
-            Files.writeString(path, text);
+            Files.write(path, text);
             return "  file: " + path;
         } catch (IOException error) {
             return "file: not written: " + path;
         }
     }
 
-    /** A stream that has no order: the calls left at a key are a history, where that says it all, which is explained. Where scans overlap much,
-     * not all keys of the report are shown. */
+    private static String keep(Run run, String ending, String text) {
+        return keep(run, ending, text.getBytes(StandardCharsets.UTF_8));
+    }
+
+    /** A stream that has no order: the calls left at a key are a history, where that says it all, which is explained; else it is said why not.
+     * Kept is the stream so far, unless it is long, and of the report what is not shown, or all where nothing else is kept. */
     private static List<String> refutedStream(Run run) {
         List<String> lines = run.report.lines().toList(), said = new ArrayList<>();
-        String report = lines.get(0);
-        said.add(report.length() > REPORT_SHOWN ? report.substring(0, REPORT_SHOWN) + ".." : report);
-        String small = lines.size() > 1 ? lines.get(1) + "\n" : null;
-        Program.Answer explained = small == null ? null : run.program.askTwice("explain", small);
-        if (explained != null && explained.status == NO) {
-            said.add(ANEW);
-            said.addAll(shown(run, small, explained.text, new Round(small)));
-        }
+        String report = lines.get(0), left = lines.size() > 1 ? lines.get(1) + "\n" : null;
+        said.addAll(saidKeys(report));
+        boolean isWhole = said.equals(List.of(report));
+        if (left != null)
+            said.addAll(shownLeft(run, left));
+        else
+            said.add("few calls are not shown: " + whyNotFew(report));
+        said.add(run.kept == null ? "the stream is not kept, since it is longer than " + KEPT + " bytes"
+            : keep(run, ".jsonl", run.kept.toByteArray()));
+        if (!isWhole || left == null && run.kept == null)
+            said.add(keep(run, "-report.json", report + "\n"));
         said.add(AGAIN + run.options.again(0));
         return said;
+    }
+
+    /** The report of a stream without order: of ways in which scans may have taken effect each key once with its values, and no more than so many
+     * characters. */
+    private static List<String> saidKeys(String report) {
+        int begin = report.indexOf("\"keys\":[") + 8, end = report.lastIndexOf("],\"verdict\"");
+        String keys = report.substring(begin, end);
+        List<String> all = keys.isEmpty() ? List.of() : List.of(keys.substring(1, keys.length() - 1).split("\\},\\{"));
+        Map<String, String> once = new LinkedHashMap<>();
+        for (String key : all)
+            once.putIfAbsent(key.substring(key.indexOf("\"key\":")), "{" + key + "}");
+        String text = report.substring(0, begin) + String.join(",", once.values()) + report.substring(end);
+        List<String> said = new ArrayList<>(List.of(text.length() > REPORT_SHOWN ? text.substring(0, REPORT_SHOWN) + ".." : text));
+        if (once.size() < all.size())
+            said.add("each key is shown once with its values, of " + all.size() + " ways in which scans may have taken effect");
+        return said;
+    }
+
+    /** The history of the calls left at a key, and few of it that have no order. Where these are not found, the history alone is kept. */
+    private static List<String> shownLeft(Run run, String left) {
+        String explained;
+        try {
+            explained = run.program.askTwice("explain", left).text;
+        } catch (Stop stop) {
+            return List.of("few calls are not shown: " + stop.getMessage(), keep(run, ".json", left));
+        }
+        if (!explained.contains("\n{\"answer\":"))
+            return List.of("few calls are not shown: they are not found within a budget of " + run.program.more(), keep(run, ".json", left));
+        List<String> said = new ArrayList<>(List.of(ANEW));
+        said.addAll(shown(run, left, explained, new Round(left)));
+        return said;
+    }
+
+    /** Why a no of a stream has no history of few calls behind it. */
+    private static String whyNotFew(String report) {
+        List<?> keys = (List<?>) ((Map<?, ?>) Json.of(report)).get("keys");
+        if (keys.isEmpty())
+            return "no map gives a scan the answer of this event";
+        if (keys.size() > 1)
+            return "scans may have taken effect in more than one way, and each goes wrong at one of these keys";
+        return switch (((List<?>) ((Map<?, ?>) keys.get(0)).get("values")).size()) {
+            case 0 -> "the call had taken effect by then, and its answer gainsays what it found";
+            case 1 -> "the calls \"invoked\" fit no history: they are too many, or too many are open at once";
+            default -> "the key may have had each of these values before the calls \"invoked\"";
+        };
     }
 
     /** What a report of `explain` says of a history, and the files that show it. The words and the picture have the processes and events of the
@@ -1502,6 +1607,28 @@ public final class Potzendai {
             wrong(!isStream && threads > PROCESSES - 2, "--threads: at most 62 in rounds; --stream has no such end");
             wrong(!isStream && keys > most, "--keys: " + size + ", behind which all keys are got; --stream has no such end");
             wrong(!isStream && calls > most, "--calls: " + size + "; --stream has no such end");
+            checkOut();
+        }
+
+        /** Whether a file can be put into the folder for files: one is put there, and taken away. */
+        private void checkOut() {
+            if (out.equals("-"))
+                return;
+            try {
+                Files.delete(Files.createTempFile(Path.of(out), ".potzendai-", ""));
+            } catch (IOException | InvalidPathException error) {
+                throw new Stop(FILE, "--out: no file can be put into " + out + ": " + cause(error));
+            }
+        }
+
+        /** Why a file cannot be written, without the path that it would have. */
+        private static String cause(Exception error) {
+            if (error instanceof NoSuchFileException)
+                return "No such file or directory";
+            if (error instanceof AccessDeniedException)
+                return "Permission denied";
+            String reason = error instanceof FileSystemException file ? file.getReason() : null;
+            return reason != null ? reason : error.getMessage();
         }
     }
 
@@ -1587,8 +1714,8 @@ public final class Potzendai {
     /** A whole program: says how it went, and answers the status. `make` makes a new and empty map, for each run. */
     public static int run(String name, Supplier<? extends Index> make, String... words) {
         try {
-            if (List.of(words).contains("--help"))
-                return printed(YES, "usage: " + name + " [WORDS]\n" + USAGE.stripTrailing());
+            if (List.of(words).contains("--help") || List.of(words).contains("-h"))
+                return printed(YES, "usage: " + name + " [WORDS]\n" + USAGE.indent(2).stripTrailing());
             Outcome outcome = tested(name, make, words);
             outcome.said.forEach(System.err::println);
             return outcome.last.isEmpty() && !System.out.checkError() ? outcome.status : printed(outcome.status, outcome.last);

@@ -35,6 +35,7 @@ import queue
 import shutil
 import subprocess
 import sys
+import tempfile
 import threading
 import time
 import traceback
@@ -45,6 +46,7 @@ GREATEST = 2 ** 64 - 1
 PROCESSES, CALLS, SPAN = 64, 4096, 16  # limits of a history; the most keys of a scan
 STREAM_PROCESSES, STREAM_KEYS = 65536, 16384  # limits of a stream, and of its keys
 AHEAD, BATCH = 8192, 4096  # how many stamps a thread may be in front of what is handed over; how many lines are handed over at once
+KEPT = 2 ** 26  # the most bytes of a stream that are kept for a file
 SELDOM = 20  # one call in so many goes wrong in a map that is broken
 YES, NO, UNDECIDED, FAULTY, MEMORY, WORDS, FILE = range(7)  # statuses, as the program's
 VERDICTS = ("yes", "no", "undecided")
@@ -470,6 +472,7 @@ class Stream:
 
     def begin(self, run, start, follower):
         self.run, self.follower, self.wrong, self.outcome = run, follower, None, None
+        run.kept = None if isinstance(follower, Out) else []
         self.opened, self.writers = {}, {}
         self.lines = ['{"start":%s,"version":3}\n' % json.dumps(sorted(map(list, start.items())), separators=(",", ":"))]
         self.taken.value = self.stamp() + 1
@@ -532,9 +535,10 @@ class Stream:
             run.sayings[saying] += 1
 
     def flush(self):
-        lines, self.lines = "".join(self.lines), []
+        lines, self.lines = "".join(self.lines).encode(), []
+        self.run.keep(lines)
         if lines:
-            self.follower.hand(lines.encode())
+            self.follower.hand(lines)
         self.run.progress()
 
     def end(self):
@@ -675,9 +679,13 @@ class Judge:
         """The verdict: once more at ten times the budget where it is undecided."""
         return self.asked("judge", text)[0]
 
+    def more(self):
+        """The budget of what is asked again."""
+        return min(10 * self.budget, 10 ** 6)
+
     def asked(self, command, text):
         answer = self.ask(command, text, self.budget)
-        return self.ask(command, text, min(10 * self.budget, 10 ** 6)) if answer[0] == UNDECIDED else answer
+        return self.ask(command, text, self.more()) if answer[0] == UNDECIDED else answer
 
 
 class Program(Judge):
@@ -827,6 +835,7 @@ class Run:
         self.options, self.make, self.program = options, make, program
         self.rounds = self.calls = self.overlap = self.undecided = 0
         self.cut, self.called = [], dict.fromkeys(ANSWERS, 0)
+        self.kept, self.length = None, 0  # the stream so far, while it is no longer than is kept
         self.sayings, self.met, self.failed, self.began = dict.fromkeys(("told",) + SAYINGS, 0), set(), None, time.monotonic()
 
     def go(self, number=0):
@@ -839,7 +848,7 @@ class Run:
             while not self.is_over():
                 lives = (PROCESSES - 1 - len(pending)) // self.options.threads
                 if lives == 0:
-                    self.cut = ["%s: %d calls are without an answer, which leaves no room for others" % (self.options.name, len(pending))]
+                    self.cut = ["%s: calls without an answer leave no room for others: %d" % (self.options.name, len(pending))]
                     break
                 taken = crew.run(number + self.rounds, lives, start, {call[1] for call in pending})
                 gets, left = crew.contents()
@@ -890,6 +899,13 @@ class Run:
         if stream.next_process() >= STREAM_PROCESSES:
             self.cut = ["%s: calls without an answer leave no room for others" % self.options.name]
 
+    def keep(self, lines):
+        """Keeps lines of the stream for a file, or nothing of it any more where they are too many."""
+        if self.kept is not None:
+            self.kept.append(lines)
+            self.length += len(lines)
+            self.kept = self.kept if self.length <= KEPT else None
+
     def count(self, taken):
         for _, _, called in taken:
             for kind, count in called.items():
@@ -924,16 +940,22 @@ class Run:
         if options.shows and now - options.shown >= 1 and self.calls:
             options.shown = now
             refused = 100 * self.sayings[REFUSED] / max(sum(self.sayings.values()), 1)
-            print("%d calls, %.0f a second, overlap %.1f a call, %.1f%% refused, two writers met on %d of %d keys" % (
-                self.calls, self.calls / (now - self.began), self.overlap / self.calls, refused, len(self.met), options.keys), file=sys.stderr)
+            print("%s, %.0f a second, overlap %.1f a call, %.1f%% refused, two writers met on %d of %s" % (
+                counted(self.calls, "call"), self.calls / (now - self.began), self.overlap / self.calls, refused, len(self.met),
+                counted(options.keys, "key")), file=sys.stderr)
 
     def summary(self, verdict):
         """The verdict, and what it rests on."""
         said = ", ".join("%d %s" % (count, said) for said, count in self.sayings.items() if count)
-        rounds = "" if self.options.stream else "%d rounds, " % self.rounds
-        return "%s: %s%d calls in %.1f seconds, overlap %.2f a call: %s%s" % (
-            verdict, rounds, self.calls, time.monotonic() - self.began, self.overlap / max(self.calls, 1), said,
+        rounds = "" if self.options.stream else counted(self.rounds, "round") + ", "
+        return "%s: %s%s in %.1f seconds, overlap %.2f a call: %s%s" % (
+            verdict, rounds, counted(self.calls, "call"), time.monotonic() - self.began, self.overlap / max(self.calls, 1), said,
             "; %d undecided" % self.undecided if self.undecided else "")
+
+
+def counted(count, noun):
+    """So many of a noun."""
+    return "%d %s%s" % (count, noun, "s" * (count != 1))
 
 
 def said_calls(has, runs):
@@ -985,6 +1007,12 @@ def said_call(call):
     return "scan from %d to %d" % tuple(words) if name == "scan" else "%s %d" % (name, words[0])
 
 
+def said_events(one, invoked, process):
+    """The events of a call: that of its invocation by a process, and that of its answer, where it has one."""
+    answer = next((number for number in range(invoked + 1, len(one.events)) if one.events[number]["process"] == process), None)
+    return "event %d on" % invoked if answer is None else "events %d to %d" % (invoked, answer)
+
+
 def said_writer(one, value):
     """Who put a value."""
     if not is_value(value):
@@ -1003,17 +1031,37 @@ def said_origin(one, line):
     return "  %d at %d is %s" % (line["value"], line["key"], ", ".join(start + puts) or "what %s put" % one.nobody)
 
 
+def said_from(one, line):
+    """From which value of a key the few calls have no order: the line stands behind an undecided alone."""
+    if line["from"] is None:
+        return "  from key %d holding nothing" % line["key"]
+    put = line["put"]
+    return "  from key %d holding %d, which %s" % (line["key"], line["from"], "was there " + one.at_start if put is None else
+                                                   "process %d put (event %d)" % (put["process"], put["event"]))
+
+
+def said_missed(line):
+    """Which calls one misses."""
+    return "".join("; it misses %s of process %d (event %d)" % (said_call(call["call"]), call["process"], call["event"])
+                   for call in line.get("misses", []))
+
+
 def said_report(report, one):
-    """A report of `explain` in words, and the line that is the few calls' history, or None."""
+    """A report of `explain` in words, and the line that is the few calls' history, or None. Behind an undecided `locate` has a line, which is
+    passed over."""
     texts = report.splitlines()
+    texts[1:] = [text for text in texts[1:] if "verdict" not in json.loads(text)]
     lines, few = [json.loads(text) for text in texts], None
-    said = texts[:1] + ["these calls have no order, whatever else was done:"][:len(texts) - 1]
+    said = texts[:1] + ["these calls have no order, and no other could mend that:"][:len(texts) - 1]
     for line, text in zip(lines[1:], texts[1:]):
         if "events" in line:
             few = text
-        elif "reason" in line:
-            said.append("  event %-6d process %-3d %s, answered %s%s" % (
-                line["event"], line["process"], said_call(line["call"]), said_answer(line["answer"]), said_writer(one, line["answer"])))
+        elif "answer" in line:
+            said.append("  %-19s process %-3d %s, answered %s%s%s" % (
+                said_events(one, line["event"], line["process"]), line["process"], said_call(line["call"]), said_answer(line["answer"]),
+                said_writer(one, line["answer"]), said_missed(line)))
+        elif "from" in line:
+            said.append(said_from(one, line))
         elif "puts" in line:
             said.append(said_origin(one, line))
         elif "front" in line:
@@ -1026,11 +1074,11 @@ def said_report(report, one):
 
 
 def keep(options, ending, text):
-    """Writes a file of a round, and says how it is called."""
+    """Writes a file of a round, or of a stream, and says how it is called."""
     path = os.path.join(options.out, "%s-%d-%d%s" % (options.name, options.seed, options.round, ending))
     try:
-        with open(path, "w") as out:
-            out.write(text)
+        with open(path, "wb") as out:
+            out.write(text if isinstance(text, bytes) else text.encode())
     except OSError:
         return "file: not written: " + path
     return "  file: " + path
@@ -1138,6 +1186,11 @@ def fit(options, has):
     if not options.stream and options.calls > most:
         wrong("--calls", size + "; --stream has no such end")
     options.shows, options.shown = sys.stderr.isatty(), time.monotonic()
+    try:
+        if options.out != "-":
+            tempfile.TemporaryFile(dir=options.out).close()
+    except OSError as error:
+        raise Stop(FILE, "--out: no file can be put into %s: %s" % (options.out, error.strerror))
     return options
 
 
@@ -1189,16 +1242,54 @@ def tested(make, options):
 
 
 def refuted_stream(run):
-    """A stream that has no order: the calls left at a key are a history, where that says it all, which is explained. Where scans overlap much, not
-    all keys of the report are shown."""
-    report, _, small = run.failed.partition("\n")
-    run.options.round, said = 0, [report[:REPORT_SHOWN] + ".." * (len(report) > REPORT_SHOWN)]
-    status, told_of = run.program.asked("explain", small) if small else (UNDECIDED, "")
-    if status == NO:
-        whole = json.loads(small)
-        said += [ANEW] + shown(run, small, told_of, types.SimpleNamespace(
-            events=whole["events"], start=dict(whole.get("start", [])), at_start="before these calls", nobody="none of these calls"))
+    """A stream that has no order: the calls left at a key are a history, where that says it all, which is explained; else it is said why not.
+    Kept is the stream so far, unless it is long, and of the report what is not shown, or all where nothing else is kept."""
+    report, _, left = run.failed.partition("\n")
+    run.options.round, said = 0, said_keys(report)
+    is_whole = said == [report]
+    said += shown_left(run, left) if left else ["few calls are not shown: " + why_not_few(json.loads(report)["keys"])]
+    said += ["the stream is not kept, since it is longer than %d bytes" % KEPT] if run.kept is None else [
+        keep(run.options, ".jsonl", b"".join(run.kept))]
+    said += [keep(run.options, "-report.json", report + "\n")] if not is_whole or not left and run.kept is None else []
     return said + [AGAIN + words_again(run.options, 0)]
+
+
+def said_keys(report):
+    """The report of a stream without order: of ways in which scans may have taken effect each key once with its values, and no more than so many
+    characters."""
+    whole, once = json.loads(report), {}
+    for key in whole["keys"]:
+        once.setdefault(json.dumps((key["key"], key["put"], key["values"])), key)
+    said = json.dumps({**whole, "keys": list(once.values())}, separators=(",", ":"), sort_keys=True)
+    return [said[:REPORT_SHOWN] + ".." * (len(said) > REPORT_SHOWN)] + [
+        "each key is shown once with its values, of %d ways in which scans may have taken effect" % len(whole["keys"])
+    ][:len(whole["keys"]) - len(once)]
+
+
+def shown_left(run, left):
+    """The history of the calls left at a key, and few of it that have no order. Where these are not found, the history alone is kept."""
+    try:
+        told_of = run.program.asked("explain", left)[1]
+    except Stop as stop:
+        return ["few calls are not shown: " + stop.line, keep(run.options, ".json", left)]
+    if "\n{\"answer\":" not in told_of:
+        return ["few calls are not shown: they are not found within a budget of %d" % run.program.more(), keep(run.options, ".json", left)]
+    whole = json.loads(left)
+    return [ANEW] + shown(run, left, told_of, types.SimpleNamespace(
+        events=whole["events"], start=dict(whole.get("start", [])), at_start="before these calls", nobody="none of these calls"))
+
+
+def why_not_few(keys):
+    """Why a no of a stream has no history of few calls behind it."""
+    if not keys:
+        return "no map gives a scan the answer of this event"
+    if len(keys) > 1:
+        return "scans may have taken effect in more than one way, and each goes wrong at one of these keys"
+    if not keys[0]["values"]:
+        return "the call had taken effect by then, and its answer gainsays what it found"
+    if len(keys[0]["values"]) > 1:
+        return "the key may have had each of these values before the calls \"invoked\""
+    return "the calls \"invoked\" fit no history: they are too many, or too many are open at once"
 
 
 def shown(run, text, report, one):

@@ -125,7 +125,9 @@ const SELDOM: u64 = 20;
 /// Limits of a stream and of its keys; how many stamps a thread may be in front of what is handed over; how many bytes are at once.
 const STREAM_PROCESSES: usize = 65536;
 const STREAM_KEYS: u64 = 16384;
+/// Bytes of the report of a stream without order that are shown, and of a stream that are kept for a file.
 const REPORT_SHOWN: usize = 1000;
+const KEPT: usize = 1 << 26;
 const AGAIN: &str = "  again (draws the same calls; threads may interleave otherwise): ";
 const ANEW: &str = "events and processes are numbered anew here and in the files, for the calls \"invoked\" above that had not taken effect, in \
                     that order:";
@@ -984,7 +986,12 @@ impl Program {
     /// The verdict: once more at ten times the budget where it is undecided.
     fn ask_twice(&self, command: &str, text: &str) -> Result<(i32, String), Stop> {
         let asked = self.ask(command, text, self.budget)?;
-        if asked.0 == UNDECIDED { self.ask(command, text, (self.budget * 10).min(1_000_000)) } else { Ok(asked) }
+        if asked.0 == UNDECIDED { self.ask(command, text, self.more()) } else { Ok(asked) }
+    }
+
+    /// The budget of what is asked again.
+    fn more(&self) -> u64 {
+        (self.budget * 10).min(1_000_000)
     }
 }
 
@@ -1173,6 +1180,7 @@ struct Run {
     cut: Vec<String>,
     failed: Option<Round>,
     report: String,
+    kept: Option<String>, // the stream so far, while it is no longer than is kept
 }
 
 impl Run {
@@ -1183,7 +1191,7 @@ impl Run {
         let shared = Shared { stamps: AtomicU64::new(0), locks, stream: options.is_stream.then(|| Stream::new(options.threads)) };
         let mut run = Run {
             options: options.clone(), sayings: [0; 8], called: [0; 9], met: HashSet::new(), began: Instant::now(), rounds: 0, calls: 0,
-            overlap: 0, undecided: 0, cut: vec![], failed: None, report: String::new(),
+            overlap: 0, undecided: 0, cut: vec![], failed: None, report: String::new(), kept: program.map(|_| String::new()),
         };
         std::thread::scope(|scope| {
             let mut threads = vec![];
@@ -1298,6 +1306,9 @@ impl Run {
                 stream.taken.store(next + 1, SeqCst);
                 self.take_happening(what, &mut open, &mut writers, &mut text);
             }
+            if text.len() >= BATCH || times > 0 {
+                self.keep(&text);
+            }
             if is_cut || (text.len() >= BATCH || times > 0) && out.write_all(text.as_bytes()).and_then(|()| out.flush()).is_err() {
                 return stream.state.store(FAILED, SeqCst);
             }
@@ -1310,6 +1321,14 @@ impl Run {
             } else if times > 0 {
                 rest_some(times);
             }
+        }
+    }
+
+    /// Keeps lines of the stream for a file, or nothing of it any more where they are too many.
+    fn keep(&mut self, lines: &str) {
+        self.kept = self.kept.take().filter(|kept| kept.len() + lines.len() <= KEPT);
+        if let Some(kept) = &mut self.kept {
+            kept.push_str(lines);
         }
     }
 
@@ -1361,7 +1380,7 @@ impl Run {
             let lives = (PROCESSES - 1 - pending.len()) / threads.len();
             if lives == 0 {
                 let (name, count) = (&options.name, pending.len());
-                self.cut.push(format!("{name}: {count} calls are without an answer, which leaves no room for others"));
+                self.cut.push(format!("{name}: calls without an answer leave no room for others: {count}"));
                 break;
             }
             let doubtful = Arc::new(pending.iter().map(|call: &Call| call.1[0]).collect());
@@ -1416,8 +1435,9 @@ impl Run {
             self.options.shown = Instant::now();
             let (calls, all) = (self.calls as f64, self.sayings.iter().sum::<u64>().max(1) as f64);
             eprintln!(
-                "{} calls, {:.0} a second, overlap {:.1} a call, {:.1}% refused, two writers met on {} of {} keys",
-                self.calls, calls / seconds, self.overlap as f64 / calls, 100.0 * self.sayings[5] as f64 / all, self.met.len(), self.options.keys
+                "{}, {:.0} a second, overlap {:.1} a call, {:.1}% refused, two writers met on {} of {}",
+                counted(self.calls, "call"), calls / seconds, self.overlap as f64 / calls, 100.0 * self.sayings[5] as f64 / all,
+                self.met.len(), counted(self.options.keys, "key")
             );
         }
     }
@@ -1427,12 +1447,17 @@ impl Run {
         let said: Vec<String> =
             self.sayings.iter().zip(SAYINGS).filter(|(count, _)| **count > 0).map(|(count, word)| format!("{count} {word}")).collect();
         let undecided = if self.undecided > 0 { format!("; {} undecided", self.undecided) } else { String::new() };
-        let rounds = if self.options.is_stream { String::new() } else { format!("{} rounds, ", self.rounds) };
+        let rounds = if self.options.is_stream { String::new() } else { counted(self.rounds, "round") + ", " };
         format!(
-            "{verdict}: {rounds}{} calls in {:.1} seconds, overlap {:.2} a call: {}{undecided}",
-            self.calls, self.began.elapsed().as_secs_f64(), self.overlap as f64 / self.calls.max(1) as f64, said.join(", ")
+            "{verdict}: {rounds}{} in {:.1} seconds, overlap {:.2} a call: {}{undecided}",
+            counted(self.calls, "call"), self.began.elapsed().as_secs_f64(), self.overlap as f64 / self.calls.max(1) as f64, said.join(", ")
         )
     }
+}
+
+/// So many of a noun.
+fn counted(count: u64, noun: &str) -> String {
+    format!("{count} {noun}{}", if count == 1 { "" } else { "s" })
 }
 
 /// The smallest run that failed, of some tries with half of the calls or keys, or a thread less. Threads interleave as they will. Where calls
@@ -1517,11 +1542,17 @@ impl Json {
         }
     }
 
+    fn find(&self, name: &str) -> Option<&Json> {
+        let Json::Object(members) = self else { return None };
+        members.iter().find(|(own, _)| own == name).map(|(_, value)| value)
+    }
+
+    fn has(&self, name: &str) -> bool {
+        self.find(name).is_some()
+    }
+
     fn member(&self, name: &str) -> &Json {
-        match self {
-            Json::Object(members) => members.iter().find(|(own, _)| own == name).map_or(&Json::Null, |(_, value)| value),
-            _ => &Json::Null,
-        }
+        self.find(name).unwrap_or(&Json::Null)
     }
 
     fn items(&self) -> &[Json] {
@@ -1565,6 +1596,15 @@ fn said_call(call: &Json) -> String {
     }
 }
 
+/// The events of a call: that of its invocation by a process, and that of its answer, where it has one.
+fn said_events(round: &Round, invoked: u64, process: u64) -> String {
+    let mut behind = round.events.iter().enumerate().skip(invoked as usize + 1);
+    match behind.find(|(_, (own, _))| *own as u64 == process) {
+        Some((answer, _)) => format!("events {invoked} to {answer}"),
+        None => format!("event {invoked} on"),
+    }
+}
+
 /// Who put a value.
 fn said_writer(round: &Round, answer: &Json) -> String {
     let Json::Number(value) = answer else { return String::new() };
@@ -1591,25 +1631,55 @@ fn said_origin(round: &Round, line: &Json) -> String {
     format!("  {} at {} is {who}", line.member("value").number(), line.member("key").number())
 }
 
-/// A report of `explain` in words, and the line that is the few calls' history, if it is there.
+/// From which value of a key the few calls have no order: the line stands behind an undecided alone.
+fn said_from(round: &Round, line: &Json) -> String {
+    let key = line.member("key").number();
+    let (Json::Number(value), put) = (line.member("from"), line.member("put")) else {
+        return format!("  from key {key} holding nothing");
+    };
+    let who = match put {
+        Json::Null => format!("was there {}", round.at_start),
+        put => format!("process {} put (event {})", put.member("process").number(), put.member("event").number()),
+    };
+    format!("  from key {key} holding {value}, which {who}")
+}
+
+/// Which calls one misses.
+fn said_missed(line: &Json) -> String {
+    let missed = line.member("misses").items().iter();
+    missed.map(|call| {
+        let (process, event) = (call.member("process").number(), call.member("event").number());
+        format!("; it misses {} of process {process} (event {event})", said_call(call.member("call")))
+    }).collect()
+}
+
+/// A report of `explain` in words, and the line that is the few calls' history, if it is there. Behind an undecided `locate` has a line, which
+/// is passed over.
 fn said_report(report: &str, round: &Round) -> (Vec<String>, Option<String>) {
     let mut lines = report.lines();
     let (mut said, mut few) = (vec![lines.next().unwrap_or("").to_string()], None);
-    for (number, text) in lines.enumerate() {
-        if number == 0 {
-            said.push("these calls have no order, whatever else was done:".to_string());
-        }
+    for text in lines {
         let line = Json::read(&mut &*text);
+        if line.has("verdict") {
+            continue;
+        }
+        if said.len() == 1 {
+            said.push("these calls have no order, and no other could mend that:".to_string());
+        }
         if text.starts_with("{\"events\"") {
             few = Some(format!("{text}\n"));
-        } else if *line.member("reason") != Json::Null {
+        } else if line.has("answer") {
             let (event, process) = (line.member("event").number(), line.member("process").number());
             let (call, writer) = (said_call(line.member("call")), said_writer(round, line.member("answer")));
             let answer = said_answer(line.member("answer"));
-            said.push(format!("  event {event:<6} process {process:<3} {call}, answered {answer}{writer}"));
-        } else if *line.member("puts") != Json::Null {
+            let missed = said_missed(&line);
+            let events = said_events(round, event, process);
+            said.push(format!("  {events:<19} process {process:<3} {call}, answered {answer}{writer}{missed}"));
+        } else if line.has("from") {
+            said.push(said_from(round, &line));
+        } else if line.has("puts") {
             said.push(said_origin(round, &line));
-        } else if *line.member("front") != Json::Null {
+        } else if line.has("front") {
             let front: Vec<String> = line.member("front").items().iter().map(|event| event.number().to_string()).collect();
             let holds = said_answer(line.member("holds"));
             said.push(format!("  an order of them gets as far as the events [{}]; the map then holds {holds}", front.join(",")));
@@ -1624,7 +1694,7 @@ fn said_report(report: &str, round: &Round) -> (Vec<String>, Option<String>) {
     (said, few)
 }
 
-/// Writes a file of a round, and says how it is called.
+/// Writes a file of a round, or of a stream, and says how it is called.
 fn keep(run: &Run, ending: &str, text: &str) -> String {
     let name = format!("{}-{}-{}{ending}", run.options.name, run.options.seed, run.rounds.saturating_sub(1));
     let path = std::path::Path::new(&run.options.out).join(name);
@@ -1634,18 +1704,76 @@ fn keep(run: &Run, ending: &str, text: &str) -> String {
     }
 }
 
-/// A stream that has no order: the calls left at a key are a history, where that says it all, which is explained. Where scans overlap much, not
-/// all keys of the report are shown.
+/// A stream that has no order: the calls left at a key are a history, where that says it all, which is explained; else it is said why not. Kept
+/// is the stream so far, unless it is long, and of the report what is not shown, or all where nothing else is kept.
 fn refuted_stream(run: &Run, program: &Program) -> Result<Vec<String>, Stop> {
-    let (report, small) = run.report.split_once('\n').unwrap_or((&run.report, ""));
-    let mut said = vec![if report.len() > REPORT_SHOWN { format!("{}..", &report[..REPORT_SHOWN]) } else { report.to_string() }];
-    let (status, explained) = if small.is_empty() { (UNDECIDED, String::new()) } else { program.ask_twice("explain", small)? };
-    if status == NO {
-        said.push(ANEW.to_string());
-        said.extend(shown(run, small, &explained, &Round::read(small), program)?);
+    let (report, left) = run.report.split_once('\n').unwrap_or((&run.report, ""));
+    let mut said = said_keys(report);
+    let is_whole = said == [report];
+    if left.is_empty() {
+        said.push(format!("few calls are not shown: {}", why_not_few(report)));
+    } else {
+        said.extend(shown_left(run, left, program)?);
+    }
+    said.push(match &run.kept {
+        Some(kept) => keep(run, ".jsonl", kept),
+        None => format!("the stream is not kept, since it is longer than {KEPT} bytes"),
+    });
+    if !is_whole || left.is_empty() && run.kept.is_none() {
+        said.push(keep(run, "-report.json", &format!("{report}\n")));
     }
     said.push(format!("{AGAIN}{}", run.options.again(0)));
     Ok(said)
+}
+
+/// The report of a stream without order: of ways in which scans may have taken effect each key once with its values, and no more than so many
+/// characters.
+fn said_keys(report: &str) -> Vec<String> {
+    let (begin, end) = (report.find("\"keys\":[").map_or(0, |at| at + 8), report.rfind("],\"verdict\"").unwrap_or(report.len()));
+    let all: Vec<&str> = report[begin..end].split("},{").map(|key| key.trim_matches(['{', '}'])).filter(|key| !key.is_empty()).collect();
+    let (mut seen, mut shown) = (HashSet::new(), vec![]);
+    for key in &all {
+        if seen.insert(&key[key.find("\"key\":").unwrap_or(0)..]) {
+            shown.push(format!("{{{key}}}"));
+        }
+    }
+    let mut said = vec![format!("{}{}{}", &report[..begin], shown.join(","), &report[end..])];
+    if said[0].len() > REPORT_SHOWN {
+        said[0] = format!("{}..", &said[0][..REPORT_SHOWN]);
+    }
+    if shown.len() < all.len() {
+        said.push(format!("each key is shown once with its values, of {} ways in which scans may have taken effect", all.len()));
+    }
+    said
+}
+
+/// The history of the calls left at a key, and few of it that have no order. Where these are not found, the history alone is kept.
+fn shown_left(run: &Run, left: &str, program: &Program) -> Result<Vec<String>, Stop> {
+    let explained = match program.ask_twice("explain", left) {
+        Ok((_, explained)) => explained,
+        Err(Stop(_, line)) => return Ok(vec![format!("few calls are not shown: {line}"), keep(run, ".json", left)]),
+    };
+    if !explained.contains("\n{\"answer\":") {
+        let line = format!("few calls are not shown: they are not found within a budget of {}", program.more());
+        return Ok(vec![line, keep(run, ".json", left)]);
+    }
+    let mut said = vec![ANEW.to_string()];
+    said.extend(shown(run, left, &explained, &Round::read(left), program)?);
+    Ok(said)
+}
+
+/// Why a no of a stream has no history of few calls behind it.
+fn why_not_few(report: &str) -> &'static str {
+    let report = Json::read(&mut &*report);
+    match report.member("keys").items() {
+        [] => "no map gives a scan the answer of this event",
+        [key] => match key.member("values").items().len() {
+            0 => "the call had taken effect by then, and its answer gainsays what it found",
+            1 => "the calls \"invoked\" fit no history: they are too many, or too many are open at once",
+            _ => "the key may have had each of these values before the calls \"invoked\"",
+        },
+        _ => "scans may have taken effect in more than one way, and each goes wrong at one of these keys",
+    }
 }
 
 /// What a report of `explain` says of a history, and the files that show it. The words and the picture have the processes and events of the
@@ -1834,7 +1962,27 @@ impl Options {
             (!self.is_stream && self.keys > most, &many_keys),
             (!self.is_stream && self.calls > most, &many_calls),
         ];
-        rows.iter().find(|(is_wrong, _)| *is_wrong).map_or(Ok(()), |(_, line)| fail(BAD_WORDS, *line))
+        rows.iter().find(|(is_wrong, _)| *is_wrong).map_or(Ok(()), |(_, line)| fail(BAD_WORDS, *line))?;
+        self.check_out()
+    }
+
+    /// Whether a file can be put into the folder for files: one of a name that none has yet is put there, and taken away.
+    fn check_out(&self) -> Result<(), Stop> {
+        if self.out == "-" {
+            return Ok(());
+        }
+        let named = |number| std::path::Path::new(&self.out).join(format!(".potzendai-{}-{number}", std::process::id()));
+        let create = |number| std::fs::OpenOptions::new().write(true).create_new(true).open(named(number));
+        let mut number = 0;
+        let mut created = create(number);
+        while created.as_ref().is_err_and(|error| error.kind() == std::io::ErrorKind::AlreadyExists) && number < 1000 {
+            number += 1;
+            created = create(number);
+        }
+        created.and_then(|_| std::fs::remove_file(named(number))).or_else(|error| {
+            let (text, code) = (error.to_string(), format!(" (os error {})", error.raw_os_error().unwrap_or(0)));
+            fail(BAD_FILE, format!("--out: no file can be put into {}: {}", self.out, text.replace(&code, "")))
+        })
     }
 
     /// Half of the calls or the keys, or a thread less; none where there are none.
@@ -1947,7 +2095,7 @@ fn printed(status: i32, text: &str) -> i32 {
 /// A whole program: says how it went, and answers the status. `make` makes a new and empty map: one for each run.
 pub fn run<M: Map>(name: &str, make: impl Fn() -> M, words: impl Iterator<Item = String>) -> i32 {
     let words: Vec<String> = words.collect();
-    if words.iter().any(|word| word == "--help") {
+    if words.iter().any(|word| word == "--help" || word == "-h") {
         return printed(YES, &format!("usage: {name} [WORDS]\n{USAGE}"));
     }
     match tested(name, &make, &words) {

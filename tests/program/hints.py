@@ -45,7 +45,7 @@ ANSWERS = [
     (["follow"], "", 0, '{"calls":0,"overlap":0.00,"verdict":"yes"}\n', ""),
     (
         ["follow"], stream(GET_MISSES_INSERT), 1,
-        '{"call":1,"event":3,"keys":[{"invoked":[2],"key":5,"values":[7]}],"verdict":"no"}\n'
+        '{"call":1,"event":3,"keys":[{"invoked":[2],"key":5,"put":[0],"values":[7]}],"verdict":"no"}\n'
         '{"events":[{"invoke":["get",5],"process":0},{"answer":null,"process":0}],"start":[[5,7]],"version":2}\n', "",
     ),
     (["check", "0", "1"], history(INSERT_THEN_GET), 0, "ok\n", ""),

@@ -53,7 +53,7 @@ def others_from_pairs():
         yield functools.partial(begins, ["explain"], text, status, report)
         yield functools.partial(begins, ["draw", "--calls", "0"], text, status, r"<svg [^\0]*</svg>\n")
         lines = f'{{"start":[{pairs}],"version":2}}\n' + "".join(f"{{{it}}}\n" for it in events[1:-1].split("},{"))
-        lost = r'\{"call":0,"event":1,"keys":\[\{"invoked":\[0\],"key":0,"values":\[1\]\}\],"verdict":"no"\}\n[^\n]+\n'
+        lost = r'\{"call":0,"event":1,"keys":\[\{"invoked":\[0\],"key":0,"put":\[null\],"values":\[1\]\}\],"verdict":"no"\}\n[^\n]+\n'
         followed = r'\{"calls":1,"overlap":0\.00,"verdict":"yes"\}\n' if listed else lost
         yield functools.partial(begins, ["follow"], lines, status, followed)
 

@@ -1,23 +1,27 @@
 #!/usr/bin/env python3
-"""Reads the pictures that the program draws of the examples, and of histories of 400 and 4,096 calls.
+"""Reads the pictures that the program draws of the examples, of histories of 400 and 4,096 calls, of some that `judge` leaves
+undecided, and of the small ones that `follow` writes.
 
 Each is XML of the elements of SVG that a picture has, without a script and without a reference to anything outside. It has a lane for
 each process, one bar for each call, with the call and its answer in the bar's title, drawn as wrong, with stripes, where `locate` names
 the call, and one mark for each call of the order where the verdict is a yes, with its call in its title. A call's number ends before the
 next circle, and a place is no wider than its circle. Starting pairs that are cut stand whole in a title. Its status is that of `judge`.
-Parts of the pictures have the lanes, bars and marks that a window over the columns has which is worked out here, and say what they leave
-out; a part with room for the whole picture is the picture. Where nothing is asked for, a no shows the calls that `explain` names alone, with
-those that put what they read from outside, which are worked out here, and those that they miss. Pictures of at most 12 such calls are at
+Parts of the pictures have the lanes, bars and marks that a window over the columns has which is worked out here, with the starting pairs of
+their keys, and say what they leave out; a part with room for the whole picture is the picture. Where nothing is asked for, a no or an undecided shows
+the calls that `explain` names alone, with those that put what they read from outside, which are worked out here, and those that they miss. Pictures of at most 12 such calls are at
 most 1,200 wide. The last line counts what passed and failed.
 """
 
 import glob
 import json
 import os
+import random
 import re
 import subprocess
 import sys
 import xml.etree.ElementTree
+
+from explanations import SEED, UNDECIDED_HISTORIES, connections, left_of_examples, text_of, value_comes_back
 
 TOP = os.path.dirname(os.path.dirname(os.path.dirname(os.path.abspath(__file__))))
 PROGRAM = os.path.join(TOP, "crates", "bench", "out", "bench")
@@ -138,7 +142,7 @@ def window_of(history, verdict, located, marks, around, room, few=None):
     points = []
     for call in marks:
         points.append(max([spans[call][1], *points]))
-    wrong = located["event"] if verdict["verdict"] == located["verdict"] == "no" else points[-1] if points else 0
+    wrong = located["event"] if located["verdict"] == "no" else points[-1] if points else 0
     middle_event = around if around < len(events) else wrong
     columns = []
     middle = None
@@ -155,7 +159,7 @@ def window_of(history, verdict, located, marks, around, room, few=None):
             and (res is None or place_of["event", res] >= first)]
     drawn = [place for kind, place in columns[first:first + count] if kind == "mark"]
     lanes = [f"process {process}" for process in sorted({spans[call][0] for call in bars})]
-    notes = [f"{count} of {len(columns)} columns, around event {middle_event}."]
+    notes = [f"{count} of {len(columns)} columns, around event {middle_event}. "] if count < len(columns) else []
     notes += [f"\u2190 {first} more columns"] if first else []
     notes += [f"{len(columns) - first - count} more columns \u2192"] if first + count < len(columns) else []
     every = titles(history)
@@ -181,16 +185,25 @@ def may_change(call, answer):
     return call[0] not in ("get", "scan") and not is_undone(call, answer) and not is_same[call[0]]
 
 
-def few_of(history, rows):
+def at_key(row, first):
+    """The call, the answer and the event of a line; where the calls begin from a value of a key, a scan is the get of this key."""
+    call, answer = row["call"], row["answer"]
+    if not first or call[0] != "scan" or not isinstance(answer, list):
+        return call, answer, row["event"]
+    return ["get", first["key"]], dict(answer).get(first["key"]), row["event"]
+
+
+def few_of(history, rows, first):
     """The calls of a history, by number, of which the lines of an explanation tell, those that put what these read from outside, and those that
-    they miss."""
-    named = [(row["call"], row["answer"], row["event"]) for row in rows]
+    they miss; and where they begin from a value of a key, as the first line says, the one that put it."""
+    named = [at_key(row, first) for row in rows]
     changes = [(call[1], call[-1] if call[0] != "remove" else None) for call, answer, _ in named if may_change(call, answer)]
-    start = {tuple(pair) for pair in history.get("start", [])}
+    start = {(first["key"], first["from"])} if first else {tuple(pair) for pair in history.get("start", [])}
     read = {pair for call, answer, _ in named for pair in told_by(call, answer)} - set(changes)
     read -= {pair for pair in start if pair[0] not in {key for key, _ in changes}}
     spans, call_at = spans_of(history["events"])
     events = {event for _, _, event in named} | {missed["event"] for row in rows for missed in row.get("misses", [])}
+    events |= {first["put"]["event"]} if first and first["put"] else set()
     for _, inv, res in spans:
         call = history["events"][inv]["invoke"]
         answer = "open" if res is None else history["events"][res]["answer"]
@@ -222,8 +235,9 @@ def fault_of_part(text, words, around, calls):
     marks = [call for _, call in places_in(groups_of(whole)[0])]
     explained = bench(["explain", *words], text)[1].decode().splitlines()[1:]
     rows = [row for row in map(json.loads, explained) if "reason" in row]
+    first = next((row for row in map(json.loads, explained) if "from" in row), None)
     is_free = calls is None and (around is None or around >= len(history["events"]))
-    few = few_of(history, rows) if verdict["verdict"] == "no" and rows and is_free else None
+    few = few_of(history, rows, first) if rows and is_free else None
     room = 60 if calls is None else 3 * calls
     if few is None and (room == 0 or len(history["events"]) + len(marks) <= room):
         return None if picture == whole else "not the whole picture, where all of it has room"
@@ -241,10 +255,16 @@ def fault_of_part(text, words, around, calls):
     if lanes_in(groups) != lanes:
         return "lanes that are not those of the processes that act in the window"
     said = [element.text for element in xml.etree.ElementTree.fromstring(picture).findall(NAMESPACE + "text")]
-    more = sum("more columns" in line for line in said)
-    if not all(any(line.startswith(note) for line in said) for note in notes) or more != len(notes) - 1:
+    counts = sum("more columns" in line or "columns, around event" in line for line in said)
+    if not all(any(line.startswith(note) for line in said) for note in notes) or counts != len(notes):
         return f"{said} is said, where {notes} should be"
-    return None
+    what = "Calls that show where it goes wrong, with those that put what they read and those that they miss." if few else (
+        "" if verdict["verdict"] == "yes" else "Calls outside of the named segment are left out.")
+    if not said[-1].endswith(what):
+        return f"{said[-1]} is said, where it is {what}"
+    named = [history["events"][spans_of(history["events"])[0][call][1]]["invoke"] for call in bars]
+    return fault_of_start(groups, "starts at these calls' keys with ", [
+        pair for pair in history.get("start", []) if any(call[1] <= pair[0] <= call[2 if call[0] == "scan" else 1] for call in named)])
 
 
 def fault_of(text, words):
@@ -262,7 +282,7 @@ def fault_of(text, words):
         return "bars that are not those of the calls"
     verdict = json.loads(report)
     located = json.loads(bench(["locate", *words], text)[1])
-    wrong = [f"call {located['call']} of"] if verdict["verdict"] == located["verdict"] == "no" else []
+    wrong = [f"call {located['call']} of"] if located["verdict"] == "no" else []
     if [" ".join(title.split()[:3]) for title in titles_in(groups, "wrong")] != wrong:
         return "a bar drawn as wrong that is not of the call at which the history goes wrong"
     striped = [group.get("class") for group in groups.get("call", []) + groups.get("pale", []) + groups.get("wrong", [])
@@ -281,16 +301,28 @@ def fault_of(text, words):
             return "marks that are not those of the order"
     elif not all(call in verdict["calls"] for _, call in places):
         return "marks that are not of the named segment"
-    return fault_of_start(history, groups)
+    return fault_of_legend(picture, bool(wrong), verdict["verdict"]) or fault_of_start(groups, "starts with ", history.get("start", []))
 
 
-def fault_of_start(history, groups):
-    """What is wrong with the starting pairs of a picture, or nothing."""
-    words = json.dumps(history.get("start", []), separators=(",", ":"))
+def fault_of_legend(picture, has_wrong, verdict):
+    """What is wrong with the legend of a whole picture, which stands last, or nothing."""
+    said = [element.text for element in xml.etree.ElementTree.fromstring(picture).findall(NAMESPACE + "text")]
+    places = "A circle has the call's place in " + {
+        "yes": "the order", "no": "an order, as far as one gets", "undecided": "an order, as far as one got within the budget"}[verdict]
+    legend = [
+        "A bar is a call, from its invocation to its answer; the number in it is the call's.",
+        places + ("; red stripes show where it goes wrong." if has_wrong else "."),
+    ]
+    return None if said[-2:] == legend else f"{said[-2:]} is the legend"
+
+
+def fault_of_start(groups, begin, pairs):
+    """What is wrong with the starting pairs of a picture, which are said behind these words, or nothing."""
+    words = json.dumps(pairs, separators=(",", ":"))
     title, shown = (groups["start"][0].find(NAMESPACE + name) for name in ("title", "text"))
-    if shown.text == f"starts with {words}":
+    if shown.text == begin + words:
         return None if title is None else "a title of starting pairs that are not cut"
-    if not shown.text.endswith("\u2026") or not f"starts with {words}".startswith(shown.text[:-1]):
+    if not shown.text.endswith("\u2026") or not (begin + words).startswith(shown.text[:-1]):
         return f"{shown.text} of {words}"
     return None if title is not None and title.text == words else "starting pairs that are cut, and are not whole in a title"
 
@@ -321,6 +353,11 @@ def cases():
     yield "400 calls with a wrong answer, and pairs", started(wronged(overlapping(400)), 4096), []
     yield "a value that was overwritten is read", json.dumps({"events": STALE, "version": 1}).encode(), []
     yield "4096 calls at budget 100", overlapping(4096), ["--budget", "100"]
+    for number in range(UNDECIDED_HISTORIES):
+        yield f"calls of many connections, undecided, {number}", text_of(connections(random.Random(SEED + number))), []
+    yield "a value that comes back, undecided", text_of(value_comes_back()), ["--budget", "20000"]
+    for number, history in enumerate(left_of_examples()):
+        yield f"what is left of stream {number}", text_of(history), []
 
 
 def wronged(text):

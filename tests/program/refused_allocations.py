@@ -20,12 +20,12 @@ EXAMPLES = os.path.join(TOP, "examples")
 WANT_OF_MEMORY = (4, b"", b"memory\n")
 
 # Of each public call of the judge a test that compares its answers: judge_alone and report; search_all, by up to 64 workers, four
-# among them, on three segments; cut, search and merge; and of what no subcommand reaches the lines that events are written as.
+# among them, on three segments; cut, search and merge; and a history that is read with its notes and written without.
 TESTS = (
     ("judge_tests", "verdicts::histories_are_judged_by_one_thread"),
     ("judge_tests", "verdicts::equal_answers_for_every_number_of_workers"),
     ("judge_tests", "layers::orders_of_segments_are_merged"),
-    ("judge_tests", "lines::events_are_written_as_lines"),
+    ("judge_tests", "lines::a_history_is_written_without_its_notes"),
 )
 # What a test prints that fails for want of memory.
 WANTING = (b"error: Memory", b"error: AllocError")

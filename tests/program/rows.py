@@ -4,6 +4,7 @@ import concurrent.futures
 import json
 import os
 import pty
+import re
 import subprocess
 
 TOP = os.path.dirname(os.path.dirname(os.path.dirname(os.path.abspath(__file__))))
@@ -34,6 +35,9 @@ TOO_MANY_CALLS = (
     "plan: 3 TooMany\nwanted 1 to 64 scripts, at most 4096 calls in all, "
     "and to be done at most 4096 as scripts times the longest of them\n"
 )
+
+# How far a stream is, which a terminal shows each second: here of streams that take less but where a machine is busy.
+PROGRESS = re.compile(rb"\d+ calls, \d+ a second\n")
 
 
 def as_bytes(text):
@@ -95,7 +99,8 @@ def difference(row):
     words, text, status, output, told = row
     got, wanted = answer(words, text), (status, as_bytes(output), without_hints(status, told))
     if got == wanted and wanted[2] != as_bytes(told):
-        got, wanted = on_terminal(words, text), (status, as_bytes(output), as_bytes(told))
+        found, written, shown = on_terminal(words, text)
+        got, wanted = (found, written, PROGRESS.sub(b"", shown)), (status, as_bytes(output), as_bytes(told))
     if got == wanted:
         return None
     return f"{' '.join(words)[:200]} on {as_bytes(text)[:300]}:\n  {str(got)[:600]}\n  and wanted is {str(wanted)[:600]}"
@@ -190,8 +195,8 @@ def stream(events, start=None):
 
 def report_of(call, event, keys, reason=None):
     """What is said of an answer that is no yes: its call and event, and of each key the events at which calls begin that are left there, the
-    key, and the values that it may have had."""
-    said = [{"invoked": invoked, "key": key, "values": values} for key, invoked, values in keys]
+    key, the values that it may have had, and the events at which the calls began that put these."""
+    said = [{"invoked": invoked, "key": key, "put": puts, "values": values} for key, invoked, values, puts in keys]
     report = {"call": call, "event": event, "keys": said, "verdict": "no"}
     if reason:
         report |= {"reason": reason, "verdict": "undecided"}

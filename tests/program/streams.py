@@ -305,14 +305,25 @@ def wrong_with_count(history, lines):
     return None if lines == [{"calls": calls, "overlap": hundredths / 100, "verdict": "yes"}] else f"a yes as {lines}"
 
 
+def may_reply(call, answer):
+    """Whether some map answers a call so: a scan by pairs of its range, by rising key, or by nothing that is told."""
+    name, low, *ends = call
+    if name != "scan" or answer in ("refused", "done"):
+        return True
+    keys = [pair[0] for pair in answer] if isinstance(answer, list) else None
+    return keys is not None and keys == sorted(set(keys)) and all(low <= key <= ends[0] for key in keys)
+
+
 def wrong_with_keys(history, report):
-    """What is wrong with the keys that are named: each call that is left there has to begin before the event and to be of the key, and the call
-    that was answered has to be among them, unless it tells nothing."""
+    """What is wrong with the keys that are named: a no has to name one, but where no map answers the call so, each call that is left there has to begin
+    before the event and to be of the key, and the call that was answered has to be among them, unless it tells nothing."""
     events, event = history["events"], report["event"]
     begun = [place for place in range(event) if "invoke" in events[place]]
     call = max(place for place in begun if events[place]["process"] == events[event]["process"])
     if begun.index(call) != report["call"]:
         return f"{report}, whose event does not answer its call"
+    if report["verdict"] == "no" and bool(report["keys"]) != may_reply(events[call]["invoke"], events[event]["answer"]):
+        return f"{report}, which names no key of its call, or names one where no map answers so"
     for kept in report["keys"]:
         ranges = [events[place]["invoke"] for place in kept["invoked"] if place in begun]
         are_of = [low <= kept["key"] <= (ends[0] if name == "scan" else low) for name, low, *ends in ranges]
@@ -320,6 +331,54 @@ def wrong_with_keys(history, report):
             return f"{report}, whose key {kept['key']} has calls that are none of it"
         if call not in kept["invoked"] and events[event]["answer"] not in ("refused", "done"):
             return f"{report}, whose key {kept['key']} has not the call that is answered"
+    return None
+
+
+def puts_before(events, event, key):
+    """The calls of a key that began before an event and put a value there, unless they are refused or answered by other before it: of each the
+    event at which it begins, and the value."""
+    for place in range(event):
+        name, low, *rest = events[place].get("invoke", ["none", None])
+        replies = [later["answer"] for later in events[place:event] if "answer" in later and later["process"] == events[place]["process"]]
+        if low == key and name in ("insert", "replace") and replies[:1] not in (["refused"], ["other"]):
+            yield place, rest[-1]
+
+
+def answered_at(events, place, event):
+    """The event before another one at which the call is answered that was invoked at a place, if it is."""
+    process = events[place]["process"]
+    return next((later for later in range(place, event) if "answer" in events[later] and events[later]["process"] == process), None)
+
+
+def is_overwritten(events, event, kept, place, value):
+    """Whether the value that a call put at a key was surely overwritten by one that is gone there: that was invoked behind the call's answer, and was
+    answered, and left another value, or none."""
+    answered = answered_at(events, place, event)
+    for later in range(event if answered is None else answered, event):
+        name, key, *rest = events[later].get("invoke", ["none", None])
+        done = answered_at(events, later, event)
+        if key != kept["key"] or later in kept["invoked"] or done is None or events[done]["answer"] in ("refused", "other"):
+            continue
+        found = events[done]["answer"]
+        if name == "insert" and rest[0] not in (value, found) or name == "remove" and found is not None:
+            return True
+        if name == "replace" and rest[1] not in (value, rest[0]) and found == rest[0]:
+            return True
+    return False
+
+
+def wrong_with_puts(history, report):
+    """What is wrong with who put the values of the keys that are named: a call of the key that puts that, and that none overwrote that is gone, or nobody,
+    where it was there at the start."""
+    start = dict(history.get("start", []))
+    for kept in report["keys"]:
+        puts = set(puts_before(history["events"], report["event"], kept["key"]))
+        for value, place in zip(kept["values"], kept["put"], strict=True):
+            if place is not None and is_overwritten(history["events"], report["event"], kept, place, value):
+                return f"{report}, where what {place} put at key {kept['key']} was overwritten"
+        for value, place in zip(kept["values"], kept["put"], strict=True):
+            if value not in (None, start.get(kept["key"])) if place is None else (place, value) not in puts:
+                return f"{report}, where {place} did not put {value} at key {kept['key']}"
     return None
 
 
@@ -336,7 +395,7 @@ def wrong_with_small(history, report, small):
         judged = said("judge", text_of(few))
         if judged[0] == 0:
             return f"a small history of which judge says {judged[1]}"
-    return wrong_with_keys(history, report)
+    return wrong_with_keys(history, report) or wrong_with_puts(history, report)
 
 
 def overlap_of(events):
@@ -384,7 +443,9 @@ def wrong_with_no(history, text, report, small):
 def wrong_with_doubt(history, report, small):
     """What is wrong where `follow` does not know."""
     keys = {"budget": 1, "scans": 0}.get(report["reason"])
-    return f"{report}, with {small}" if small or len(report["keys"]) != keys else wrong_with_keys(history, report)
+    if small or len(report["keys"]) != keys:
+        return f"{report}, with {small}"
+    return wrong_with_keys(history, report) or wrong_with_puts(history, report)
 
 
 def verdict(history, lost=None):
@@ -416,6 +477,16 @@ def examples():
                 text = source.read()
             if said("judge", text)[0] < REFUSED:
                 yield json.loads(text)
+
+
+def left_of_examples():
+    """The small histories that `follow` writes of the examples of streams."""
+    for name in sorted(os.listdir(EXAMPLES)):
+        if name.endswith("-stream.json"):
+            with open(os.path.join(EXAMPLES, name), "rb") as source:
+                status, lines = said("follow", source.read())
+            if status < REFUSED:
+                yield from lines[1:]
 
 
 def main():

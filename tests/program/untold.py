@@ -191,7 +191,19 @@ def rows():
     # A refused call is left no longer.
     for reply, left in (('"found"', [0]), ("99", [0]), ('"other"', [0]), ('"refused"', [])):
         text = stream(SEEN_PUT + f'{{"answer":{reply},"process":9}}', "")
-        yield ["follow"], text, 1, report_of(0, 129, [(5, left, [])]) + "\n", ""
+        yield ["follow"], text, 1, report_of(0, 129, [(5, left, [], [])]) + "\n", ""
+
+
+def putter(events, key, value):
+    """The event at which the last call of some began that puts this value at a key, and is not refused, nor answered by other; none where there is
+    none, and where this is no value."""
+    for place in reversed(range(len(events))):
+        name, low, *rest = events[place].get("invoke", ["none", None])
+        put = {"insert": [rest[-1:]], "replace": [rest[-1:]]}.get(name, [])
+        replies = [event["answer"] for event in events[place:] if "answer" in event and event["process"] == events[place]["process"]]
+        if low == key and [value] in put and replies[:1] not in (["refused"], ["other"]):
+            return place
+    return None
 
 
 def followed(start, events, key, values):
@@ -207,9 +219,13 @@ def followed(start, events, key, values):
     else:
         call, reply = json.dumps(listed[-2]["invoke"]), json.dumps(listed[-1]["answer"])
         text = [alone(key, values[0], call, reply).replace(", ", ",")] if len(values) == 1 else []
-        wanted = 1, report_of(calls - 1, last, [(key, [last - 1], values)] if values else []), text
+        puts = [putter(listed[:-2], key, value) for value in values]
+        wanted = 1, report_of(calls - 1, last, [(key, [last - 1], values, puts)] if values else []), text
         said = json.loads(report)
-        keys = [(kept["key"], kept["invoked"], sorted(kept["values"], key=lambda value: (value is not None, value))) for kept in said["keys"]]
+        keys = []
+        for kept in said["keys"]:
+            pairs = sorted(zip(kept["values"], kept["put"], strict=True), key=lambda pair: (pair[0] is not None, pair[0]))
+            keys.append((kept["key"], kept["invoked"], [value for value, _ in pairs], [put for _, put in pairs]))
         found = status, report_of(said["call"], said["event"], keys), small
     return None if found == wanted and not faults else f"{found} and {faults}, and wanted is {wanted} of {events} from {start}"
 

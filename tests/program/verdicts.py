@@ -448,6 +448,13 @@ SCAN_EXPLAINED = """{"calls":[0],"hi":6,"lo":4,"verdict":"no"}
 {"front":[],"holds":[[4,40],[5,50],[6,60]],"next":[{"answer":[[4,40],[6,60]],"event":0,"would":[[4,40],[5,50],[6,60]]}]}
 """
 
+# Of two inserts of one value the later one is undone by a remove, behind which the value is there: so the earlier one put it.
+REMOVED_VALUE_IS_PUT_BY_AN_OLDER_INSERT = """
+    {"invoke":["insert",5,7],"process":1},
+    {"invoke":["insert",5,7],"process":2}, {"answer":null,"process":2},
+    {"invoke":["remove",5],"process":2}, {"answer":7,"process":2},
+    {"invoke":["get",5],"process":3}, {"answer":7,"process":3}, {"answer":null,"process":1},
+    {"invoke":["get",5],"process":3}, {"answer":9,"process":3}"""
 # The get that misses the insert at its key is at another key than the scan, which was right.
 GET_OF_ANOTHER_KEY_GOES_WRONG = """
     {"invoke":["insert",3,30],"process":0}, {"answer":null,"process":0},
@@ -523,6 +530,17 @@ def many_readers(last):
     return ",".join([*begun, *missed, f'{{"answer":{last},"process":61}}'])
 
 
+def beside_an_open_scan(rounds):
+    """A scan that stays open, and rounds of an insert beside a get, which finds it or, each second time, what was there before."""
+    found = [None, *range(1, rounds + 1)]
+    each = [
+        f'{{"invoke":["insert",5,{number}],"process":0}},{{"invoke":["get",5],"process":1}},'
+        f'{{"answer":{json.dumps(found[number - 1])},"process":0}},{{"answer":{json.dumps(found[number - number % 2])},"process":1}}'
+        for number in range(1, rounds + 1)
+    ]
+    return ",".join(['{"invoke":["scan",5,5],"process":9}', *each])
+
+
 # Events and what following them comes to: how many calls there are, and how many others were open at an invocation on average, rounded
 # down to hundredths.
 FOLLOWED = [
@@ -539,107 +557,119 @@ FOLLOWED = [
     (OPEN_INSERT_BESIDE_MANY_GETS, 302, "0.99"),
     # 61 * 62 / 2 of 62 calls.
     (many_readers("7"), 62, "30.50"),
-    # All 13^3 ways are kept. 1 + 2 + 3 + 6 * 4 of 10 calls.
-    (many_ways(3, 3), 10, "3.00"),
+    # All 4^6 ways are kept. 1 + 2 + .. + 6 + 6 * 7 of 13 calls.
+    (many_ways(6, 3), 13, "4.84"),
     # The insert of a dead process is found, or not, or is answered after all by what it found.
     (dead_writer(16, 16, None) + get_of_five(16), 18, "0.94"),
     (dead_writer(99, 16, 99) + ',{"answer":1,"process":9}', 17, "0.94"),
     (dead_writer(99, 16, None) + get_of_five(99) + get_of_five(99), 19, "0.94"),
+    # All calls of the key are left. 1 + 2 in each round, of 401 calls.
+    (beside_an_open_scan(200), 401, "1.49"),
     (gets(60_000), 60_000, "0.00"),
 ]
 
 # Events, a budget, and what is written of those that go wrong, or where it is not known: the report, and a small history.
 LOST = [
     (
-        GET_MISSES_ANSWERED_INSERT, 1000, report_of(1, 3, [(5, [2], [7])]),
+        GET_MISSES_ANSWERED_INSERT, 1000, report_of(1, 3, [(5, [2], [7], [0])]),
         '{"events":[{"invoke":["get",5],"process":0},{"answer":null,"process":0}],"start":[[5,7]],"version":2}',
     ),
     (
-        LATER_GET_MISSES_WHAT_WAS_SEEN, 1000, report_of(2, 4, [(5, [0, 1, 3], [None])]),
+        LATER_GET_MISSES_WHAT_WAS_SEEN, 1000, report_of(2, 4, [(5, [0, 1, 3], [None], [None])]),
         '{"events":[{"invoke":["insert",5,7],"process":0},{"invoke":["get",5],"process":1},{"answer":7,"process":1},'
         '{"invoke":["get",5],"process":1},{"answer":null,"process":1}],"version":1}',
     ),
     # The scan is tried while an insert is open. While the first one is, key 2 cannot be as the scan was told; while the second one is, key 1 cannot.
     (
         SCAN_MISSES_THE_FIRST_OF_TWO_INSERTS, 1000,
-        report_of(0, 5, [(2, [0, 3], [None]), (1, [1, 0], [None])]), None,
+        report_of(0, 5, [(2, [0, 3], [None], [None]), (1, [1, 0], [None], [None])]), None,
     ),
-    # The first scan is tried before the answer of the first insert alone, and so is the second one: before the first one, and behind it.
+    # The first scan is tried before the answer of the first insert and behind it, before that of the second. The second scan is tried, of the one
+    # way, beside the first scan, before it and behind it, and behind both answers; of the other, before both answers, beside the first scan, before
+    # it and behind it, and behind both answers.
     (
         SCANS_SEE_TWO_INSERTS_IN_DIFFERENT_ORDER, 1000,
-        report_of(3, 7, [(2, [1, 3, 2], [None]), (1, [0, 2, 3], [None])]), None,
+        report_of(3, 7, [(key, names, [None], [None]) for key, names in (
+            (2, [1, 3, 2]), (1, [0, 2, 3]), (1, [0, 2, 3]), (2, [1, 3, 2]), (1, [0, 3, 2]), (1, [0, 2, 3]), (1, [0, 2, 3]),
+        )]), None,
     ),
     (
-        GET_SEES_WHAT_NOBODY_INSERTED, 1000, report_of(2, 5, [(9, [4], [None])]),
+        GET_SEES_WHAT_NOBODY_INSERTED, 1000, report_of(2, 5, [(9, [4], [None], [None])]),
         '{"events":[{"invoke":["get",9],"process":0},{"answer":1,"process":0}],"version":1}',
     ),
     # No map answers a scan so, whatever its keys have.
     (SCAN_LISTS_KEYS_THAT_FALL, 1000, report_of(2, 5, []), None),
     (SCAN_IS_ANSWERED_BY_A_VALUE, 1000, report_of(1, 3, []), None),
     (
-        GET_SEES_REFUSED_INSERT, 1000, report_of(1, 3, [(5, [2], [None])]),
+        GET_SEES_REFUSED_INSERT, 1000, report_of(1, 3, [(5, [2], [None], [None])]),
         '{"events":[{"invoke":["get",5],"process":0},{"answer":7,"process":0}],"version":1}',
     ),
     # The refused insert is left no longer.
     (
-        SEEN_INSERT_IS_REFUSED, 1000, report_of(0, 3, [(5, [1], [None])]),
+        SEEN_INSERT_IS_REFUSED, 1000, report_of(0, 3, [(5, [1], [None], [None])]),
         '{"events":[{"invoke":["get",5],"process":0},{"answer":7,"process":0}],"version":1}',
     ),
     (
-        GET_IS_ANSWERED_BY_A_LIST, 1000, report_of(0, 1, [(5, [0], [None])]),
+        GET_IS_ANSWERED_BY_A_LIST, 1000, report_of(0, 1, [(5, [0], [None], [None])]),
         '{"events":[{"invoke":["get",5],"process":0},{"answer":[],"process":0}],"version":1}',
     ),
     (
-        REFUSED_SCAN_TIES_KEYS, 1000, report_of(2, 5, [(2, [4], [None])]),
+        REFUSED_SCAN_TIES_KEYS, 1000, report_of(2, 5, [(2, [4], [None], [None])]),
         '{"events":[{"invoke":["get",2],"process":0},{"answer":5,"process":0}],"version":1}',
     ),
     (
-        GET_OF_ANOTHER_KEY_GOES_WRONG, 1000, report_of(4, 8, [(5, [7], [7])]),
+        GET_OF_ANOTHER_KEY_GOES_WRONG, 1000, report_of(4, 8, [(5, [7], [7], [2])]),
         '{"events":[{"invoke":["get",5],"process":0},{"answer":null,"process":0}],"start":[[5,7]],"version":2}',
     ),
     (
-        INSERTS_ALL_COME_FIRST, 1000, report_of(1, 6, [(5, [0, 1, 2, 3, 4], [None])]),
+        REMOVED_VALUE_IS_PUT_BY_AN_OLDER_INSERT, 1000, report_of(4, 9, [(5, [8], [7], [0])]),
+        '{"events":[{"invoke":["get",5],"process":0},{"answer":9,"process":0}],"start":[[5,7]],"version":2}',
+    ),
+    (
+        INSERTS_ALL_COME_FIRST, 1000, report_of(1, 6, [(5, [0, 1, 2, 3, 4], [None], [None])]),
         '{"events":[{"invoke":["insert",5,1],"process":0},{"invoke":["insert",5,2],"process":1},{"invoke":["insert",5,3],"process":2},'
         '{"invoke":["insert",5,4],"process":3},{"invoke":["insert",5,5],"process":4},{"answer":null,"process":0},'
         '{"answer":null,"process":1}],"version":1}',
     ),
     # At a budget of one position.
-    (INSERTS_ALL_COME_FIRST, 1, report_of(1, 6, [(5, [0, 1, 2, 3, 4], [None])], "budget"), None),
+    (INSERTS_ALL_COME_FIRST, 1, report_of(1, 6, [(5, [0, 1, 2, 3, 4], [None], [None])], "budget"), None),
     (
-        INSERT_HOLDS_A_REMOVE, 1000, report_of(3, 7, [(1, [2, 3, 5], [5])]),
+        INSERT_HOLDS_A_REMOVE, 1000, report_of(3, 7, [(1, [2, 3, 5], [5], [0])]),
         '{"events":[{"invoke":["remove",1],"process":0},{"invoke":["get",1],"process":1},{"answer":5,"process":0},'
         '{"invoke":["insert",1,8],"process":0},{"answer":8,"process":1},{"answer":5,"process":0}],"start":[[1,5]],"version":2}',
     ),
     (
-        PENDING_SCAN_HOLDS_ITS_KEYS_ALONE, 1000, report_of(5, 10, [(4, [9], [6])]),
+        PENDING_SCAN_HOLDS_ITS_KEYS_ALONE, 1000, report_of(5, 10, [(4, [9], [6], [7])]),
         '{"events":[{"invoke":["get",4],"process":0},{"answer":null,"process":0}],"start":[[4,6]],"version":2}',
     ),
-    (many_readers("9"), 100, report_of(61, 122, [(5, [*range(62)], [None])]), history(many_readers("9"))),
+    (many_readers("9"), 100, report_of(61, 122, [(5, [*range(62)], [None], [None])]), history(many_readers("9"))),
     # A scan that cannot have been told so of one key, of which no call is left, stands there as a get.
     (
-        SCAN_MISSES_AN_OVERWRITE, 1000, report_of(3, 7, [(2, [6], [7])]),
+        SCAN_MISSES_AN_OVERWRITE, 1000, report_of(3, 7, [(2, [6], [7], [4])]),
         '{"events":[{"invoke":["get",2],"process":0},{"answer":6,"process":0}],"start":[[2,7]],"version":2}',
     ),
     (
-        SCAN_LISTS_WHAT_NOBODY_INSERTED, 1000, report_of(1, 3, [(3, [2], [None])]),
+        SCAN_LISTS_WHAT_NOBODY_INSERTED, 1000, report_of(1, 3, [(3, [2], [None], [None])]),
         '{"events":[{"invoke":["get",3],"process":0},{"answer":9,"process":0}],"version":1}',
     ),
     # Where the scan may have come behind the answer of the first insert, it may have come before it. The later get misses what was put.
     (
-        SCAN_MAY_HAVE_COME_BEFORE_AN_ANSWER, 1000, report_of(4, 8, [(2, [1, 2, 5, 7], [None])]),
+        SCAN_MAY_HAVE_COME_BEFORE_AN_ANSWER, 1000, report_of(4, 8, [(2, [1, 2, 5, 7], [None], [None])]),
         '{"events":[{"invoke":["insert",2,20],"process":0},{"invoke":["get",2],"process":1},{"answer":null,"process":1},'
         '{"invoke":["get",2],"process":1},{"answer":20,"process":1},{"invoke":["get",2],"process":1},{"answer":null,"process":1}],"version":1}',
     ),
-    (many_ways(5, 3), 1000, report_of(5, 22, [], "scans"), None),
-    # The insert of the dead process may have come, or not: from each the value is the last one that was put.
-    (dead_writer(64, 64, None) + get_of_five(5), 1000, report_of(65, 130, [(5, [0, 129], [64, 64])]), None),
+    (many_ways(7, 3), 1000, report_of(7, 26, [], "scans"), None),
+    # 401 ways of one scan, in each of which some 800 calls are left: more than 262,144 in all.
+    (many_ways(2, 400), 1000, report_of(1, 1603, [], "scans"), None),
+    # The insert of the dead process may have come, and then it put the value, or not.
+    (dead_writer(64, 64, None) + get_of_five(5), 1000, report_of(65, 130, [(5, [0, 129], [64, 64], [127, 0])]), None),
     # It has come for sure, between the first and the second insert: so it is not in the small history.
     (
-        dead_writer(99, 64, 99) + get_of_five(5), 1000, report_of(65, 130, [(5, [0, 129], [64])]),
+        dead_writer(99, 64, 99) + get_of_five(5), 1000, report_of(65, 130, [(5, [0, 129], [64], [127])]),
         '{"events":[{"invoke":["get",5],"process":0},{"answer":5,"process":0}],"start":[[5,64]],"version":2}',
     ),
     # It is answered after all, and not by what it found: there is no way to go on from.
-    (dead_writer(99, 64, 99) + ',{"answer":7,"process":9}', 1000, report_of(0, 129, [(5, [0], [])]), None),
+    (dead_writer(99, 64, 99) + ',{"answer":7,"process":9}', 1000, report_of(0, 129, [(5, [0], [], [])]), None),
 ]
 
 # From 1 at key 5 and 9 at key 9 a get misses what an insert before it was answered for; behind it stands a line that is not read.
@@ -678,7 +708,7 @@ STREAMS = [
     (OVERLAPPING_STREAM.rstrip(), 0, '{"calls":2,"overlap":0.50,"verdict":"yes"}\n', ""),
     (
         MISSED_STREAM, 1,
-        '{"call":2,"event":4,"keys":[{"invoked":[3],"key":5,"values":[7]}],"verdict":"no"}\n'
+        '{"call":2,"event":4,"keys":[{"invoked":[3],"key":5,"put":[0],"values":[7]}],"verdict":"no"}\n'
         '{"events":[{"invoke":["get",5],"process":0},{"answer":1,"process":0}],"start":[[5,7]],"version":2}\n', "",
     ),
     ("", 0, '{"calls":0,"overlap":0.00,"verdict":"yes"}\n', ""),
@@ -733,9 +763,9 @@ def located():
     """Texts, a budget and the line that says where they go wrong."""
     for events, budget, line in LOCATIONS:
         yield history(events), budget, line
-    # Each scan is tried while an insert or a remove is open, six times. The fifth scan is call 5, and its answer event 1 + 5 + 4 * 3 + 4.
-    yield history(many_ways(5, 3)), 1000, '{"call":5,"event":22,"reason":"scans","verdict":"undecided"}'
-    yield history(many_ways(4, 3)), 1000, WELL
+    # Each scan is tried as it begins, and while a remove is open: four times. The seventh scan is call 7, and its answer event 1 + 7 + 4 * 3 + 6.
+    yield history(many_ways(7, 3)), 1000, '{"call":7,"event":26,"reason":"scans","verdict":"undecided"}'
+    yield history(many_ways(6, 3)), 1000, WELL
     yield history(many_ways(2, 3)), 1000, WELL
     yield history(one_false_get(500, 1000)), 10_000, '{"call":500,"event":1001,"verdict":"no"}'
     yield history(one_false_get(0, 4095)), 10_000, '{"call":0,"event":1,"verdict":"no"}'

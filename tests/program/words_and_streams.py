@@ -7,6 +7,8 @@ Each run has to end with the status that docs/FORMATS.md gives, and to write wha
 else. The last line counts the runs that passed and failed.
 """
 
+import functools
+import json
 import os
 import pty
 import re
@@ -193,6 +195,30 @@ def wide_text(path):
         text.write('{"events":[' + ",".join([*inserts, scan]) + '],"version":1}')
 
 
+def many_pairs_text(path, pairs, opened):
+    """Writes a history of one segment, without order, from these pairs: calls with their answers, which all overlap, and a scan over all keys."""
+    events = [{"invoke": call, "process": process} for process, (call, _) in enumerate(opened)]
+    events += [{"answer": answer, "process": process} for process, (_, answer) in enumerate(opened)]
+    events += [{"invoke": ["scan", 0, 2**64 - 1], "process": 0}, {"answer": [[0, 99]], "process": 0}]
+    with open(path, "w", encoding="utf-8") as text:
+        json.dump({"events": events, "start": pairs, "version": 2}, text)
+
+
+def undecided_of_many_pairs(folder):
+    """Searches of configurations that differ little from many starting pairs: they hold what differs, so that the memory suffices."""
+    pairs = [[10**19 + number * 7919, number] for number in range(4096)]
+    path = os.path.join(folder, "pairs")
+    report = rb'\{"calls":[^\n]*"verdict":"undecided"\}\n'
+    for shows, most, held, opened in (
+        ("60 inserts over 4,096 pairs", 400 << 20, pairs, [(["insert", key, 1], value) for key, value in pairs[::69]]),
+        ("60 scans of 1,000 pairs", 200 << 20, pairs[:1000], [(["scan", 0, 2**64 - 1], pairs[:1000])] * 60),
+    ):
+        many_pairs_text(path, held, opened)
+        with open(path, "rb") as source:
+            limit = functools.partial(resource.setrlimit, resource.RLIMIT_AS, (most, most))
+            yield f"{shows}, in {most >> 20} MB", run(["judge"], source, before=limit), (2, report, NOTHING)
+
+
 def deep_text(path):
     """Writes a history whose calls are all in one segment, and each of them comes after all before it."""
     call = '{"invoke":["get",5],"process":0},{"answer":null,"process":0}'
@@ -224,6 +250,7 @@ def runs(folder):
     with open(wide, "rb") as source:
         words = ["judge", "--budget", "1000000"]
         yield "a wide search in little memory", run(words, source, before=with_little_memory), (4, NOTHING, rb"memory\n")
+    yield from undecided_of_many_pairs(folder)
 
     with open(OVERLAPPING, "rb") as source:
         lines = source.read().splitlines(keepends=True)

@@ -1,7 +1,8 @@
 -- A number a call, as it is written.
 use Rattle.std.specs.Prelude.{ℕ, ◌*◌, ◌/◌, ◌%◌, max, List, ◌++◌, codes, decimal}
 
--- how many hundredths a call there are of a sum over so many calls, rounded down; of no call as of one
+-- how many hundredths a call there are of a sum over so many calls, rounded down; of no call as of
+-- one
 abbrev pub hundredths : ℕ → ℕ → ℕ
 hundredths calls total = total * 100 / max calls 1
 

@@ -14,7 +14,8 @@ rare_hint calls overlap =
     line (codes "note: " ++ average_text calls overlap
     ++ codes " other calls were open at an invocation on average, and of calls that hardly overlap a yes says little")
 
--- the hint on a yes, of so many calls with so much overlap in all: that one where it is of two calls at least, and less than a tenth a call
+-- the hint on a yes, of so many calls with so much overlap in all: that one where it is of two
+-- calls at least, and less than a tenth a call
 abbrev pub yes_hint : ℕ → ℕ → List ℕ
 yes_hint calls overlap =
     if nat_lt calls 2 then [] else if nat_lt (hundredths calls overlap) 10 then rare_hint calls overlap else []

@@ -1,22 +1,22 @@
 -- How a run comes out whose answers may have hints.
 use Rattle.std.specs.Prelude.{◌≡◌, ◌⊎◌, ⊤, ℕ, List, [], Option, IfSome, string_bytes}
 use Rattle.outcomes.specs.declared.outcome.Answer.{Answer}
-use Rattle.outcomes.specs.declared.outcome.Outcome.{Outcome}
-use Rattle.outcomes.specs.declared.outcome.Outcome.TheVariants.{Answered, Noted, Refused, Memory, Words, Failed}
+use Rattle.outcomes.specs.declared.outcome.RunOutcome.{RunOutcome}
+use Rattle.outcomes.specs.declared.outcome.RunOutcome.TheVariants.{Answered, Noted, Refused, Memory, Words, Failed}
 use Rattle.outcomes.specs.Ends.{Change, IsSound}
 use Rattle.outcomes.specs.Outcomes.{IsUnread}
 
 -- an answer with these bytes, and with this hint, or none where it is empty; or want of memory
-abbrev pub IsHintedBy : Answer → List ℕ → List ℕ → Outcome → Type 0
+abbrev pub IsHintedBy : Answer → List ℕ → List ℕ → RunOutcome → Type 0
 IsHintedBy answer bytes hint (Answered given text) = (given ≡ answer) × (string_bytes text ≡ bytes) × (hint ≡ [])
 IsHintedBy answer bytes hint (Noted given text note) = (given ≡ answer) × (string_bytes text ≡ bytes) × (string_bytes note ≡ hint)
 IsHintedBy answer bytes hint Memory = ⊤
 IsHintedBy answer bytes hint outcome = ⊥
 
--- the outcome of a text, as far as it is told: an answer with its hint, or without where it has none; or its refusal with a hint; or want of
--- memory
+-- the outcome of a text, as far as it is told: an answer with its hint, or without where it has
+-- none; or its refusal with a hint; or want of memory
 abbrev pub IsHintedOutcome : (List ℕ → Answer → List ℕ → List ℕ → Type 0) → (List ℕ → List ℕ → List ℕ → Type 0) → Option (List ℕ)
-    → Outcome → Type 0
+    → RunOutcome → Type 0
 IsHintedOutcome IsAnswer IsRefusal told (Answered answer bytes) = IfSome told (λ text. IsAnswer text answer (string_bytes bytes) [])
 IsHintedOutcome IsAnswer IsRefusal told (Noted answer bytes note) =
     IfSome told (λ text. IsAnswer text answer (string_bytes bytes) (string_bytes note))
@@ -27,6 +27,6 @@ IsHintedOutcome IsAnswer IsRefusal told (Words bytes) = ⊥
 IsHintedOutcome IsAnswer IsRefusal told Failed = ⊥
 
 -- the outcome of a run that reads its text from the source
-abbrev pub IsHintedRead : (List ℕ → Answer → List ℕ → List ℕ → Type 0) → (List ℕ → List ℕ → List ℕ → Type 0) → Change → Outcome → Type 0
+abbrev pub IsHintedRead : (List ℕ → Answer → List ℕ → List ℕ → Type 0) → (List ℕ → List ℕ → List ℕ → Type 0) → Change → RunOutcome → Type 0
 IsHintedRead IsAnswer IsRefusal source outcome =
     IsUnread source outcome ⊎ (IsSound source × IsHintedOutcome IsAnswer IsRefusal source.old.bytes outcome)

@@ -3,7 +3,8 @@ use Rattle.std.specs.Prelude.{ℕ, ◌+◌, ◌-◌, ◌^◌, min, List, [], ◌
 use Rattle.events.specs.declared.event.Event.{Event}
 use Rattle.events.specs.declared.event.Event.TheVariants.{Invoke, Answer}
 
--- how many calls are open after these events, of so many before them: each invocation opens one, and each answer ends one
+-- how many calls are open after these events, of so many before them: each invocation opens one,
+-- and each answer ends one
 abbrev pub pending_after : ℕ → List Event → ℕ
 pending_after pending [] = pending
 pending_after pending (Invoke process call ∷ events) = pending_after (pending + 1) events

@@ -4,7 +4,8 @@ ghost use Rattle.answer_hints.specs.Averages.{hundredths, average_text};
 
 use std::alloc::{AllocError, Global};
 
-/// How many hundredths a call there are of a sum over so many calls, rounded down; of no call as of one.
+/// How many hundredths a call there are of a sum over so many calls, rounded down; of no call as of
+/// one.
 pub(crate) fn hundredths(calls: usize, total: u64) -> u128
     ensures { result ≡ hundredths calls total }
 {

@@ -5,43 +5,45 @@ ghost use Rattle.answer_hints.specs.Outcomes.{IsHintedBy};
 ghost use Rattle.outcomes.specs.declared.outcome.Answer.TheVariants.{Yes, No, Undecided};
 
 use crate::average::{average_text, hundredths};
-use outcomes::{Answer, Outcome};
+use outcomes::{Answer, RunOutcome};
 use std::alloc::{AllocError, Global};
 
-/// An answer of yes with this line. Where there are two calls at least, and fewer than 0.1 other calls were open at an invocation on
-/// average, a hint tells how many.
+/// An answer of yes with this line. Where there are two calls at least, and fewer than 0.1 other
+/// calls were open at an invocation on average, a hint tells how many.
 pub fn hinted_yes(
     alloc: Global,
     line: Result<String, AllocError>,
     calls: usize,
     overlap: u64,
-) -> Outcome
+) -> RunOutcome
     ensures { (bytes : List ℕ) → IfOk line (λ text. string_bytes text ≡ bytes)
         → IsHintedBy Yes bytes (yes_hint calls overlap) result }
 {
     if is_rare(calls, overlap) {
-        Outcome::noted(Answer::Yes, line, rare_hint(alloc, calls, overlap))
+        RunOutcome::with_note(Answer::Yes, line, rare_hint(alloc, calls, overlap))
     } else {
-        Outcome::answered(Answer::Yes, line)
+        RunOutcome::from_answer(Answer::Yes, line)
     }
 }
 
 /// An answer of no with this line, and the hint that `bench explain` names a few of the calls.
-pub fn hinted_no(alloc: Global, line: Result<String, AllocError>) -> Outcome
-    ensures { (bytes : List ℕ) → IfOk line (λ text. string_bytes text ≡ bytes) → IsHintedBy No bytes no_hint result }
+pub fn hinted_no(alloc: Global, line: Result<String, AllocError>) -> RunOutcome
+    ensures { (bytes : List ℕ) → IfOk line (λ text. string_bytes text ≡ bytes)
+        → IsHintedBy No bytes no_hint result }
 {
-    Outcome::noted(Answer::No, line, no_hint(alloc))
+    RunOutcome::with_note(Answer::No, line, no_hint(alloc))
 }
 
 /// An answer that is undecided, with this line, and the hint that `bench locate` may decide it.
-pub fn hinted_undecided(alloc: Global, line: Result<String, AllocError>) -> Outcome
+pub fn hinted_undecided(alloc: Global, line: Result<String, AllocError>) -> RunOutcome
     ensures { (bytes : List ℕ) → IfOk line (λ text. string_bytes text ≡ bytes)
         → IsHintedBy Undecided bytes undecided_hint result }
 {
-    Outcome::noted(Answer::Undecided, line, undecided_hint(alloc))
+    RunOutcome::with_note(Answer::Undecided, line, undecided_hint(alloc))
 }
 
-/// Whether there are two calls at least, and fewer than 0.1 other calls were open at an invocation on average.
+/// Whether there are two calls at least, and fewer than 0.1 other calls were open at an invocation
+/// on average.
 fn is_rare(calls: usize, overlap: u64) -> bool
     ensures { yes_hint calls overlap ≡ (if result then rare_hint calls overlap else []) }
 {

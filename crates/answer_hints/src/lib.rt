@@ -1,4 +1,5 @@
-//! What is told beside an answer, for who reads along: how few other calls were open at an invocation, and which subcommand tells more.
+//! What is told beside an answer, for who reads along: how few other calls were open at an
+//! invocation, and which subcommand tells more.
 #![tactic(auto)]
 
 mod average;

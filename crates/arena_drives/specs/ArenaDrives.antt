@@ -43,11 +43,10 @@ pub record IsLimited (setup : Setup) (limit : ℕ) (x : Numbered) : Type 0 where
   pub steps : x.1.steps ≤ (limit + 1) * length (begun x.1)
   pub pending : IsTrue (is_some x.1.call) → length x.1.got ≡ limit
 
--- The history is one that an arena of the shape and the variant gives when it closes: that of a state of the core which some schedule
--- gives, and in which no
--- process is past its limit. Each process did its script, or it stopped within it, and then the last of its calls alone is pending. There
--- is no other process.
--- Where the tree is a full one, the history has an order.
+-- The history is one that an arena of the shape and the variant gives when it closes: that of a
+-- state of the core which some schedule gives, and in which no process is past its limit. Each
+-- process did its script, or it stopped within it, and then the last of its calls alone is pending.
+-- There is no other process. Where the tree is a full one, the history has an order.
 pub record IsArenaDriveOf (shape : Shape) (variant : Variant) (limit : ℕ) (scripts : List (List Call))
     (history : HistoryView) : Type 0 where
   pub view : View

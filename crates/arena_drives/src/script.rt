@@ -7,7 +7,7 @@ ghost use Rattle.arena_drives.specs.Passes.{IsReady, ShowsDone};
 use art::TreeCall;
 use events::Memory;
 use pool::Gate;
-use running::{Arena, Pass, Progress};
+use running::{Arena, CallProgress, Pass};
 use std::alloc::Global;
 
 /// A pass whose process has entered the gate. Steps are made with such a pass alone, and only `enter` gives one.
@@ -44,8 +44,8 @@ pub(crate) fn do_script(
     for call in script {
         arena.begin(&mut pass, *call)?;
         match arena.advance(alloc, &mut pass, limit)? {
-            Progress::Done(_) => {}
-            Progress::Going => return Ok(pass),
+            CallProgress::Done(_) => {}
+            CallProgress::Going => return Ok(pass),
         }
     }
     Ok(pass)

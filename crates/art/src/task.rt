@@ -51,7 +51,7 @@ impl Task {
         };
         Task {
             setting,
-            going: begun(&setting),
+            going: beginning_of(&setting),
         }
     }
 
@@ -106,7 +106,7 @@ impl Task {
 }
 
 /// Where a call begins.
-fn begun(setting: &Setting) -> Going
+fn beginning_of(setting: &Setting) -> Going
     ensures at { at_of result ≡ call_begun (call_setting setting.now) }
     ensures keys { keys_between setting.now.call ≡ scanned_in result }
 {

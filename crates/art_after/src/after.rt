@@ -17,7 +17,7 @@ ghost use Rattle.art_setting.specs.Settings.{setting_of};
 use crate::found::{
     find_checked, find_done, first_loaded, info_loaded, keys_loaded, over, row_entered,
 };
-use crate::grown::{copied, entries, fill, keys_stored, leaf_stored, spread_on};
+use crate::grown::{copy_on, entries, fill, keys_stored, leaf_stored, spread_on};
 use crate::works::{moves, release, row_taken};
 use art_rows::{Kind, child_word, row_word, version_is_locked, version_is_obsolete};
 use art_setting::{Setting, next_kind};
@@ -108,7 +108,7 @@ fn pair_claimed(setting: &Setting, hold: &Hold, pair: &Pair, number: u64, stage:
             word: PairWord::Info,
         };
     } else {
-        refused(hold, stage);
+        refuse(hold, stage);
     }
 }
 
@@ -135,7 +135,7 @@ fn grow_claimed(
             },
         };
     } else {
-        refused(hold, stage);
+        refuse(hold, stage);
     }
 }
 
@@ -208,7 +208,7 @@ pub fn make_stage(setting: &Setting, stage: &mut Stage, got: u64)
         Stage::CheckLast { row } => last_checked(setting, row, got, stage),
         Stage::LetGo { place, finding, .. } => find_checked(setting, place, finding, stage),
         Stage::Take { taking } => take_exchanged(setting, taking, got, stage),
-        Stage::Write { hold, reply, .. } => answering(hold, *reply, stage),
+        Stage::Write { hold, reply, .. } => answer_behind_write(hold, *reply, stage),
         Stage::ClaimPair { hold, pair } => pair_claimed(setting, hold, pair, got, stage),
         Stage::StorePair {
             hold,
@@ -241,7 +241,7 @@ pub fn make_stage(setting: &Setting, stage: &mut Stage, got: u64)
             place,
             left,
             ..
-        } => copied(growing, *place, *left, stage),
+        } => copy_on(growing, *place, *left, stage),
         Stage::SpreadIndex {
             growing,
             place,
@@ -301,7 +301,7 @@ fn pair_stored(hold: &Hold, pair: &Pair, base: u32, word: PairWord, stage: &mut 
 }
 
 /// Where a refused call is, which still holds its rows.
-fn refused(hold: &Hold, stage: &mut Stage)
+fn refuse(hold: &Hold, stage: &mut Stage)
     ensures stage { stage.new ≡ UnlockAll hold.now (Some Refused) }
     ensures sound { is_sound stage.new ≡ true }
 {
@@ -408,7 +408,7 @@ fn take_exchanged(setting: &Setting, taking: &Taking, got: u64, stage: &mut Stag
     }
 }
 
-fn answering(hold: &Hold, reply: Option<u32>, stage: &mut Stage)
+fn answer_behind_write(hold: &Hold, reply: Option<u32>, stage: &mut Stage)
     ensures stage { stage.new ≡ UnlockAll hold.now (Some (Value reply)) }
     ensures sound { is_sound stage.new ≡ true }
 {

@@ -32,10 +32,10 @@ fn seek_locked(setting: &Setting, row: Held, finding: Finding, stage: &mut Stage
     ensures sound { is_sound stage.new ≡ true }
 {
     match finding {
-        Finding::Lacks { .. } => unlocked(row, None, stage),
+        Finding::Lacks { .. } => unlock_and_answer(row, None, stage),
 
         Finding::Has { slot, child } => match child {
-            Child::Empty => unlocked(row, None, stage),
+            Child::Empty => unlock_and_answer(row, None, stage),
 
             Child::Row { base, kind } => leave(setting, down_from(row, slot, base, kind), stage),
 
@@ -44,10 +44,10 @@ fn seek_locked(setting: &Setting, row: Held, finding: Finding, stage: &mut Stage
                     match setting.call.overwriting(value) {
                         Some(word) => write(row, slot, word, Some(value), stage),
 
-                        None => unlocked(row, Some(value), stage),
+                        None => unlock_and_answer(row, Some(value), stage),
                     }
                 } else {
-                    unlocked(row, None, stage);
+                    unlock_and_answer(row, None, stage);
                 }
             }
         },
@@ -483,7 +483,7 @@ fn path_differs(setting: &Setting, down: Down, row: Held, level: u32, stage: &mu
         },
     };
     match (setting.locks(), setting.is_insert()) {
-        (true, false) => unlocked(row, None, stage),
+        (true, false) => unlock_and_answer(row, None, stage),
 
         (true, true) => *stage = Stage::ClaimPair {
             hold: Hold {
@@ -513,7 +513,7 @@ fn path_differs(setting: &Setting, down: Down, row: Held, level: u32, stage: &mu
 }
 
 /// Where a call is that unlocks its row and then answers this value.
-fn unlocked(row: Held, value: Option<u32>, stage: &mut Stage)
+fn unlock_and_answer(row: Held, value: Option<u32>, stage: &mut Stage)
     ensures stage { stage.new ≡ UnlockAll (hold_alone row) (Some (Value value)) }
     ensures sound { is_sound stage.new ≡ true }
 {

@@ -49,7 +49,7 @@ fn copies(growing: &Growing, left: u32, stage: &mut Stage)
 
 /// Where GROW is with so many children to be copied behind this one.
 #[tactic(auto, using(crate::proofs::LoopLemmas::copies_none, crate::proofs::LoopLemmas::copies_some))]
-pub(crate) fn copied(growing: &Growing, place: u32, left: u32, stage: &mut Stage)
+pub(crate) fn copy_on(growing: &Growing, place: u32, left: u32, stage: &mut Stage)
     requires { nat_le (place + left) 48 ≡ true }
     ensures stage { stage.new ≡ copies_at growing.now (place + 1) left }
     ensures sound { is_sound stage.new ≡ true }

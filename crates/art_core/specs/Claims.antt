@@ -1,6 +1,7 @@
--- What is claimed of every schedule: statements alone. Laws carry those of histories (`logs_are_history`), of serial schedules
--- (`serial_is_map`), of scans
--- (`scans_have_one_moment`), of the optimistic tree (`optimistic_is_linearizable`) and of the coupled one (`coupled_is_linearizable`).
+-- What is claimed of every schedule: statements alone. Laws carry those of histories
+-- (`logs_are_history`), of serial schedules (`serial_is_map`), of scans (`scans_have_one_moment`),
+-- of the optimistic tree (`optimistic_is_linearizable`) and of the coupled one
+-- (`coupled_is_linearizable`).
 use Rattle.std.specs.Prelude.{◌≡◌, ◌≢◌, ◌⊎◌, ℕ, Bool, true, false, IsTrue, List, length, slice_get, All, Some}
 use Rattle.events.specs.declared.event.Call.{Call}
 use Rattle.events.specs.declared.event.Call.TheVariants.{Scan}

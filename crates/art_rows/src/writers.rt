@@ -102,7 +102,7 @@ fn less_among(bytes: u64, count: u32, byte: u32) -> u32
 
 /// The number of so many bytes of a word with one more put in at this place, or behind them all.
 #[tactic(auto, using(crate::proofs::WriterLemmas::byte_below, crate::proofs::WriterLemmas::byte_fits, crate::proofs::WriterLemmas::put_first, crate::proofs::WriterLemmas::put_alone, crate::proofs::WriterLemmas::put_later))]
-fn inserted(bytes: u64, count: u32, place: u32, byte: u32) -> u64
+fn with_byte_between(bytes: u64, count: u32, place: u32, byte: u32) -> u64
     requires few { count ≤ 7 }
     requires byte { byte < 256 }
     ensures bytes { result ≡ packed (take place (low_bytes count bytes) ++ byte ∷ drop place (low_bytes count bytes)) }
@@ -111,7 +111,7 @@ fn inserted(bytes: u64, count: u32, place: u32, byte: u32) -> u64
     if place == 0 || count == 0 {
         u64::from(byte) + 256 * low(bytes, count)
     } else {
-        bytes % 256 + 256 * inserted(bytes / 256, count - 1, place - 1, byte)
+        bytes % 256 + 256 * with_byte_between(bytes / 256, count - 1, place - 1, byte)
     }
 }
 
@@ -129,7 +129,7 @@ pub fn key_bytes_with(keys: u64, byte: u32) -> u64
     ensures bytes { result ≡ packed (with_key byte (keys4_of keys)) }
     ensures below { result < 256 ^ 5 }
 {
-    inserted(
+    with_byte_between(
         keys / 256,
         keys_count(keys),
         new_key_place(keys, byte),
@@ -166,9 +166,9 @@ pub fn keys16_with(count: u64, first: u64, second: u64, byte: u32) -> u64
     let place = new_key_place16(count, first, second, byte);
     let count = key_count(16, count);
     if count < 8 {
-        inserted(first, count, place, byte)
+        with_byte_between(first, count, place, byte)
     } else if place < 8 {
-        inserted(first, 7, place, byte)
+        with_byte_between(first, 7, place, byte)
     } else {
         first
     }
@@ -186,7 +186,7 @@ pub fn more_keys16_with(count: u64, first: u64, second: u64, byte: u32) -> u64
     } else if place < 8 {
         u64::from(word_byte(first, 7)) + 256 * low(second, (count - 8).min(7))
     } else if place < 16 {
-        inserted(second, (count - 8).min(7), place - 8, byte)
+        with_byte_between(second, (count - 8).min(7), place - 8, byte)
     } else {
         second
     }

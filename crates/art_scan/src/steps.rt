@@ -28,7 +28,7 @@ fn restart(setting: &Setting, lists: &mut Lists, step: &mut ScanStep)
 }
 
 /// A row is locked, or waited for, with this version.
-fn entered(
+fn enter_row(
     setting: &Setting,
     low: u64,
     high: u64,
@@ -90,7 +90,7 @@ fn first_read(row: Held, count: u64, first: u64, step: &mut ScanStep)
 }
 
 /// A row is released or checked.
-fn released(setting: &Setting, row: Held, got: u64, lists: &mut Lists, step: &mut ScanStep)
+fn leave_row(setting: &Setting, row: Held, got: u64, lists: &mut Lists, step: &mut ScanStep)
     ensures step { at step.new (walk_of lists.new) ≡ release_after (setting_of setting.now) row (walk_of lists.old) got }
     ensures sound { is_sound_step step.new ≡ true }
 {
@@ -174,7 +174,7 @@ fn lock_read(entry: Entry, got: u64, step: &mut ScanStep)
 }
 
 /// The version of a row was exchanged, where it was this one.
-fn exchanged(
+fn take_exchange(
     setting: &Setting,
     low: u64,
     high: u64,
@@ -190,7 +190,7 @@ fn exchanged(
     ensures sound { is_sound_step step.new ≡ true }
 {
     if got == version {
-        entered(setting, low, high, entry, version, lists, step);
+        enter_row(setting, low, high, entry, version, lists, step);
     } else {
         *step = ScanStep::Lock {
             entry,
@@ -200,7 +200,7 @@ fn exchanged(
 }
 
 /// The version of a row is waited for.
-fn waited(
+fn take_wait(
     setting: &Setting,
     low: u64,
     high: u64,
@@ -218,7 +218,7 @@ fn waited(
     } else if version_is_obsolete(got) {
         restart(setting, lists, step);
     } else {
-        entered(setting, low, high, entry, got, lists, step);
+        enter_row(setting, low, high, entry, got, lists, step);
     }
 }
 
@@ -243,11 +243,11 @@ pub fn make_step(
         }
         ScanStep::Exchange { entry, version } => {
             let (entry, version) = (*entry, *version);
-            exchanged(setting, low, high, entry, version, got, lists, step);
+            take_exchange(setting, low, high, entry, version, got, lists, step);
         }
         ScanStep::Wait { entry } => {
             let entry = *entry;
-            waited(setting, low, high, entry, got, lists, step);
+            take_wait(setting, low, high, entry, got, lists, step);
         }
         ScanStep::Info { base, kind, kept } => {
             let (base, kind, kept) = (*base, *kind, *kept);
@@ -305,7 +305,7 @@ pub fn make_step(
         },
         ScanStep::Release { row } => {
             let row = *row;
-            released(setting, row, got, lists, step);
+            leave_row(setting, row, got, lists, step);
         }
         ScanStep::Over => {}
     }

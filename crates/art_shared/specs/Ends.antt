@@ -30,9 +30,9 @@ pub record HasOwnEvents (setup : Setup) (v : View) (events : List Event) : Type 
   pub each : All (λ x. events_of x.0 events ≡ map (λ e. e.1) x.1.log) v.processes
   pub known : All (λ e. process_of e < setup.processes) events
 
--- Some schedule gives the processes of the view, on some words, with the calls that they began as scripts. What they logged is a history;
--- where they made few
--- steps, all holds that is proved of such runs.
+-- Some schedule gives the processes of the view, on some words, with the calls that they began as
+-- scripts. What they logged is a history; where they made few steps, all holds that is proved of
+-- such runs.
 pub record Ended (setup : Setup) (v : View) : Type 0 where
   pub words : List ℕ
   pub schedule : List ℕ

@@ -14,15 +14,3 @@ pub struct Place {
     ghost no_slots: { seat.me.1 ≡ [] },
     ghost rising: { NumbersRise seat.me.0.view },
 }
-
-impl Place {
-    ghost use Rattle.art_shared.specs.Places.{shown};
-
-    /// A law for proofs: the processes that a place shows stand by rising number, so the first of them is the least. It does
-    /// nothing.
-    pub fn numbers_rise(&self)
-        ensures { NumbersRise (shown self.now) }
-    {
-        let _ = &self.seat;
-    }
-}

@@ -6,15 +6,15 @@ use Rattle.command_line.specs.declared.line.Line.{Line}
 use Rattle.command_line.specs.declared.line.Line.TheVariants.{Check, Judge, Locate, Explain, Draw, Follow, Generate, Replay, Drive}
 use Rattle.command_line.specs.declared.line.Tree.{Tree}
 use Rattle.workload.specs.declared.mix.Mix.{Mix}
-use Rattle.outcomes.specs.declared.outcome.Outcome.{Outcome}
-use Rattle.outcomes.specs.declared.outcome.Outcome.TheVariants.{Answered, Noted, Refused, Memory, Words, Failed}
+use Rattle.outcomes.specs.declared.outcome.RunOutcome.{RunOutcome}
+use Rattle.outcomes.specs.declared.outcome.RunOutcome.TheVariants.{Answered, Noted, Refused, Memory, Words, Failed}
 use Rattle.outcomes.specs.Ends.{Change, IsSound}
 use Rattle.plan_engines.specs.Outcomes.{IsGenerateOutcome}
 use Rattle.line_outcomes.specs.Outcomes.{IsAskedOutcome, IsWordsOutcome}
 use Rattle.judge_lines.specs.Outcomes.{AsksForTrees, IsJudgeLineOutcome}
 use Rattle.bench.specs.Outcomes.{IsLineOutcome}
 
-pub drawn-words : (seed : ℕ) (mix : Mix) (processes calls : ℕ) (words : List Text) (source : Change) (outcome : Outcome)
+pub drawn-words : (seed : ℕ) (mix : Mix) (processes calls : ℕ) (words : List Text) (source : Change) (outcome : RunOutcome)
     → (IsGenerateOutcome seed mix processes calls outcome → IsAskedOutcome IsLineOutcome words source outcome) → IsSound source
     → IsGenerateOutcome seed mix processes calls outcome → IsWordsOutcome IsLineOutcome words source outcome
 drawn-words seed mix processes calls words source (Answered answer bytes) ask sound comes = ask comes
@@ -42,7 +42,7 @@ not-trees Replay draws replays drives asks = replays refl
 not-trees (Drive tree rows4 rows16 rows48 rows256 limit) draws replays drives asks = drives tree rows4 rows16 rows48 rows256 limit refl
 
 -- and its outcome is the judge's
-pub judged-line : (line : Line) (source : Change) (outcome : Outcome) → ¬ (AsksForTrees line) → IsJudgeLineOutcome line source outcome
+pub judged-line : (line : Line) (source : Change) (outcome : RunOutcome) → ¬ (AsksForTrees line) → IsJudgeLineOutcome line source outcome
     → IsLineOutcome line source outcome
 judged-line (Check order) source outcome here comes = comes
 judged-line (Judge budget workers) source outcome here comes = comes

@@ -8,7 +8,7 @@ use Rattle.command_line.specs.declared.line.Tree.TheVariants as trees
 use Rattle.command_line.specs.declared.line.Line.{Line}
 use Rattle.command_line.specs.declared.line.Line.TheVariants.{Generate, Replay, Drive}
 use Rattle.locked_map.specs.Answers.{IsAnswerOf}
-use Rattle.outcomes.specs.declared.outcome.Outcome.{Outcome}
+use Rattle.outcomes.specs.declared.outcome.RunOutcome.{RunOutcome}
 use Rattle.outcomes.specs.Ends.{Change, IsUnused}
 use Rattle.judge_lines.specs.Outcomes.{IsJudgeLineOutcome}
 use Rattle.plan_engines.specs.Outcomes.{IsDriveOutcome, IsGenerateOutcome, IsReplayOutcome, IsTreeDriveOutcome}
@@ -25,12 +25,12 @@ variant_of trees.EarlyRelease = Some variants.EarlyRelease
 
 -- the outcome of a drive: on a tree of this shape, with at most so many steps of each call beside that of its invocation; or at a subject
 -- that may answer as the map under a lock
-abbrev pub IsDrivenOutcome : Option Variant → Shape → ℕ → Change → Outcome → Type 0
+abbrev pub IsDrivenOutcome : Option Variant → Shape → ℕ → Change → RunOutcome → Type 0
 IsDrivenOutcome (Some variant) shape limit source outcome = IsTreeDriveOutcome shape variant limit source outcome
 IsDrivenOutcome None shape limit source outcome = IsDriveOutcome IsAnswerOf source outcome
 
 -- the outcome of what a line asks for, whatever the number of workers
-abbrev pub IsLineOutcome : Line → Change → Outcome → Type 0
+abbrev pub IsLineOutcome : Line → Change → RunOutcome → Type 0
 IsLineOutcome (Generate seed processes calls get insert remove scan lo hi) source outcome = IsUnused source
     × IsGenerateOutcome seed (record { get = get; insert = insert; remove = remove; scan = scan; lo = lo; hi = hi }) processes calls outcome
 IsLineOutcome Replay source outcome = IsReplayOutcome source outcome

@@ -1,4 +1,4 @@
-pub mod ReplyLemmas
+mod ToldLemmas
 pub mod ReadLemmas
 mod ApartLemmas
 mod IdleLemmas

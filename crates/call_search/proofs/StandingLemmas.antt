@@ -26,9 +26,9 @@ use Rattle.call_search.specs.Reads.{IsReadNext}
 use Rattle.call_search.specs.Standing.{places, IsDead, IsDeadAt, AreNext, Closes, Remembers, IsSettled, AreMarked, StandsWith, AreChoices}
 use Rattle.call_search.specs.Standing.{IsNextOf}
 use Rattle.call_search.specs.Standing.{HasMoved, IsLooked, IsStep, to_try}
-use Rattle.call_search.specs.declared.standing.Standing.{Standing}
-use Rattle.call_search.specs.declared.standing.Progress.{Progress}
-use Rattle.call_search.specs.declared.standing.Progress.TheVariants.{Made, Order, NoOrder}
+use Rattle.call_search.specs.declared.standing.CallSearch.{CallSearch}
+use Rattle.call_search.specs.declared.standing.SearchStep.{SearchStep}
+use Rattle.call_search.specs.declared.standing.SearchStep.TheVariants.{Made, Order, NoOrder}
 use Rattle.call_search.specs.declared.standing.Level.{Level}
 use Rattle.call_search.proofs.ReadLemmas.{reads_first}
 use Rattle.call_search.proofs.MarkLemmas.{marked-none, marked-push, marked-pop}
@@ -352,7 +352,7 @@ Contains-from_reverse (x ∷ xs) n h = ⊎_elim
 -- ---- what a step came to
 
 -- a step from where the same is visited and no more is to be tried
-pub step_from : (start : Contents) (calls : List Operation) (old middle new : Standing) (progress : Progress)
+pub step_from : (start : Contents) (calls : List Operation) (old middle new : CallSearch) (progress : SearchStep)
     → length middle.memo ≡ length old.memo
     → to_try middle.levels.items middle.rest.items ≤ to_try old.levels.items old.rest.items → IsStep start calls middle new progress
     → IsStep start calls old new progress
@@ -367,7 +367,7 @@ step_from start calls old middle new Order visited le h = h
 step_from start calls old middle new NoOrder visited le h = h
 
 -- a call that leads to a new configuration, after which the search looked on
-pub step_on : (start : Contents) (calls : List Operation) (old middle new : Standing) (rest : List ℕ) (progress : Progress)
+pub step_on : (start : Contents) (calls : List Operation) (old middle new : CallSearch) (rest : List ℕ) (progress : SearchStep)
     → length middle.memo ≡ length old.memo + 1
     → to_try middle.levels.items [] ≡ to_try old.levels.items rest + 1 → length old.rest.items ≡ length rest + 1
     → IsLooked start calls middle new progress
@@ -392,7 +392,7 @@ step_on start calls old middle new rest Order visited pushed popped h = h.0
 step_on start calls old middle new rest NoOrder visited pushed popped h = absurd h
 
 -- a call that was put back
-pub step_back : (start : Contents) (calls : List Operation) (old middle new : Standing) (n : ℕ)
+pub step_back : (start : Contents) (calls : List Operation) (old middle new : CallSearch) (n : ℕ)
     → StandsWith start calls old.levels.items old.at old.map old.memo
     old.taken.items old.low
     → old.rest.items ≡ middle.rest.items ++ n ∷ [] → middle.levels ≡ old.levels → middle.memo ≡ old.memo

@@ -1,4 +1,5 @@
--- Pending calls that need not be tried where a search stands: no completed call that could be the next one waits for them.
+-- Pending calls that need not be tried where a search stands: no completed call that could be the
+-- next one waits for them.
 use Rattle.std.specs.Prelude.{◌≡◌, ◌⊎◌, ℕ, ◌≤◌, Bool, true, List, Some, None, slice_get, All, Contains, IsSomeAnd}
 use Rattle.events.specs.declared.operation.Operation.{Operation}
 use Rattle.events.specs.Keys.{low_key, high_key}
@@ -7,7 +8,8 @@ use Rattle.map_object.specs.MapObject.{Contents, value_at}
 use Rattle.orders.specs.Orders.{IsLegalCall, after_calls}
 use Rattle.segments.proofs.RangeLemmas.{IsOutside}
 
--- a pending call that is left, and was not invoked behind a place: it may come next where that is the earliest answer
+-- a pending call that is left, and was not invoked behind a place: it may come next where that is
+-- the earliest answer
 pub record IsOpenNext (calls : List Operation) (path : List ℕ) (answered : ℕ) (p : Operation) : Type 0 where
   pub n : ℕ
   pub here : slice_get calls n ≡ Some p
@@ -24,7 +26,8 @@ abbrev pub IsBarred : Contents → List Operation → List ℕ → ℕ → Opera
 IsBarred m calls path answered a =
     (front : List Operation) → All (IsOpenNext calls path answered) front → IsLegalCall (after_calls m front) a.call a.response → ⊥
 
--- a call waits for none of them: they change none of its keys, or it is not legal behind any of them
+-- a call waits for none of them: they change none of its keys, or it is not legal behind any of
+-- them
 abbrev pub WaitsForNone : Contents → List Operation → List ℕ → ℕ → Operation → Type 0
 WaitsForNone m calls path answered a =
     IsFree calls path answered (low_key a.call) (high_key a.call) ⊎ IsBarred m calls path answered a
@@ -40,7 +43,8 @@ pub record IsDoneNext (calls : List Operation) (path : List ℕ) (answered n : �
 abbrev pub AreIdle : Contents → List Operation → List ℕ → ℕ → Type 0
 AreIdle m calls path answered = (n : ℕ) (a : Operation) → IsDoneNext calls path answered n a → WaitsForNone m calls path answered a
 
--- a pair is within a range of keys, and not in the map, and none of the pending calls changes its key
+-- a pair is within a range of keys, and not in the map, and none of the pending calls changes its
+-- key
 pub record IsMissing (m : Contents) (calls : List Operation) (path : List ℕ) (answered low high key value : ℕ) : Type 0 where
   pub above : low ≤ key
   pub below : key ≤ high

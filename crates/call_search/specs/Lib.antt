@@ -1,4 +1,3 @@
-pub mod Replies
 pub mod Reads
 pub mod Found
 pub mod Earliest

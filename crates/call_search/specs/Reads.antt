@@ -17,8 +17,8 @@ HasOrderAfter start calls path = (tail : List ℕ) × IsOrder start calls (path 
 abbrev pub LeavesAll : Operation → Type 0
 LeavesAll a = (m : Contents) → IsRising m → IsLegalCall m a.call a.response → after_call m a.call a.response ≡ m
 
--- a completed call that is left, that none which is left precedes, that does its reply where these calls lead, and leaves the pairs as they
--- are wherever it may be answered so
+-- a completed call that is left, that none which is left precedes, that does its reply where these
+-- calls lead, and leaves the pairs as they are wherever it may be answered so
 pub record IsReadNext (start : Contents) (calls : List Operation) (path : List ℕ) (n : ℕ) : Type 0 where
   pub call : Operation
   pub here : slice_get calls n ≡ Some call
@@ -39,7 +39,8 @@ abbrev pub is_told_response : Option Response → Bool
 is_told_response None = false
 is_told_response (Some response) = is_told response.reply
 
--- a call that is told all leaves the pairs as they are wherever it may be answered so, where it leaves them so once
+-- a call that is told all leaves the pairs as they are wherever it may be answered so, where it
+-- leaves them so once
 abbrev pub ToldCallsLeaveAll : Type 0
 ToldCallsLeaveAll =
     (m : Contents) (a : Operation) → is_told_response a.response ≡ true → IsLegalCall m a.call a.response

@@ -14,9 +14,9 @@ use Rattle.search.specs.Standing.{pairs_after, IsConfigurationAt}
 use Rattle.search.specs.Undo.{undone}
 use Rattle.call_search.specs.Reads.{HasOrderAfter}
 use Rattle.call_search.specs.declared.standing.Level.{Level}
-use Rattle.call_search.specs.declared.standing.Standing.{Standing}
-use Rattle.call_search.specs.declared.standing.Progress.{Progress}
-use Rattle.call_search.specs.declared.standing.Progress.TheVariants.{Made, Order, NoOrder}
+use Rattle.call_search.specs.declared.standing.CallSearch.{CallSearch}
+use Rattle.call_search.specs.declared.standing.SearchStep.{SearchStep}
+use Rattle.call_search.specs.declared.standing.SearchStep.TheVariants.{Made, Order, NoOrder}
 
 -- the calls taken, by place
 abbrev pub places : List Level → List ℕ
@@ -38,7 +38,8 @@ AreNext start calls path rest = (n : ℕ) → Contains rest n → IsNext start c
 abbrev pub Closes : Contents → List Operation → List ℕ → List ℕ → Type 0
 Closes start calls path rest = ((n : ℕ) → Contains rest n → IsDead start calls (path ++ n ∷ [])) → IsDead start calls path
 
--- a level of the stack: where the search stood before its call, what undoes the call, and what is to be tried in its stead
+-- a level of the stack: where the search stood before its call, what undoes the call, and what is
+-- to be tried in its stead
 pub record Remembers (start : Contents) (calls : List Operation) (visited : List Configuration) (path : List ℕ)
     (level : Level) : Type 0 where
   pub at : IsConfigurationAt start calls visited path level.at
@@ -68,7 +69,7 @@ pub record StandsWith (start : Contents) (calls : List Operation) (levels : List
   pub settled : (c : Configuration) → Contains visited c → IsSettled start calls (places levels) c
   pub marked : AreMarked (length calls) (places levels) taken low
 
-abbrev pub StandsBare : Contents → List Operation → Standing → Type 0
+abbrev pub StandsBare : Contents → List Operation → CallSearch → Type 0
 StandsBare start calls s = StandsWith start calls s.levels.items s.at s.map s.memo s.taken.items s.low
 
 -- calls that are to be tried, and that all calls tried make an end
@@ -77,7 +78,7 @@ pub record AreChoices (start : Contents) (calls : List Operation) (path rest : L
   pub closes : Closes start calls path rest
 
 -- a search stands here
-abbrev pub Stands : Contents → List Operation → Standing → Type 0
+abbrev pub Stands : Contents → List Operation → CallSearch → Type 0
 Stands start calls s = StandsBare start calls s × AreChoices start calls (places s.levels.items) s.rest.items
 
 -- the calls that are to be tried, with the levels that are to be gone back
@@ -85,12 +86,13 @@ abbrev pub to_try : List Level → List ℕ → ℕ
 to_try [] rest = length rest
 to_try (level ∷ levels) rest = 1 + length level.rest.items + to_try levels rest
 
--- the number that falls at each step: the configurations that the budget still allows, each with all its calls, and the calls to be tried
-abbrev pub rest_of : ℕ → ℕ → Standing → ℕ
+-- the number that falls at each step: the configurations that the budget still allows, each with
+-- all its calls, and the calls to be tried
+abbrev pub rest_of : ℕ → ℕ → CallSearch → ℕ
 rest_of budget size s = (budget + 1 - length s.memo) * (size + 2) + to_try s.levels.items s.rest.items
 
 -- a search has moved: it visited one configuration more, or none and has less to try
-pub record HasMoved (start : Contents) (calls : List Operation) (old new : Standing) : Type 0 where
+pub record HasMoved (start : Contents) (calls : List Operation) (old new : CallSearch) : Type 0 where
   pub stands : Stands start calls new
   pub progress :
       ((length new.memo ≡ length old.memo) × (to_try new.levels.items new.rest.items < to_try old.levels.items old.rest.items)) ⊎
@@ -104,7 +106,7 @@ pub record IsNextOf (start : Contents) (calls : List Operation) (path : List ℕ
   pub closes : IsDead start calls (path ++ n ∷ []) → Closes start calls path rest
 
 -- one call more on the stack, at the configuration that was visited last
-pub record IsPushed (place : ℕ) (undo : Option Call) (old new : Standing) : Type 0 where
+pub record IsPushed (place : ℕ) (undo : Option Call) (old new : CallSearch) : Type 0 where
   pub levels : new.levels.items ≡ old.levels.items ++ record { place = place; undo = undo; at = old.at; rest = old.rest } ∷ []
   pub at : new.at ≡ length old.memo - 1
   pub map : new.map ≡ old.map
@@ -113,8 +115,9 @@ pub record IsPushed (place : ℕ) (undo : Option Call) (old new : Standing) : Ty
   pub within : new.low ≤ length new.taken.items
   pub below : (n : ℕ) → n < new.low → (n < old.low) ⊎ (slice_index_or new.taken.items n false ≡ true)
 
--- what became of a call that was taken: it leads to a configuration that is new, or was put back, since it is a dead end
-abbrev pub IsTaken : Contents → List Operation → ℕ → Standing → Standing → Bool → Type 0
+-- what became of a call that was taken: it leads to a configuration that is new, or was put back,
+-- since it is a dead end
+abbrev pub IsTaken : Contents → List Operation → ℕ → CallSearch → CallSearch → Bool → Type 0
 IsTaken start calls place old new true =
     StandsBare start calls new × (length new.memo ≡ length old.memo + 1)
     × (to_try new.levels.items [] ≡ to_try old.levels.items old.rest.items + 1)
@@ -122,15 +125,16 @@ IsTaken start calls place old new false =
     StandsBare start calls new × (new.memo ≡ old.memo) × (new.levels ≡ old.levels) × (new.rest ≡ old.rest)
     × IsDead start calls (places old.levels.items ++ place ∷ [])
 
--- what was found of the calls that may come next: what is to be tried, or that the calls taken are an order
-abbrev pub IsLooked : Contents → List Operation → Standing → Standing → Progress → Type 0
+-- what was found of the calls that may come next: what is to be tried, or that the calls taken are
+-- an order
+abbrev pub IsLooked : Contents → List Operation → CallSearch → CallSearch → SearchStep → Type 0
 IsLooked start calls old new Made =
     Stands start calls new × (new.memo ≡ old.memo) × (new.levels ≡ old.levels) × (length new.rest.items ≤ length calls)
 IsLooked start calls old new Order = IsOrder start calls (places new.levels.items) × (new.levels ≡ old.levels)
 IsLooked start calls old new NoOrder = ⊥
 
 -- what a step came to
-abbrev pub IsStep : Contents → List Operation → Standing → Standing → Progress → Type 0
+abbrev pub IsStep : Contents → List Operation → CallSearch → CallSearch → SearchStep → Type 0
 IsStep start calls old new Made = HasMoved start calls old new
 IsStep start calls old new Order = IsOrder start calls (places new.levels.items)
 IsStep start calls old new NoOrder = IsLinearizable start calls → ⊥

@@ -13,19 +13,19 @@ ghost use Rattle.call_search.specs.Idle.{IsPassedOver};
 ghost use Rattle.call_search.specs.Standing.{places, StandsBare, AreChoices};
 
 use crate::idle::{are_idle, is_taken};
-use crate::reads::is_read;
-use crate::standing::Standing;
+use crate::standing::CallSearch;
 use events::{Memory, Operation, Response};
 use orders::may_come_next;
+use quiet_cuts::is_read;
 use std::alloc::Global;
 
-/// The calls that are to be tried where a search stands, the last one first: one read alone, where there is one, or else all
-/// calls that may come next, of which the pending ones are passed over where no completed one could wait for them. None where all
-/// completed calls are taken.
+/// The calls that are to be tried where a search stands, the last one first: one read alone, where
+/// there is one, or else all calls that may come next, of which the pending ones are passed over
+/// where no completed one could wait for them. None where all completed calls are taken.
 pub(crate) fn choices(
     alloc: Global,
     calls: &[Operation],
-    standing: &Standing,
+    standing: &CallSearch,
 ) -> Result<Option<Vec<u32>>, Memory>
     ghost start: { Contents }
     requires few { length calls.now + 1 < 2 ^ 32 }
@@ -33,8 +33,10 @@ pub(crate) fn choices(
     requires rising { AllPairs (λ a b. a.inv < b.inv) calls.now }
     requires start_rises { IsRising start }
     requires stands { StandsBare start calls.now standing.now }
-    ensures { IfOk result (λ found. MatchOption found (IsOrder start calls.now (places standing.now.levels.items))
-        (λ v. AreChoices start calls.now (places standing.now.levels.items) v.items × (length v.items ≤ length calls.now))) }
+    ensures { IfOk result (λ found. MatchOption found
+        (IsOrder start calls.now (places standing.now.levels.items))
+        (λ v. AreChoices start calls.now (places standing.now.levels.items) v.items
+        × (length v.items ≤ length calls.now))) }
 {
     let Some(answered) = earliest_answer(calls, standing) else {
         return Ok(None);
@@ -44,12 +46,12 @@ pub(crate) fn choices(
     Ok(Some(rest))
 }
 
-/// One read that may come next, or else all calls that may, by rising place, but for the pending ones where no completed call that
-/// could come next waits for them.
+/// One read that may come next, or else all calls that may, by rising place, but for the pending
+/// ones where no completed call that could come next waits for them.
 fn next_calls(
     alloc: Global,
     calls: &[Operation],
-    standing: &Standing,
+    standing: &CallSearch,
     answered: usize,
 ) -> Result<Vec<u32>, Memory>
     ghost start: { Contents }
@@ -58,8 +60,10 @@ fn next_calls(
     requires rising { AllPairs (λ a b. a.inv < b.inv) calls.now }
     requires start_rises { IsRising start }
     requires stands { StandsBare start calls.now standing.now }
-    requires earliest { IsEarliestAnswer calls.now (places standing.now.levels.items) (Some answered) }
-    ensures choices { IfOk result (λ v. AreChoices start calls.now (places standing.now.levels.items) v.items) }
+    requires earliest { IsEarliestAnswer calls.now (places standing.now.levels.items)
+        (Some answered) }
+    ensures choices { IfOk result (λ v. AreChoices start calls.now
+        (places standing.now.levels.items) v.items) }
     ensures few { IfOk result (λ v. length v.items ≤ length calls.now) }
 {
     let idle = are_idle(calls, standing, answered);
@@ -79,21 +83,24 @@ fn next_calls(
     Ok(next)
 }
 
-/// Whether a call that was not invoked after the earliest answer may come next, and is not passed over.
+/// Whether a call that was not invoked after the earliest answer may come next, and is not passed
+/// over.
 fn may_come(
     calls: &[Operation],
-    standing: &Standing,
+    standing: &CallSearch,
     place: usize,
     answered: usize,
     idle: bool,
 ) -> bool
     ghost start: { Contents }
     requires stands { StandsBare start calls.now standing.now }
-    requires earliest { IsEarliestAnswer calls.now (places standing.now.levels.items) (Some answered) }
+    requires earliest { IsEarliestAnswer calls.now (places standing.now.levels.items)
+        (Some answered) }
     requires known { place < length calls.now }
     requires early { IsSomeAnd (slice_get calls.now place) (λ a. a.inv ≤ answered) }
     ensures next { result ≡ true → IsNext start calls.now (places standing.now.levels.items) place }
-    ensures not_next { result ≡ false → IsNext start calls.now (places standing.now.levels.items) place
+    ensures not_next { result ≡ false → IsNext start calls.now (places standing.now.levels.items)
+        place
         → IsPassedOver idle calls.now place }
 {
     if is_taken(standing, place) {
@@ -107,7 +114,7 @@ fn may_come(
 }
 
 /// The earliest answer of a call that is left.
-fn earliest_answer(calls: &[Operation], standing: &Standing) -> Option<usize>
+fn earliest_answer(calls: &[Operation], standing: &CallSearch) -> Option<usize>
     ghost start: { Contents }
     requires apart { NonePrecedesItself calls.now }
     requires rising { AllPairs (λ a b. a.inv < b.inv) calls.now }

@@ -2,8 +2,8 @@
 
 /// What a search of calls found.
 #[derive(Debug, PartialEq, Eq, Drop)]
-pub enum Found {
-    /// An order of the calls, by their places in the list.
+pub enum SearchEnd {
+    /// The calls have this order, by their places in the list.
     Order(Vec<u32>),
     /// The calls have no order.
     NoOrder,

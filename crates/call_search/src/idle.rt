@@ -9,18 +9,20 @@ ghost use Rattle.segments.proofs.RangeLemmas.{IsOutside};
 ghost use Rattle.call_search.specs.Idle.{AreIdle, WaitsForNone, IsDoneNext, IsOpenNext, IsFree, MissesPair, IsMissing};
 ghost use Rattle.call_search.specs.Standing.{places, StandsBare};
 
-use crate::standing::Standing;
+use crate::standing::CallSearch;
 use events::{Call, Operation, Reply};
 use map_object::SortedMap;
 
-/// Whether there are pending calls that could come next, and no completed one that could waits for them: so none of them need be tried
-/// here. It costs as much as those that could come next, each with each, and the pairs that a scan lists.
-pub(crate) fn are_idle(calls: &[Operation], standing: &Standing, answered: usize) -> bool
+/// Whether there are pending calls that could come next, and no completed one that could waits for
+/// them: so none of them need be tried here. It costs as much as those that could come next, each
+/// with each, and the pairs that a scan lists.
+pub(crate) fn are_idle(calls: &[Operation], standing: &CallSearch, answered: usize) -> bool
     ghost start: { Contents }
     requires rising { AllPairs (λ a b. a.inv < b.inv) calls.now }
     requires start_rises { IsRising start }
     requires stands { StandsBare start calls.now standing.now }
-    ensures { result ≡ true → AreIdle standing.now.map calls.now (places standing.now.levels.items) answered }
+    ensures { result ≡ true → AreIdle standing.now.map calls.now (places standing.now.levels.items)
+        answered }
 {
     if is_free(calls, standing, answered, 0, u64::MAX) {
         return false;
@@ -38,13 +40,14 @@ pub(crate) fn are_idle(calls: &[Operation], standing: &Standing, answered: usize
 }
 
 /// Whether a call is completed and left, and may wait for a pending one.
-fn may_wait(calls: &[Operation], standing: &Standing, place: usize, answered: usize) -> bool
+fn may_wait(calls: &[Operation], standing: &CallSearch, place: usize, answered: usize) -> bool
     ghost start: { Contents }
     requires rising { AllPairs (λ a b. a.inv < b.inv) calls.now }
     requires start_rises { IsRising start }
     requires stands { StandsBare start calls.now standing.now }
     requires known { place < length calls.now }
-    ensures { result ≡ false → (a : Operation) → IsDoneNext calls.now (places standing.now.levels.items) answered place a
+    ensures { result ≡ false → (a : Operation)
+        → IsDoneNext calls.now (places standing.now.levels.items) answered place a
         → WaitsForNone standing.now.map calls.now (places standing.now.levels.items) answered a }
 {
     if is_taken(standing, place) {
@@ -57,11 +60,11 @@ fn may_wait(calls: &[Operation], standing: &Standing, place: usize, answered: us
     }
 }
 
-/// Whether a call that was answered so waits for no pending one: these change none of its keys, or it is a scan that lists a pair
-/// which the map does not hold, at a key that none of them changes.
+/// Whether a call that was answered so waits for no pending one: these change none of its keys, or
+/// it is a scan that lists a pair which the map does not hold, at a key that none of them changes.
 fn waits_for_none(
     calls: &[Operation],
-    standing: &Standing,
+    standing: &CallSearch,
     answered: usize,
     call: &Call,
     reply: &Reply,
@@ -70,7 +73,8 @@ fn waits_for_none(
     requires rising { AllPairs (λ a b. a.inv < b.inv) calls.now }
     requires start_rises { IsRising start }
     requires stands { StandsBare start calls.now standing.now }
-    ensures { result ≡ true → (a : Operation) (response : Response) → a.call ≡ call.now → a.response ≡ Some response
+    ensures { result ≡ true → (a : Operation) (response : Response) → a.call ≡ call.now
+        → a.response ≡ Some response
         → response.reply ≡ reply.now
         → WaitsForNone standing.now.map calls.now (places standing.now.levels.items) answered a }
 {
@@ -87,10 +91,11 @@ fn waits_for_none(
     }
 }
 
-/// Whether one of the pairs is within a range, and not in the map, and no pending call changes its key.
+/// Whether one of the pairs is within a range, and not in the map, and no pending call changes its
+/// key.
 fn misses_pair(
     calls: &[Operation],
-    standing: &Standing,
+    standing: &CallSearch,
     answered: usize,
     low: u64,
     high: u64,
@@ -99,7 +104,8 @@ fn misses_pair(
     ghost start: { Contents }
     requires rising { AllPairs (λ a b. a.inv < b.inv) calls.now }
     requires stands { StandsBare start calls.now standing.now }
-    ensures { result ≡ true → MissesPair standing.now.map calls.now (places standing.now.levels.items) answered low high pairs.now }
+    ensures { result ≡ true → MissesPair standing.now.map calls.now
+        (places standing.now.levels.items) answered low high pairs.now }
 {
     for pair in pairs {
         if is_missing(calls, standing, answered, low, high, pair.0, pair.1) {
@@ -112,7 +118,7 @@ fn misses_pair(
 /// Whether a pair is within a range, and not in the map, and no pending call changes its key.
 fn is_missing(
     calls: &[Operation],
-    standing: &Standing,
+    standing: &CallSearch,
     answered: usize,
     low: u64,
     high: u64,
@@ -122,7 +128,8 @@ fn is_missing(
     ghost start: { Contents }
     requires rising { AllPairs (λ a b. a.inv < b.inv) calls.now }
     requires stands { StandsBare start calls.now standing.now }
-    ensures { result ≡ true → IsMissing standing.now.map calls.now (places standing.now.levels.items) answered low high key value }
+    ensures { result ≡ true → IsMissing standing.now.map calls.now
+        (places standing.now.levels.items) answered low high key value }
 {
     if key < low || high < key {
         return false;
@@ -141,11 +148,12 @@ fn holds(map: &SortedMap, key: u64, value: u64) -> bool
 }
 
 /// Whether no pending call that could come next changes a key of a range.
-fn is_free(calls: &[Operation], standing: &Standing, answered: usize, low: u64, high: u64) -> bool
+fn is_free(calls: &[Operation], standing: &CallSearch, answered: usize, low: u64, high: u64) -> bool
     ghost start: { Contents }
     requires rising { AllPairs (λ a b. a.inv < b.inv) calls.now }
     requires stands { StandsBare start calls.now standing.now }
-    ensures { result ≡ true → IsFree calls.now (places standing.now.levels.items) answered low high }
+    ensures { result ≡ true → IsFree calls.now (places standing.now.levels.items) answered low
+        high }
 {
     for place in standing.low..calls.len() {
         let call = &calls[place];
@@ -160,11 +168,12 @@ fn is_free(calls: &[Operation], standing: &Standing, answered: usize, low: u64, 
 }
 
 /// Whether a call is pending and left, and may change a key of a range.
-fn may_change(calls: &[Operation], standing: &Standing, place: usize, low: u64, high: u64) -> bool
+fn may_change(calls: &[Operation], standing: &CallSearch, place: usize, low: u64, high: u64) -> bool
     ghost start: { Contents }
     requires stands { StandsBare start calls.now standing.now }
     requires known { place < length calls.now }
-    ensures { result ≡ false → (answered : ℕ) (p : Operation) (o : IsOpenNext calls.now (places standing.now.levels.items) answered p)
+    ensures { result ≡ false → (answered : ℕ) (p : Operation)
+        (o : IsOpenNext calls.now (places standing.now.levels.items) answered p)
         → o.n ≡ place → IsOutside low high p.call }
 {
     if is_taken(standing, place) {
@@ -188,9 +197,10 @@ fn is_apart(call: &Call, low: u64, high: u64) -> bool
 }
 
 /// Whether a call is taken.
-pub(crate) fn is_taken(standing: &Standing, place: usize) -> bool
+pub(crate) fn is_taken(standing: &CallSearch, place: usize) -> bool
     requires known { place < length standing.now.taken.items }
-    requires marks { slice_index_or standing.now.taken.items place false ≡ has_number (places standing.now.levels.items) place }
+    requires marks { slice_index_or standing.now.taken.items place false ≡ has_number
+        (places standing.now.levels.items) place }
     ensures { IsTrue result ↔ Contains (places standing.now.levels.items) place }
 {
     standing.taken[place]

@@ -1,21 +1,22 @@
-//! Searches calls for an order from a map, reads first: Wing and Gong 1993, who take calls that may come next and go back where
-//! none may, with the memo of Lowe 2017.
+//! Searches calls for an order from a map, reads first: Wing and Gong 1993, who take calls that may
+//! come next and go back where none may, with the memo of Lowe 2017.
 //!
-//! The calls may be of any places, as those that are left of a stream of events are. A completed call that may come next and
-//! leaves the map as it is, wherever it may be answered so, is taken at once, and no other in its stead: what is left has an order
-//! exactly where it has one that begins with this call (`reads_go_first`). Pending calls are tried only where a completed one that could
-//! come next may wait for one of them: else one of the completed ones may go first. So it says of the calls only whether they have an
-//! order, and gives one; which configurations it counts is its own. The exact search of a segment, which counts what its definitions say, is `search`'s.
+//! The calls may be of any places, as those that are left of a stream of events are. A completed
+//! call that may come next and leaves the map as it is, wherever it may be answered so, is taken at
+//! once, and no other in its stead: what is left has an order exactly where it has one that begins
+//! with this call (`reads_go_first`). Pending calls are tried only where a completed one that could
+//! come next may wait for one of them: else one of the completed ones may go first. So it says of
+//! the calls only whether they have an order, and gives one; which configurations it counts is its
+//! own. The exact search of a segment, which counts what its definitions say, is `search`'s.
 #![tactic(auto)]
 
 mod choices;
 mod found;
 mod idle;
 mod laws;
-mod reads;
 mod searching;
 mod standing;
 
-pub use found::Found;
+pub use found::SearchEnd;
 pub use laws::{reads_go_first, told_calls_leave_all};
 pub use searching::search_calls;

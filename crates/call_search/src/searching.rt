@@ -5,23 +5,24 @@ ghost use Rattle.map_object.specs.MapObject.{Contents, IsRising};
 ghost use Rattle.call_search.specs.Found.{IsFound};
 ghost use Rattle.call_search.specs.Standing.{places, StandsBare};
 
-use crate::found::Found;
-use crate::standing::{Progress, Standing, look_on, make_step, open};
+use crate::found::SearchEnd;
+use crate::standing::{CallSearch, SearchStep, look_on, make_step, open};
 use events::{Memory, Operation};
 use map_object::SortedMap;
 use std::alloc::Global;
 
-/// Searches calls for an order from a map: an order where there is one, `NoOrder` where there is none, and `Spent` where more
-/// configurations were met than the budget. `Memory` where a growth was refused, and at 4,294,967,295 calls or more, which
-/// no memory holds.
-/// The calls stand by rising invocation, at any places. It goes on from each configuration once, and from a call that may
-/// come next and leaves the map as it is to no other. Nothing recurses: the calls taken stand on a stack of its own.
+/// Searches calls for an order from a map: an order where there is one, `NoOrder` where there is
+/// none, and `Spent` where more configurations were met than the budget. `Memory` where a growth
+/// was refused, and at 4,294,967,295 calls or more, which no memory holds. The calls stand by
+/// rising invocation, at any places. It goes on from each configuration once, and from a call that
+/// may come next and leaves the map as it is to no other. Nothing recurses: the calls taken stand
+/// on a stack of its own.
 pub fn search_calls(
     alloc: Global,
     map: SortedMap,
     calls: &[Operation],
     budget: u32,
-) -> Result<Found, Memory>
+) -> Result<SearchEnd, Memory>
     requires rising { AllPairs (λ a b. a.inv < b.inv) calls.now }
     requires apart { NonePrecedesItself calls.now }
     ensures { IfOk result (IsFound map calls.now budget) }
@@ -37,9 +38,9 @@ pub fn search_calls(
 fn search_on(
     alloc: Global,
     calls: &[Operation],
-    standing: &mut Standing,
+    standing: &mut CallSearch,
     budget: u32,
-) -> Result<Found, Memory>
+) -> Result<SearchEnd, Memory>
     ghost start: { Contents }
     requires few { length calls.now + 1 < 2 ^ 32 }
     requires apart { NonePrecedesItself calls.now }
@@ -49,23 +50,25 @@ fn search_on(
     ensures { IfOk result (IsFound start calls.now budget) }
 {
     match look_on(alloc, calls, standing)? {
-        Progress::Made => {}
-        Progress::Order | Progress::NoOrder => return Ok(Found::Order(order_of(alloc, standing)?)),
+        SearchStep::Made => {}
+        SearchStep::Order | SearchStep::NoOrder => return Ok(SearchEnd::Order(order_of(
+            alloc, standing,
+        )?)),
     }
     loop {
         if standing.memo.len() > budget as usize {
-            return Ok(Found::Spent);
+            return Ok(SearchEnd::Spent);
         }
         match make_step(alloc, calls, standing)? {
-            Progress::Made => {}
-            Progress::Order => return Ok(Found::Order(order_of(alloc, standing)?)),
-            Progress::NoOrder => return Ok(Found::NoOrder),
+            SearchStep::Made => {}
+            SearchStep::Order => return Ok(SearchEnd::Order(order_of(alloc, standing)?)),
+            SearchStep::NoOrder => return Ok(SearchEnd::NoOrder),
         }
     }
 }
 
 /// The places of the calls taken.
-fn order_of(alloc: Global, standing: &Standing) -> Result<Vec<u32>, Memory>
+fn order_of(alloc: Global, standing: &CallSearch) -> Result<Vec<u32>, Memory>
     ensures { IfOk result (λ v. v.items ≡ places standing.now.levels.items) }
 {
     let mut order = Vec::with_capacity(alloc, standing.levels.len())?;

@@ -13,8 +13,8 @@ use search::{take_call, undo_call};
 use std::alloc::Global;
 use std::mem;
 
-/// A call taken: by its place, with what undoes it on the map, the configuration before it, by its place in the memo, and the
-/// calls that are to be tried in its stead.
+/// A call taken: by its place, with what undoes it on the map, the configuration before it, by its
+/// place in the memo, and the calls that are to be tried in its stead.
 #[derive(Drop)]
 pub struct Level {
     pub place: u32,
@@ -23,9 +23,10 @@ pub struct Level {
     pub rest: Vec<u32>,
 }
 
-/// Where a search stands: the calls taken, those that are to be tried next, the last one first, the configuration that it stands
-/// at, the map there, the configurations visited, which calls are taken, and a place below which all are.
-pub struct Standing {
+/// Where a search stands: the calls taken, those that are to be tried next, the last one first, the
+/// configuration that it stands at, the map there, the configurations visited, which calls are
+/// taken, and a place below which all are.
+pub struct CallSearch {
     pub levels: Vec<Level>,
     pub rest: Vec<u32>,
     pub at: usize,
@@ -36,9 +37,9 @@ pub struct Standing {
 }
 
 // All its parts are let go in one place.
-impl Drop for Standing {
+impl Drop for CallSearch {
     fn drop(self) {
-        let Standing {
+        let CallSearch {
             levels: _levels,
             rest: _rest,
             at: _at,
@@ -52,7 +53,7 @@ impl Drop for Standing {
 
 /// What a step of a search came to.
 #[derive(Drop)]
-pub enum Progress {
+pub enum SearchStep {
     /// A call was tried, or the search went back by one.
     Made,
     /// The calls taken are an order.
@@ -62,7 +63,7 @@ pub enum Progress {
 }
 
 /// Before any call, at the map that the calls begin with.
-pub(crate) fn open(alloc: Global, map: SortedMap, calls: &[Operation]) -> Result<Standing, Memory>
+pub(crate) fn open(alloc: Global, map: SortedMap, calls: &[Operation]) -> Result<CallSearch, Memory>
     ensures stands { IfOk result (StandsBare map calls.now) }
     ensures none { IfOk result (λ s. s.levels.items ≡ []) }
     ensures one { IfOk result (λ s. length s.memo ≡ 1) }
@@ -70,7 +71,7 @@ pub(crate) fn open(alloc: Global, map: SortedMap, calls: &[Operation]) -> Result
     let mut taken = Vec::new(alloc);
     taken.resize(calls.len(), false)?;
     let memo = visited_at_start(alloc, &map)?;
-    Ok(Standing {
+    Ok(CallSearch {
         levels: Vec::new(alloc),
         rest: Vec::new(alloc),
         at: 0,
@@ -85,8 +86,8 @@ pub(crate) fn open(alloc: Global, map: SortedMap, calls: &[Operation]) -> Result
 pub(crate) fn make_step(
     alloc: Global,
     calls: &[Operation],
-    standing: &mut Standing,
-) -> Result<Progress, Memory>
+    standing: &mut CallSearch,
+) -> Result<SearchStep, Memory>
     ghost start: { Contents }
     requires few { length calls.now + 1 < 2 ^ 32 }
     requires apart { NonePrecedesItself calls.now }
@@ -102,20 +103,21 @@ pub(crate) fn make_step(
     if new {
         return look_on(alloc, calls, standing);
     }
-    Ok(Progress::Made)
+    Ok(SearchStep::Made)
 }
 
 /// Takes a call, and says whether it leads to a new configuration; else it is put back.
 fn take(
     alloc: Global,
     calls: &[Operation],
-    standing: &mut Standing,
+    standing: &mut CallSearch,
     place: u32,
 ) -> Result<bool, Memory>
     ghost start: { Contents }
     requires apart { NonePrecedesItself calls.now }
     requires stands { StandsBare start calls.now standing.old }
-    requires next { IsNextOf start calls.now (places standing.old.levels.items) place standing.old.rest.items }
+    requires next { IsNextOf start calls.now (places standing.old.levels.items) place
+        standing.old.rest.items }
     ensures { IfOk result (IsTaken start calls.now place standing.old standing.new) }
 {
     let call = &calls[place as usize];
@@ -134,7 +136,7 @@ fn take(
 /// One call further, at the configuration that was visited last.
 fn push(
     alloc: Global,
-    standing: &mut Standing,
+    standing: &mut CallSearch,
     place: u32,
     undo: Option<Call>,
 ) -> Result<(), Memory>
@@ -163,8 +165,8 @@ fn push(
 pub(crate) fn look_on(
     alloc: Global,
     calls: &[Operation],
-    standing: &mut Standing,
-) -> Result<Progress, Memory>
+    standing: &mut CallSearch,
+) -> Result<SearchStep, Memory>
     ghost start: { Contents }
     requires few { length calls.now + 1 < 2 ^ 32 }
     requires apart { NonePrecedesItself calls.now }
@@ -176,14 +178,18 @@ pub(crate) fn look_on(
     match choices(alloc, calls, standing)? {
         Some(rest) => {
             standing.rest = rest;
-            Ok(Progress::Made)
+            Ok(SearchStep::Made)
         }
-        None => Ok(Progress::Order),
+        None => Ok(SearchStep::Order),
     }
 }
 
 /// Back by one call, where nothing is to be tried.
-fn go_back(alloc: Global, calls: &[Operation], standing: &mut Standing) -> Result<Progress, Memory>
+fn go_back(
+    alloc: Global,
+    calls: &[Operation],
+    standing: &mut CallSearch,
+) -> Result<SearchStep, Memory>
     ghost start: { Contents }
     requires apart { NonePrecedesItself calls.now }
     requires stands { StandsBare start calls.now standing.old }
@@ -192,7 +198,7 @@ fn go_back(alloc: Global, calls: &[Operation], standing: &mut Standing) -> Resul
     ensures { IfOk result (IsStep start calls.now standing.old standing.new) }
 {
     let Some(level) = standing.levels.pop() else {
-        return Ok(Progress::NoOrder);
+        return Ok(SearchStep::NoOrder);
     };
     let Level {
         place,
@@ -207,5 +213,5 @@ fn go_back(alloc: Global, calls: &[Operation], standing: &mut Standing) -> Resul
     if (place as usize) < standing.low {
         standing.low = place as usize;
     }
-    Ok(Progress::Made)
+    Ok(SearchStep::Made)
 }

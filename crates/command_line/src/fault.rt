@@ -14,7 +14,7 @@ use std::fmt;
 pub enum LineFault {
     /// The words are no line of the program, or ask for help. The text is what the user is shown.
     Line(String),
-    /// Want of memory.
+    /// Memory was wanting.
     Memory,
 }
 
@@ -33,7 +33,7 @@ impl LineFault {
     }
 
     /// The fault for a value that is none of the words of its option.
-    pub(crate) fn unknown<'o>(
+    pub(crate) fn of_unknown_word<'o>(
         alloc: Global,
         option: &'o ValueOption<'o>,
         value: &str,

@@ -3,44 +3,46 @@
 /// What the words ask for: a subcommand, with its values.
 #[derive(Debug, Drop)]
 pub enum Line {
-    /// Whether these calls, by number, are an order of the history on standard input.
+    /// It asks whether these calls, by number, are an order of the history on standard input.
     Check {
         order: Vec<u32>,
     },
-    /// Whether the history on standard input is linearizable, where `workers` workers search the
-    /// segments side by side, at most `budget` configurations of each. The budget is from 1 to
-    /// 1,000,000, and the workers from 1 to 64.
+    /// It asks whether the history on standard input is linearizable, where `workers` workers
+    /// search the segments side by side, at most `budget` configurations of each. The budget is
+    /// from 1 to 1,000,000, and the workers from 1 to 64.
     Judge {
         budget: u32,
         workers: u32,
     },
-    /// At which event the history on standard input stops being linearizable, where a search at one key reaches at most `budget`
-    /// positions, within the limits of `Judge`.
+    /// It asks at which event the history on standard input stops being linearizable, where a
+    /// search at one key reaches at most `budget` positions, within the limits of `Judge`.
     Locate {
         budget: u32,
     },
-    /// Few calls of the history on standard input that are not linearizable, where one thread judges it and searches at most
-    /// `budget` configurations of each segment, and of some of its calls, within the limits of `Judge`.
+    /// It asks for few calls of the history on standard input that are not linearizable, where one
+    /// thread judges it and searches at most `budget` configurations of each segment, and of some
+    /// of its calls, within the limits of `Judge`.
     Explain {
         budget: u32,
     },
-    /// A picture of the verdict that `Judge` asks for, within the same limits: its part around an event, with room for so many
-    /// calls. An event that the history has not names none, and it may be one at most that no history has, 8,192. There is room
-    /// for 4,096 calls at most, and 0 asks for the whole picture; 4,097 names no number.
+    /// It asks for a picture of the verdict that `Judge` asks for, within the same limits: its part
+    /// around an event, with room for so many calls. An event that the history has not names none,
+    /// and it may be one at most that no history has, 8,192. There is room for 4,096 calls at most,
+    /// and 0 asks for the whole picture; 4,097 names no number.
     Draw {
         budget: u32,
         workers: u32,
         around: u32,
         calls: u32,
     },
-    /// Whether the stream of events on standard input is linearizable, judged as it comes: a search meets at most `budget`
-    /// configurations of a group, within the limits of `Judge`.
+    /// It asks whether the stream of events on standard input is linearizable, judged as it comes:
+    /// a search meets at most `budget` configurations of a group, within the limits of `Judge`.
     Follow {
         budget: u32,
     },
-    /// The text of the plan that is drawn from this seed: so many processes, with so many calls each.
-    /// Of a hundred calls `get`, `insert`, `remove` and `scan` are of these kinds, and their keys are
-    /// from `lo` to `hi`.
+    /// It asks for the text of the plan that is drawn from this seed: so many processes, with so
+    /// many calls each. Of a hundred calls `get`, `insert`, `remove` and `scan` are of these kinds,
+    /// and their keys are from `lo` to `hi`.
     Generate {
         seed: u64,
         processes: u32,
@@ -52,12 +54,12 @@ pub enum Line {
         lo: u32,
         hi: u32,
     },
-    /// The history that the run of the replay on standard input records.
+    /// It asks for the history that the run of the replay on standard input records.
     Replay,
-    /// The history of the plan on standard input, done at this tree. Its table has so many rows of the
-    /// kinds with up to 4, 16, 48 and 256 children, at most 4,096, 1,024, 256 and 64, and 1 at least
-    /// of the last. A call that has had `limit` steps without an answer, 1 to 1,000,000, is left
-    /// pending. At `Tree::Locked` the rows and the limit mean nothing.
+    /// It asks for the history of the plan on standard input, done at this tree. Its table has so
+    /// many rows of the kinds with up to 4, 16, 48 and 256 children, at most 4,096, 1,024, 256 and
+    /// 64, and 1 at least of the last. A call that has had `limit` steps without an answer, 1 to
+    /// 1,000,000, is left pending. At `Tree::Locked` the rows and the limit mean nothing.
     Drive {
         tree: Tree,
         rows4: u32,
@@ -71,18 +73,18 @@ pub enum Line {
 /// What a drive does its calls at.
 #[derive(Clone, Copy, Debug, PartialEq, Eq)]
 pub enum Tree {
-    /// A sorted map under one lock.
+    /// It is a sorted map under one lock.
     Locked,
-    /// The tree with lock coupling: a row is locked before the row above it is unlocked.
+    /// It is the tree with lock coupling: a row is locked before the row above it is unlocked.
     Coupled,
-    /// The tree with versions, which are checked, and with locks for what is written.
+    /// It is the tree with versions, which are checked, and with locks for what is written.
     Optimistic,
-    /// `Optimistic`, but a get checks nothing.
+    /// It is `Optimistic`, but a get checks nothing.
     ReadUnchecked,
-    /// `Optimistic`, but a scan does not check its rows at the end.
+    /// It is `Optimistic`, but a scan does not check its rows at the end.
     ScanUnvalidated,
-    /// `Optimistic`, but a row is locked from whatever version it has.
+    /// It is `Optimistic`, but a row is locked from whatever version it has.
     LockUnchecked,
-    /// `Coupled`, but a get, remove or replace unlocks a row before it locks the next.
+    /// It is `Coupled`, but a get, remove or replace unlocks a row before it locks the next.
     EarlyRelease,
 }

@@ -113,7 +113,7 @@ fn request_of<'a>(
     let subcommand = subcommand_named(table, name);
     if let Some(option) = unknown_option(matched, subcommand.options) {
         let value = matched.get_str(option.name).unwrap_or("");
-        return Err(LineFault::unknown(alloc, option, value));
+        return Err(LineFault::of_unknown_word(alloc, option, value));
     }
     Ok(Request {
         subcommand,

@@ -3,9 +3,9 @@
 /// What the value of an option may be, and the number that it stands for.
 #[derive(Clone, Copy)]
 pub(crate) enum Values<'a> {
-    /// A number, the least and the greatest that the option takes.
+    /// The option takes a number from the one to the other.
     Within(u64, u64),
-    /// One of these words. It stands for its place among them, from 0.
+    /// The option takes one of these words, which stands for its place among them, from 0.
     Among(&'a [&'a str]),
 }
 

@@ -1,6 +1,6 @@
 -- A call answered as soon as it begins, in an order that has it before a scan.
-use Rattle.std.proofs.Common.{◌≡◌, ℕ, ◌==◌, Bool, true, false, cond, List, [], ◌∷◌, Option, Some, None, filter, filter_map, map, refl, sym, ap}
-use Rattle.std.proofs.Common.{◌∙◌, subst, ⊎_elim, arith, inl, inr}
+use Rattle.std.proofs.Common.{◌≡◌, ℕ, ◌==◌, Bool, true, false, cond, List, [], ◌∷◌, Option, Some, None, filter, filter_map, map, refl, sym, ap, ◌∙◌}
+use Rattle.std.proofs.Common.{subst, ⊎_elim, arith, inl, inr}
 use Rattle.std.specs.Prelude.{◌≢◌, ◌⊎◌, not, slice_get, AllPairs, Contains}
 use Rattle.std.proofs.lemmas.Bool.{both_ways, cases_eq, cases_order, eq-eqb, ne_eqb}
 use Rattle.std.proofs.lemmas.Option.{same_Some}
@@ -10,16 +10,16 @@ use Rattle.events.specs.declared.event.Reply.{Reply}
 use Rattle.events.specs.declared.operation.Operation.{Operation}
 use Rattle.events.specs.declared.operation.Response.{Response}
 use Rattle.list_laws.specs.Lists.{has_number}
-use Rattle.list_laws.proofs.Lists.{All-from_contains, AllPairs-at, AllPairs-from_at, Contains-at, Contains-first, Contains-later, place_of-Contains}
+use Rattle.list_laws.proofs.Lists.{AllPairs-from_at, Contains-at, Contains-first, Contains-later, place_of-Contains}
 use Rattle.list_laws.proofs.NumberLemmas.{has_number-Contains, has_number-from_Contains}
-use Rattle.list_laws.proofs.FilterLemmas.{AreRelatedAs, AllPairs-filter_map, AllPairs-weaker, Contains-filter_map, Contains-from_filter_map, Contains-map, Contains-from_map}
+use Rattle.list_laws.proofs.FilterLemmas.{Contains-map, Contains-from_map}
 use Rattle.map_object.specs.MapObject.{Contents}
-use Rattle.orders.specs.Orders.{after_call, calls_at, IsLegalCall, IsLegal, IsOrder}
+use Rattle.orders.specs.Orders.{after_call, IsLegalCall, IsLegal}
 use Rattle.quiet_cuts.specs.Cells.{is_left, calls_left}
-use Rattle.quiet_cuts.proofs.SetLemmas.{IsOrderOfSet, Completed}
 use Rattle.following.specs.moments.KeyCalls.{Kind, OfKey, Told, Silent, kind_of, spread_response, spread_call, part_of, part_at, at_key}
 use Rattle.following.specs.moments.Timings.{IsTiming}
 use Rattle.following.specs.rows.Blocks.{is_scan}
+use Rattle.following.proofs.moments.DistinctLemmas.{InvocationsDiffer, same_number}
 use Rattle.following.proofs.moments.KindLemmas.{part_is}
 use Rattle.following.proofs.moments.PartLemmas.{part_inv, rising_differs}
 use Rattle.following.proofs.rows.EndLemmas.{told_call}
@@ -27,35 +27,9 @@ use Rattle.dead_events.specs.Answered.{reply_or_done, answered_at_once, with_ans
 
 -- ---- two calls of a list, one before the other
 
-abbrev pub Distinct : List Operation → Type 0
-Distinct order = AllPairs (λ a b. a.inv ≢ b.inv) order
-
 -- none that begins at one place stands before one that begins at another
 abbrev pub NotBefore : ℕ → ℕ → List Operation → Type 0
 NotBefore one other order = AllPairs (λ a b. a.inv ≡ one → b.inv ≡ other → ⊥) order
-
-pub same_number : (order : List Operation) (m n : ℕ) (a b : Operation) → Distinct order → slice_get order m ≡ Some a → slice_get order n ≡ Some b
-    → a.inv ≡ b.inv → m ≡ n
-same_number order m n a b apart m_here n_here same = ⊎_elim (λ equal. equal) (λ other. ⊎_elim
-    (λ before. absurd (AllPairs-at (λ a b. a.inv ≢ b.inv) order m n a b apart before m_here n_here same))
-    (λ after. absurd (AllPairs-at (λ a b. a.inv ≢ b.inv) order n m b a apart after n_here m_here (sym same)))
-    other) (cases_order m n)
-
--- an order by number, as a list of calls
-pub as_calls : (start : Contents) (calls : List Operation) (order : List ℕ) → Distinct calls → IsOrder start calls order
-    → IsOrderOfSet start (Contains calls) Completed (calls_at calls order)
-as_calls start calls order apart h = record {
-  known = All-from_contains (Contains calls) (calls_at calls order)
-      (λ a is. let found = Contains-from_filter_map (slice_get calls) order a is in Contains-at calls found.0 a found.2);
-  distinct = AllPairs-filter_map (λ a b. a.inv ≢ b.inv) (slice_get calls) order
-      (AllPairs-weaker (λ m n. m ≢ n) (AreRelatedAs (λ a b. a.inv ≢ b.inv) (slice_get calls)) order
-      (λ m n m_is n_is other a b first second same. other (same_number calls m n a b apart first second same)) h.legal_order.distinct);
-  precedence = h.legal_order.precedence;
-  legal = h.legal_order.legal;
-  complete = λ a is must.
-      let (n, here) = place_of-Contains calls a is in
-      Contains-filter_map (slice_get calls) order n a (h.complete n (rw here must)) here;
-}
 
 -- a call of a list that begins at a place, or that there is none
 pub some_begins : (order : List Operation) (place : ℕ) → ((x : Operation) × Contains order x × (x.inv ≡ place))
@@ -70,7 +44,7 @@ some_begins order place = by_test (has_number (map (λ x. x.inv) order) place) r
         (subst (Contains (map (λ x. x.inv) order)) at (Contains-map (λ (x : Operation). x.inv) order x x_is))))
 
 -- of two calls of a list the one is not before the other, or both are there and the other is not before the one
-pub sides : (order : List Operation) (one other : ℕ) → one ≢ other → Distinct order
+pub sides : (order : List Operation) (one other : ℕ) → one ≢ other → InvocationsDiffer order
     → NotBefore one other order ⊎ ((x : Operation) × (g : Operation) × Contains order x × Contains order g × (x.inv ≡ one) × (g.inv ≡ other)
     × NotBefore other one order)
 sides order one other differ apart = ⊎_elim

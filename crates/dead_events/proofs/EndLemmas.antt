@@ -1,6 +1,6 @@
 -- An end that is dead now stays dead: an order with further events that has the call behind the scan, cut to now, has it begun where it ends.
-use Rattle.std.proofs.Common.{◌≡◌, ℕ, ◌<◌, ◌≤◌, ◌==◌, Bool, true, false, cond, List, [], ◌∷◌, ◌++◌, length, Option, Some, None, is_some, map, refl, sym, ap}
-use Rattle.std.proofs.Common.{◌∙◌, subst, ⊎_elim, arith, inl, inr}
+use Rattle.std.proofs.Common.{◌≡◌, ℕ, ◌<◌, ◌≤◌, ◌==◌, Bool, true, false, cond, List, [], ◌∷◌, ◌++◌, length, Option, Some, None, is_some, map, refl}
+use Rattle.std.proofs.Common.{sym, ap, ◌∙◌, subst, ⊎_elim, arith, inl, inr}
 use Rattle.std.specs.Prelude.{◌≢◌, ◌⊎◌, slice_get, Contains}
 use Rattle.std.proofs.lemmas.Bool.{both_ways, cases_eq, cases_lt, cases_order, eq-eqb, ne_eqb, lt-ltb, le-ltb, ltb-true}
 use Rattle.std.proofs.lemmas.Option.{same_Some}
@@ -16,7 +16,7 @@ use Rattle.list_laws.proofs.FilterLemmas.{AllPairs-map, AllPairs-weaker, Contain
 use Rattle.map_object.specs.MapObject.{Contents, value_at, value_reply}
 use Rattle.orders.specs.Orders.{after_call, calls_at, IsLegal, IsLinearizable}
 use Rattle.quiet_cuts.specs.Cells.{is_left, calls_left}
-use Rattle.quiet_cuts.proofs.SetLemmas.{IsOrderOfSet, Completed}
+use Rattle.quiet_cuts.proofs.SetLemmas.{IsOrderOfSet, Completed, as_calls}
 use Rattle.following.specs.moments.KeyCalls.{Kind, OfKey, Told, Silent, kind_of, part_at, at_key}
 use Rattle.following.specs.moments.Laws.{OperationsStandApart}
 use Rattle.following.specs.moments.Timings.{IsToldScan, IsTiming}
@@ -24,24 +24,23 @@ use Rattle.following.specs.keys.KeyStates.{one_key, Configuration, KeyState}
 use Rattle.following.specs.rows.Blocks.{IsOver}
 use Rattle.following.specs.rows.Comparisons.{Comparison, Behind, Before, InTurn, holds_in, class_of}
 use Rattle.following.specs.rows.Fixed.{IsBefore, IsBehind}
-use Rattle.following.proofs.moments.DistinctLemmas.{linearizable_from_order}
+use Rattle.following.proofs.moments.DistinctLemmas.{InvocationsDiffer, told_by_place, linearizable_from_order}
 use Rattle.following.proofs.moments.KindLemmas.{IsPart, part_is, response_spread}
 use Rattle.following.proofs.moments.PartLemmas.{rising_differs, rising_upto, waits_from}
 use Rattle.following.proofs.keys.EarlyLemmas.{from_left_at, own_at}
 use Rattle.following.proofs.keys.GrownLemmas.{IsGrown, in_now, same_completed}
 use Rattle.following.proofs.keys.GrownPartLemmas.{timing_now}
-use Rattle.following.proofs.keys.RefuteLemmas.{later_differ, now_differ}
+use Rattle.following.proofs.keys.PrefixLemmas.{later_differ, now_differ, cut_now}
 use Rattle.following.proofs.rows.AlikeLemmas.{left_weaker}
 use Rattle.following.proofs.rows.BlockLemmas.{one_holds}
 use Rattle.following.proofs.rows.EndLemmas.{own_call, told_call}
 use Rattle.dead_events.specs.Begun.{begun_at, IsLastBefore}
 use Rattle.dead_events.specs.Laws.{DeadEndsStay}
 use Rattle.dead_events.specs.Standing.{BeginsAt, EndsAt}
-use Rattle.dead_events.proofs.AnsweredLemmas.{Distinct, NotBefore, as_calls, sides}
+use Rattle.dead_events.proofs.AnsweredLemmas.{NotBefore, sides}
 use Rattle.dead_events.proofs.DeadLemmas.{has_get}
 use Rattle.dead_events.proofs.FreeLemmas.{begins_there}
 use Rattle.dead_events.proofs.OnLemmas.{late_response}
-use Rattle.dead_events.proofs.PrefixLemmas.{cut_now}
 
 -- ---- a call begun later
 
@@ -72,8 +71,8 @@ legal_begun from place m (x ∷ order) legal =
     by_test false e rest = rw e (legal.0, rest)
 
 -- calls that begin at different places do so with one begun where none begins
-differ_begun : (from place : ℕ) (calls : List Operation) → ((x : Operation) → Contains calls x → x.inv ≢ place) → Distinct calls
-    → Distinct (map (begun_at from place) calls)
+differ_begun : (from place : ℕ) (calls : List Operation) → ((x : Operation) → Contains calls x → x.inv ≢ place) → InvocationsDiffer calls
+    → InvocationsDiffer (map (begun_at from place) calls)
 differ_begun from place calls fresh apart = AllPairs-map (λ a b. a.inv ≢ b.inv) (begun_at from place) calls
     (AllPairs-weaker (λ a b. a.inv ≢ b.inv) (λ a b. (begun_at from place a).inv ≢ (begun_at from place b).inv) calls
     (λ a b a_is b_is differ same. ⊎_elim
@@ -271,7 +270,7 @@ module _ (events more : List Event) (comparisons : List Comparison) (key : ℕ) 
       )
 
 -- what ends at the place of a response begins where its call does
-ends_begin : (events more : List Event) (key : ℕ) (spread moment : ℕ → ℕ) → IsTiming (operations (events ++ more)) spread moment → (dropped : List ℕ)
+pub ends_begin : (events more : List Event) (key : ℕ) (spread moment : ℕ → ℕ) → IsTiming (operations (events ++ more)) spread moment → (dropped : List ℕ)
     (b : Operation) (place : ℕ) → place < length events
     → ((d : Operation) (s : Response) → Contains (operations events) d → d.response ≡ Some s → s.res ≡ place → d ≡ b) → (x : Operation)
     → Contains (at_key key spread moment (calls_left dropped (operations (events ++ more)))) x → EndsAt (spread place) x → x.inv ≡ spread b.inv
@@ -320,7 +319,7 @@ ends_stay law events comparisons key k a b r before place a_is told over left b_
     let apart = later_differ events more key spread moment timing dropped in
     let (order, is_order) = ordered in
     let list = calls_at later_calls order in
-    let set = as_calls start later_calls order apart is_order in
+    let set = as_calls start later_calls order (told_by_place later_calls apart) is_order in
     let out = left c c_is in
     let from = spread b.inv in
     let last = moment a.inv in

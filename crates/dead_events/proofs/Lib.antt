@@ -1,3 +1,4 @@
+mod AnswerLemmas
 mod AnsweredLemmas
 mod BackLemmas
 mod BlockLemmas
@@ -10,7 +11,7 @@ mod OnLemmas
 mod OneTimingLemmas
 mod OrderLemmas
 mod PassLemmas
-mod PrefixLemmas
 mod RefusedLemmas
 mod StayLemmas
+mod ValueLemmas
 mod WiderLemmas

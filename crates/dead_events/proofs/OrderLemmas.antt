@@ -1,35 +1,19 @@
 -- An order of calls is one of others that differ in places alone, where these gain no precedence against it.
-use Rattle.std.proofs.Common.{◌≡◌, ℕ, ◌<◌, true, false, List, [], ◌∷◌, length, Option, Some, None, refl, sym, ap, ◌∙◌, subst, ⊎_elim, IsTrue}
-use Rattle.std.specs.Prelude.{◌⊎◌, is_some, slice_get, All}
+use Rattle.std.proofs.Common.{◌≡◌, ℕ, ◌<◌, true, false, List, [], ◌∷◌, length, Some, sym, ap, ◌∙◌, subst, ⊎_elim, IsTrue}
+use Rattle.std.specs.Prelude.{◌⊎◌, slice_get, All}
 use Rattle.std.proofs.lemmas.Bool.{both_ways, false_from_ne_true}
-use Rattle.std.proofs.lemmas.Option.{none-some, same_Some, slice_get_within}
+use Rattle.std.proofs.lemmas.Option.{slice_get_within}
 use Rattle.std.proofs.lemmas.List.Elements.{All-head, All-tail, All-contains, All-weaker}
 use Rattle.events.specs.declared.event.Call.{Call}
 use Rattle.events.specs.declared.operation.Operation.{Operation}
-use Rattle.events.specs.declared.operation.Response.{Response}
 use Rattle.events.specs.Precedence.{is_completed, precedes}
 use Rattle.list_laws.proofs.Lists.{AllPairs-at, AllPairs-from_at, Contains-at}
 use Rattle.list_laws.proofs.NumberLemmas.{slice_get-below, some_at}
 use Rattle.list_laws.proofs.FilterLemmas.{AreRelatedAs, AllPairs-filter_map, AllPairs-from_filter_map}
-use Rattle.map_object.specs.MapObject.{Contents, after_reply, IsLegalReply}
+use Rattle.map_object.specs.MapObject.{Contents}
 use Rattle.orders.specs.Orders.{after_call, IsLegalCall, IsLegal, calls_at, IsOrder}
 use Rattle.quiet_cuts.specs.Groups.{reply_in}
-
-legal_same : (m : Contents) (call : Call) (r s : Option Response) → reply_in r ≡ reply_in s → IsLegalCall m call r → IsLegalCall m call s
-legal_same m call r None same h = tt
-legal_same m call None (Some s) same h = absurd (none-some s.reply same)
-legal_same m call (Some r) (Some s) same h = subst (IsLegalReply m call) (same_Some r.reply s.reply same) h
-
-after_same : (m : Contents) (call : Call) (r s : Option Response) → reply_in r ≡ reply_in s → after_call m call r ≡ after_call m call s
-after_same m call None None same = refl
-after_same m call None (Some s) same = absurd (none-some s.reply same)
-after_same m call (Some r) None same = absurd (none-some r.reply (sym same))
-after_same m call (Some r) (Some s) same = ap (after_reply m call) (same_Some r.reply s.reply same)
-
-completed_same : (r s : Option Response) → reply_in r ≡ reply_in s → is_some s ≡ true → is_some r ≡ true
-completed_same (Some r) s same h = refl
-completed_same None None same h = h
-completed_same None (Some s) same h = absurd (none-some s.reply same)
+use Rattle.quiet_cuts.proofs.AlikeLemmas.{legal_same, after_same, completed_same}
 
 -- two lists of calls with the same replies, of which the second gains precedence only so
 pub record GainsAtMost (Gain : Operation → Operation → Type 0) (calls others : List Operation) : Type 0 where

@@ -1,66 +1,22 @@
 -- A call that was refused may stand directly behind a scan, where it stood before it.
-use Rattle.std.proofs.Common.{◌≡◌, ℕ, ◌<◌, ◌≤◌, ◌==◌, Bool, true, false, not, List, [], ◌∷◌, ◌++◌, length, IsTrue, filter, refl, sym, ap}
-use Rattle.std.proofs.Common.{◌∙◌, subst, ⊎_elim, arith, inl, inr}
-use Rattle.std.specs.Prelude.{◌≢◌, ◌⊎◌, slice_get, All, AllPairs, Contains}
+use Rattle.std.proofs.Common.{◌≡◌, ℕ, ◌≤◌, ◌==◌, Bool, true, false, not, List, ◌∷◌, ◌++◌, filter, refl, sym, ap, subst, ⊎_elim, arith, inl, inr}
+use Rattle.std.specs.Prelude.{◌≢◌, ◌⊎◌, All, AllPairs, Contains}
 use Rattle.std.proofs.lemmas.Bool.{cases_eq, eqb-true, eq-eqb, ne_eqb, not_from_false}
-use Rattle.std.proofs.lemmas.Option.{slice_get_within}
-use Rattle.std.proofs.lemmas.List.Elements.{All-nil, All-cons, All-head, All-tail, All-contains, Contains-append_left, Contains-append_right, Contains-append_cases}
+use Rattle.std.proofs.lemmas.List.Elements.{All-cons, All-contains, Contains-append_left, Contains-append_right, Contains-append_cases}
 use Rattle.std.proofs.lemmas.List.Kept.{AllPairs-cons, AllPairs-filter}
 use Rattle.events.specs.declared.operation.Operation.{Operation}
-use Rattle.events.specs.Precedence.{is_before, is_completed, precedes}
-use Rattle.list_laws.proofs.Lists.{All-from_contains, AllPairs-append, AllPairs-back, AllPairs-front, AllPairs-head, AllPairs-tail}
-use Rattle.list_laws.proofs.Lists.{Contains-at, Contains-cases, Contains-filter, Contains-first, Contains-from_filter, Contains-later, place_of-Contains}
-use Rattle.list_laws.proofs.NumberLemmas.{slice_get-below, some_at}
-use Rattle.list_laws.proofs.FilterLemmas.{AreRelatedAs, AllPairs-from_filter_map, AllPairs-weaker, Contains-from_filter_map}
+use Rattle.events.specs.Precedence.{is_before, precedes}
+use Rattle.list_laws.proofs.Lists.{All-from_contains, AllPairs-append, AllPairs-back, AllPairs-front, AllPairs-head, AllPairs-tail, Contains-cases}
+use Rattle.list_laws.proofs.Lists.{Contains-filter, Contains-first, Contains-from_filter, Contains-later}
+use Rattle.list_laws.proofs.FilterLemmas.{AllPairs-weaker}
 use Rattle.map_object.specs.MapObject.{Contents}
-use Rattle.orders.specs.Orders.{after_call, after_calls, calls_at, IsLegalCall, IsLegal, IsOrder, KeepsPrecedence}
+use Rattle.orders.specs.Orders.{after_call, after_calls, IsLegalCall, IsLegal}
 use Rattle.orders.proofs.OrderLemmas.{IsLegal-append, IsLegal-back, IsLegal-front}
 use Rattle.quiet_cuts.proofs.SetLemmas.{IsOrderOfSet, Completed}
 use Rattle.following.proofs.moments.DistinctLemmas.{same_invocation}
 use Rattle.following.proofs.keys.InTurnLemmas.{ChangesNothing, legal_filter}
-use Rattle.following.proofs.keys.RefuteLemmas.{from_not}
-use Rattle.dead_events.proofs.AnsweredLemmas.{Distinct, NotBefore, same_number}
-use Rattle.dead_events.proofs.PrefixLemmas.{split_pairs}
-
--- ---- a list of calls, as an order by number
-
-numbers_of : (calls order : List Operation) → All (Contains calls) order → (numbers : List ℕ) × (calls_at calls numbers ≡ order)
-    × All (λ n. n < length calls) numbers
-numbers_of calls [] known = ([], refl, All-nil (λ n. n < length calls))
-numbers_of calls (a ∷ order) known =
-    let (n, here) = place_of-Contains calls a (All-head (Contains calls) a order known) in
-    let (numbers, are, within) = numbers_of calls order (All-tail (Contains calls) a order known) in (
-      n ∷ numbers,
-      rw here (ap (λ (l : List Operation). a ∷ l) are),
-      All-cons (λ n. n < length calls) n numbers (slice_get_within calls n a here) within,
-    )
-
-pub as_numbers : (start : Contents) (calls order : List Operation) → Distinct calls → IsOrderOfSet start (Contains calls) Completed order
-    → (numbers : List ℕ) × IsOrder start calls numbers × (calls_at calls numbers ≡ order)
-as_numbers start calls order apart h =
-    let (numbers, are, within) = numbers_of calls order h.known in
-    let R = λ (a b : Operation). a.inv ≢ b.inv in (
-      numbers,
-      record {
-        legal_order = record {
-          known = within;
-          distinct = AllPairs-weaker (AreRelatedAs R (slice_get calls)) (λ m n. m ≢ n) numbers
-              (λ m n m_is n_is related same.
-              let (a, here) = slice_get-below calls m (All-contains (λ n. n < length calls) numbers m within m_is) in
-              related a a here (ap (slice_get calls) (sym same) ∙ here) refl)
-              (AllPairs-from_filter_map R (slice_get calls) numbers (subst (AllPairs R) (sym are) h.distinct));
-          precedence = subst KeepsPrecedence (sym are) h.precedence;
-          legal = subst (IsLegal start) (sym are) h.legal;
-        };
-        complete = λ n completed.
-            let (a, here, must) = some_at (slice_get calls n) (λ a. IsTrue (is_completed a)) completed in
-            let found =
-            Contains-from_filter_map (slice_get calls) numbers a
-            (subst (λ (l : List Operation). Contains l a) (sym are) (h.complete a (Contains-at calls n a here) must)) in
-            subst (Contains numbers) (same_number calls found.0 n a a apart found.2 here refl) found.1;
-      },
-      are,
-    )
+use Rattle.following.proofs.keys.PrefixLemmas.{from_not, split_pairs}
+use Rattle.dead_events.proofs.AnsweredLemmas.{NotBefore}
 
 -- ---- a call that stands before a scan and changes nothing, behind it
 

@@ -1,6 +1,6 @@
 -- A beginning that is dead now stays dead: an order with further events that has the call before the scan, cut to now, has it answered at once.
-use Rattle.std.proofs.Common.{◌≡◌, ℕ, ◌<◌, ◌≤◌, ◌==◌, Bool, true, false, List, ◌∷◌, ◌++◌, length, Option, Some, None, filter, map, refl, sym, ap}
-use Rattle.std.proofs.Common.{◌∙◌, subst, ⊎_elim, arith, inl, inr}
+use Rattle.std.proofs.Common.{◌≡◌, ℕ, ◌<◌, ◌≤◌, ◌==◌, Bool, true, false, List, ◌∷◌, ◌++◌, length, Option, Some, None, filter, map, refl, sym, ap, ◌∙◌}
+use Rattle.std.proofs.Common.{subst, ⊎_elim, arith, inl, inr}
 use Rattle.std.specs.Prelude.{◌≢◌, ◌⊎◌, not, slice_get, Contains}
 use Rattle.std.proofs.lemmas.Bool.{both_ways, cases_eq, cases_lt, cases_order, lt-ltb, le-ltb, ltb-true, ltb-false}
 use Rattle.std.proofs.lemmas.Option.{same_Some}
@@ -10,21 +10,22 @@ use Rattle.events.specs.declared.operation.Operation.{Operation}
 use Rattle.events.specs.declared.operation.Response.{Response}
 use Rattle.events.specs.Operations.{operations}
 use Rattle.events.specs.Precedence.{is_before, precedes}
-use Rattle.list_laws.proofs.Lists.{All-from_contains, AllPairs-at, AllPairs-from_at, Contains-at, Contains-from_filter, Contains-split, place_of-Contains}
+use Rattle.list_laws.proofs.Lists.{All-from_contains, AllPairs-at, AllPairs-from_at, Contains-at, Contains-from_filter, Contains-split}
+use Rattle.list_laws.proofs.Lists.{place_of-Contains}
 use Rattle.list_laws.proofs.FilterLemmas.{AllPairs-map, Contains-filter_map, Contains-from_filter_map, Contains-map, Contains-from_map}
 use Rattle.map_object.specs.MapObject.{Contents}
 use Rattle.orders.specs.Orders.{calls_at, IsLegalCall, IsLinearizable, IsOrder}
 use Rattle.quiet_cuts.specs.Cells.{is_left, calls_left}
 use Rattle.quiet_cuts.proofs.ContinueLemmas.{completed_stays}
 use Rattle.quiet_cuts.proofs.LeftLemmas.{left_from, in_left}
-use Rattle.quiet_cuts.proofs.SetLemmas.{IsOrderOfSet, Completed}
+use Rattle.quiet_cuts.proofs.SetLemmas.{IsOrderOfSet, Completed, as_calls, as_numbers}
 use Rattle.following.specs.moments.KeyCalls.{Kind, OfKey, Told, Silent, kind_of, part_at, at_key}
 use Rattle.following.specs.moments.Timings.{IsToldScan, IsTiming}
 use Rattle.following.specs.keys.KeyStates.{one_key, Configuration, KeyState}
 use Rattle.following.specs.rows.Blocks.{is_scan, IsOver}
 use Rattle.following.specs.rows.Comparisons.{Comparison, Behind, Before, InTurn, holds_in, class_of}
 use Rattle.following.specs.rows.Fixed.{IsBefore, IsBehind}
-use Rattle.following.proofs.moments.DistinctLemmas.{InvocationsDiffer, same_invocation, linearizable_from_order}
+use Rattle.following.proofs.moments.DistinctLemmas.{InvocationsDiffer, same_invocation, told_by_place, linearizable_from_order}
 use Rattle.following.proofs.moments.KindLemmas.{IsPart, part_is}
 use Rattle.following.proofs.moments.PartLemmas.{rising_upto}
 use Rattle.following.proofs.moments.TimedLemmas.{told_completed}
@@ -32,16 +33,15 @@ use Rattle.following.proofs.keys.EarlyLemmas.{from_left_at, own_at}
 use Rattle.following.proofs.keys.GrownLemmas.{grown_inv}
 use Rattle.following.proofs.keys.GrownPartLemmas.{open_not_own, timing_now, to_now}
 use Rattle.following.proofs.keys.InTurnLemmas.{ChangesNothing, is_refused_from, refused_changes_nothing, refused_legal, refused_waits, cut, grown_cut}
-use Rattle.following.proofs.keys.RefuteLemmas.{later_differ, now_differ}
+use Rattle.following.proofs.keys.PrefixLemmas.{later_differ, now_differ, cut_now, now_into}
 use Rattle.following.proofs.rows.AlikeLemmas.{left_weaker}
 use Rattle.following.proofs.rows.BlockLemmas.{one_holds}
 use Rattle.following.proofs.rows.EndLemmas.{own_call, told_call}
 use Rattle.dead_events.specs.Answered.{with_answer_at, with_answer, IsNextTo}
 use Rattle.dead_events.specs.Laws.{DeadBeginsStay}
-use Rattle.dead_events.proofs.PrefixLemmas.{cut_now, now_into}
-use Rattle.dead_events.proofs.RefusedLemmas.{EndsNotBefore, as_numbers, turned_order, turned_never}
+use Rattle.dead_events.proofs.RefusedLemmas.{EndsNotBefore, turned_order, turned_never}
 use Rattle.dead_events.proofs.DeadLemmas.{has_get}
-use Rattle.dead_events.proofs.AnsweredLemmas.{Distinct, NotBefore, as_calls, sides, same_inv, is_answered, is_same, listed, legal_answered}
+use Rattle.dead_events.proofs.AnsweredLemmas.{NotBefore, sides, same_inv, is_answered, is_same, listed, legal_answered}
 
 -- ---- an order now with a call answered at once
 
@@ -53,7 +53,7 @@ pub record HasGetNext (calls : List Operation) (here last : ℕ) : Type 0 where
   pub ends : (r : Response) × (get.response ≡ Some r) × (r.res ≡ last)
   pub behind : (x : Operation) → Contains calls x → here < x.inv → (x.inv ≡ last) ⊎ (last < x.inv)
 
-module _ (start : Contents) (calls order : List Operation) (differ : Distinct calls) (is : IsOrderOfSet start (Contains calls) Completed order)
+module _ (start : Contents) (calls order : List Operation) (differ : InvocationsDiffer calls) (is : IsOrderOfSet start (Contains calls) Completed order)
     (here last : ℕ) (less : here < last) (get : HasGetNext calls here last) (never : NotBefore last here order) where
   abbrev answer : Operation → Operation
   answer x = with_answer_at here x
@@ -280,7 +280,7 @@ earlier_waits None limit p waits upto = refl
 earlier_waits (Some r) limit p waits upto = let h = ltb-false r.res limit waits in le-ltb r.res p (omega arith)
 
 -- a call that was refused later is behind the scan in some order, where it is before it in one
-behind_too : (start : Contents) (calls order : List Operation) → Distinct calls → IsOrderOfSet start (Contains calls) Completed order
+pub behind_too : (start : Contents) (calls order : List Operation) → InvocationsDiffer calls → IsOrderOfSet start (Contains calls) Completed order
     → (here last limit : ℕ) → here < last → last < limit → (x g : Operation) → Contains order x → Contains order g → x.inv ≡ here → g.inv ≡ last
     → NotBefore last here order → is_refused_from limit x.response ≡ true
     → (r : Response) × (g.response ≡ Some r) × (r.res ≡ last)
@@ -300,7 +300,7 @@ behind_too start calls order apart is here last limit less within x g x_is g_is 
     let moved_behind = filter (λ (y : Operation). not (y.inv == x.inv)) front ++ g ∷ x ∷ back in
     let there = turned_order start calls order is x g x_is g_is differ from free legal late waits front back parts in
     let none = turned_never start calls order is x g x_is g_is differ from free legal late waits front back parts in
-    let (numbers, numbers_are, same) = as_numbers start calls moved_behind apart there in (
+    let (numbers, numbers_are, same) = as_numbers start calls moved_behind (told_by_place calls apart) there in (
       numbers,
       numbers_are,
       subst (NotBefore here last) (sym same)
@@ -317,7 +317,7 @@ stay events comparisons key k a place behind a_is told over left only between ne
     let apart = later_differ events more key spread moment timing dropped in
     let (order, is_order) = ordered in
     let list = calls_at later_calls order in
-    let set = as_calls start later_calls order apart is_order in
+    let set = as_calls start later_calls order (told_by_place later_calls apart) is_order in
     let out = left c c_is in
     let less = here_less events more comparisons key k a place behind a_is told over next spread moment timing allowed c out in
     let within = before_limit events more comparisons key k a place behind a_is told over next spread moment timing allowed c out in

@@ -1,5 +1,6 @@
--- A call that is answered as soon as it begins: so it stands before all that begins later. Where the calls of a key have no order with that now, the
--- beginning is dead for a scan that takes effect directly behind it.
+-- A call that is answered as soon as it begins: so it stands before all that begins later. Where
+-- the calls of a key have no order with that now, the beginning is dead for a scan that takes
+-- effect directly behind it.
 use Rattle.events.specs.declared.event.Reply.TheVariants as replies
 use Rattle.std.specs.Prelude.{◌≡◌, ◌≢◌, ◌⊎◌, ℕ, ◌≤◌, ◌==◌, true, false, if◌then◌else◌, List, ◌++◌, length, map, Option, Some, None, Contains}
 use Rattle.events.specs.declared.event.Event.{Event}
@@ -31,7 +32,8 @@ with_answer_at place a = if a.inv == place then answered_at_once a else a
 abbrev pub with_answer : ℕ → List Operation → List Operation
 with_answer place calls = map (with_answer_at place) calls
 
--- in a timing, a key has no order with that, from any value of any configuration for which the call is left
+-- in a timing, a key has no order with that, from any value of any configuration for which the call
+-- is left
 abbrev pub HasNoneAnswered : List Operation → ℕ → KeyState → ℕ → (ℕ → ℕ) → (ℕ → ℕ) → Type 0
 HasNoneAnswered calls key k place spread moment =
     (c : Configuration) (value : Option ℕ) → Contains k.configurations c → Contains c.values value
@@ -44,8 +46,9 @@ IsDeadBeginNow events allows key k place =
     (spread moment : ℕ → ℕ) → IsTiming (operations events) spread moment → allows spread moment ≡ true
     → HasNoneAnswered (operations events) key k place spread moment
 
--- A scan takes effect behind a place and before another, and at a key nothing that is left stands between but what may be anywhere: no call begins there,
--- and another scan that was told pairs takes effect before the first place, behind the second, or behind the scan.
+-- A scan takes effect behind a place and before another, and at a key nothing that is left stands
+-- between but what may be anywhere: no call begins there, and another scan that was told pairs
+-- takes effect before the first place, behind the second, or behind the scan.
 pub record IsNextTo (events : List Event) (comparisons : List Comparison) (key : ℕ) (k : KeyState) (scan place behind : ℕ) : Type 0 where
   pub past : behind ≤ length events
   pub from : Contains comparisons (Behind scan place)

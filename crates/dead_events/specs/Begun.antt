@@ -1,5 +1,5 @@
--- A call that begins where it ends: so all that ends before stands before it. Where the calls of a key have no order with that now, the end is dead for a
--- scan that takes effect directly before it.
+-- A call that begins where it ends: so all that ends before stands before it. Where the calls of a
+-- key have no order with that now, the end is dead for a scan that takes effect directly before it.
 use Rattle.std.specs.Prelude.{◌≡◌, ◌≢◌, ◌⊎◌, ℕ, ◌<◌, ◌≤◌, ◌==◌, true, false, if◌then◌else◌, List, ◌++◌, length, map, Option, Some, Contains}
 use Rattle.events.specs.declared.event.Event.{Event}
 use Rattle.events.specs.declared.operation.Operation.{Operation}
@@ -18,7 +18,8 @@ use Rattle.following.specs.rows.Fixed.{IsBefore, IsBehind}
 abbrev pub begun_at : ℕ → ℕ → Operation → Operation
 begun_at from place x = if x.inv == from then record { call = x.call; inv = place; response = x.response } else x
 
--- in a timing, a key has no order with the call of a place begun at another, from any value of any configuration for which the call is left
+-- in a timing, a key has no order with the call of a place begun at another, from any value of any
+-- configuration for which the call is left
 abbrev pub HasNoneBegun : List Operation → ℕ → KeyState → ℕ → ℕ → (ℕ → ℕ) → (ℕ → ℕ) → Type 0
 HasNoneBegun calls key k from place spread moment =
     (c : Configuration) (value : Option ℕ) → Contains k.configurations c → Contains c.values value
@@ -32,8 +33,9 @@ IsDeadEndNow events allows key k from place =
     (spread moment : ℕ → ℕ) → IsTiming (operations events) spread moment → allows spread moment ≡ true
     → HasNoneBegun (operations events) key k from place spread moment
 
--- A scan takes effect behind a place and before another, and at a key nothing that is left stands between but what may be anywhere: no call ends there,
--- and another scan that was told pairs takes effect before the first place, behind the second, or before the scan.
+-- A scan takes effect behind a place and before another, and at a key nothing that is left stands
+-- between but what may be anywhere: no call ends there, and another scan that was told pairs takes
+-- effect before the first place, behind the second, or before the scan.
 pub record IsLastBefore (events : List Event) (comparisons : List Comparison) (key : ℕ) (k : KeyState) (scan before place : ℕ) : Type 0 where
   pub past : place < length events
   pub from : Contains comparisons (Behind scan before)

@@ -3,4 +3,5 @@ pub mod Begun
 pub mod Laws
 pub mod Passing
 pub mod Standing
+pub mod Values
 pub mod WiderDead

@@ -1,5 +1,6 @@
--- Orders in which a call does not stand on one side of a scan. An event of a call is dead for a scan where no order has the call on the side on which it
--- may stand by this event; less will do: where there is an order, one has the call elsewhere.
+-- Orders in which a call does not stand on one side of a scan. An event of a call is dead for a
+-- scan where no order has the call on the side on which it may stand by this event; less will do:
+-- where there is an order, one has the call elsewhere.
 use Rattle.std.specs.Prelude.{◌≡◌, ℕ, true, false, List, ◌++◌, Option, Some, AllPairs, Contains}
 use Rattle.events.specs.declared.event.Event.{Event}
 use Rattle.events.specs.declared.operation.Operation.{Operation}
@@ -31,7 +32,8 @@ NeedsNone key spread moment calls k First Second =
     (c : Configuration) (value : Option ℕ) → Contains k.configurations c → Contains c.values value
     → NeedNotStand First Second (one_key key value) (at_key key spread moment (calls_left (k.gone ++ c.taken) calls))
 
--- with any further events, in each timing of a class, a key needs no order in which what begins at a place stands before the get of a scan
+-- with any further events, in each timing of a class, a key needs no order in which what begins at
+-- a place stands before the get of a scan
 abbrev pub IsDeadBegin : List Event → Timings → ℕ → KeyState → ℕ → ℕ → Type 0
 IsDeadBegin events allows key k scan place =
     (more : List Event) (spread moment : ℕ → ℕ) → IsTiming (operations (events ++ more)) spread moment → allows spread moment ≡ true

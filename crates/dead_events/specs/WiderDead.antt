@@ -1,5 +1,5 @@
--- What tells now that a beginning is dead, and wider rules, which do not: that the calls of the key have no order without the call; and that nothing is
--- asked of other scans next to the scan.
+-- What tells now that a beginning is dead, and wider rules, which do not: that the calls of the key
+-- have no order without the call; and that nothing is asked of other scans next to the scan.
 use Rattle.std.specs.Prelude.{◌≡◌, ◌⊎◌, ℕ, ◌<◌, ◌≤◌, true, false, List, [], ◌∷◌, ◌++◌, length, Option, Contains}
 use Rattle.events.specs.declared.event.Event.{Event}
 use Rattle.events.specs.declared.operation.Operation.{Operation}

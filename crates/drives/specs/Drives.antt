@@ -40,9 +40,9 @@ HaveScripts scripts events = All (λ e. process_of e < length scripts) events
 abbrev pub AreAnswered : (Call → Reply → Type 0) → List Event → Type 0
 AreAnswered may_answer events = All (λ a. IfSome a.response (λ r. may_answer a.call r.reply)) (operations events)
 
--- what is recorded of scripts, at a subject that may answer so: the map holds nothing at the start, each process did its script, there is
--- no other process,
--- and each reply is one that the subject may give to its call
+-- what is recorded of scripts, at a subject that may answer so: the map holds nothing at the start,
+-- each process did its script, there is no other process, and each reply is one that the subject
+-- may give to its call
 pub record IsDriveOf (may_answer : Call → Reply → Type 0) (scripts : List (List Call)) (history : HistoryView) : Type 0 where
   pub start : history.start ≡ []
   pub processes : HaveScripts scripts history.events

@@ -3,7 +3,6 @@ mod LineLemmas
 mod LongestLemmas
 mod OriginLemmas
 mod OutcomeLemmas
-mod RefutedLemmas
 mod RowLemmas
 mod StuckLemmas
 mod ValueLemmas

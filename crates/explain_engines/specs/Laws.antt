@@ -15,14 +15,16 @@ use Rattle.explain_engines.specs.Fronts.{next_of}
 use Rattle.small_histories.specs.SmallHistories.{IsSmallHistory}
 use Rattle.explain_engines.specs.Answers.{IsFrontOf}
 
--- where no more configurations are reachable than the budget, no front is longer than the longest that a search meets
+-- where no more configurations are reachable than the budget, no front is longer than the longest
+-- that a search meets
 abbrev pub NoFrontIsLonger : Type 0
 NoFrontIsLonger =
     (budget : ℕ) (segment : SegmentView) (front other : List ℕ) → NonePrecedesItself segment.calls → HasNoOrder segment
     → (ReachesMoreThan segment.start segment.calls budget → ⊥) → IsLongestFront budget segment front
     → IsFront segment.start segment.calls other → length other ≤ length front
 
--- and behind that of the few calls none that is told as next can come: the map would answer it otherwise
+-- and behind that of the few calls none that is told as next can come: the map would answer it
+-- otherwise
 abbrev pub NoNextCallIsLegal : Type 0
 NoNextCallIsLegal =
     (budget : ℕ) (start : Contents) (calls : List Operation) (history : HistoryView) (front : List ℕ) (a : Operation) → InvocationsRise calls

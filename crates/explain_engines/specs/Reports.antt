@@ -26,7 +26,8 @@ answer_data (Some response) = reply_data response.reply
 abbrev pub was_answered : List Operation → ℕ → Bool
 was_answered calls place = list_any (λ a. a.inv == place && is_some a.response) calls
 
--- what counts of the answer of a call that is kept: the reply; or a word, by whether it was answered: then its answer is left out
+-- what counts of the answer of a call that is kept: the reply; or a word, by whether it was
+-- answered: then its answer is left out
 abbrev pub kept_data : Bool → Option Response → Data
 kept_data answered None = string (if answered then codes "left out" else codes "open")
 kept_data answered (Some response) = reply_data response.reply
@@ -52,8 +53,8 @@ abbrev pub with_missed : List Event → List Missed → Members → Members
 with_missed events [] members = members
 with_missed events (m ∷ missed) members = put (codes "misses") (list_data (map (missed_data events) (m ∷ missed))) members
 
--- a call of a history that is kept: what counts of its answer, what was called, the event of its invocation, those that it misses, its
--- process, and why it is kept
+-- a call of a history that is kept: what counts of its answer, what was called, the event of its
+-- invocation, those that it misses, its process, and why it is kept
 abbrev pub missing_row_data : HistoryView → Operation → List Missed → Reason → Data
 missing_row_data history a missed reason =
     object (with_missed history.events missed (

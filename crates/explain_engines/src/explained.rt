@@ -1,36 +1,44 @@
-// `bench explain`: the verdict on a history, and few calls that show a no.
+// `bench explain`: the verdict on a history, and few calls that show a no, or where it goes wrong
+// where the verdict is undecided.
 ghost use Rattle.std.specs.Prelude.{◌≡◌, ℕ, ◌<◌, ◌≤◌, List, ◌++◌, Some, IfOk, string_bytes};
 ghost use Rattle.serde_json.specs.Written.{compact_text};
 ghost use Rattle.events.specs.HistoryView.{HistoryView};
 ghost use Rattle.events.specs.Operations.{operations};
 ghost use Rattle.history_engines.specs.Answers.{IsHistoryRefusal, IsTextOf};
 ghost use Rattle.history_text.specs.Limits.{text_limit};
-ghost use Rattle.judge.specs.Exact.{IsExactVerdict, IsRefuted};
 ghost use Rattle.judge.specs.Reports.{verdict_data};
 ghost use Rattle.judge.specs.Shown.{IsShown};
+ghost use Rattle.located_calls.specs.Evidences.{Refutes};
+ghost use Rattle.map_object.specs.MapObject.{IsRising};
+ghost use Rattle.orders.specs.Orders.{IsLinearizable};
 ghost use Rattle.outcomes.specs.Ends.{change};
 ghost use Rattle.outcomes.specs.Lines.{line};
 ghost use Rattle.outcomes.specs.Outcomes.{IsTextOutcome};
 ghost use Rattle.outcomes.specs.Reads.{IsTextRead};
 ghost use Rattle.outcomes.specs.Runs.{IsRun};
 ghost use Rattle.search.specs.Limits.{budget_limit};
-ghost use Rattle.explain_engines.specs.Answers.{IsExplainAnswer, IsExplaining, AreDetails, AreFew};
+ghost use Rattle.segments.specs.SegmentOrders.{HasNoOrder};
+ghost use Rattle.explain_engines.specs.Answers.{IsExplainAnswer, IsExplaining, AreDetails, AreFew, AreEvidenceLines, AreLocated, ArePartLines};
 ghost use Rattle.explain_engines.specs.Outcomes.{IsExplainOutcome};
 
+use crate::parts::part_line;
 use crate::reports::few_lines;
 use events::{History, Memory};
-use explaining::{Explained, explain};
+use explaining::{Explanation, explain_calls};
 use history_engines::{answer_of, refused_text};
 use history_text::{MAX_TEXT, read_history};
 use judge::{Verdict, judge_alone, report};
+use located_calls::{Evidence, evidence_of, told_calls};
+use locating::{locate, location_line};
 use map_object::SortedMap;
-use outcomes::{Answer, Outcome, line_of, text_from, write_outcome};
+use outcomes::{Answer, RunOutcome, line_of, run_text};
+use own_parts::OwnPart;
 use segments::Segment;
 use std::alloc::Global;
 use streams::{Sink, Source};
 
-/// Reads a history text to the end of the source, or until it is too long, and explains the verdict on it, which is found by one
-/// thread. Answers the exit status, that of the verdict.
+/// Reads a history text to the end of the source, or until it is too long, and explains the verdict
+/// on it, which is found by one thread. Answers the exit status, that of the verdict.
 pub fn run_explain<S: Source, O: Sink, F: Sink, H: Sink>(
     alloc: Global,
     source: &mut S,
@@ -49,19 +57,19 @@ pub fn run_explain<S: Source, O: Sink, F: Sink, H: Sink>(
         (change O.written O.failures output.old output.new)
         (change F.written F.failures faults.old faults.new)
         (change H.written H.failures hints.old hints.new) result }
-    ensures read { IsTextRead text_limit (change S.remaining S.failures source.old source.new) result }
+    ensures read { IsTextRead text_limit (change S.remaining S.failures source.old source.new)
+        result }
 {
-    match text_from(alloc, source, MAX_TEXT) {
-        Ok(text) => {
-            let outcome = explain_outcome(alloc, &text, budget);
-            write_outcome(output, faults, hints, &outcome)
-        }
-        Err(outcome) => write_outcome(output, faults, hints, &outcome),
-    }
+    let answer = |text: &[u8]|
+        requires { (1 ≤ budget) × (budget ≤ budget_limit) }
+    { explain_outcome(alloc, text, budget) };
+    run_text(alloc, source, output, faults, hints, MAX_TEXT, answer)
 }
 
-/// The verdict on the history that the text spells, as its report; and behind that of a no few calls that show it.
-pub fn explain_outcome(alloc: Global, text: &[u8], budget: u32) -> Outcome
+/// The verdict on the history that the text spells, as its report; and behind that of a no few
+/// calls that show it, and of an undecided where the history goes wrong, if that is found, with few
+/// calls that show it.
+pub fn explain_outcome(alloc: Global, text: &[u8], budget: u32) -> RunOutcome
     requires { (1 ≤ budget) × (budget ≤ budget_limit) }
     ensures { IsTextOutcome (IsExplainAnswer budget) IsHistoryRefusal (Some text.now) result }
 {
@@ -72,14 +80,14 @@ pub fn explain_outcome(alloc: Global, text: &[u8], budget: u32) -> Outcome
 }
 
 /// How an explanation comes out, or want of memory for it.
-fn outcome_of(explained: Result<(Answer, String), Memory>) -> Outcome
+fn outcome_of(explained: Result<(Answer, String), Memory>) -> RunOutcome
     ensures { (budget : ℕ) (text : List ℕ) (history : HistoryView) → IsTextOf text history
         → IfOk explained (λ told. IsExplaining budget history told.0 (string_bytes told.1))
         → IsTextOutcome (IsExplainAnswer budget) IsHistoryRefusal (Some text) result }
 {
     match explained {
-        Ok((answer, line)) => Outcome::Answered { answer, line },
-        Err(_) => Outcome::Memory,
+        Ok((answer, line)) => RunOutcome::Answered { answer, line },
+        Err(_) => RunOutcome::Memory,
     }
 }
 
@@ -102,8 +110,8 @@ fn verdict_lines(
 ) -> Result<String, Memory>
     requires budget { (1 ≤ budget) × (budget ≤ budget_limit) }
     requires shown { IsShown history.now.start budget (operations history.now.events) verdict.now }
-    requires exact { IsExactVerdict history.now.start budget (operations history.now.events) verdict.now }
-    ensures { IfOk result (λ text. (details : List ℕ) × AreDetails budget history.now verdict.now details
+    ensures { IfOk result (λ text. (details : List ℕ)
+        × AreDetails budget history.now verdict.now details
         × (string_bytes text ≡ line (compact_text (verdict_data verdict.now)) ++ details)) }
 {
     let mut lines = line_of(report(alloc, verdict)?)?;
@@ -112,7 +120,7 @@ fn verdict_lines(
     Ok(lines)
 }
 
-/// What shows a verdict beside its report.
+/// What shows a verdict beside its report, or what is found out where it is undecided.
 fn details_of(
     alloc: Global,
     history: &History,
@@ -121,17 +129,16 @@ fn details_of(
 ) -> Result<String, Memory>
     requires budget { (1 ≤ budget) × (budget ≤ budget_limit) }
     requires shown { IsShown history.now.start budget (operations history.now.events) verdict.now }
-    requires exact { IsExactVerdict history.now.start budget (operations history.now.events) verdict.now }
     ensures { IfOk result (λ text. AreDetails budget history.now verdict.now (string_bytes text)) }
 {
     match verdict {
+        Verdict::Yes(_) => Ok(String::new(alloc)),
         Verdict::No(segment) => segment_details(alloc, history, segment, budget),
-        Verdict::Yes(_) | Verdict::Undecided(_) => Ok(String::new(alloc)),
+        Verdict::Undecided(_) => located_details(alloc, history, budget),
     }
 }
 
-/// Few calls of a segment that show that it has no order. Their search meets no more configurations than can be reached, so it is not spent.
-#[tactic(auto, using(crate::proofs::RefutedLemmas::refuted_within))]
+/// Few calls of a segment that show that it has no order.
 fn segment_details(
     alloc: Global,
     history: &History,
@@ -139,12 +146,91 @@ fn segment_details(
     budget: u32,
 ) -> Result<String, Memory>
     requires budget { (1 ≤ budget) × (budget ≤ budget_limit) }
-    requires refuted { IsRefuted budget segment.now }
-    ensures { IfOk result (λ text. AreFew budget history.now segment.now (string_bytes text)) }
+    requires refuted { HasNoOrder segment.now }
+    ensures { IfOk result (λ text. AreFew budget history.now segment.now.start segment.now.calls
+        (string_bytes text)) }
 {
     let start = SortedMap::of(alloc, segment.start())?;
-    match explain(alloc, &start, segment.calls(), budget)? {
-        Explained::Few(few) => few_lines(alloc, history, segment, few, budget),
-        Explained::Order(_) | Explained::Spent => unreachable!(),
+    let few = explain_calls(alloc, &start, segment.calls(), budget)?;
+    few_lines(
+        alloc,
+        history,
+        segment.start(),
+        &[],
+        &few.calls,
+        &few,
+        budget,
+    )
+}
+
+/// Where a history goes wrong, as a follower of its events finds out, and few calls that show it.
+fn located_details(alloc: Global, history: &History, budget: u32) -> Result<String, Memory>
+    requires { (1 ≤ budget) × (budget ≤ budget_limit) }
+    ensures { IfOk result (λ text. AreLocated budget history.now (string_bytes text)) }
+{
+    let location = locate(alloc, history, budget)?;
+    let mut lines = line_of(location_line(alloc, &location)?)?;
+    let evidence = evidence_of(alloc, history, &location, budget)?;
+    let few = evidence_lines(alloc, history, &evidence, budget)?;
+    lines.push_str(few.as_str())?;
+    Ok(lines)
+}
+
+/// The lines of what shows a location.
+fn evidence_lines(
+    alloc: Global,
+    history: &History,
+    evidence: &Evidence,
+    budget: u32,
+) -> Result<String, Memory>
+    requires budget { (1 ≤ budget) × (budget ≤ budget_limit) }
+    requires refutes { Refutes history.now evidence.now }
+    ensures { IfOk result (λ text. AreEvidenceLines budget history.now evidence.now
+        (string_bytes text)) }
+{
+    match evidence {
+        Evidence::OfEvents(few) => {
+            few_lines(
+                alloc,
+                history,
+                history.start(),
+                &[],
+                &few.calls,
+                few,
+                budget,
+            )
+        }
+        Evidence::OfKey(part, few) => part_lines(alloc, history, part, few, budget),
+        Evidence::Missing => Ok(String::new(alloc)),
     }
+}
+
+/// The lines of few calls of what goes wrong by itself: from which value of which key they begin,
+/// and behind that those of these calls of the history.
+fn part_lines(
+    alloc: Global,
+    history: &History,
+    part: &OwnPart,
+    few: &Explanation,
+    budget: u32,
+) -> Result<String, Memory>
+    requires budget { (1 ≤ budget) × (budget ≤ budget_limit) }
+    requires sorted { IsRising part.now.start }
+    requires none { IsLinearizable part.now.start few.now.calls.items → ⊥ }
+    ensures { IfOk result (λ text. ArePartLines budget history.now part.now few.now
+        (string_bytes text)) }
+{
+    let told = told_calls(alloc, history.calls(), &part.events, &few.calls)?;
+    let mut lines = part_line(alloc, history, part)?;
+    let rest = few_lines(
+        alloc,
+        history,
+        &part.start,
+        &part.events,
+        &told,
+        few,
+        budget,
+    )?;
+    lines.push_str(rest.as_str())?;
+    Ok(lines)
 }

@@ -3,50 +3,83 @@ ghost use Rattle.std.specs.Prelude.{◌≡◌, [], map, IfOk, OnOk, string_bytes
 ghost use Rattle.serde_json.specs.Data.{object};
 ghost use Rattle.serde_json.specs.View.{view, members_view};
 ghost use Rattle.serde_json.specs.Written.{compact_text};
-ghost use Rattle.events.specs.Precedence.{precedes};
 ghost use Rattle.history_text.specs.Texts.{list_data};
 ghost use Rattle.map_object.specs.MapObject.{IsRising, reply_to};
 ghost use Rattle.orders.specs.Orders.{calls_at, after_calls};
 ghost use Rattle.outcomes.specs.Lines.{line};
-ghost use Rattle.explain_engines.specs.Fronts.{front_data, taken_data, event_data, answers_data, stuck_data};
+ghost use Rattle.explain_engines.specs.Fronts.{by_event, front_data, taken_data, event_data, answers_data, stuck_data};
 ghost use Rattle.explain_engines.specs.Fronts.{is_taken, is_preceded, left_by, unpreceded, next_of};
 
 use crate::reports::answer_value;
 use events::{Call, Memory, Operation, Reply};
+use explaining::precedes;
 use history_text::{pairs_value, reply_value};
 use map_object::SortedMap;
 use orders::apply;
 use outcomes::line_of;
+use own_parts::event_of;
 use serde_json::{Map, Value, put};
 use std::alloc::{AllocError, Global};
 
-/// The line of a front of few calls from some pairs: the calls, the pairs that they leave, and the calls that would come next.
+/// The line of a front of few calls from some pairs: the calls, the pairs that they leave, and the
+/// calls that would come next. The events are those of the places at which the calls stand, where
+/// these are no events.
 pub(crate) fn front_line(
     alloc: Global,
     start: &[(u64, u64)],
+    events: &[(usize, usize)],
     calls: &[Operation],
     front: &[u32],
 ) -> Result<String, Memory>
     requires { IsRising start.now }
-    ensures { IfOk result (λ text. string_bytes text ≡ line (compact_text (front_data start.now calls.now front.now))) }
+    ensures { IfOk result (λ text. string_bytes text ≡ line
+        (compact_text (front_data start.now events.now calls.now front.now))) }
 {
-    let value = front_value(alloc, start, calls, front)?;
+    let value = front_value(alloc, start, events, calls, front)?;
     Ok(line_of(value.to_string(alloc)?)?)
 }
 
 fn front_value(
     alloc: Global,
     start: &[(u64, u64)],
+    events: &[(usize, usize)],
     calls: &[Operation],
     front: &[u32],
 ) -> Result<Value, Memory>
     requires { IsRising start.now }
-    ensures { IfOk result (λ value. view value ≡ front_data start.now calls.now front.now) }
+    ensures { IfOk result (λ value. view value ≡ front_data start.now events.now calls.now
+        front.now) }
 {
     let taken = calls_at(alloc, calls, front)?;
     let held = map_after(alloc, start, &taken)?;
     let next = next_of(alloc, calls, &taken)?;
-    taken_value(alloc, &taken, &held, &next)
+    let told = all_by_events(alloc, events, &taken)?;
+    let stuck = all_by_events(alloc, events, &next)?;
+    taken_value(alloc, &told, &held, &stuck)
+}
+
+/// Calls by the events of their places.
+fn all_by_events(
+    alloc: Global,
+    events: &[(usize, usize)],
+    calls: &[Operation],
+) -> Result<Vec<Operation>, Memory>
+    ensures { IfOk result (λ told. told.items ≡ map (by_event events.now) calls.now) }
+{
+    let mut told = Vec::with_capacity(alloc, calls.len())?;
+    for call in calls {
+        told.push(by_event(alloc, events, call)?)?;
+    }
+    Ok(told)
+}
+
+/// A call by the event of its place.
+fn by_event(alloc: Global, events: &[(usize, usize)], call: &Operation) -> Result<Operation, Memory>
+    ensures { IfOk result (λ told. told ≡ by_event events.now call.now) }
+{
+    let mut told = call.copy(alloc)?;
+    told.inv = event_of(events, call.inv);
+    Ok(told)
 }
 
 /// The calls with these numbers.
@@ -93,11 +126,11 @@ fn next_of(
     ensures { IfOk result (λ next. next.items ≡ next_of taken.now calls.now) }
 {
     let rest = left_by(alloc, calls, taken)?;
-    unpreceded(alloc, &rest)
+    minimal_calls(alloc, &rest)
 }
 
 /// The calls that none of them precedes.
-fn unpreceded(alloc: Global, rest: &[Operation]) -> Result<Vec<Operation>, Memory>
+fn minimal_calls(alloc: Global, rest: &[Operation]) -> Result<Vec<Operation>, Memory>
     ensures { IfOk result (λ next. next.items ≡ unpreceded rest.now rest.now) }
 {
     let mut next = Vec::new(alloc);
@@ -150,16 +183,6 @@ fn is_preceded(rest: &[Operation], call: &Operation) -> bool
     false
 }
 
-/// Whether a call was answered before another began.
-fn precedes(call: &Operation, other: &Operation) -> bool
-    ensures { result ≡ precedes call.now other.now }
-{
-    match &call.response {
-        Some(response) => response.res < other.inv,
-        None => false,
-    }
-}
-
 fn taken_value(
     alloc: Global,
     taken: &[Operation],
@@ -173,7 +196,8 @@ fn taken_value(
     Ok(Value::Object(members))
 }
 
-/// Puts calls taken, the pairs that the map then holds, and the calls that would come next, into an object without members.
+/// Puts calls taken, the pairs that the map then holds, and the calls that would come next, into an
+/// object without members.
 fn put_taken(
     alloc: Global,
     members: &mut Map<String, Value>,
@@ -182,7 +206,8 @@ fn put_taken(
     next: &[Operation],
 ) -> Result<(), Memory>
     requires { members.old.entries ≡ [] }
-    ensures { OnOk result (object (members_view members.new.entries) ≡ taken_data taken.now held.now next.now) }
+    ensures { OnOk result (object (members_view members.new.entries) ≡ taken_data taken.now
+        held.now next.now) }
 {
     put(members, alloc, "front", events_value(alloc, taken)?)?;
     put(members, alloc, "holds", pairs_value(alloc, held.pairs())?)?;
@@ -235,7 +260,8 @@ fn answers_value(alloc: Global, call: &Operation, would: &Reply) -> Result<Value
     Ok(Value::Object(members))
 }
 
-/// Puts the event of a call, what it was answered, and what it would be, into an object without members.
+/// Puts the event of a call, what it was answered, and what it would be, into an object without
+/// members.
 fn put_answers(
     alloc: Global,
     members: &mut Map<String, Value>,
@@ -243,7 +269,8 @@ fn put_answers(
     would: &Reply,
 ) -> Result<(), AllocError>
     requires { members.old.entries ≡ [] }
-    ensures { OnOk result (object (members_view members.new.entries) ≡ answers_data call.now would.now) }
+    ensures { OnOk result (object (members_view members.new.entries) ≡ answers_data call.now
+        would.now) }
 {
     put(
         members,

@@ -30,7 +30,8 @@ pub(crate) fn put_missed(
 
 /// Calls that another misses.
 fn all_missed(alloc: Global, events: &[Event], missed: &[Missed]) -> Result<Value, AllocError>
-    ensures { IfOk result (λ value. view value ≡ list_data (map (missed_data events.now) missed.now)) }
+    ensures { IfOk result (λ value. view value ≡ list_data
+        (map (missed_data events.now) missed.now)) }
 {
     let mut items = Vec::with_capacity(alloc, missed.len())?;
     for call in missed {
@@ -47,7 +48,8 @@ fn missed_value(alloc: Global, events: &[Event], missed: &Missed) -> Result<Valu
     Ok(Value::Object(members))
 }
 
-/// Puts what was called, the event of its invocation and its process into an object without members.
+/// Puts what was called, the event of its invocation and its process into an object without
+/// members.
 fn put_missed_call(
     alloc: Global,
     members: &mut Map<String, Value>,
@@ -55,7 +57,8 @@ fn put_missed_call(
     missed: &Missed,
 ) -> Result<(), AllocError>
     requires { members.old.entries ≡ [] }
-    ensures { OnOk result (object (members_view members.new.entries) ≡ missed_data events.now missed.now) }
+    ensures { OnOk result (object (members_view members.new.entries) ≡ missed_data events.now
+        missed.now) }
 {
     put(members, alloc, "call", call_value(alloc, &missed.call)?)?;
     put(members, alloc, "event", Value::from(missed.event))?;

@@ -9,10 +9,9 @@ ghost use Rattle.history_text.specs.Texts.{number_data, call_data};
 ghost use Rattle.map_object.specs.MapObject.{IsRising};
 ghost use Rattle.search.specs.Limits.{budget_limit};
 ghost use Rattle.outcomes.specs.Lines.{line};
-ghost use Rattle.explaining.specs.Explained.{IsExplanation};
 ghost use Rattle.orders.specs.Orders.{IsLinearizable};
 ghost use Rattle.small_histories.specs.SmallHistories.{IsWrittenAs};
-ghost use Rattle.explain_engines.specs.Answers.{AreFew, AreHistoryLines, AreLinesOf, AreTwoLines, IsFrontOf};
+ghost use Rattle.explain_engines.specs.Answers.{AreFewLines, AreHistoryLines, AreLinesOf, AreTwoLines, IsFrontOf};
 ghost use Rattle.explain_engines.specs.Reports.{answer_data, was_answered, kept_data, process_at, reason_word, missing_row_data, row_data, rows};
 
 use crate::fronts::front_line;
@@ -29,62 +28,73 @@ use serde_json::{Map, Value, put};
 use small_histories::{small_history, small_text};
 use std::alloc::{AllocError, Global};
 
-/// A line for each of few calls, those of the values that come from outside of them, that of a history with them, and that of a front of
-/// these.
+/// A line for each of few calls that have no order from these pairs, as the calls of the history
+/// that they are, those of the values that come from outside of them, that of a history with them,
+/// and that of a front of these. The events are those of the places at which the few stand, where
+/// these are no events.
 pub(crate) fn few_lines(
     alloc: Global,
     history: &History,
-    segment: &Segment,
-    few: Explanation,
+    start: &[(u64, u64)],
+    events: &[(usize, usize)],
+    told: &[Operation],
+    few: &Explanation,
     budget: u32,
 ) -> Result<String, Memory>
-    requires { (1 ≤ budget) × (budget ≤ budget_limit) }
-    ensures { IsExplanation segment.now.start segment.now.calls budget few
-        → IfOk result (λ text. AreFew budget history.now segment.now (string_bytes text)) }
+    requires rising { IsRising start.now }
+    requires none { IsLinearizable start.now few.now.calls.items → ⊥ }
+    requires budget { (1 ≤ budget) × (budget ≤ budget_limit) }
+    ensures { IfOk result (λ text. AreFewLines budget history.now start.now events.now told.now
+        few.now (string_bytes text)) }
 {
-    let start = segment.start();
     let calls = few.calls.as_slice();
-    let mut text = row_lines(alloc, history, &few)?;
+    let mut text = row_lines(alloc, history, told, &few.reasons)?;
     let outside = outside_lines(alloc, history, start, calls)?;
     text.push_str(outside.as_str())?;
-    let small = history_lines(alloc, start, calls, budget)?;
+    let small = history_lines(alloc, start, events, calls, budget)?;
     text.push_str(small.as_str())?;
     Ok(text)
 }
 
-/// The line of a history with some calls from some pairs, and that of a front of these; nothing where no history has them, or its text is too
-/// long.
+/// The line of a history with some calls from some pairs, and that of a front of these; nothing
+/// where no history has them, or its text is too long.
 fn history_lines(
     alloc: Global,
     start: &[(u64, u64)],
+    events: &[(usize, usize)],
     calls: &[Operation],
     budget: u32,
 ) -> Result<String, Memory>
     requires rising { IsRising start.now }
     requires budget { (1 ≤ budget) × (budget ≤ budget_limit) }
-    ensures { (IsLinearizable start.now calls.now → ⊥) → IfOk result (λ text. AreHistoryLines budget start.now calls.now (string_bytes text)) }
+    ensures { (IsLinearizable start.now calls.now → ⊥)
+        → IfOk result (λ text. AreHistoryLines budget start.now events.now calls.now
+        (string_bytes text)) }
 {
     match small_history(alloc, start, calls)? {
-        Some(history) => lines_of(alloc, &history, start, calls, budget),
+        Some(history) => lines_of(alloc, &history, start, events, calls, budget),
         None => Ok(String::new(alloc)),
     }
 }
 
-/// The line of a history with some calls from some pairs, and that of a front of these; nothing where its text is too long.
+/// The line of a history with some calls from some pairs, and that of a front of these; nothing
+/// where its text is too long.
 fn lines_of(
     alloc: Global,
     history: &History,
     start: &[(u64, u64)],
+    events: &[(usize, usize)],
     calls: &[Operation],
     budget: u32,
 ) -> Result<String, Memory>
     requires rising { IsRising start.now }
     requires budget { (1 ≤ budget) × (budget ≤ budget_limit) }
     ensures { (IsLinearizable history.now.start (operations history.now.events) → ⊥)
-        → IfOk result (λ text. AreLinesOf budget start.now calls.now history.now (string_bytes text)) }
+        → IfOk result (λ text. AreLinesOf budget start.now events.now calls.now history.now
+        (string_bytes text)) }
 {
     match small_text(alloc, history)? {
-        Some(text) => two_lines(alloc, text, history, start, calls, budget),
+        Some(text) => two_lines(alloc, text, history, start, events, calls, budget),
         None => Ok(String::new(alloc)),
     }
 }
@@ -95,16 +105,19 @@ fn two_lines(
     text: String,
     history: &History,
     start: &[(u64, u64)],
+    events: &[(usize, usize)],
     calls: &[Operation],
     budget: u32,
 ) -> Result<String, Memory>
     requires rising { IsRising start.now }
     requires budget { (1 ≤ budget) × (budget ≤ budget_limit) }
-    ensures { IsWrittenAs history.now (string_bytes text) → (IsLinearizable history.now.start (operations history.now.events) → ⊥)
-        → IfOk result (λ lines. AreTwoLines budget start.now calls.now history.now (string_bytes lines)) }
+    ensures { IsWrittenAs history.now (string_bytes text)
+        → (IsLinearizable history.now.start (operations history.now.events) → ⊥)
+        → IfOk result (λ lines. AreTwoLines budget start.now events.now calls.now history.now
+        (string_bytes lines)) }
 {
     let front = front_of(alloc, history, budget)?;
-    let told = front_line(alloc, start, calls, &front)?;
+    let told = front_line(alloc, start, events, calls, &front)?;
     let mut lines = line_of(text)?;
     lines.push_str(told.as_str())?;
     Ok(lines)
@@ -127,11 +140,14 @@ fn front_of(alloc: Global, history: &History, budget: u32) -> Result<Vec<u32>, M
 }
 
 /// A line for each call that is kept, with the reason why.
-fn row_lines(alloc: Global, history: &History, few: &Explanation) -> Result<String, Memory>
-    ensures { IfOk result (λ text. string_bytes text ≡ rows history.now few.now.calls.items few.now.reasons.items) }
+fn row_lines(
+    alloc: Global,
+    history: &History,
+    calls: &[Operation],
+    reasons: &[Reason],
+) -> Result<String, Memory>
+    ensures { IfOk result (λ text. string_bytes text ≡ rows history.now calls.now reasons.now) }
 {
-    let calls = few.calls.as_slice();
-    let reasons = few.reasons.as_slice();
     let mut text = String::new(alloc);
     for (number, call) in calls.iter().enumerate() {
         let Some(reason) = reasons.get(number) else {
@@ -149,7 +165,8 @@ fn row_line(
     call: &Operation,
     reason: &Reason,
 ) -> Result<String, Memory>
-    ensures { IfOk result (λ text. string_bytes text ≡ line (compact_text (row_data history.now call.now reason.now))) }
+    ensures { IfOk result (λ text. string_bytes text ≡ line
+        (compact_text (row_data history.now call.now reason.now))) }
 {
     let missed = missed_by(alloc, history.calls(), call)?;
     let value = row_value(alloc, history, call, &missed, reason)?;
@@ -163,7 +180,8 @@ fn row_value(
     missed: &[Missed],
     reason: &Reason,
 ) -> Result<Value, AllocError>
-    ensures { IfOk result (λ value. view value ≡ missing_row_data history.now call.now missed.now reason.now) }
+    ensures { IfOk result (λ value. view value ≡ missing_row_data history.now call.now missed.now
+        reason.now) }
 {
     let mut members = Map::new(alloc);
     put_row(alloc, &mut members, history, call, missed, reason)?;
@@ -204,8 +222,10 @@ fn put_call(
     call: &Operation,
 ) -> Result<(), AllocError>
     ensures { OnOk result (members_view members.new.entries
-        ≡ with_member (codes "event") (number_data call.now.inv) (with_member (codes "call") (call_data call.now.call)
-        (with_member (codes "answer") (kept_data answered call.now.response) (members_view members.old.entries)))) }
+        ≡ with_member (codes "event") (number_data call.now.inv)
+        (with_member (codes "call") (call_data call.now.call)
+        (with_member (codes "answer") (kept_data answered call.now.response)
+        (members_view members.old.entries)))) }
 {
     put(
         members,

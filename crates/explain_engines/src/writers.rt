@@ -1,4 +1,5 @@
-// The lines of the values that few calls tell and none of them puts: which calls of the history put them.
+// The lines of the values that few calls tell and none of them puts: which calls of the history put
+// them.
 ghost use Rattle.std.specs.Prelude.{◌≡◌, ℕ, [], map, IfOk, OnOk, string_bytes};
 ghost use Rattle.serde_json.specs.Data.{object};
 ghost use Rattle.serde_json.specs.View.{view, members_view};
@@ -17,7 +18,8 @@ use outcomes::line_of;
 use serde_json::{Map, Value, put};
 use std::alloc::{AllocError, Global};
 
-/// A line for each pair of a key and a value that few calls tell from outside of them, from some pairs on.
+/// A line for each pair of a key and a value that few calls tell from outside of them, from some
+/// pairs on.
 pub(crate) fn outside_lines(
     alloc: Global,
     history: &History,
@@ -25,7 +27,8 @@ pub(crate) fn outside_lines(
     few: &[Operation],
 ) -> Result<String, Memory>
     requires { IsRising start.now }
-    ensures { IfOk result (λ text. AreOriginLines history.now start.now few.now (string_bytes text)) }
+    ensures { IfOk result (λ text. AreOriginLines history.now start.now few.now
+        (string_bytes text)) }
 {
     let here = SortedMap::of(alloc, start)?;
     let pairs = external_pairs(alloc, &here, few)?;
@@ -41,7 +44,8 @@ fn origin_lines(
     calls: &[Operation],
     pairs: &[(u64, u64)],
 ) -> Result<String, Memory>
-    ensures { IfOk result (λ text. string_bytes text ≡ origin_lines start.now events.now calls.now pairs.now) }
+    ensures { IfOk result (λ text. string_bytes text ≡ origin_lines start.now events.now calls.now
+        pairs.now) }
 {
     let mut text = String::new(alloc);
     for pair in pairs {
@@ -58,7 +62,8 @@ fn origin_line(
     calls: &[Operation],
     pair: (u64, u64),
 ) -> Result<String, Memory>
-    ensures { IfOk result (λ text. string_bytes text ≡ line (compact_text (origin_data start.now events.now calls.now pair))) }
+    ensures { IfOk result (λ text. string_bytes text ≡ line
+        (compact_text (origin_data start.now events.now calls.now pair))) }
 {
     let places = writers_of(alloc, calls, pair)?;
     let value = origin_value(alloc, start, events, &places, pair)?;
@@ -72,14 +77,16 @@ fn origin_value(
     places: &[usize],
     pair: (u64, u64),
 ) -> Result<Value, AllocError>
-    ensures { IfOk result (λ value. view value ≡ pair_origin_data start.now events.now places.now pair) }
+    ensures { IfOk result (λ value. view value ≡ pair_origin_data start.now events.now places.now
+        pair) }
 {
     let mut members = Map::new(alloc);
     put_origin(alloc, &mut members, start, events, places, pair)?;
     Ok(Value::Object(members))
 }
 
-/// Puts a pair, the calls that put it, and whether the map held it at the start, into an object without members.
+/// Puts a pair, the calls that put it, and whether the map held it at the start, into an object
+/// without members.
 fn put_origin(
     alloc: Global,
     members: &mut Map<String, Value>,
@@ -100,7 +107,8 @@ fn put_origin(
 
 /// The calls that were invoked at some places.
 fn all_writers(alloc: Global, events: &[Event], places: &[usize]) -> Result<Value, AllocError>
-    ensures { IfOk result (λ value. view value ≡ list_data (map (writer_data events.now) places.now)) }
+    ensures { IfOk result (λ value. view value ≡ list_data
+        (map (writer_data events.now) places.now)) }
 {
     let mut items = Vec::with_capacity(alloc, places.len())?;
     for place in places {
@@ -109,7 +117,11 @@ fn all_writers(alloc: Global, events: &[Event], places: &[usize]) -> Result<Valu
     Ok(Value::from(items))
 }
 
-fn writer_value(alloc: Global, events: &[Event], place: usize) -> Result<Value, AllocError>
+pub(crate) fn writer_value(
+    alloc: Global,
+    events: &[Event],
+    place: usize,
+) -> Result<Value, AllocError>
     ensures { IfOk result (λ value. view value ≡ writer_data events.now place) }
 {
     let mut members = Map::new(alloc);
@@ -125,7 +137,8 @@ fn put_writer(
     place: usize,
 ) -> Result<(), AllocError>
     requires { members.old.entries ≡ [] }
-    ensures { OnOk result (object (members_view members.new.entries) ≡ writer_data events.now place) }
+    ensures { OnOk result (object (members_view members.new.entries) ≡ writer_data events.now
+        place) }
 {
     put(members, alloc, "event", Value::from(place))?;
     put(

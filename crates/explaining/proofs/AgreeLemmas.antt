@@ -1,8 +1,7 @@
 -- Two maps that agree but for values that some calls do not tell: what each call makes of them.
 use Rattle.events.specs.declared.event.Reply.TheVariants as replies
-use Rattle.std.proofs.Common.{◌≡◌, ℕ, ◌≤◌, Bool, true, false, nat_le, cond, ◌&&◌, ◌++◌, Option, Some, None, refl, sym, ap, ◌∙◌, subst, inl}
-use Rattle.std.proofs.Common.{inr, ⊎_elim}
-use Rattle.std.proofs.Common.{arith}
+use Rattle.std.proofs.Common.{◌≡◌, ℕ, ◌≤◌, Bool, true, false, nat_le, cond, ◌&&◌, ◌++◌, Option, Some, None, refl, sym, ap, ◌∙◌, subst, inl, inr}
+use Rattle.std.proofs.Common.{⊎_elim, arith}
 use Rattle.std.specs.Prelude.{◌⊎◌, ◌≢◌, ◌==◌, ◌||◌, not, is_some, if◌then◌else◌}
 use Rattle.std.proofs.lemmas.Bool.{both_ways, and_from, and_parts, le-leb, eq-eqb, false≢true, not-false, not-true}
 use Rattle.events.specs.declared.event.Call.{Call}
@@ -13,15 +12,15 @@ use Rattle.events.specs.declared.operation.Response.{Response}
 use Rattle.events.specs.Keys.{low_key, high_key, may_change}
 use Rattle.events.specs.PlainHistories.{is_replace}
 use Rattle.events.specs.Told.{is_told}
-use Rattle.map_object.specs.MapObject.{Contents, IsRising, value_at, below, above, put, is_just, value_reply, reply_to, after, after_reply}
-use Rattle.map_object.specs.MapObject.{is_value, is_none_or_other, misses, TellsOf, IsLegalReply}
+use Rattle.map_object.specs.MapObject.{Contents, IsRising, value_at, below, above, put, is_just, value_reply, reply_to, after, after_reply, is_value}
+use Rattle.map_object.specs.MapObject.{is_none_or_other, misses, TellsOf, IsLegalReply}
 use Rattle.map_object.proofs.MapLemmas.{AreBelow-below, AreAbove-above, value_at_found, value_at_gap}
 use Rattle.orders.specs.Orders.{after_call, IsLegalCall}
 use Rattle.map_object.proofs.TellLemmas.{after_reply-answer, tells_answers, whole_from_tells}
 use Rattle.segments.proofs.RangeLemmas.{value_at-within}
 use Rattle.quiet_cuts.proofs.ValueLemmas.{IsOut, in_or_out, same_within, value_left}
-use Rattle.call_search.specs.Replies.{says_unchanged}
-use Rattle.call_search.proofs.ReplyLemmas.{unchanged}
+use Rattle.quiet_cuts.specs.Replies.{says_unchanged}
+use Rattle.quiet_cuts.proofs.ReplyLemmas.{unchanged}
 use Rattle.explaining.specs.Tells.{names_key, is_same, waits_for, depends_on, tells, put_by, put_of, is_sure}
 
 -- two maps have the same value at each key, or one that is hidden

@@ -1,5 +1,5 @@
 -- What is said of calls without order: few of them that have none either.
-use Rattle.std.specs.Prelude.{◌≡◌, ℕ, ◌==◌, ◌<◌, ◌≤◌, true, not, List, length, map, filter}
+use Rattle.std.specs.Prelude.{◌≡◌, ℕ, ◌==◌, ◌<◌, ◌≤◌, ◌-◌, true, not, nat_lt, if◌then◌else◌, List, [], ◌∷◌, length, map, filter, drop, All, Option, Some, None}
 use Rattle.std.specs.List.{AllZip}
 use Rattle.events.specs.declared.operation.Operation.{Operation}
 use Rattle.events.specs.Precedence.{NonePrecedesItself}
@@ -12,23 +12,23 @@ use Rattle.explaining.specs.Relaxed.{IsRelaxed}
 use Rattle.explaining.specs.declared.explanation.Reason.{Reason}
 use Rattle.explaining.specs.declared.explanation.Reason.TheVariants as reasons
 use Rattle.explaining.specs.declared.explanation.Explanation.{Explanation}
-use Rattle.explaining.specs.declared.explanation.Explained.{Explained}
-use Rattle.explaining.specs.declared.explanation.Explained.TheVariants.{Order, Few, Spent}
 use Rattle.explaining.specs.declared.leaving.Without.{Without}
 use Rattle.explaining.specs.declared.leaving.Without.TheVariants.{Rest, Kept}
 use Rattle.explaining.specs.declared.lessening.Pass.{Pass}
 use Rattle.explaining.specs.declared.lessening.Pass.TheVariants.{Less, Least}
 
--- some of the calls, each as it is or without its answer, that have no order; and none of those left out could mend that: each order of all
--- would be one of these (the law RelaxedCallsHaveOrders)
+-- some of the calls, each as it is or without its answer, that have no order; and none of those
+-- left out could mend that: each order of all would be one of these (the law
+-- RelaxedCallsHaveOrders)
 pub record AreEnough (start : Contents) (calls kept : List Operation) : Type 0 where
   pub relaxed : IsRelaxed calls kept
   pub rise : InvocationsRise kept
   pub apart : NonePrecedesItself kept
   pub none : IsLinearizable start kept → ⊥
 
--- why calls do not go, where those stay that were invoked at these places: the others, without the answers that tell what those that go
--- put, have an order; or their search took more than the budget; or one that has no answer waits for what one of these may put
+-- why calls do not go, where those stay that were invoked at these places: the others, without the
+-- answers that tell what those that go put, have an order; or their search took more than the
+-- budget; or one that has no answer waits for what one of these may put
 abbrev pub IsReasonFor : Contents → ℕ → List Operation → List ℕ → Reason → Type 0
 IsReasonFor start budget calls places (reasons.Order order) = IsOrder start (rest_of places calls) order.items
 IsReasonFor start budget calls places reasons.Spent = ReachesMoreThan start (rest_of places calls) budget
@@ -47,13 +47,30 @@ pub record IsExplanation (start : Contents) (calls : List Operation) (budget : �
   pub enough : AreEnough start calls e.calls.items
   pub minimal : AllZip (IsReasonForOne start budget calls e.calls.items) e.calls.items e.reasons.items
 
--- what each answer says: an order of all calls; few that are enough; or that more configurations are reachable than the budget
-abbrev pub IsExplained : Contents → List Operation → ℕ → Explained → Type 0
-IsExplained start calls budget (Order order) = IsOrder start calls order.items
-IsExplained start calls budget (Few e) = IsExplanation start calls budget e
-IsExplained start calls budget Spent = ReachesMoreThan start calls budget
+-- the places at which the last of some calls were invoked, so many of them
+abbrev pub last_places : ℕ → List Operation → List ℕ
+last_places count calls = map (λ (a : Operation). a.inv) (drop (length calls - count) calls)
 
--- what became of calls that were to go: those that stay are enough, and no more than there were to stay; or these are kept
+-- so many of the last calls do not show at a budget that all have no order, for some reason
+abbrev pub IsUnshown : Contents → ℕ → List Operation → ℕ → Type 0
+IsUnshown start budget calls count = (reason : Reason) × IsReasonFor start budget calls (last_places count calls) reason
+
+-- how many of the last calls are tried
+abbrev pub windows : List ℕ
+windows = 8 ∷ 16 ∷ 32 ∷ 64 ∷ 128 ∷ 256 ∷ []
+
+-- how many configurations a search meets at most that is to leave out many calls at once
+abbrev pub few_configurations : ℕ → ℕ
+few_configurations budget = if nat_lt budget 16384 then budget else 16384
+
+-- what is said of calls: few that are enough, so that they have no order; or nothing, where no
+-- number of the last ones that is tried shows it
+abbrev pub IsExplained : Contents → List Operation → ℕ → Option Explanation → Type 0
+IsExplained start calls budget (Some e) = IsExplanation start calls budget e
+IsExplained start calls budget None = All (IsUnshown start (few_configurations budget) calls) windows
+
+-- what became of calls that were to go: those that stay are enough, and no more than there were to
+-- stay; or these are kept
 pub record IsRest (start : Contents) (calls : List Operation) (places : List ℕ) (rest : List Operation) : Type 0 where
   pub enough : AreEnough start calls rest
   pub fewer : length rest ≤ length places

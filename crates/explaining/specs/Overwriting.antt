@@ -9,6 +9,7 @@ use Rattle.explaining.specs.Tells.{put_of, is_sure}
 abbrev pub says_put : Operation → Bool
 says_put c = is_some (put_of c.call c.response) && is_sure c.call c.response
 
--- whether a call of the first one's key stands between two others in each order: the first precedes it, and it precedes the second
+-- whether a call of the first one's key stands between two others in each order: the first precedes
+-- it, and it precedes the second
 abbrev pub is_between : Operation → Operation → Operation → Bool
 is_between a c b = (precedes a c && precedes c b) && (nat_lt c.inv b.inv && (low_key c.call == low_key a.call))

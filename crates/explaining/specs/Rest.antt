@@ -1,4 +1,5 @@
--- What is left of calls where some stay and the others go: those that stay, without their answers where these tell what one that goes put.
+-- What is left of calls where some stay and the others go: those that stay, without their answers
+-- where these tell what one that goes put.
 use Rattle.std.specs.Prelude.{ℕ, ◌&&◌, Bool, not, if◌then◌else◌, List, filter, filter_map, Option, Some, None}
 use Rattle.std.specs.List.{list_any}
 use Rattle.events.specs.declared.operation.Operation.{Operation}
@@ -23,7 +24,8 @@ puts_of places calls = filter (λ c. has_number places c.inv && says_put c) call
 abbrev pub is_overwritten : List Operation → Operation → Operation → Bool
 is_overwritten puts a b = list_any (λ c. is_between a c b) puts
 
--- whether what is left of a call tells what another put that may stand before it, and that none which stays overwrites
+-- whether what is left of a call tells what another put that may stand before it, and that none
+-- which stays overwrites
 abbrev pub may_tell : List Operation → Operation → Operation → Operation → Bool
 may_tell puts a b left = not (precedes b a) && (tells_put left a && not (is_overwritten puts a b))
 
@@ -39,9 +41,8 @@ is_held puts gone b = is_touched puts gone b && list_any (λ a. may_tell puts a 
 abbrev pub if_belongs : Operation → Option Operation
 if_belongs b = if belongs b then Some b else None
 
--- what becomes of a call where others go: nothing, where it is one of them or is left a pending get or scan; else the call, without its
--- answer where that
--- tells what one of them put
+-- what becomes of a call where others go: nothing, where it is one of them or is left a pending get
+-- or scan; else the call, without its answer where that tells what one of them put
 abbrev pub left_of : List ℕ → List Operation → List Operation → Operation → Option Operation
 left_of places puts gone b =
     if has_number places b.inv then if_belongs (if is_touched puts gone b then opened b else b) else None

@@ -10,7 +10,7 @@ use Rattle.events.specs.Keys.{low_key, high_key}
 use Rattle.events.specs.PlainHistories.{is_replace}
 use Rattle.events.specs.Told.{is_told}
 use Rattle.map_object.specs.MapObject.{value_at, is_just}
-use Rattle.call_search.specs.Replies.{says_unchanged}
+use Rattle.quiet_cuts.specs.Replies.{says_unchanged}
 
 -- whether a key is among those that a call names
 abbrev pub names_key : Call → ℕ → Bool
@@ -31,9 +31,11 @@ waits_for (Remove key) value = false
 waits_for (Scan low high) value = false
 waits_for (Replace key expected put) value = is_just value expected
 
--- whether a call that was answered so depends on a key having this value, or none: with another one there it could not be answered so, or
--- could leave another one. An insert, a remove and a get of which only is told that they were done depend on none; a replace of which
--- only is told that it was done, or that it found a value, puts its own or does not by what it finds, and depends on each
+-- whether a call that was answered so depends on a key having this value, or none: with another one
+-- there it could not be answered so, or could leave another one. An insert, a remove and a get of
+-- which only is told that they were done depend on none; a replace of which only is told that it
+-- was done, or that it found a value, puts its own or does not by what it finds, and depends on
+-- each
 abbrev pub depends_on : Call → Reply → ℕ → Option ℕ → Bool
 depends_on call replies.None key value = is_same None value
 depends_on call (replies.Some found) key value = is_same (Some found) value
@@ -43,7 +45,8 @@ depends_on call replies.Done key value = is_replace call
 depends_on call replies.Found key value = is_replace call || is_some value
 depends_on call replies.Other key value = is_replace call && not (waits_for call value)
 
--- whether a call that was answered depends on a key having this value, or none; or where it was not, whether it waits for it
+-- whether a call that was answered depends on a key having this value, or none; or where it was
+-- not, whether it waits for it
 abbrev pub is_told_by : Call → Option Response → ℕ → Option ℕ → Bool
 is_told_by call None key value = waits_for call value
 is_told_by call (Some response) key value = depends_on call response.reply key value
@@ -65,8 +68,9 @@ abbrev pub put_of : Call → Option Response → Option (Option ℕ)
 put_of call None = put_by call
 put_of call (Some response) = if says_unchanged call response.reply then None else put_by call
 
--- whether a call, as far as its response says, does what it may do: a pending one may not be done, and a replace may find another value than
--- the one that it expects where only is told that it was done, or that it found a value
+-- whether a call, as far as its response says, does what it may do: a pending one may not be done,
+-- and a replace may find another value than the one that it expects where only is told that it was
+-- done, or that it found a value
 abbrev pub is_sure : Call → Option Response → Bool
 is_sure call None = false
 is_sure call (Some response) = not (is_replace call) || is_told response.reply

@@ -2,40 +2,21 @@
 ghost use Rattle.std.specs.Prelude.{◌≡◌, ◌<◌, AllPairs, IfOk};
 ghost use Rattle.events.specs.Precedence.{NonePrecedesItself};
 ghost use Rattle.orders.specs.Orders.{IsLinearizable};
-ghost use Rattle.explaining.specs.Explained.{AreEnough, IsExplanation, IsExplained};
+ghost use Rattle.explaining.specs.Explained.{AreEnough, IsExplanation, few_configurations};
 
-use crate::explanation::{Explained, Explanation};
+use crate::explanation::Explanation;
 use crate::lessening::{Pass, lessen, look_at_each};
 use crate::windows::{first_calls, last_calls};
-use call_search::{Found, search_calls};
 use events::{Memory, Operation};
 use map_object::SortedMap;
 use std::alloc::Global;
 
-/// Explains why calls have no order from a map, or gives one: few calls that have none, as which all have none, each of them
-/// needed. The calls stand by rising invocation, at any places; a call of the explanation is told by its invocation.
-/// Each search may meet as many configurations as the budget. Of n calls that leave r there are about log n + 6 r of them, where
-/// they go wrong at few calls that stand beside each other, and seldom more than n.
-pub fn explain(
-    alloc: Global,
-    map: &SortedMap,
-    calls: &[Operation],
-    budget: u32,
-) -> Result<Explained, Memory>
-    requires rising { AllPairs (λ a b. a.inv < b.inv) calls.now }
-    requires apart { NonePrecedesItself calls.now }
-    ensures { IfOk result (IsExplained map.now calls.now budget) }
-{
-    let start = map.copy(alloc)?;
-    match search_calls(alloc, start, calls, budget)? {
-        Found::Order(order) => Ok(Explained::Order(order)),
-        Found::Spent => Ok(Explained::Spent),
-        Found::NoOrder => Ok(Explained::Few(explanation_of(alloc, map, calls, budget)?)),
-    }
-}
-
-/// Explains calls that have no order.
-fn explanation_of(
+/// Explains why calls have no order from a map, where it is known that they have none: few calls
+/// that have none, as which all have none, each of them needed. The calls stand by rising
+/// invocation, at any places; a call of the explanation is told by its invocation. Each search may
+/// meet as many configurations as the budget. Of n calls that leave r there are about log n + 6 r
+/// of them, where they go wrong at few calls that stand beside each other, and seldom more than n.
+pub fn explain_calls(
     alloc: Global,
     map: &SortedMap,
     calls: &[Operation],
@@ -46,7 +27,24 @@ fn explanation_of(
     requires none { IsLinearizable map.now calls.now → ⊥ }
     ensures { IfOk result (IsExplanation map.now calls.now budget) }
 {
-    let mut kept = fewer(alloc, map, calls, budget)?;
+    let kept = leave_out_runs(alloc, map, calls, budget)?;
+    least_of(alloc, map, calls, kept, budget)
+}
+
+/// Leaves out calls one by one, until none of those that are kept can be left out.
+pub(crate) fn least_of(
+    alloc: Global,
+    map: &SortedMap,
+    calls: &[Operation],
+    kept: Vec<Operation>,
+    budget: u32,
+) -> Result<Explanation, Memory>
+    requires rising { AllPairs (λ a b. a.inv < b.inv) calls.now }
+    requires apart { NonePrecedesItself calls.now }
+    requires enough { AreEnough map.now calls.now kept.items }
+    ensures { IfOk result (IsExplanation map.now calls.now budget) }
+{
+    let mut kept = kept;
     loop {
         match look_at_each(alloc, map, calls, &kept, budget)? {
             Pass::Less(rest) => kept = rest,
@@ -59,11 +57,15 @@ fn explanation_of(
 }
 
 /// How many configurations a search meets at most that is to leave out many calls at once.
-const FEW_CONFIGURATIONS: u32 = 16_384;
+pub(crate) fn few_configurations(budget: u32) -> u32
+    ensures { result ≡ few_configurations budget }
+{
+    if budget < 16_384 { budget } else { 16_384 }
+}
 
-/// Leaves out the last calls, then the first ones, then those between by halves, quarters and so on, where short searches show that
-/// the others have no order.
-fn fewer(
+/// Leaves out the last calls, then the first ones, then those between by halves, quarters and so
+/// on, where short searches show that the others have no order.
+fn leave_out_runs(
     alloc: Global,
     map: &SortedMap,
     calls: &[Operation],
@@ -74,12 +76,29 @@ fn fewer(
     requires none { IsLinearizable map.now calls.now → ⊥ }
     ensures { IfOk result (λ kept. AreEnough map.now calls.now kept.items) }
 {
-    let few = budget.min(FEW_CONFIGURATIONS);
+    let few = few_configurations(budget);
     let first = first_calls(alloc, map, calls, copies_of(alloc, calls)?, few)?;
-    let mut kept = last_calls(alloc, map, calls, first, few)?;
+    let kept = last_calls(alloc, map, calls, first, few)?;
+    by_halves(alloc, map, calls, kept, few)
+}
+
+/// Leaves out calls of those kept by halves, quarters and so on.
+pub(crate) fn by_halves(
+    alloc: Global,
+    map: &SortedMap,
+    calls: &[Operation],
+    kept: Vec<Operation>,
+    budget: u32,
+) -> Result<Vec<Operation>, Memory>
+    requires rising { AllPairs (λ a b. a.inv < b.inv) calls.now }
+    requires apart { NonePrecedesItself calls.now }
+    requires enough { AreEnough map.now calls.now kept.items }
+    ensures { IfOk result (λ kept. AreEnough map.now calls.now kept.items) }
+{
+    let mut kept = kept;
     let mut size = kept.len() / 2;
     while size > 0 {
-        kept = lessen(alloc, map, calls, kept, size, few)?;
+        kept = lessen(alloc, map, calls, kept, size, budget)?;
         size /= 2;
     }
     Ok(kept)

@@ -5,8 +5,8 @@ use events::Operation;
 /// Why a call is kept.
 #[derive(Debug, PartialEq, Eq, Drop)]
 pub enum Reason {
-    /// An order of the others, by their places in the list that is left where the call goes, and with it the answers that tell
-    /// what it put.
+    /// The others have this order, by their places in the list that is left where the call goes,
+    /// and with it the answers that tell what it put.
     Order(Vec<u32>),
     /// The search of the others met more configurations than the budget.
     Spent,
@@ -14,21 +14,11 @@ pub enum Reason {
     Held,
 }
 
-/// Few calls that have no order, by rising invocation. A call that has no answer here may have had one.
+/// Few calls that have no order, by rising invocation. A call that has no answer here may have had
+/// one.
 #[derive(Debug, Drop)]
 pub struct Explanation {
     pub calls: Vec<Operation>,
     /// Why each of the calls is kept, in their order.
     pub reasons: Vec<Reason>,
-}
-
-/// What is said of calls.
-#[derive(Debug, Drop)]
-pub enum Explained {
-    /// An order of the calls, by their places in the list.
-    Order(Vec<u32>),
-    /// The calls have no order, and these few show it.
-    Few(Explanation),
-    /// More configurations were met than the budget.
-    Spent,
 }

@@ -5,7 +5,7 @@ ghost use Rattle.explaining.specs.Explained.{IsWithout};
 
 use crate::explanation::Reason;
 use crate::rests::{are_held, gone_of, puts_of, rest_of};
-use call_search::{Found, search_calls};
+use call_search::{SearchEnd, search_calls};
 use events::{Memory, Operation};
 use map_object::SortedMap;
 use std::alloc::Global;
@@ -19,7 +19,8 @@ pub enum Without {
     Kept(Reason),
 }
 
-/// Leaves out the calls but those that were invoked at these places, where these have no order either.
+/// Leaves out the calls but those that were invoked at these places, where these have no order
+/// either.
 pub(crate) fn leave_out(
     alloc: Global,
     map: &SortedMap,
@@ -39,8 +40,8 @@ pub(crate) fn leave_out(
     let rest = rest_of(alloc, calls, &puts, &gone, places)?;
     let start = SortedMap::of(alloc, map.pairs())?;
     match search_calls(alloc, start, &rest, budget)? {
-        Found::NoOrder => Ok(Without::Rest(rest)),
-        Found::Order(order) => Ok(Without::Kept(Reason::Order(order))),
-        Found::Spent => Ok(Without::Kept(Reason::Spent)),
+        SearchEnd::NoOrder => Ok(Without::Rest(rest)),
+        SearchEnd::Order(order) => Ok(Without::Kept(Reason::Order(order))),
+        SearchEnd::Spent => Ok(Without::Kept(Reason::Spent)),
     }
 }

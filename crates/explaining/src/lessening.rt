@@ -12,14 +12,14 @@ use std::alloc::Global;
 /// What a look at each call kept came to.
 #[derive(Drop)]
 pub enum Pass {
-    /// One of them can be left out: the others.
+    /// One of them can be left out, and these are the others.
     Less(Vec<Operation>),
-    /// None can: why each is kept.
+    /// None can be left out, each for its reason.
     Least(Vec<Reason>),
 }
 
-/// Tries to leave out so many of the calls kept at a time, each once, those with the greatest keys first, and of one key the last
-/// ones.
+/// Tries to leave out so many of the calls kept at a time, each once, those with the greatest keys
+/// first, and of one key the last ones.
 pub(crate) fn lessen(
     alloc: Global,
     map: &SortedMap,
@@ -48,7 +48,8 @@ pub(crate) fn lessen(
     Ok(kept)
 }
 
-/// The places of the calls but for some, counted by rising key, and of one key by rising invocation.
+/// The places of the calls but for some, counted by rising key, and of one key by rising
+/// invocation.
 fn places_outside(
     alloc: Global,
     calls: &[Operation],

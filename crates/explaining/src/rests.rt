@@ -11,8 +11,8 @@ use crate::telling::{is_sure, puts, tells_put};
 use events::{Memory, Operation};
 use std::alloc::Global;
 
-/// What is left of calls where those stay that were invoked at these places: copies of them, without their answers where they tell
-/// what one that goes may have put.
+/// What is left of calls where those stay that were invoked at these places: copies of them,
+/// without their answers where they tell what one that goes may have put.
 pub(crate) fn rest_of(
     alloc: Global,
     calls: &[Operation],
@@ -68,7 +68,7 @@ pub(crate) fn puts_of(
 }
 
 /// Whether a call was answered, and so that it put something at its key.
-fn says_put(call: &Operation) -> bool
+pub(crate) fn says_put(call: &Operation) -> bool
     ensures { result ≡ says_put call.now }
 {
     puts(call) && is_sure(call)
@@ -88,7 +88,7 @@ fn left_of(
         return Ok(None);
     }
     let call = if is_touched(puts, gone, call) {
-        opened(call)
+        without_answer(call)
     } else {
         call.copy(alloc)?
     };
@@ -103,7 +103,7 @@ fn if_belongs(call: Operation) -> Option<Operation>
 }
 
 /// The call without its answer.
-fn opened(call: &Operation) -> Operation
+fn without_answer(call: &Operation) -> Operation
     ensures { result ≡ opened call.now }
 {
     Operation {
@@ -113,15 +113,16 @@ fn opened(call: &Operation) -> Operation
     }
 }
 
-/// Whether those that go are held by the others: one that stays tells what one of them may have put, and then waits for such a
-/// value.
+/// Whether those that go are held by the others: one that stays tells what one of them may have
+/// put, and then waits for such a value.
 pub(crate) fn are_held(
     calls: &[Operation],
     puts: &[Operation],
     gone: &[Operation],
     places: &[usize],
 ) -> bool
-    ensures { result ≡ list_any (λ b. has_number places.now b.inv && is_held puts.now gone.now b) calls.now }
+    ensures { result ≡ list_any (λ b. has_number places.now b.inv && is_held puts.now gone.now b)
+        calls.now }
 {
     for call in calls {
         if has_place(places, call.inv) && is_held(puts, gone, call) {
@@ -131,7 +132,8 @@ pub(crate) fn are_held(
     false
 }
 
-/// Whether a call tells what one of those that go may have put, and without its answer waits for what one of them may put.
+/// Whether a call tells what one of those that go may have put, and without its answer waits for
+/// what one of them may put.
 fn is_held(puts: &[Operation], gone: &[Operation], call: &Operation) -> bool
     ensures { result ≡ is_held puts.now gone.now call.now }
 {
@@ -142,7 +144,7 @@ fn is_held(puts: &[Operation], gone: &[Operation], call: &Operation) -> bool
 fn waits(puts: &[Operation], gone: &[Operation], call: &Operation) -> bool
     ensures { result ≡ list_any (λ a. may_tell puts.now a call.now (opened call.now)) gone.now }
 {
-    let open = opened(call);
+    let open = without_answer(call);
     for other in gone {
         if may_tell(puts, other, call, &open) {
             return true;
@@ -163,7 +165,8 @@ fn is_touched(puts: &[Operation], gone: &[Operation], call: &Operation) -> bool
     false
 }
 
-/// Whether what is left of a call tells what another put that may stand before it, and that none which stays overwrites.
+/// Whether what is left of a call tells what another put that may stand before it, and that none
+/// which stays overwrites.
 fn may_tell(puts: &[Operation], other: &Operation, call: &Operation, left: &Operation) -> bool
     ensures { result ≡ may_tell puts.now other.now call.now left.now }
 {

@@ -1,12 +1,12 @@
 // What a call may put at its key, and which calls tell it.
 ghost use Rattle.std.specs.Prelude.{◌≡◌, ℕ, Option, Some, None, is_some};
 ghost use Rattle.map_object.specs.MapObject.{value_at, is_just};
-ghost use Rattle.call_search.specs.Replies.{says_unchanged};
 ghost use Rattle.events.specs.PlainHistories.{is_replace};
 ghost use Rattle.explaining.specs.Tells.{names_key, is_same, waits_for, depends_on, is_told_by, tells, put_by, put_of, is_sure};
 ghost use Rattle.explaining.specs.Tells.{tells_put};
 
 use events::{Call, Operation, Reply, Response};
+use quiet_cuts::says_unchanged;
 
 /// Whether a call tells what another may put.
 pub fn tells_put(call: &Operation, other: &Operation) -> bool
@@ -25,8 +25,9 @@ pub(crate) fn puts(call: &Operation) -> bool
     put_of(&call.call, &call.response).is_some()
 }
 
-/// Whether a call, as far as its response says, does what it may do. A pending one may not be done, and a replace of which only is
-/// told that it was done, or that it found a value, may have found another one than it expects.
+/// Whether a call, as far as its response says, does what it may do. A pending one may not be done,
+/// and a replace of which only is told that it was done, or that it found a value, may have found
+/// another one than it expects.
 pub fn is_sure(call: &Operation) -> bool
     ensures { result ≡ is_sure call.now.call call.now.response }
 {
@@ -43,7 +44,8 @@ fn is_replace(call: &Call) -> bool
     matches!(call, Call::Replace(_, _, _))
 }
 
-/// What a call may put at its key: a value, or none in place of one; nothing where its response says that it changed nothing.
+/// What a call may put at its key: a value, or none in place of one; nothing where its response
+/// says that it changed nothing.
 pub fn put_of(call: &Call, response: &Option<Response>) -> Option<Option<u64>>
     ensures { result ≡ put_of call.now response.now }
 {
@@ -64,22 +66,6 @@ pub fn put_by(call: &Call) -> Option<Option<u64>>
     }
 }
 
-/// Whether a reply says that the call changed nothing.
-fn says_unchanged(call: &Call, reply: &Reply) -> bool
-    ensures { result ≡ says_unchanged call.now reply.now }
-{
-    match (call, reply) {
-        (Call::Get(_) | Call::Scan(_, _), _) | (_, Reply::Refused | Reply::Other) => true,
-        (Call::Insert(_, value), Reply::Some(found)) => *found == *value,
-        (Call::Remove(_), Reply::None) => true,
-        (Call::Replace(_, expected, value), Reply::Some(found)) => *found != *expected
-            || *expected == *value,
-        (Call::Replace(_, _, _), Reply::None) => true,
-        (Call::Replace(_, expected, value), Reply::Done | Reply::Found) => *expected == *value,
-        _ => false,
-    }
-}
-
 /// Whether a call tells that a key had this value, or none, or waits for it.
 fn tells(call: &Operation, key: u64, value: Option<u64>) -> bool
     ensures { result ≡ tells call.now key value }
@@ -94,7 +80,8 @@ pub fn names_key(call: &Call, key: u64) -> bool
     call.low_key() <= key && key <= call.high_key()
 }
 
-/// Whether a call that was answered depends on a key having this value, or none; or where it was not, whether it waits for it.
+/// Whether a call that was answered depends on a key having this value, or none; or where it was
+/// not, whether it waits for it.
 fn is_told_by(call: &Call, response: &Option<Response>, key: u64, value: Option<u64>) -> bool
     ensures { result ≡ is_told_by call.now response.now key value }
 {
@@ -124,8 +111,8 @@ fn is_just(value: Option<u64>, expected: u64) -> bool
     }
 }
 
-/// Whether a call that was answered so depends on a key having this value, or none: with another one there it could not be
-/// answered so, or could leave another one.
+/// Whether a call that was answered so depends on a key having this value, or none: with another
+/// one there it could not be answered so, or could leave another one.
 pub fn depends_on(call: &Call, reply: &Reply, key: u64, value: Option<u64>) -> bool
     ensures { result ≡ depends_on call.now reply.now key value }
 {

@@ -1,5 +1,5 @@
 // The part of calls without order at which they go wrong.
-ghost use Rattle.std.specs.Prelude.{◌≡◌, ◌<◌, AllPairs, IfOk};
+ghost use Rattle.std.specs.Prelude.{◌≡◌, ◌<◌, map, AllPairs, IfOk};
 ghost use Rattle.events.specs.Precedence.{NonePrecedesItself};
 ghost use Rattle.explaining.specs.Explained.{AreEnough};
 
@@ -41,7 +41,8 @@ pub(crate) fn first_calls(
 /// How many of the last calls are tried first.
 const FEW_CALLS: usize = 8;
 
-/// The last of the calls kept that have no order: few of them, or twice, four times as many, and so on.
+/// The last of the calls kept that have no order: few of them, or twice, four times as many, and so
+/// on.
 pub(crate) fn last_calls(
     alloc: Global,
     map: &SortedMap,
@@ -66,10 +67,8 @@ pub(crate) fn last_calls(
 }
 
 /// The places of calls.
-fn places_of(alloc: Global, calls: &[Operation]) -> Result<Vec<usize>, Memory> {
-    let mut places = Vec::with_capacity(alloc, calls.len())?;
-    for call in calls {
-        places.push(call.inv)?;
-    }
-    Ok(places)
+pub(crate) fn places_of(alloc: Global, calls: &[Operation]) -> Result<Vec<usize>, Memory>
+    ensures { IfOk result (λ places. places.items ≡ map (λ a. a.inv) calls.now) }
+{
+    Ok(calls.iter().map(|call| call.inv).collect(alloc)?)
 }

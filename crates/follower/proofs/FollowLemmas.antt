@@ -15,7 +15,7 @@ use Rattle.kept_rows.specs.Followed.{AreFollowed}
 use Rattle.kept_rows.specs.Laws.{FollowedRowsHaveOrders}
 use Rattle.kept_rows.specs.Outcomes.{AreOpenScans}
 use Rattle.kept_rows.specs.Rows.{RowsView}
-use Rattle.kept_rows.specs.declared.rows.OpenScan.{OpenScan}
+use Rattle.kept_rows.specs.OpenScan.{OpenScan}
 use Rattle.kept_rows.proofs.OpenCallLemmas.{well_formed_on}
 use Rattle.follower.specs.FollowerView.{FollowerView, known_call}
 use Rattle.follower.specs.Following.{IsFollowing}

@@ -18,7 +18,7 @@ use Rattle.orders.specs.Orders.{IsLinearizable, IsLinearizableHistory}
 use Rattle.prefixes.specs.Prefixes.{prefix_of, IsAnswerOf, GoesWrongAt}
 use Rattle.quiet_cuts.specs.KeptCalls.{answered_at}
 use Rattle.quiet_cuts.proofs.ContinueLemmas.{completed_at}
-use Rattle.kept_keys.proofs.ScanAnswerLemmas.{open_call, answered_calls}
+use Rattle.kept_rows.proofs.ScanAnswerLemmas.{open_call, answered_calls}
 use Rattle.kept_rows.specs.Outcomes.{IsLostFor}
 use Rattle.follower.specs.Faults.{event_limit, answer_fault}
 use Rattle.follower.specs.FollowerView.{FollowerView, known_call}

@@ -21,10 +21,10 @@ use Rattle.list_laws.proofs.Lists.{slice_get-append_left, slice_get-middle}
 use Rattle.quiet_cuts.specs.KeptCalls.{begun_at, answered_at}
 use Rattle.quiet_cuts.proofs.ContinueLemmas.{invoked_before}
 use Rattle.quiet_cuts.proofs.EventLemmas.{operations-invoke}
-use Rattle.kept_keys.specs.Steps.{IsOpenCall}
-use Rattle.kept_keys.proofs.ScanAnswerLemmas.{open_call}
+use Rattle.kept_rows.specs.Steps.{IsOpenCall}
+use Rattle.kept_rows.proofs.ScanAnswerLemmas.{open_call}
 use Rattle.kept_rows.specs.Outcomes.{IsOpenScan, AreOpenScans}
-use Rattle.kept_rows.specs.declared.rows.OpenScan.{OpenScan}
+use Rattle.kept_rows.specs.OpenScan.{OpenScan}
 use Rattle.kept_rows.proofs.EventLemmas.{invoked_later, answered_later}
 use Rattle.follower.specs.FollowerView.{known_call}
 use Rattle.follower.specs.Following.{IsCallOf}

@@ -3,6 +3,7 @@ use Rattle.events.specs.declared.event.Reply.TheVariants as replies
 use Rattle.std.proofs.Common.{◌≡◌, ◌≢◌, ℕ, zero, suc, ◌+◌, ◌<◌, ◌==◌, Bool, true, false, not, List, [], ◌∷◌, ◌++◌, length, map, Option, Some, None}
 use Rattle.std.proofs.Common.{refl, sym, ap, ◌∙◌, subst, ⊎_elim, inl, inr, arith}
 use Rattle.std.specs.Prelude.{◌⊎◌, Contains, slice_get}
+use Rattle.std.specs.Ordering.{nat_cmp, is_eq}
 use Rattle.std.proofs.lemmas.Bool.{and_parts, eq-eqb, eqb-true, ne_eqb, false≢true}
 use Rattle.std.proofs.lemmas.List.Elements.{Contains-append_left, Contains-append_right, filter-append}
 use Rattle.std.proofs.lemmas.Option.{none-some, slice_get_within}
@@ -21,10 +22,14 @@ use Rattle.quiet_cuts.specs.KeptCalls.{begun_at, answered_at}
 use Rattle.quiet_cuts.proofs.ContinueLemmas.{invoked_before}
 use Rattle.quiet_cuts.proofs.EventLemmas.{operations-invoke, none_of}
 use Rattle.following.proofs.keys.ChoiceLemmas.{any_from}
-use Rattle.kept_keys.specs.Steps.{IsOpenCall}
-use Rattle.kept_keys.proofs.ScanAnswerLemmas.{open_call, answered_calls}
+use Rattle.kept_rows.specs.Steps.{IsOpenCall}
+use Rattle.kept_rows.proofs.ScanAnswerLemmas.{open_call, answered_calls}
 use Rattle.kept_rows.proofs.EventLemmas.{invoked_later, answered_later}
 use Rattle.kept_rows.proofs.OpenCallLemmas.{well_formed_on}
+
+-- a query is at a process where it is the same number
+pub at_process : (process other : ℕ) → is_eq (nat_cmp process other) ≡ (other == process)
+at_process process other = grind arith
 
 -- ---- processes with an open call
 

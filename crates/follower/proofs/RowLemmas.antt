@@ -1,6 +1,6 @@
 -- Rows take events.
 use Rattle.events.specs.declared.event.Reply.TheVariants as replies
-use Rattle.std.proofs.Common.{◌≡◌, ◌≢◌, ℕ, ◌≤◌, List, [], ◌∷◌, ◌++◌, length, map, Option, Some, None, refl, sym, ap, ◌∙◌, subst, ⊎_elim, arith}
+use Rattle.std.proofs.Common.{◌≡◌, ℕ, ◌≤◌, List, [], ◌∷◌, ◌++◌, length, map, Option, Some, None, refl, sym, ap, ◌∙◌, subst, ⊎_elim, arith}
 use Rattle.std.specs.Prelude.{◌⊎◌, All, Contains}
 use Rattle.std.proofs.lemmas.List.Elements.{All-contains, All-nil, All-weaker}
 use Rattle.std.proofs.lemmas.Bool.{eq-eqb}
@@ -27,21 +27,22 @@ use Rattle.following.specs.keys.Settling.{IsOpenScanOver}
 use Rattle.following.specs.moments.KeyCalls.{kind_of}
 use Rattle.following.specs.moments.Timings.{IsScanReply, HasForm, HaveScansForm}
 use Rattle.following.proofs.moments.TimedLemmas.{pending_form, forms_from_order}
-use Rattle.kept_keys.specs.Judging.{IsBeyond}
-use Rattle.kept_keys.specs.Steps.{IsOpenCall, IsNotAt}
-use Rattle.kept_keys.proofs.ScanAnswerLemmas.{open_call, answered_calls}
+use Rattle.kept_rows.specs.Judging.{IsBeyond}
+use Rattle.kept_rows.specs.Steps.{IsOpenCall, IsNotAt}
+use Rattle.kept_rows.proofs.ScanAnswerLemmas.{open_call, answered_calls}
+use Rattle.kept_rows.specs.Crowding.{AreCountedAs, told_of}
 use Rattle.kept_rows.specs.Followed.{AreFollowed}
 use Rattle.kept_rows.specs.Laws.{RowsPassBy}
-use Rattle.kept_rows.specs.Outcomes.{HasNoOrder, IsLostAt, IsLostFor, IsLimitOf, AreOpenScans, IsAnswered, IsScanAnswered}
+use Rattle.kept_rows.specs.Outcomes.{IsLostAt, IsLostFor, IsLostWithin, IsLimitOf, AreOpenScans, IsAnswered, IsScanAnswered}
 use Rattle.kept_rows.specs.Rows.{RowsView}
-use Rattle.kept_rows.specs.declared.outcomes.Answered.{Answered}
-use Rattle.kept_rows.specs.declared.outcomes.Answered.TheVariants.{Going, Lost, Spent, Crowded}
-use Rattle.kept_rows.specs.declared.outcomes.KeyLoss.{KeyLoss}
-use Rattle.kept_rows.specs.declared.rows.OpenScan.{OpenScan}
+use Rattle.kept_rows.specs.declared.outcomes.AnsweredRows.{AnsweredRows}
+use Rattle.kept_rows.specs.declared.outcomes.AnsweredRows.TheVariants.{Going, Lost, Spent, Crowded}
+use Rattle.kept_rows.specs.KeyLoss.{KeyLoss}
+use Rattle.kept_rows.specs.OpenScan.{OpenScan}
 use Rattle.kept_rows.proofs.EventLemmas.{invoked_later, answered_later, with_answer}
 use Rattle.kept_rows.proofs.OpenCallLemmas.{well_formed_on}
-use Rattle.follower.specs.Calls.{IsKeyOf}
-use Rattle.follower.specs.Steps.{key_of, IsLimitAmong, AreRowsAnswered, WasKeptFor}
+use Rattle.follower.specs.Calls.{IsKeyOf, MayReply}
+use Rattle.follower.specs.Steps.{key_of, IsLimitAmong, IsLostKey, HaveLost, AreRowsAnswered, AreRowsCounted}
 
 -- ---- a call by its key
 
@@ -120,30 +121,28 @@ module _ (start : Contents) (events : List Event) (process name low high : ℕ) 
       let form = forms_from_order start (operations all) order rising is_order in
       never (All-contains (λ a. HasForm a.call a.response) (operations all) done form stays)
 
-abbrev IsLostOf : Contents → List Event → Call → KeyLoss → Type 0
-IsLostOf start events call at = IsKeyOf call at.key × HasNoOrder at × WasKeptFor start events call at
-
 -- no key is named then
-pub lost_without_keys : (start : Contents) (events : List Event) (low high : ℕ) (losses : List KeyLoss) → losses ≡ [] → IsLostFor start events
-    → All (IsLostOf start events (Scan low high)) losses × (⊥ → losses ≢ []) × IsLostFor start events
-lost_without_keys start events low high losses none lost = (
-  subst (All (IsLostOf start events (Scan low high))) (sym none) (All-nil (IsLostOf start events (Scan low high))),
-  λ wrong. absurd wrong,
-  lost,
-)
+pub lost_without_keys : (start : Contents) (events : List Event) (low high : ℕ) (reply : Reply) (losses : List KeyLoss) → losses ≡ []
+    → (IsScanReply low high reply → ⊥) → IsLostFor start events → HaveLost start events (Scan low high) reply losses
+lost_without_keys start events low high reply losses none never lost = record {
+  keys = subst (All (IsLostKey start events (Scan low high))) (sym none) (All-nil (IsLostKey start events (Scan low high)));
+  some = λ may. absurd (never may);
+  none = λ not. none;
+  lost = lost;
+}
 
 -- what the answer of a scan makes of rows
-pub scan_answered : (start : Contents) (events : List Event) (budget low high : ℕ) (a : Answered) → IsScanAnswered start events budget low high a
-    → AreRowsAnswered start events budget (Scan low high) a
-scan_answered start events budget low high (Going rows) h = h
-scan_answered start events budget low high (Lost losses) h = (
-  All-weaker (λ loss. (low ≤ loss.key) × (loss.key ≤ high) × HasNoOrder loss) (IsLostOf start events (Scan low high))
-      (λ loss is. ((is.0, is.1), is.2, λ wrong. absurd wrong)) losses.items h.0,
-  λ wrong. absurd wrong,
-  h.1,
-)
-scan_answered start events budget low high (Spent at) h = ((h.0, h.1), h.2, λ wrong. absurd wrong)
-scan_answered start events budget low high Crowded h = λ wrong. wrong
+pub scan_answered : (start : Contents) (events : List Event) (budget low high : ℕ) (reply : Reply) → IsScanReply low high reply → (a : AnsweredRows)
+    → IsScanAnswered start events budget low high a → AreRowsAnswered start events budget (Scan low high) reply a
+scan_answered start events budget low high reply may (Going rows) h = h
+scan_answered start events budget low high reply may (Lost losses) h = record {
+  keys = All-weaker (IsLostWithin start events low high) (IsLostKey start events (Scan low high)) (λ loss is. (is.in_range, is.none, is.was)) losses.items h.1;
+  some = λ replied. h.0;
+  none = λ never. absurd (never may);
+  lost = h.2;
+}
+scan_answered start events budget low high reply may (Spent at) h = ((h.0, h.1), h.2, h.3)
+scan_answered start events budget low high reply may Crowded h = λ wrong. wrong
 
 -- ---- a call of one key is answered
 
@@ -157,18 +156,26 @@ one_key key (Replace own expected value) h = (h, h)
 is_key : (key : ℕ) (call : Call) → IsCallOf key call → (at : ℕ) → at ≡ key → IsKeyOf call at
 is_key key call h at same = let (low, high) = one_key key call h in (omega (arith, low, same), omega (arith, high, same))
 
-pub call_answered : (start : Contents) (events : List Event) (budget key : ℕ) (call : Call) → IsCallOf key call → (a : Answered)
-    → IsAnswered start events budget key a → AreRowsAnswered start events budget call a
-call_answered start events budget key call own (Going rows) h = h
-call_answered start events budget key call own (Lost losses) h = (
-  All-weaker (IsLostAt start events key) (IsLostOf start events call)
-      (λ loss is. (is_key key call own loss.key is.key_is, is.none, λ one. is.was)) losses.items h.1,
-  λ one. h.0,
-  h.2,
-)
-call_answered start events budget key call own (Spent at) h =
-    (is_key key call own at.key h.0, subst (λ (k : ℕ). IsBeyond budget k at.kept) (sym h.0) h.1, λ one. h.2)
-call_answered start events budget key call own Crowded h = absurd h
+may_reply : (key : ℕ) (call : Call) → IsCallOf key call → (reply : Reply) → MayReply call reply
+may_reply key (Get own) h reply = tt
+may_reply key (Insert own value) h reply = tt
+may_reply key (Remove own) h reply = tt
+may_reply key (Scan low high) h reply = absurd h
+may_reply key (Replace own expected value) h reply = tt
+
+pub call_answered : (start : Contents) (events : List Event) (budget key : ℕ) (call : Call) (reply : Reply) → IsCallOf key call → (a : AnsweredRows)
+    → IsAnswered start events budget key a → AreRowsAnswered start events budget call reply a
+call_answered start events budget key call reply own (Going rows) h = h
+call_answered start events budget key call reply own (Lost losses) h = record {
+  keys = All-weaker (IsLostAt start events key) (IsLostKey start events call) (λ loss is. (is_key key call own loss.key is.key_is, is.none, is.was))
+      losses.items h.1;
+  some = λ may. h.0;
+  none = λ never. absurd (never (may_reply key call own reply));
+  lost = h.2;
+}
+call_answered start events budget key call reply own (Spent at) h =
+    (is_key key call own at.key h.0, subst (λ (k : ℕ). IsBeyond budget k at.kept) (sym h.0) h.1, h.2)
+call_answered start events budget key call reply own Crowded h = absurd h
 
 -- the limit is one for all open scans
 pub limit_is : (events : List Event) (key limit : ℕ) (scans : List OpenScan) → AreOpenScans events scans → IsLimitAmong key limit scans
@@ -185,3 +192,23 @@ limit_is events key limit scans are among a is over = by_call a.call a.response 
         let s : OpenScan = record { name = a.inv; low = low; high = high } in
         let known : Contains scans s = (are s).1 (record { scan = a; known = is; name = refl; call = asks; is_open = answered }) in
         All-contains (λ s. s.low ≤ key → key ≤ s.high → limit ≤ s.name) scans s among known over.0 over.1
+
+-- ---- their number
+
+-- that of rows which take a scan
+pub scan_counted : (rows : RowsView) (place : ℕ) (scan : OpenScan) (pairs : Contents) (reply : Reply) (still_open : List OpenScan)
+    → reply ≡ replies.Pairs pairs → (a : AnsweredRows) → AreCountedAs (told_of place scan pairs still_open) rows a
+    → AreRowsCounted rows place scan.name (Scan scan.low scan.high) reply still_open a
+scan_counted rows place scan pairs reply still_open told (Going next) h = tt
+scan_counted rows place scan pairs reply still_open told (Lost losses) h = tt
+scan_counted rows place scan pairs reply still_open told (Spent at) h = tt
+scan_counted rows place scan pairs reply still_open told Crowded h =
+    record { low = scan.low; high = scan.high; pairs = pairs; asks = refl; told = told; crowded = h }
+
+-- a call of one key brings no rows more
+pub call_counted : (start : Contents) (events : List Event) (budget key : ℕ) (rows : RowsView) (place name : ℕ) (call : Call) (reply : Reply)
+    (still_open : List OpenScan) (a : AnsweredRows) → IsAnswered start events budget key a → AreRowsCounted rows place name call reply still_open a
+call_counted start events budget key rows place name call reply still_open (Going next) h = tt
+call_counted start events budget key rows place name call reply still_open (Lost losses) h = tt
+call_counted start events budget key rows place name call reply still_open (Spent at) h = tt
+call_counted start events budget key rows place name call reply still_open Crowded h = absurd h

@@ -4,7 +4,7 @@ use Rattle.std.specs.Prelude.{◌⊎◌, All}
 use Rattle.std.proofs.lemmas.List.{take_more}
 use Rattle.std.proofs.lemmas.List.Elements.{All-append, All-cons, All-head, All-nil, All-weaker}
 use Rattle.list_laws.proofs.Lists.{All-front, All-back}
-use Rattle.kept_rows.specs.declared.rows.OpenScan.{OpenScan}
+use Rattle.kept_rows.specs.OpenScan.{OpenScan}
 use Rattle.follower.specs.Steps.{IsLimitAmong, IsGreatestLimit}
 
 -- a limit among scans, with one more

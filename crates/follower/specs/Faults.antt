@@ -11,7 +11,8 @@ use Rattle.follower.specs.declared.fault.FollowFault.{FollowFault}
 abbrev pub event_limit : ℕ
 event_limit = 2 ^ 44 - 2
 
--- what is wrong with the invocation of a call after these events: its shape, its turn, and the limit
+-- what is wrong with the invocation of a call after these events: its shape, its turn, and the
+-- limit
 abbrev pub invocation_fault : List Event → ℕ → Call → Option FollowFault
 invocation_fault events process call =
     if nat_lt (high_key call) (low_key call) then Some faults.Shape

@@ -4,10 +4,11 @@ use Rattle.std.specs.BTreeMap.{is_at}
 use Rattle.std.specs.Map.{lookup}
 use Rattle.std.specs.Ordering.{nat_cmp}
 use Rattle.kept_rows.specs.Rows.{RowsView}
-use Rattle.kept_rows.specs.declared.rows.OpenScan.{OpenScan}
+use Rattle.kept_rows.specs.OpenScan.{OpenScan}
 use Rattle.follower.specs.declared.open_calls.OpenCall.{OpenCall}
 
--- the rows, the open calls by process, those of them that are scans, and how many events and calls were taken
+-- the rows, the open calls by process, those of them that are scans, and how many events and calls
+-- were taken
 pub record FollowerView : Type 0 where
   pub rows : RowsView
   pub open_calls : List (ℕ × OpenCall)

@@ -8,7 +8,7 @@ use Rattle.events.specs.Keys.{low_key, high_key}
 use Rattle.events.specs.Operations.{operations}
 use Rattle.map_object.specs.MapObject.{Contents}
 use Rattle.orders.specs.Orders.{IsLinearizable}
-use Rattle.kept_keys.specs.Steps.{IsOpenCall}
+use Rattle.kept_rows.specs.Steps.{IsOpenCall}
 use Rattle.kept_rows.specs.Followed.{AreFollowed}
 use Rattle.kept_rows.specs.Outcomes.{AreOpenScans}
 use Rattle.follower.specs.FollowerView.{FollowerView, known_call}
@@ -19,8 +19,9 @@ pub record IsCallOf (events : List Event) (process : ℕ) (c : OpenCall) : Type 
   pub is_open : IsOpenCall events process c.place c.call
   pub numbered : (a : Operation) → Contains (operations events) a → a.inv ≡ c.place → slice_get (operations events) c.number ≡ Some a
 
--- A follower has taken these events, from these pairs: its rows follow them, it knows the open calls and the open scans, and how many events and calls
--- there were; and so far the events have an order.
+-- A follower has taken these events, from these pairs: its rows follow them, it knows the open
+-- calls and the open scans, and how many events and calls there were; and so far the events have an
+-- order.
 pub record IsFollowing (start : Contents) (events : List Event) (f : FollowerView) : Type 0 where
   pub rows : AreFollowed start events f.rows
   pub well_formed : IsWellFormed events

@@ -3,8 +3,8 @@ use crate::fault::FollowFault;
 use crate::follower::Follower;
 use kept_rows::KeyLoss;
 
-/// Where a stream goes wrong: the event, the number of the call that it answers, and keys at which there is no order any more, with what was kept of
-/// them.
+/// Where a stream goes wrong: the event, the number of the call that it answers, and keys at which
+/// there is no order any more, with what was kept of them.
 #[derive(Debug, Drop)]
 pub struct Loss {
     pub event: usize,
@@ -17,18 +17,20 @@ pub struct Loss {
 pub enum Doubt {
     /// A search at this key reaches more positions than the budget.
     Budget(KeyLoss),
-    /// Scans may have taken effect in more ways than are kept.
+    /// Scans may have taken effect in more ways than are kept: as many as 4,096, fewer where much
+    /// is kept of each.
     Rows,
 }
 
 /// What an answer makes of a stream.
 #[derive(Drop)]
-pub enum Answered {
+pub enum AnsweredStream {
     /// All events so far have an order.
     Going(Follower),
     /// They have none since this event, nor with any further events.
     Lost(Loss),
-    /// It is not known whether they have one since this event, which answers the call of this number.
+    /// It is not known whether they have one since this event, which answers the call of this
+    /// number.
     Spent {
         event: usize,
         number: usize,

@@ -15,7 +15,7 @@ pub enum FollowFault {
     /// As many events were taken as places have numbers.
     #[error("TooMany")]
     TooMany,
-    /// Want of memory.
+    /// Memory was wanting.
     #[error("Memory")]
     Memory,
 }

@@ -8,15 +8,15 @@ ghost use Rattle.map_object.specs.MapObject.{Contents, IsRising};
 ghost use Rattle.follower.specs.Faults.{event_limit, invocation_fault, shown};
 ghost use Rattle.follower.specs.FollowerView.{known_call};
 ghost use Rattle.follower.specs.Following.{IsFollowing};
-ghost use Rattle.follower.specs.Outcomes.{IsAnswered};
+ghost use Rattle.follower.specs.Outcomes.{IsAnswered, IsCountedAs};
 
-use crate::answered::{Answered, Doubt, Loss};
+use crate::answered::{AnsweredStream, Doubt, Loss};
 use crate::fault::FollowFault;
 use crate::open_calls::{OpenCall, open_call};
 use crate::open_scans::{begin_scan, end_scan};
 use crate::taking::{take_answer, take_call};
 use events::{Call, Memory, Reply};
-use kept_rows::{Answered as Taken, OpenScan, Rows, followed_rows_have_orders};
+use kept_rows::{AnsweredRows as Taken, OpenScan, Rows, followed_rows_have_orders};
 use std::alloc::Global;
 use std::collections::BTreeMap;
 use std::marker::Model;
@@ -24,7 +24,8 @@ use std::marker::Model;
 /// How many events are taken at most.
 const EVENT_LIMIT: usize = (1 << 44) - 2;
 
-/// Follows a stream of events: the rows, the open calls by process, those of them that are scans, and how many events and calls were taken.
+/// Follows a stream of events: the rows, the open calls by process, those of them that are scans,
+/// and how many events and calls were taken.
 #[derive(Drop)]
 pub struct Follower {
     rows: Rows,
@@ -76,13 +77,15 @@ impl Follower {
 
     /// How many calls were invoked.
     pub fn calls(&self) -> usize
-        ensures { (start : Contents) (events : List Event) → IsFollowing start events self.now → result ≡ length (operations events) }
+        ensures { (start : Contents) (events : List Event) → IsFollowing start events self.now
+            → result ≡ length (operations events) }
     {
         self.calls
     }
 
-    /// Takes an invocation. The fault is the first of these, and the follower is lost then: `Shape` where the call's first key is above its
-    /// last, `NotWellFormed` where the process has an open call, `TooMany` after 2^44 - 2 events, or `Memory`.
+    /// Takes an invocation. The fault is the first of these, and the follower is lost then: `Shape`
+    /// where the call's first key is above its last, `NotWellFormed` where the process has an open
+    /// call, `TooMany` after 2^44 - 2 events, or `Memory`.
     pub fn invoke(self, alloc: Global, process: u16, call: Call) -> Result<Follower, FollowFault>
         ensures follows { (start : Contents) (events : List Event) → IsFollowing start events self
             → IfOk result (IsFollowing start (events ++ Invoke process call ∷ [])) }
@@ -137,23 +140,26 @@ impl Follower {
         })
     }
 
-    /// Takes the answer of the open call of a process, and judges it. An answer of a process that has no open call is refused
-    /// (`NotWellFormed`), and one after 2^44 - 2 events (`TooMany`). On `Memory` the follower is lost.
+    /// Takes the answer of the open call of a process, and judges it. An answer of a process that
+    /// has no open call is refused (`NotWellFormed`), and one after 2^44 - 2 events (`TooMany`). On
+    /// `Memory` the follower is lost.
     pub fn answer(
         self,
         alloc: Global,
         process: u16,
         reply: Reply,
         budget: u32,
-    ) -> Result<Answered, Memory>
-        ensures { (start : Contents) (events : List Event) → IsFollowing start events self
+    ) -> Result<AnsweredStream, Memory>
+        ensures answered { (start : Contents) (events : List Event) → IsFollowing start events self
             → IfOk result (IsAnswered start events self process reply budget) }
+        ensures counted { (start : Contents) (events : List Event) → IsFollowing start events self
+            → IfOk result (IsCountedAs self process reply) }
     {
         let Some(known) = open_call(&self.open_calls, process) else {
-            return Ok(Answered::Refused(self, FollowFault::NotWellFormed));
+            return Ok(AnsweredStream::Refused(self, FollowFault::NotWellFormed));
         };
         if self.events >= EVENT_LIMIT {
-            return Ok(Answered::Refused(self, FollowFault::TooMany));
+            return Ok(AnsweredStream::Refused(self, FollowFault::TooMany));
         }
         self.judge(alloc, process, known, reply, budget)
     }
@@ -166,11 +172,13 @@ impl Follower {
         known: OpenCall,
         reply: Reply,
         budget: u32,
-    ) -> Result<Answered, Memory>
+    ) -> Result<AnsweredStream, Memory>
         requires room { self.events < event_limit }
         requires known { known_call self.open_calls process ≡ Some known }
-        ensures { (start : Contents) (events : List Event) → IsFollowing start events self
+        ensures answered { (start : Contents) (events : List Event) → IsFollowing start events self
             → IfOk result (IsAnswered start events self process reply budget) }
+        ensures counted { (start : Contents) (events : List Event) → IsFollowing start events self
+            → IfOk result (IsCountedAs self process reply) }
     {
         followed_rows_have_orders();
         let Follower {
@@ -184,24 +192,24 @@ impl Follower {
         open_calls.remove(&process);
         end_scan(&mut open_scans, known.place);
         match take_answer(alloc, rows, event, known, reply, &open_scans, budget)? {
-            Taken::Going(rows) => Ok(Answered::Going(Follower {
+            Taken::Going(rows) => Ok(AnsweredStream::Going(Follower {
                 rows,
                 open_calls,
                 open_scans,
                 events: event + 1,
                 calls,
             })),
-            Taken::Lost(keys) => Ok(Answered::Lost(Loss {
+            Taken::Lost(keys) => Ok(AnsweredStream::Lost(Loss {
                 event,
                 number,
                 keys,
             })),
-            Taken::Spent(at) => Ok(Answered::Spent {
+            Taken::Spent(at) => Ok(AnsweredStream::Spent {
                 event,
                 number,
                 doubt: Doubt::Budget(at),
             }),
-            Taken::Crowded => Ok(Answered::Spent {
+            Taken::Crowded => Ok(AnsweredStream::Spent {
                 event,
                 number,
                 doubt: Doubt::Rows,

@@ -1,5 +1,5 @@
-//! Follows a stream of events of any length: after each it is known whether the events so far have an order. Keys stay apart, and a scan gets its
-//! moment when it is answered (`kept_rows`).
+//! Follows a stream of events of any length: after each it is known whether the events so far have
+//! an order. Keys stay apart, and a scan gets its moment when it is answered (`kept_rows`).
 #![tactic(auto)]
 
 mod answered;
@@ -12,7 +12,7 @@ mod taking;
 #[cfg(test)]
 mod tests;
 
-pub use answered::{Answered, Doubt, Loss};
+pub use answered::{AnsweredStream, Doubt, Loss};
 pub use fault::FollowFault;
 pub use follower::Follower;
 pub use open_calls::OpenCall;

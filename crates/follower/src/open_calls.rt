@@ -5,7 +5,8 @@ ghost use Rattle.follower.specs.FollowerView.{known_call};
 use events::Call;
 use std::collections::BTreeMap;
 
-/// An open call: the place of its invocation, its number among the calls of the stream, and the call.
+/// An open call: the place of its invocation, its number among the calls of the stream, and the
+/// call.
 #[derive(Clone, Copy, Debug)]
 pub struct OpenCall {
     pub place: usize,

@@ -3,7 +3,8 @@ ghost use Rattle.std.specs.Prelude.{◌↔◌, ◌<◌, IsTrue, All};
 ghost use Rattle.events.specs.Starts.{KeysRise};
 ghost use Rattle.following.specs.moments.Timings.{ArePairsOf};
 
-/// Whether pairs are some that a scan from one key to another may be told: by rising key, all of the range.
+/// Whether pairs are some that a scan from one key to another may be told: by rising key, all of
+/// the range.
 pub(crate) fn are_pairs_of(pairs: &[(u64, u64)], low: u64, high: u64) -> bool
     ensures { IsTrue result ↔ ArePairsOf low high pairs.now }
 {

@@ -1,22 +1,26 @@
-// Rows take events: those of a call of one key at its key, and those of a scan at all keys of its range.
+// Rows take events: those of a call of one key at its key, and those of a scan at all keys of its
+// range.
 ghost use Rattle.std.specs.Prelude.{◌≡◌, ℕ, ◌<◌, ◌-◌, ◌++◌, ◌∷◌, [], List, length, IfOk};
 ghost use Rattle.events.specs.declared.event.Call.{Call};
 ghost use Rattle.events.specs.declared.event.Call.TheVariants.{Scan};
 ghost use Rattle.events.specs.declared.event.Event.{Event};
 ghost use Rattle.events.specs.declared.event.Event.TheVariants.{Invoke, Answer};
+ghost use Rattle.events.specs.declared.event.Reply.{Reply};
 ghost use Rattle.events.specs.Events.{IsWellFormed};
 ghost use Rattle.map_object.specs.MapObject.{Contents};
-ghost use Rattle.kept_keys.specs.Steps.{IsOpenCall};
-ghost use Rattle.kept_keys.specs.Views.{place_limit};
+ghost use Rattle.kept_rows.specs.Steps.{IsOpenCall};
+ghost use Rattle.kept_rows.specs.Views.{place_limit};
 ghost use Rattle.kept_rows.specs.Followed.{AreFollowed};
 ghost use Rattle.kept_rows.specs.Outcomes.{AreOpenScans};
-ghost use Rattle.follower.specs.Steps.{key_of, AreRowsAnswered, MayBeAnswered};
+ghost use Rattle.kept_rows.specs.Rows.{RowsView};
+ghost use Rattle.kept_rows.specs.OpenScan.{OpenScan};
+ghost use Rattle.follower.specs.Steps.{key_of, AreRowsAnswered, AreRowsCounted, MayBeAnswered};
 
 use crate::open_calls::OpenCall;
 use crate::open_scans::limit_at;
 use crate::pairs::are_pairs_of;
 use events::{Call, Memory, Reply};
-use kept_rows::{Answered, OpenScan, Rows, rows_pass_by};
+use kept_rows::{AnsweredRows, OpenScan, Rows, rows_pass_by};
 use std::alloc::Global;
 
 /// The key of a call of one key.
@@ -33,8 +37,10 @@ fn key_of(call: &Call) -> Option<u64>
 /// Rows take the invocation of a call, at its place in the stream.
 pub(crate) fn take_call(alloc: Global, rows: Rows, place: usize, call: Call) -> Result<Rows, Memory>
     requires { place < place_limit }
-    ensures { (start : Contents) (events : List Event) (process : ℕ) → AreFollowed start events rows → length events ≡ place
-        → IsWellFormed (events ++ Invoke process call ∷ []) → IfOk result (AreFollowed start (events ++ Invoke process call ∷ [])) }
+    ensures { (start : Contents) (events : List Event) (process : ℕ)
+        → AreFollowed start events rows → length events ≡ place
+        → IsWellFormed (events ++ Invoke process call ∷ [])
+        → IfOk result (AreFollowed start (events ++ Invoke process call ∷ [])) }
 {
     rows_pass_by();
     match key_of(&call) {
@@ -52,37 +58,50 @@ pub(crate) fn take_answer(
     reply: Reply,
     still_open: &[OpenScan],
     budget: u32,
-) -> Result<Answered, Memory>
+) -> Result<AnsweredRows, Memory>
     requires place { place < place_limit - 1 }
     requires may { MayBeAnswered rows place known.place known.call }
-    ensures { (start : Contents) (events : List Event) (process : ℕ) → AreFollowed start events rows → length events ≡ place
+    ensures answered { (start : Contents) (events : List Event) (process : ℕ)
+        → AreFollowed start events rows → length events ≡ place
         → IsOpenCall events process known.place known.call
         → AreOpenScans (events ++ Answer process reply ∷ []) still_open.now
-        → IfOk result (AreRowsAnswered start (events ++ Answer process reply ∷ []) budget known.call) }
+        → IfOk result (AreRowsAnswered start (events ++ Answer process reply ∷ []) budget
+        known.call reply) }
+    ensures counted { (start : Contents) (events : List Event) (process : ℕ)
+        → AreFollowed start events rows → length events ≡ place
+        → IsOpenCall events process known.place known.call
+        → AreOpenScans (events ++ Answer process reply ∷ []) still_open.now
+        → IfOk result (AreRowsCounted rows place known.place known.call reply still_open.now) }
 {
     let answered = take_untidied(alloc, rows, place, known, reply, still_open, budget)?;
     if is_tidied_behind(&known.call, place) {
-        return tidied(alloc, answered);
+        return tidy_answer(alloc, answered);
     }
     Ok(answered)
 }
 
-/// Whether rows are tidied behind the answer of a call at a place: behind each scan, by which rows part, and now and then behind others, since it
-/// costs the size of all rows.
+/// Whether rows are tidied behind the answer of a call at a place: behind each scan, by which rows
+/// part, and now and then behind others, since it costs the size of all rows.
 fn is_tidied_behind(call: &Call, place: usize) -> bool {
     place % 16 < 2 || key_of(call).is_none()
 }
 
 /// What an answer makes of rows, with rows that go on tidied.
-fn tidied(alloc: Global, answered: Answered) -> Result<Answered, Memory>
-    ensures { (start : Contents) (events : List Event) (budget : ℕ) (call : Call) → AreRowsAnswered start events budget call answered
-        → IfOk result (AreRowsAnswered start events budget call) }
+fn tidy_answer(alloc: Global, answered: AnsweredRows) -> Result<AnsweredRows, Memory>
+    ensures answered { (start : Contents) (events : List Event) (budget : ℕ) (call : Call)
+        (reply : Reply)
+        → AreRowsAnswered start events budget call reply answered
+        → IfOk result (AreRowsAnswered start events budget call reply) }
+    ensures counted { (rows : RowsView) (place name : ℕ) (call : Call) (reply : Reply)
+        (still_open : List OpenScan)
+        → AreRowsCounted rows place name call reply still_open answered
+        → IfOk result (AreRowsCounted rows place name call reply still_open) }
 {
     match answered {
-        Answered::Going(rows) => Ok(Answered::Going(rows.tidied(alloc)?)),
-        Answered::Lost(losses) => Ok(Answered::Lost(losses)),
-        Answered::Spent(at) => Ok(Answered::Spent(at)),
-        Answered::Crowded => Ok(Answered::Crowded),
+        AnsweredRows::Going(rows) => Ok(AnsweredRows::Going(rows.tidy(alloc)?)),
+        AnsweredRows::Lost(losses) => Ok(AnsweredRows::Lost(losses)),
+        AnsweredRows::Spent(at) => Ok(AnsweredRows::Spent(at)),
+        AnsweredRows::Crowded => Ok(AnsweredRows::Crowded),
     }
 }
 
@@ -95,13 +114,20 @@ fn take_untidied(
     reply: Reply,
     still_open: &[OpenScan],
     budget: u32,
-) -> Result<Answered, Memory>
+) -> Result<AnsweredRows, Memory>
     requires place { place < place_limit - 1 }
     requires may { MayBeAnswered rows place known.place known.call }
-    ensures { (start : Contents) (events : List Event) (process : ℕ) → AreFollowed start events rows → length events ≡ place
+    ensures answered { (start : Contents) (events : List Event) (process : ℕ)
+        → AreFollowed start events rows → length events ≡ place
         → IsOpenCall events process known.place known.call
         → AreOpenScans (events ++ Answer process reply ∷ []) still_open.now
-        → IfOk result (AreRowsAnswered start (events ++ Answer process reply ∷ []) budget known.call) }
+        → IfOk result (AreRowsAnswered start (events ++ Answer process reply ∷ []) budget
+        known.call reply) }
+    ensures counted { (start : Contents) (events : List Event) (process : ℕ)
+        → AreFollowed start events rows → length events ≡ place
+        → IsOpenCall events process known.place known.call
+        → AreOpenScans (events ++ Answer process reply ∷ []) still_open.now
+        → IfOk result (AreRowsCounted rows place known.place known.call reply still_open.now) }
 {
     match key_of(&known.call) {
         Some(key) => {
@@ -128,7 +154,8 @@ fn take_untidied(
     }
 }
 
-/// That of a scan. No map answers one by anything but pairs of its range, by rising key, or by nothing that is told.
+/// That of a scan. No map answers one by anything but pairs of its range, by rising key, or by
+/// nothing that is told.
 fn take_scan_answer(
     alloc: Global,
     rows: Rows,
@@ -137,28 +164,32 @@ fn take_scan_answer(
     reply: Reply,
     still_open: &[OpenScan],
     budget: u32,
-) -> Result<Answered, Memory>
+) -> Result<AnsweredRows, Memory>
     requires place { place < place_limit - 1 }
     requires may { MayBeAnswered rows place scan.name (Scan scan.low scan.high) }
-    ensures { (start : Contents) (events : List Event) (process : ℕ) → AreFollowed start events rows → length events ≡ place
+    ensures answered { (start : Contents) (events : List Event) (process : ℕ)
+        → AreFollowed start events rows → length events ≡ place
         → IsOpenCall events process scan.name (Scan scan.low scan.high)
         → AreOpenScans (events ++ Answer process reply ∷ []) still_open.now
-        → IfOk result (AreRowsAnswered start (events ++ Answer process reply ∷ []) budget (Scan scan.low scan.high)) }
+        → IfOk result (AreRowsAnswered start (events ++ Answer process reply ∷ []) budget
+        (Scan scan.low scan.high) reply) }
+    ensures counted { IfOk result (AreRowsCounted rows place scan.name (Scan scan.low scan.high)
+        reply still_open.now) }
 {
     rows_pass_by();
     match reply {
-        Reply::Refused => Ok(Answered::Going(rows)),
-        Reply::Done => Ok(Answered::Going(rows)),
+        Reply::Refused => Ok(AnsweredRows::Going(rows)),
+        Reply::Done => Ok(AnsweredRows::Going(rows)),
         Reply::Pairs(pairs) => {
             let told = pairs.as_slice();
             if are_pairs_of(told, scan.low, scan.high) {
                 return rows.answer_scan(alloc, place, scan, told, still_open, budget);
             }
-            Ok(Answered::Lost(Vec::new(alloc)))
+            Ok(AnsweredRows::Lost(Vec::new(alloc)))
         }
-        Reply::None => Ok(Answered::Lost(Vec::new(alloc))),
-        Reply::Some(_) => Ok(Answered::Lost(Vec::new(alloc))),
-        Reply::Found => Ok(Answered::Lost(Vec::new(alloc))),
-        Reply::Other => Ok(Answered::Lost(Vec::new(alloc))),
+        Reply::None => Ok(AnsweredRows::Lost(Vec::new(alloc))),
+        Reply::Some(_) => Ok(AnsweredRows::Lost(Vec::new(alloc))),
+        Reply::Found => Ok(AnsweredRows::Lost(Vec::new(alloc))),
+        Reply::Other => Ok(AnsweredRows::Lost(Vec::new(alloc))),
     }
 }

@@ -1,5 +1,5 @@
 // Streams, by hand.
-use crate::answered::Answered;
+use crate::answered::AnsweredStream;
 use crate::fault::FollowFault;
 use crate::follower::Follower;
 use events::{Call, Memory, Pairs, Reply};
@@ -7,7 +7,7 @@ use std::alloc::Global;
 use std::test::Fail;
 
 /// A follower that takes an invocation.
-fn invoked(
+fn after_invocation(
     follower: Follower,
     alloc: Global,
     process: u16,
@@ -19,27 +19,27 @@ fn invoked(
 }
 
 /// A follower that goes on behind an answer.
-fn going(
+fn after_answer(
     follower: Follower,
     alloc: Global,
     process: u16,
     reply: Reply,
 ) -> Result<Follower, Memory> {
     match follower.answer(alloc, process, reply, 1000)? {
-        Answered::Going(next) => Ok(next),
+        AnsweredStream::Going(next) => Ok(next),
         _ => Err(Memory),
     }
 }
 
 /// The event at which a stream goes wrong, the number of its call, and how many keys are named.
-fn lost(
+fn loss_at_answer(
     follower: Follower,
     alloc: Global,
     process: u16,
     reply: Reply,
 ) -> Result<(usize, usize, usize), Memory> {
     match follower.answer(alloc, process, reply, 1000)? {
-        Answered::Lost(loss) => Ok((loss.event, loss.number, loss.keys.len())),
+        AnsweredStream::Lost(loss) => Ok((loss.event, loss.number, loss.keys.len())),
         _ => Err(Memory),
     }
 }
@@ -67,24 +67,24 @@ fn pairs(alloc: Global, told: &[(u64, u64)]) -> Result<Reply, Memory> {
 /// A scan from 0 to 9 is open, and 7 was put at 4 meanwhile, where 5 stands at 1 from the start.
 fn with_open_scan(alloc: Global) -> Result<Follower, Memory> {
     let follower = Follower::new(alloc, &[(1, 5)])?;
-    let follower = invoked(follower, alloc, 0, Call::Scan(0, 9))?;
-    let follower = invoked(follower, alloc, 1, Call::Insert(4, 7))?;
-    going(follower, alloc, 1, Reply::None)
+    let follower = after_invocation(follower, alloc, 0, Call::Scan(0, 9))?;
+    let follower = after_invocation(follower, alloc, 1, Call::Insert(4, 7))?;
+    after_answer(follower, alloc, 1, Reply::None)
 }
 
 #[test]
 fn a_value_that_was_overwritten_is_lost(rt: HostRuntime) -> Result<(), Fail> {
     let alloc = rt.alloc();
     let follower = Follower::new(alloc, &[(4, 9)])?;
-    let follower = invoked(follower, alloc, 0, Call::Get(4))?;
-    let follower = going(follower, alloc, 0, Reply::Some(9))?;
-    let follower = invoked(follower, alloc, 0, Call::Insert(4, 1))?;
-    let follower = invoked(follower, alloc, 1, Call::Get(4))?;
-    let follower = going(follower, alloc, 1, Reply::Some(1))?;
-    let follower = going(follower, alloc, 0, Reply::Some(9))?;
-    let follower = invoked(follower, alloc, 7, Call::Get(4))?;
+    let follower = after_invocation(follower, alloc, 0, Call::Get(4))?;
+    let follower = after_answer(follower, alloc, 0, Reply::Some(9))?;
+    let follower = after_invocation(follower, alloc, 0, Call::Insert(4, 1))?;
+    let follower = after_invocation(follower, alloc, 1, Call::Get(4))?;
+    let follower = after_answer(follower, alloc, 1, Reply::Some(1))?;
+    let follower = after_answer(follower, alloc, 0, Reply::Some(9))?;
+    let follower = after_invocation(follower, alloc, 7, Call::Get(4))?;
     assert!(rt; follower.calls() == 4);
-    assert!(rt; lost(follower, alloc, 7, Reply::Some(9))? == (7, 3, 1));
+    assert!(rt; loss_at_answer(follower, alloc, 7, Reply::Some(9))? == (7, 3, 1));
     Ok(())
 }
 
@@ -92,15 +92,15 @@ fn a_value_that_was_overwritten_is_lost(rt: HostRuntime) -> Result<(), Fail> {
 fn a_scan_finds_what_was_put_meanwhile_or_not(rt: HostRuntime) -> Result<(), Fail> {
     let alloc = rt.alloc();
     let before = pairs(alloc, &[(1, 5)])?;
-    going(with_open_scan(alloc)?, alloc, 0, before)?;
+    after_answer(with_open_scan(alloc)?, alloc, 0, before)?;
     let behind = pairs(alloc, &[(1, 5), (4, 7)])?;
-    going(with_open_scan(alloc)?, alloc, 0, behind)?;
-    going(with_open_scan(alloc)?, alloc, 0, Reply::Refused)?;
+    after_answer(with_open_scan(alloc)?, alloc, 0, behind)?;
+    after_answer(with_open_scan(alloc)?, alloc, 0, Reply::Refused)?;
     let neither = pairs(alloc, &[(4, 7)])?;
-    let (event, number, _keys) = lost(with_open_scan(alloc)?, alloc, 0, neither)?;
+    let (event, number, _keys) = loss_at_answer(with_open_scan(alloc)?, alloc, 0, neither)?;
     assert!(rt; (event, number) == (3, 0));
     let falling = pairs(alloc, &[(4, 7), (1, 5)])?;
-    assert!(rt; lost(with_open_scan(alloc)?, alloc, 0, falling)? == (3, 0, 0));
+    assert!(rt; loss_at_answer(with_open_scan(alloc)?, alloc, 0, falling)? == (3, 0, 0));
     Ok(())
 }
 
@@ -112,9 +112,9 @@ fn events_out_of_turn_are_refused(rt: HostRuntime) -> Result<(), Fail> {
     let follower = with_open_scan(alloc)?;
     assert!(rt; is_refused(follower, alloc, 0, Call::Get(1), FollowFault::NotWellFormed));
     match with_open_scan(alloc)?.answer(alloc, 1, Reply::None, 1000)? {
-        Answered::Refused(follower, fault) => {
+        AnsweredStream::Refused(follower, fault) => {
             assert!(rt; fault == FollowFault::NotWellFormed);
-            going(follower, alloc, 0, Reply::Done)?;
+            after_answer(follower, alloc, 0, Reply::Done)?;
         }
         _ => assert!(rt; false),
     }

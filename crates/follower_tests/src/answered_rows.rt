@@ -7,12 +7,12 @@ ghost use Rattle.kept_rows.specs.Outcomes.{IsAnswered};
 ghost use Rattle.kept_rows.specs.Followed.{AreFollowed};
 
 use events::{Call, Memory, Reply};
-use kept_rows::{Answered, Rows};
+use kept_rows::{AnsweredRows, Rows};
 use std::alloc::Global;
 use std::test::Fail;
 
 /// An insert into an empty map, answered behind its invocation.
-fn insert_answered(alloc: Global, reply: Reply) -> Result<Answered, Memory>
+fn insert_answered(alloc: Global, reply: Reply) -> Result<AnsweredRows, Memory>
     ensures { IfOk result (IsAnswered [] (Invoke 0 (Insert 7 1) ∷ Answer 0 reply ∷ []) 100 7) }
 {
     let call = Call::Insert(7, 1);
@@ -21,10 +21,10 @@ fn insert_answered(alloc: Global, reply: Reply) -> Result<Answered, Memory>
 }
 
 /// Then a get of the key, once the rows are tidied.
-fn get_answered(alloc: Global, rows: Rows, reply: Reply) -> Result<Answered, Memory>
+fn get_answered(alloc: Global, rows: Rows, reply: Reply) -> Result<AnsweredRows, Memory>
     requires { AreFollowed [] (Invoke 0 (Insert 7 1) ∷ Answer 0 replies.None ∷ []) rows }
 {
-    let rows = rows.tidied(alloc)?.begin_call(alloc, 2, 7, Call::Get(7))?;
+    let rows = rows.tidy(alloc)?.begin_call(alloc, 2, 7, Call::Get(7))?;
     rows.answer_call(alloc, 3, 7, 2, &Call::Get(7), reply, 4, 100)
 }
 
@@ -32,10 +32,10 @@ fn get_answered(alloc: Global, rows: Rows, reply: Reply) -> Result<Answered, Mem
 #[test]
 fn an_insert_is_answered(rt: HostRuntime) -> Result<(), Fail> {
     let alloc = rt.alloc();
-    let Answered::Going(rows) = insert_answered(alloc, Reply::None)? else {
+    let AnsweredRows::Going(rows) = insert_answered(alloc, Reply::None)? else {
         panic!(rt; "an insert finds nothing in an empty map");
     };
-    let Answered::Going(_) = get_answered(alloc, rows, Reply::Some(1))? else {
+    let AnsweredRows::Going(_) = get_answered(alloc, rows, Reply::Some(1))? else {
         panic!(rt; "the get finds what was inserted");
     };
     Ok(())
@@ -44,10 +44,10 @@ fn an_insert_is_answered(rt: HostRuntime) -> Result<(), Fail> {
 #[test]
 fn a_value_is_not_lost(rt: HostRuntime) -> Result<(), Fail> {
     let alloc = rt.alloc();
-    let Answered::Going(rows) = insert_answered(alloc, Reply::None)? else {
+    let AnsweredRows::Going(rows) = insert_answered(alloc, Reply::None)? else {
         panic!(rt; "an insert finds nothing in an empty map");
     };
-    let Answered::Lost(losses) = get_answered(alloc, rows, Reply::None)? else {
+    let AnsweredRows::Lost(losses) = get_answered(alloc, rows, Reply::None)? else {
         panic!(rt; "the key has a value");
     };
     assert!(rt; losses.len() == 1 && losses[0].key == 7);
@@ -57,7 +57,7 @@ fn a_value_is_not_lost(rt: HostRuntime) -> Result<(), Fail> {
 // It found a value that no call put there.
 #[test]
 fn a_value_from_nowhere_is_lost(rt: HostRuntime) -> Result<(), Fail> {
-    let Answered::Lost(losses) = insert_answered(rt.alloc(), Reply::Some(5))? else {
+    let AnsweredRows::Lost(losses) = insert_answered(rt.alloc(), Reply::Some(5))? else {
         panic!(rt; "the map was empty");
     };
     assert!(rt; losses.len() == 1 && losses[0].key == 7);

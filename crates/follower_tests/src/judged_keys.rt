@@ -7,7 +7,7 @@ use std::alloc::Global;
 use std::test::Fail;
 
 /// A call that is answered at a number.
-fn answered(call: Call, inv: usize, res: usize, reply: Reply) -> Operation
+fn answered_call(call: Call, inv: usize, res: usize, reply: Reply) -> Operation
     ensures { result ≡ record { call = call; inv = inv; response = Some (record { res = res; reply = reply }) } }
 {
     Operation {
@@ -18,7 +18,7 @@ fn answered(call: Call, inv: usize, res: usize, reply: Reply) -> Operation
 }
 
 /// A call that is not answered.
-fn open(call: Call, inv: usize) -> Operation
+fn open_call(call: Call, inv: usize) -> Operation
     ensures { result ≡ record { call = call; inv = inv; response = None } }
 {
     Operation {
@@ -29,7 +29,11 @@ fn open(call: Call, inv: usize) -> Operation
 }
 
 /// A configuration that has taken these calls, with these values.
-fn chosen(alloc: Global, taken: &[usize], values: &[Option<u64>]) -> Result<Configuration, Memory> {
+fn configuration_with(
+    alloc: Global,
+    taken: &[usize],
+    values: &[Option<u64>],
+) -> Result<Configuration, Memory> {
     Ok(Configuration {
         taken: Vec::from_slice(alloc, taken)?,
         values: Vec::from_slice(alloc, values)?,
@@ -41,16 +45,17 @@ fn chosen(alloc: Global, taken: &[usize], values: &[Option<u64>]) -> Result<Conf
 #[test]
 fn few_calls_come_in_any_order(rt: HostRuntime) -> Result<(), Fail> {
     let alloc = rt.alloc();
-    let insert = answered(Call::Insert(7, 2), 0, 3, Reply::Some(1));
-    let get = answered(Call::Get(7), 1, 2, Reply::Some(1));
+    let insert = answered_call(Call::Insert(7, 2), 0, 3, Reply::Some(1));
+    let get = answered_call(Call::Get(7), 1, 2, Reply::Some(1));
     let mut key = KeptKey::of(
-        vec![in alloc; chosen(alloc, &[], &[Some(2), None])?]?,
+        alloc,
+        vec![in alloc; configuration_with(alloc, &[], &[Some(2), None])?]?,
         vec![in alloc; 0, 1]?,
         vec![in alloc; insert, get]?,
     );
     assert!(rt; matches!(key.judge(alloc, 7, 100)?, Judged::NoOrder));
     key.configurations
-        .push(chosen(alloc, &[], &[Some(3), Some(1)])?)?;
+        .push(configuration_with(alloc, &[], &[Some(3), Some(1)])?)?;
     assert!(rt; matches!(key.judge(alloc, 7, 100)?, Judged::Order));
     Ok(())
 }
@@ -59,15 +64,17 @@ fn few_calls_come_in_any_order(rt: HostRuntime) -> Result<(), Fail> {
 #[test]
 fn calls_taken_come_no_more(rt: HostRuntime) -> Result<(), Fail> {
     let alloc = rt.alloc();
-    let insert = open(Call::Insert(7, 2), 0);
-    let get = answered(Call::Get(7), 1, 2, Reply::Some(2));
+    let insert = open_call(Call::Insert(7, 2), 0);
+    let get = answered_call(Call::Get(7), 1, 2, Reply::Some(2));
     let mut key = KeptKey::of(
-        vec![in alloc; chosen(alloc, &[0], &[Some(1)])?]?,
+        alloc,
+        vec![in alloc; configuration_with(alloc, &[0], &[Some(1)])?]?,
         vec![in alloc; 0, 1]?,
         vec![in alloc; insert, get]?,
     );
     assert!(rt; matches!(key.judge(alloc, 7, 100)?, Judged::NoOrder));
-    key.configurations.push(chosen(alloc, &[], &[Some(1)])?)?;
+    key.configurations
+        .push(configuration_with(alloc, &[], &[Some(1)])?)?;
     assert!(rt; matches!(key.judge(alloc, 7, 100)?, Judged::Order));
     Ok(())
 }
@@ -76,13 +83,14 @@ fn calls_taken_come_no_more(rt: HostRuntime) -> Result<(), Fail> {
 #[test]
 fn more_calls_are_guessed(rt: HostRuntime) -> Result<(), Fail> {
     let alloc = rt.alloc();
-    let get = answered(Call::Get(7), 0, 10, Reply::Some(4));
-    let first = answered(Call::Insert(7, 1), 1, 11, Reply::Done);
-    let second = answered(Call::Insert(7, 2), 2, 12, Reply::Done);
-    let third = answered(Call::Insert(7, 3), 3, 13, Reply::Done);
-    let fourth = answered(Call::Insert(7, 4), 4, 14, Reply::Done);
+    let get = answered_call(Call::Get(7), 0, 10, Reply::Some(4));
+    let first = answered_call(Call::Insert(7, 1), 1, 11, Reply::Done);
+    let second = answered_call(Call::Insert(7, 2), 2, 12, Reply::Done);
+    let third = answered_call(Call::Insert(7, 3), 3, 13, Reply::Done);
+    let fourth = answered_call(Call::Insert(7, 4), 4, 14, Reply::Done);
     let mut key = KeptKey::of(
-        vec![in alloc; chosen(alloc, &[], &[None])?]?,
+        alloc,
+        vec![in alloc; configuration_with(alloc, &[], &[None])?]?,
         vec![in alloc; 0, 1, 2, 3, 4]?,
         vec![in alloc; get, first, second, third, fourth]?,
     );
@@ -95,13 +103,14 @@ fn more_calls_are_guessed(rt: HostRuntime) -> Result<(), Fail> {
 #[test]
 fn more_calls_are_searched(rt: HostRuntime) -> Result<(), Fail> {
     let alloc = rt.alloc();
-    let get = answered(Call::Get(7), 0, 10, Reply::Some(9));
-    let first = answered(Call::Insert(7, 1), 1, 11, Reply::Done);
-    let second = answered(Call::Insert(7, 2), 2, 12, Reply::Done);
-    let third = answered(Call::Insert(7, 3), 3, 13, Reply::Done);
-    let fourth = answered(Call::Insert(7, 4), 4, 14, Reply::Done);
+    let get = answered_call(Call::Get(7), 0, 10, Reply::Some(9));
+    let first = answered_call(Call::Insert(7, 1), 1, 11, Reply::Done);
+    let second = answered_call(Call::Insert(7, 2), 2, 12, Reply::Done);
+    let third = answered_call(Call::Insert(7, 3), 3, 13, Reply::Done);
+    let fourth = answered_call(Call::Insert(7, 4), 4, 14, Reply::Done);
     let mut key = KeptKey::of(
-        vec![in alloc; chosen(alloc, &[], &[None])?]?,
+        alloc,
+        vec![in alloc; configuration_with(alloc, &[], &[None])?]?,
         vec![in alloc; 0, 1, 2, 3, 4]?,
         vec![in alloc; get, first, second, third, fourth]?,
     );

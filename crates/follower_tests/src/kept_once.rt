@@ -8,7 +8,7 @@ use std::test::Fail;
 fn keys_are_taken_and_put(rt: HostRuntime) -> Result<(), Fail> {
     let alloc = rt.alloc();
     let mut known = Known::from_start(alloc, &[(1, 10), (4, 40), (9, 90)])?;
-    assert!(rt; known.look(4).is_some_and(|key| key.is_fresh(Some(40))));
+    assert!(rt; known.look(4).is_some_and(|key| key.rests_with(Some(40))));
     assert!(rt; known.take(4).is_some());
     assert!(rt; known.look(4).is_none());
     known.put(6, KnownKey::at_rest(Some(40)))?;
@@ -20,16 +20,16 @@ fn keys_are_taken_and_put(rt: HostRuntime) -> Result<(), Fail> {
 #[test]
 fn a_key_at_rest_takes_a_call(rt: HostRuntime) -> Result<(), Fail> {
     let alloc = rt.alloc();
-    let kept = KeptKey::fresh(alloc, Some(40))?;
+    let kept = KeptKey::at_rest(alloc, Some(40))?;
     let mut key = KnownKey::of(alloc, kept)?;
-    assert!(rt; key.is_fresh(Some(40)));
+    assert!(rt; key.rests_with(Some(40)));
     assert!(rt; key.may_have(Some(40)));
     assert!(rt; !key.may_have(None));
     assert!(rt; key.has_no_calls());
     key.begin_call(alloc, 3, Call::Get(4))?;
-    assert!(rt; !key.is_fresh(Some(40)));
+    assert!(rt; !key.rests_with(Some(40)));
     assert!(rt; !key.has_no_calls());
-    let whole = key.whole(alloc)?;
+    let whole = key.into_kept(alloc)?;
     assert!(rt; whole.names.as_slice() == [3].as_slice());
     Ok(())
 }

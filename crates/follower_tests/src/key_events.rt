@@ -7,7 +7,7 @@ use std::alloc::Global;
 use std::test::Fail;
 
 /// A choice in which the call of place 3 took effect ahead, and found one of these values, and the call of place 5 too.
-fn chosen(alloc: Global, found: &[Option<u64>], value: u64) -> Result<Configuration, Memory> {
+fn choice_with(alloc: Global, found: &[Option<u64>], value: u64) -> Result<Configuration, Memory> {
     let first = Ahead {
         call: 3,
         found: Vec::from_slice(alloc, found)?,
@@ -27,9 +27,10 @@ fn chosen(alloc: Global, found: &[Option<u64>], value: u64) -> Result<Configurat
 fn with_choices(alloc: Global) -> Result<KeptKey, Memory>
     ensures { IfOk result (λ key. length key.names ≡ length key.calls) }
 {
-    let first = chosen(alloc, &[None, Some(7)], 1)?;
-    let second = chosen(alloc, &[Some(8)], 2)?;
+    let first = choice_with(alloc, &[None, Some(7)], 1)?;
+    let second = choice_with(alloc, &[Some(8)], 2)?;
     let mut key = KeptKey::of(
+        alloc,
         vec![in alloc; first, second]?,
         Vec::new(alloc),
         Vec::new(alloc),
@@ -50,7 +51,7 @@ fn is_so(c: &Configuration, taken: &[usize], value: u64, noted: &[usize]) -> boo
 #[test]
 fn a_call_is_answered(rt: HostRuntime) -> Result<(), Fail> {
     let alloc = rt.alloc();
-    let mut key = KeptKey::fresh(alloc, Some(6))?;
+    let mut key = KeptKey::at_rest(alloc, Some(6))?;
     let before = key.copy(alloc)?;
     assert!(rt; before.is_same(&key));
     key.begin_call(2, Call::Get(4))?;

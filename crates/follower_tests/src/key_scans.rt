@@ -7,7 +7,7 @@ use std::alloc::Global;
 use std::test::Fail;
 
 /// A call that is answered at a number.
-fn answered(call: Call, inv: usize, res: usize, reply: Reply) -> Operation
+fn answered_call(call: Call, inv: usize, res: usize, reply: Reply) -> Operation
     ensures { result ≡ record { call = call; inv = inv; response = Some (record { res = res; reply = reply }) } }
 {
     Operation {
@@ -44,10 +44,11 @@ fn has_values(key: &KeptKey, place: usize, values: &[Option<u64>]) -> bool {
 fn read_twice(alloc: Global) -> Result<KeptKey, Memory>
     ensures { IfOk result (λ k. length k.names ≡ length k.calls) }
 {
-    let insert = answered(Call::Insert(7, 1), WIDTH, 3 * WIDTH, Reply::Some(1));
+    let insert = answered_call(Call::Insert(7, 1), WIDTH, 3 * WIDTH, Reply::Some(1));
     let two = of_values(vec![in alloc; Some(1), Some(2)]?, alloc);
     let none = of_values(vec![in alloc; None]?, alloc);
     KeptKey::of(
+        alloc,
         vec![in alloc; two, none]?,
         vec![in alloc; 1]?,
         vec![in alloc; insert]?,
@@ -62,11 +63,11 @@ fn scans_stand_by_their_numbers(rt: HostRuntime) -> Result<(), Fail> {
     let key = read_twice(alloc)?;
     assert!(rt; key.names.as_slice() == [1, 2].as_slice());
     assert!(rt; number_at(&key, 1) == Some(3 * WIDTH + 4));
-    let moved = key.retimed(alloc, 7, &[(5, 8), (2, 9)])?;
+    let moved = key.retime(alloc, 7, &[(5, 8), (2, 9)])?;
     assert!(rt; moved.names.as_slice() == [2, 1].as_slice());
     assert!(rt; number_at(&moved, 0) == Some(9) && number_at(&moved, 1) == Some(WIDTH));
     assert!(rt; moved.names.len() == moved.calls.len());
-    let between = moved.retimed(alloc, 7, &[(2, 10)])?;
+    let between = moved.retime(alloc, 7, &[(2, 10)])?;
     assert!(rt; between.names.as_slice() == [2, 1].as_slice());
     assert!(rt; number_at(&between, 0) == Some(10));
     Ok(())
@@ -97,9 +98,15 @@ fn reads_go_with_their_values(rt: HostRuntime) -> Result<(), Fail> {
 #[test]
 fn changes_are_not_still(rt: HostRuntime) -> Result<(), Fail> {
     let alloc = rt.alloc();
-    let mut changed = read_twice(alloc)?;
-    changed.names.push(8)?;
-    changed.calls.push(answered(Call::Insert(7, 1), 8 * WIDTH, 9 * WIDTH, Reply::None))?;
+    let found = answered_call(Call::Insert(7, 1), WIDTH, 3 * WIDTH, Reply::Some(1));
+    let change = answered_call(Call::Insert(7, 1), 8 * WIDTH, 9 * WIDTH, Reply::None);
+    let one = of_values(vec![in alloc; Some(1)]?, alloc);
+    let changed = KeptKey::of(
+        alloc,
+        vec![in alloc; one]?,
+        vec![in alloc; 1, 8]?,
+        vec![in alloc; found, change]?,
+    );
     assert!(rt; !changed.is_still());
     Ok(())
 }

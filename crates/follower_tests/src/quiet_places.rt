@@ -45,6 +45,7 @@ fn open_get(invoked: usize) -> Operation
 fn a_key_is_quiet_between_calls(rt: HostRuntime) -> Result<(), Fail> {
     let alloc = rt.alloc();
     let key = KeptKey::of(
+        alloc,
         Vec::new(alloc),
         vec![in alloc; 0, 2, 5]?,
         vec![in alloc; get(0, 3), get(2, 4), get(5, 6)]?,
@@ -60,6 +61,7 @@ fn a_key_is_quiet_between_calls(rt: HostRuntime) -> Result<(), Fail> {
 fn a_key_with_an_open_call_is_not_quiet(rt: HostRuntime) -> Result<(), Fail> {
     let alloc = rt.alloc();
     let key = KeptKey::of(
+        alloc,
         Vec::new(alloc),
         vec![in alloc; 1, 2, 4]?,
         vec![in alloc; open_get(1), get(2, 3), open_get(4)]?,

@@ -7,7 +7,7 @@ use std::alloc::Global;
 use std::test::Fail;
 
 /// A call that is answered.
-fn answered(call: Call, inv: usize, res: usize, reply: Reply) -> Operation
+fn answered_call(call: Call, inv: usize, res: usize, reply: Reply) -> Operation
     ensures { result ≡ record { call = call; inv = inv; response = Some (record { res = res; reply = reply }) } }
 {
     Operation {
@@ -18,7 +18,7 @@ fn answered(call: Call, inv: usize, res: usize, reply: Reply) -> Operation
 }
 
 /// A call that is not answered.
-fn open(call: Call, inv: usize) -> Operation
+fn open_call(call: Call, inv: usize) -> Operation
     ensures { result ≡ record { call = call; inv = inv; response = None } }
 {
     Operation {
@@ -65,14 +65,15 @@ fn has_choice(
 #[test]
 fn what_ended_goes(rt: HostRuntime) -> Result<(), Fail> {
     let alloc = rt.alloc();
-    let insert = answered(Call::Insert(7, 3), 2 * WIDTH, 4 * WIDTH, Reply::Done);
-    let get = open(Call::Get(7), 5 * WIDTH);
+    let insert = answered_call(Call::Insert(7, 3), 2 * WIDTH, 4 * WIDTH, Reply::Done);
+    let get = open_call(Call::Get(7), 5 * WIDTH);
     let key = KeptKey::of(
+        alloc,
         vec![in alloc; choice(alloc, &[], &[Some(1), None], None)?]?,
         vec![in alloc; 2, 5]?,
         vec![in alloc; insert, get]?,
     );
-    let Some(settled) = key.settled(alloc, 7, 5, 1000)? else {
+    let Some(settled) = key.settle(alloc, 7, 5, 1000)? else {
         panic!(rt; "more positions than there are");
     };
     assert!(rt; settled.configurations.len() == 1);
@@ -85,15 +86,16 @@ fn what_ended_goes(rt: HostRuntime) -> Result<(), Fail> {
 #[test]
 fn what_was_open_may_have_come(rt: HostRuntime) -> Result<(), Fail> {
     let alloc = rt.alloc();
-    let replace = open(Call::Replace(7, 1, 2), WIDTH);
-    let insert = answered(Call::Insert(7, 1), 2 * WIDTH, 4 * WIDTH, Reply::Done);
-    let get = open(Call::Get(7), 3 * WIDTH);
+    let replace = open_call(Call::Replace(7, 1, 2), WIDTH);
+    let insert = answered_call(Call::Insert(7, 1), 2 * WIDTH, 4 * WIDTH, Reply::Done);
+    let get = open_call(Call::Get(7), 3 * WIDTH);
     let key = KeptKey::of(
+        alloc,
         vec![in alloc; choice(alloc, &[3], &[None], Some((3, None)))?]?,
         vec![in alloc; 1, 2, 3]?,
         vec![in alloc; replace, insert, get]?,
     );
-    let Some(settled) = key.settled(alloc, 7, 5, 1000)? else {
+    let Some(settled) = key.settle(alloc, 7, 5, 1000)? else {
         panic!(rt; "more positions than there are");
     };
     assert!(rt; settled.names.as_slice() == [1, 3].as_slice() && settled.calls.len() == 2);
@@ -116,7 +118,7 @@ fn what_was_open_may_have_come(rt: HostRuntime) -> Result<(), Fail> {
         )
     );
     // No call, the replace, the insert, and both in two orders.
-    assert!(rt; key.settled(alloc, 7, 5, 4)?.is_none());
-    assert!(rt; key.settled(alloc, 7, 5, 5)?.is_some());
+    assert!(rt; key.settle(alloc, 7, 5, 4)?.is_none());
+    assert!(rt; key.settle(alloc, 7, 5, 5)?.is_some());
     Ok(())
 }

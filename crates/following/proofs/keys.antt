@@ -10,6 +10,7 @@ pub mod InTurnLemmas
 pub mod JoinLemmas
 pub mod KeyCallLemmas
 pub mod PlaceCutLemmas
+pub mod PrefixLemmas
 pub mod QuietLemmas
 pub mod RefuteLemmas
 pub mod SettleBackLemmas

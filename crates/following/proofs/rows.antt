@@ -10,6 +10,8 @@ pub mod ExactLemmas
 pub mod FixedLemmas
 pub mod FixedSettleLemmas
 pub mod ForgottenLemmas
+pub mod GrownBlockLemmas
+pub mod ImageLemmas
 pub mod ImpliedLemmas
 pub mod InTurnAlikeLemmas
 pub mod MixedLemmas

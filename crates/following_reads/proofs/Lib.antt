@@ -1,6 +1,5 @@
 mod BesideLemmas
 mod HoldLemmas
-mod ImageLemmas
 mod MoveLemmas
 mod OpenLemmas
 mod OrderLemmas

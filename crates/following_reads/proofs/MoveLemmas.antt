@@ -25,7 +25,7 @@ use Rattle.following.proofs.rows.EndLemmas.{own_call}
 use Rattle.following.proofs.rows.PartedLemmas.{IsMomentWithin, said_first, parted_in_both, over_key}
 use Rattle.following_reads.specs.Reads.{AreFixedUpToReads}
 use Rattle.following_reads.proofs.BesideLemmas.{IsQuiet, MayStandBeside, answered_before}
-use Rattle.following_reads.proofs.ImageLemmas.{AreParts, images, of_images, to_images, images_differ, legal_over, after_over, found_over}
+use Rattle.following.proofs.rows.ImageLemmas.{AreParts, images, of_images, to_images, images_differ, legal_over, after_over, found_over}
 use Rattle.following_reads.proofs.ReadLemmas.{quiet_get, read_beside, twin_beside}
 use Rattle.following_reads.proofs.SortLemmas.{MayMove, EachMayMove, MayFollow, sort}
 

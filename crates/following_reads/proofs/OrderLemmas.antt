@@ -1,17 +1,15 @@
 -- So calls at a key that is fixed up to reads have an order in one timing where they have one in another, and are done in turn there with the
 -- same outcome.
-use Rattle.std.proofs.Common.{◌≡◌, ℕ, true, false, List, Option, Some, None, is_some, refl}
+use Rattle.std.proofs.Common.{◌≡◌, ℕ, true, false, List}
 use Rattle.std.specs.Prelude.{Contains}
-use Rattle.std.proofs.lemmas.Option.{none-some}
 use Rattle.std.proofs.lemmas.List.Elements.{All-contains}
 use Rattle.events.specs.declared.operation.Operation.{Operation}
-use Rattle.events.specs.declared.operation.Response.{Response}
 use Rattle.events.specs.Precedence.{precedes}
 use Rattle.list_laws.proofs.Lists.{All-from_contains}
 use Rattle.list_laws.proofs.FilterLemmas.{Contains-filter_map}
 use Rattle.map_object.specs.MapObject.{Contents, IsRising}
 use Rattle.orders.specs.Orders.{IsLegal, KeepsPrecedence, IsLinearizable}
-use Rattle.quiet_cuts.specs.Groups.{reply_in}
+use Rattle.quiet_cuts.proofs.AlikeLemmas.{completed_same}
 use Rattle.following.specs.moments.KeyCalls.{part_at, at_key}
 use Rattle.following.specs.keys.Settling.{AreInTurn}
 use Rattle.following.specs.rows.Comparisons.{Comparison, class_of}
@@ -20,13 +18,8 @@ use Rattle.following.proofs.moments.DistinctLemmas.{InvocationsDiffer, order_fro
 use Rattle.following.proofs.moments.PartLemmas.{placed_at_key}
 use Rattle.following.proofs.rows.InTurnAlikeLemmas.{AreInTurnToo}
 use Rattle.following_reads.specs.Reads.{AreFixedUpToReads}
-use Rattle.following_reads.proofs.ImageLemmas.{back_image}
+use Rattle.following.proofs.rows.ImageLemmas.{back_image}
 use Rattle.following_reads.proofs.MoveLemmas.{placed_at, AreMoved, moved}
-
-completed_same : (r s : Option Response) → reply_in r ≡ reply_in s → is_some s ≡ true → is_some r ≡ true
-completed_same (Some r) s same h = refl
-completed_same None None same h = h
-completed_same None (Some s) same h = absurd (none-some s.reply same)
 
 module _ (key : ℕ) (comparisons : List Comparison) (some : List Operation) (differ : InvocationsDiffer some)
     (alone : (a : Operation) → Contains some a → precedes a a ≡ false) (fixed : AreFixedUpToReads comparisons key some)

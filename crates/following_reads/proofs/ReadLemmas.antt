@@ -1,39 +1,21 @@
 -- At its moment a scan is a get of a key. Beside it reads of what it was told may stand, and scans that were told the same.
 use Rattle.events.specs.declared.event.Reply.TheVariants as replies
-use Rattle.std.proofs.Common.{◌≡◌, ℕ, Option, Some, None, refl, sym, ap, ◌∙◌, subst, ⊎_elim}
+use Rattle.std.proofs.Common.{◌≡◌, ℕ, Option, Some, refl, sym, ap, ◌∙◌, subst}
 use Rattle.events.specs.declared.event.Call.TheVariants.{Get}
-use Rattle.events.specs.declared.event.Reply.{Reply}
 use Rattle.events.specs.declared.operation.Operation.{Operation}
 use Rattle.events.specs.declared.operation.Response.{Response}
-use Rattle.map_object.specs.MapObject.{Contents, value_at, value_reply, reply_to, IsLegalReply}
-use Rattle.map_object.proofs.TellLemmas.{value_answers, reply_to_told, whole_from_tells, after_reply-answer}
+use Rattle.map_object.specs.MapObject.{Contents, value_at, value_reply, IsLegalReply}
+use Rattle.map_object.proofs.TellLemmas.{value_answers, after_reply-answer}
 use Rattle.orders.specs.Orders.{after_call, IsLegalCall}
 use Rattle.segments.proofs.RangeLemmas.{IsInside, IsLegalCall-within}
-use Rattle.call_search.proofs.ReplyLemmas.{unchanged}
+use Rattle.quiet_cuts.proofs.ReplyLemmas.{unchanged}
 use Rattle.following.specs.moments.KeyCalls.{spread_response, spread_call, get_at}
 use Rattle.following.specs.keys.KeyStates.{one_key}
+use Rattle.following.proofs.moments.KeyLegalLemmas.{get_finds}
 use Rattle.following.proofs.moments.KindLemmas.{legal_spread, legal_unspread, after_spread}
 use Rattle.following.proofs.keys.BeginLemmas.{alone}
 use Rattle.following_reads.specs.Reads.{IsReadOf}
 use Rattle.following_reads.proofs.BesideLemmas.{IsQuiet, MayStandBeside}
-
--- the value that a reply tells
-abbrev value_told : Reply → Option ℕ
-value_told (replies.Some value) = Some value
-value_told reply = None
-
-told_value : (value : Option ℕ) → value_told (value_reply value) ≡ value
-told_value None = refl
-told_value (Some value) = refl
-
--- a legal get was told what the key holds
-get_finds : (m pairs : Contents) (key : ℕ) → IsLegalReply m (Get key) (value_reply (value_at pairs key)) → value_at pairs key ≡ value_at m key
-get_finds m pairs key legal = ⊎_elim
-    (λ refused. absurd (value_answers (value_at pairs key) refused))
-    (λ tells. let whole : value_reply (value_at pairs key) ≡ value_reply (value_at m key) =
-    whole_from_tells (Get key) (reply_to m (Get key)) (value_reply (value_at pairs key)) (reply_to_told pairs (Get key)) tells in
-    sym (told_value (value_at pairs key)) ∙ (ap value_told whole ∙ told_value (value_at m key)))
-    legal
 
 pub quiet_get : (key moment : ℕ) (pairs : Contents) → IsQuiet (get_at key moment pairs)
 quiet_get key moment pairs m rising legal =

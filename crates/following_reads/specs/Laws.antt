@@ -23,7 +23,8 @@ TwinsAreReads =
     (comparisons : List Comparison) (key : ℕ) (calls : List Operation) → AreFixedUpToTwins comparisons key calls
     → AreFixedUpToReads comparisons key calls
 
--- where comparisons fix a key up to reads, what is kept of it holds in all timings of their class at the key or in none
+-- where comparisons fix a key up to reads, what is kept of it holds in all timings of their class
+-- at the key or in none
 abbrev pub ReadTimingsHold : Type 0
 ReadTimingsHold = TimingsHoldUpTo IsReadOf
 
@@ -44,7 +45,8 @@ ReadRowsJudge =
     → IsTiming calls spread moment → class_of comparisons spread moment ≡ true
     → RowHolds calls (record { allows = class_of comparisons; states = states }) ↔ ((key : ℕ) → SomeHolds key spread moment calls (states key))
 
--- what a choice of such a key goes on to at a past moment, in one timing, it goes on to in all: open calls find the same
+-- what a choice of such a key goes on to at a past moment, in one timing, it goes on to in all:
+-- open calls find the same
 abbrev pub ReadChoicesGoOn : Type 0
 ReadChoicesGoOn = ChoicesGoOnUpTo IsReadOf
 
@@ -59,8 +61,8 @@ ReadTimingsSettle =
     → class_of comparisons other_spread other_moment ≡ true → SettlesIn (operations events) key spread moment ended begun k l
     → SettlesIn (operations events) key other_spread other_moment ended begun k l
 
--- so a key settles in a class, where some of its comparisons part the key at a moment and fix it up to reads, and one timing at it says what it
--- settles to
+-- so a key settles in a class, where some of its comparisons part the key at a moment and fix it up
+-- to reads, and one timing at it says what it settles to
 abbrev pub ReadKeysSettle : Type 0
 ReadKeysSettle =
     (start : Contents) (events : List Event) (kept others : List Comparison) (key : ℕ) (k l : KeyState) (place : ℕ) (ended begun : List ℕ)

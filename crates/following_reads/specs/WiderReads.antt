@@ -1,5 +1,6 @@
--- What a rule of calls beside scans has to keep, and wider rules, which do not keep it: of reads that are not legal at what the scan was told; of
--- calls that change nothing there, where their answers do not say so of all values; and of gets that are open.
+-- What a rule of calls beside scans has to keep, and wider rules, which do not keep it: of reads
+-- that are not legal at what the scan was told; of calls that change nothing there, where their
+-- answers do not say so of all values; and of gets that are open.
 use Rattle.std.specs.Prelude.{◌≡◌, ℕ, true, List, Some, None, Contains}
 use Rattle.events.specs.declared.event.Call.TheVariants.{Get}
 use Rattle.events.specs.declared.operation.Operation.{Operation}
@@ -8,7 +9,7 @@ use Rattle.events.specs.Precedence.{NonePrecedesItself}
 use Rattle.orders.specs.Orders.{after_call, IsLegalCall}
 use Rattle.quiet_cuts.specs.Cells.{calls_left}
 use Rattle.quiet_cuts.specs.TimeCuts.{InvocationsRise}
-use Rattle.call_search.specs.Replies.{says_unchanged}
+use Rattle.quiet_cuts.specs.Replies.{says_unchanged}
 use Rattle.following.specs.keys.KeyStates.{one_key, KeyState, SomeHolds}
 use Rattle.following.specs.keys.Choices.{Choice}
 use Rattle.following.specs.keys.Settling.{GoesOn}
@@ -16,7 +17,8 @@ use Rattle.following.specs.rows.Comparisons.{Comparison, class_of}
 use Rattle.following.specs.rows.Twins.{IsTimingAt}
 use Rattle.following_reads.specs.Reads.{Rule, AreFixedUpTo}
 
--- that what is kept of a key which comparisons fix up to the calls of a rule holds in all timings of their class at the key or in none
+-- that what is kept of a key which comparisons fix up to the calls of a rule holds in all timings
+-- of their class at the key or in none
 abbrev pub TimingsHoldUpTo : Rule → Type 0
 TimingsHoldUpTo Is =
     (calls : List Operation) (comparisons : List Comparison) (key : ℕ) (k : KeyState) (spread moment other_spread other_moment : ℕ → ℕ)
@@ -39,7 +41,8 @@ ChoicesGoOnUpTo Is =
 abbrev pub IsAnyRead : Rule
 IsAnyRead key value b = (r : Response) × (b.response ≡ Some r) × (says_unchanged b.call r.reply ≡ true)
 
--- a call is legal where the key holds this, and changes nothing there: its answer need not say so, and it may be open
+-- a call is legal where the key holds this, and changes nothing there: its answer need not say so,
+-- and it may be open
 abbrev pub IsUnchangedAt : Rule
 IsUnchangedAt key value b =
     IsLegalCall (one_key key value) b.call b.response × (after_call (one_key key value) b.call b.response ≡ one_key key value)

@@ -1,5 +1,6 @@
-//! A completed call beside a scan whose answer says that it changes nothing, and that is legal at what the scan was told of its key: a read of that.
-//! It may stand on either side of the scan, so a class of timings need not part them. Laws alone.
+//! A completed call beside a scan whose answer says that it changes nothing, and that is legal at
+//! what the scan was told of its key: a read of that. It may stand on either side of the scan, so a
+//! class of timings need not part them. Laws alone.
 #![tactic(auto)]
 
 mod laws;

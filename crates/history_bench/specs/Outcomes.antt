@@ -3,14 +3,14 @@ use Rattle.std.specs.Prelude.{⊤, ℕ, List, codes}
 use Rattle.clap.specs.Words.{Text}
 use Rattle.command_line.specs.declared.line.Line.{Line}
 use Rattle.command_line.specs.declared.line.Line.TheVariants.{Check, Judge}
-use Rattle.outcomes.specs.declared.outcome.Outcome.{Outcome}
+use Rattle.outcomes.specs.declared.outcome.RunOutcome.{RunOutcome}
 use Rattle.outcomes.specs.Ends.{Change}
 use Rattle.outcomes.specs.Lines.{line}
 use Rattle.history_engines.specs.Outcomes.{IsCheckOutcome, IsJudgeOutcome}
 use Rattle.line_outcomes.specs.Outcomes.{IsPartOutcome}
 
 -- the outcome of what a line asks of a history; of another line none
-abbrev pub IsHistoryLineOutcome : Line → Change → Outcome → Type 0
+abbrev pub IsHistoryLineOutcome : Line → Change → RunOutcome → Type 0
 IsHistoryLineOutcome (Check order) source outcome = IsCheckOutcome order.items source outcome
 IsHistoryLineOutcome (Judge budget workers) source outcome = IsJudgeOutcome budget source outcome
 IsHistoryLineOutcome other source outcome = ⊥
@@ -26,5 +26,5 @@ abbrev pub elsewhere_line : List ℕ
 elsewhere_line = line (codes "error: this program checks and judges alone")
 
 -- the outcome of a run with these words
-abbrev pub IsHistoryWordsOutcome : List Text → Change → Outcome → Type 0
+abbrev pub IsHistoryWordsOutcome : List Text → Change → RunOutcome → Type 0
 IsHistoryWordsOutcome words source outcome = IsPartOutcome IsHistoryLineOutcome IsElsewhere elsewhere_line words source outcome

@@ -12,7 +12,7 @@ use command_line::Line;
 use events::History;
 use history_engines::{run_check, run_judge};
 use judge::{ByCalls, judge};
-use line_outcomes::{asked_line, elsewhere};
+use line_outcomes::{asked_line, elsewhere_outcome};
 use outcomes::write_outcome;
 use pool::OpenGate;
 use std::alloc::Global;
@@ -62,7 +62,7 @@ pub fn run<R: Threads + Sync, S: Source, O: Sink, F: Sink, H: Sink>(
             run_judge(alloc, source, output, faults, hints, &judge)
         }
         _ => {
-            let outcome = elsewhere(alloc, "error: this program checks and judges alone\n");
+            let outcome = elsewhere_outcome(alloc, "error: this program checks and judges alone\n");
             write_outcome(output, faults, hints, &outcome)
         }
     }

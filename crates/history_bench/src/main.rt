@@ -9,7 +9,7 @@ mod command;
 
 use command::run;
 use line_outcomes::{texts_of, words_of};
-use outcomes::{Outcome, write_outcome};
+use outcomes::{RunOutcome, write_outcome};
 use std::process::ExitCode;
 use streams::{StandardError, StandardInput, StandardOutput, terminal_of};
 
@@ -35,7 +35,7 @@ fn main(rt: HostRuntime) -> ExitCode {
             &mut hints,
             &texts,
         ),
-        Err(_) => write_outcome(&mut output, &mut faults, &mut hints, &Outcome::Memory),
+        Err(_) => write_outcome(&mut output, &mut faults, &mut hints, &RunOutcome::Memory),
     };
     ExitCode::from(status)
 }

@@ -6,7 +6,7 @@ use Rattle.events.specs.Histories.{IsHistory}
 use Rattle.events.specs.HistoryView.{HistoryView}
 use Rattle.history_text.specs.Texts.{Spells}
 use Rattle.judge.specs.Gates.{HoldsForText}
-use Rattle.outcomes.specs.declared.outcome.Outcome.{Outcome}
+use Rattle.outcomes.specs.declared.outcome.RunOutcome.{RunOutcome}
 use Rattle.outcomes.specs.Outcomes.{OnAnswered}
 use Rattle.outcomes.proofs.Reading.{OnAnswered-map, ok-holds}
 use Rattle.outcomes.proofs.WholeText.{same_text}
@@ -16,7 +16,7 @@ module _ (Holds : HistoryView → Type 0) where
   held-whole text h = subst (HoldsForText Holds) (same_text text_limit text h.spelled.json.fits) h
 
   -- of the text of a history, where an answer came of an Ok
-  pub held-text : {T E : Type 0} (text : List ℕ) (history : HistoryView) (found : Result T E) (outcome : Outcome) → Spells text history
+  pub held-text : {T E : Type 0} (text : List ℕ) (history : HistoryView) (found : Result T E) (outcome : RunOutcome) → Spells text history
       → IsHistory history → OnOk found (Holds history) → OnAnswered outcome (IsOk found)
       → OnAnswered outcome (HoldsForText Holds text)
   held-text text history found outcome spelled is_history held answered =

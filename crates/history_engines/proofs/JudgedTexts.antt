@@ -8,8 +8,8 @@ use Rattle.judge.specs.Exact.{IsExactVerdict}
 use Rattle.judge.specs.Reports.{verdict_data}
 use Rattle.judge.specs.Shown.{IsShown}
 use Rattle.outcomes.specs.declared.outcome.Answer.{Answer}
-use Rattle.outcomes.specs.declared.outcome.Outcome.{Outcome}
-use Rattle.outcomes.specs.declared.outcome.Outcome.TheVariants.{Answered, Noted, Refused, Memory, Words, Failed}
+use Rattle.outcomes.specs.declared.outcome.RunOutcome.{RunOutcome}
+use Rattle.outcomes.specs.declared.outcome.RunOutcome.TheVariants.{Answered, Noted, Refused, Memory, Words, Failed}
 use Rattle.outcomes.specs.Lines.{line}
 use Rattle.answer_hints.specs.Hints.{verdict_hint}
 use Rattle.answer_hints.specs.Outcomes.{IsHintedBy, IsHintedOutcome}
@@ -40,7 +40,7 @@ module _ (budget : ℕ) (text : List ℕ) (history : HistoryView) (verdict : Ver
     hint_is = hint_is ∙ ap (λ (a : Answer). verdict_hint a history.events) (sym is);
   }
 
-  pub judged-hinted : (outcome : Outcome) → IsHintedBy (answer_of verdict) (line report) (verdict_hint (answer_of verdict) history.events) outcome
+  pub judged-hinted : (outcome : RunOutcome) → IsHintedBy (answer_of verdict) (line report) (verdict_hint (answer_of verdict) history.events) outcome
       → IsHintedOutcome (IsHintedJudgeAnswer budget) IsHistoryRefusal (Some text) outcome
   judged-hinted (Answered answer bytes) h = answered answer (string_bytes bytes) [] h.0 h.1 (sym h.2)
   judged-hinted (Noted answer bytes note) h = answered answer (string_bytes bytes) (string_bytes note) h.0 h.1 h.2

@@ -1,15 +1,15 @@
 -- How a run on the text of a history comes out.
 use Rattle.std.specs.Prelude.{ℕ, List}
-use Rattle.outcomes.specs.declared.outcome.Outcome.{Outcome}
+use Rattle.outcomes.specs.declared.outcome.RunOutcome.{RunOutcome}
 use Rattle.outcomes.specs.Ends.{Change}
 use Rattle.outcomes.specs.Outcomes.{IsReadOutcome}
 use Rattle.answer_hints.specs.Outcomes.{IsHintedRead}
 use Rattle.history_engines.specs.Answers.{IsHistoryRefusal, IsCheckAnswer, IsHintedJudgeAnswer}
 
 -- the outcome of `check` with this order
-abbrev pub IsCheckOutcome : List ℕ → Change → Outcome → Type 0
+abbrev pub IsCheckOutcome : List ℕ → Change → RunOutcome → Type 0
 IsCheckOutcome order source outcome = IsReadOutcome (IsCheckAnswer order) IsHistoryRefusal source outcome
 
 -- the outcome of `judge` at this budget, with the hint on its answer
-abbrev pub IsJudgeOutcome : ℕ → Change → Outcome → Type 0
+abbrev pub IsJudgeOutcome : ℕ → Change → RunOutcome → Type 0
 IsJudgeOutcome budget source outcome = IsHintedRead (IsHintedJudgeAnswer budget) IsHistoryRefusal source outcome

@@ -1,4 +1,5 @@
--- What is told of a text that spells no history: its first fault, what stands there, and what was wanted.
+-- What is told of a text that spells no history: its first fault, what stands there, and what was
+-- wanted.
 use Rattle.std.specs.Prelude.{◌≡◌, ◌≢◌, ◌⊎◌, ⊤, ℕ, ◌==◌, if◌then◌else◌, false, List, [], ◌∷◌, Option, Some, None, option_and_then, codes}
 use Rattle.std.specs.Prelude.{string_bytes}
 use Rattle.serde_json.specs.Data.{Data}
@@ -10,8 +11,8 @@ use Rattle.events.specs.declared.fault.HistoryFault.TheVariants as histories
 use Rattle.stream_text.specs.Cuts.{line_feed}
 use Rattle.stream_text.specs.Lines.{SpellsFirst}
 use Rattle.stream_text.specs.declared.event.FirstLine.{FirstLine}
-use Rattle.outcomes.specs.declared.outcome.Outcome.{Outcome}
-use Rattle.outcomes.specs.declared.outcome.Outcome.TheVariants.{Refused, Memory}
+use Rattle.outcomes.specs.declared.outcome.RunOutcome.{RunOutcome}
+use Rattle.outcomes.specs.declared.outcome.RunOutcome.TheVariants.{Refused, Memory}
 use Rattle.outcomes.specs.Lines.{history_fault_line}
 use Rattle.outcomes.specs.Found.{found_hint}
 use Rattle.outcomes.specs.Wanted.{history_wanted, wanted_hint}
@@ -35,7 +36,8 @@ found_in text histories.Version = None
 found_in text histories.TooMany = None
 found_in text histories.Memory = None
 
--- the text of a value: with its members and items each once and in order, and without spaces; the digits of a float are not told
+-- the text of a value: with its members and items each once and in order, and without spaces; the
+-- digits of a float are not told
 pub record IsTextOfValue (d : Data) (text : List ℕ) : Type 0 where
   pub compact : has_float d ≡ false → text ≡ compact_text d
   pub in_order : IsInOrder text d
@@ -77,7 +79,7 @@ IsToldFault text fault bytes hint = (found : Option (List ℕ)) × IsTextOfFound
     × (bytes ≡ history_fault_line fault) × IsFaultHint text fault found hint
 
 -- the outcome of a text with this fault
-abbrev pub IsRefusedText : List ℕ → HistoryFault → Outcome → Type 0
+abbrev pub IsRefusedText : List ℕ → HistoryFault → RunOutcome → Type 0
 IsRefusedText text fault (Refused bytes hint) = (fault ≢ histories.Memory) × IsToldFault text fault (string_bytes bytes) (string_bytes hint)
 IsRefusedText text fault Memory = ⊤
 IsRefusedText text fault outcome = ⊥

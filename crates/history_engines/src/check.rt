@@ -11,12 +11,12 @@ ghost use Rattle.outcomes.specs.Runs.{IsRun};
 use crate::refusals::refused_text;
 use certificate::check;
 use history_text::{MAX_TEXT, read_history};
-use outcomes::{Answer, Outcome, text_from, write_outcome};
+use outcomes::{Answer, RunOutcome, run_text};
 use std::alloc::Global;
 use streams::{Sink, Source};
 
-/// Reads a history text to the end of the source, or until it is too long, and tests whether the numbers
-/// are an order of its calls. Answers the exit status.
+/// Reads a history text to the end of the source, or until it is too long, and tests whether the
+/// numbers are an order of its calls. Answers the exit status.
 pub fn run_check<S: Source, O: Sink, F: Sink, H: Sink>(
     alloc: Global,
     source: &mut S,
@@ -34,16 +34,16 @@ pub fn run_check<S: Source, O: Sink, F: Sink, H: Sink>(
         (change O.written O.failures output.old output.new)
         (change F.written F.failures faults.old faults.new)
         (change H.written H.failures hints.old hints.new) result }
-    ensures read { IsTextRead text_limit (change S.remaining S.failures source.old source.new) result }
+    ensures read { IsTextRead text_limit (change S.remaining S.failures source.old source.new)
+        result }
 {
-    match text_from(alloc, source, MAX_TEXT) {
-        Ok(text) => write_outcome(output, faults, hints, &check_outcome(alloc, &text, order)),
-        Err(outcome) => write_outcome(output, faults, hints, &outcome),
-    }
+    let answer = |text: &[u8]| check_outcome(alloc, text, order);
+    run_text(alloc, source, output, faults, hints, MAX_TEXT, answer)
 }
 
-/// Whether the numbers are an order of the calls of the history that the text spells: yes, or the first fault.
-pub fn check_outcome(alloc: Global, text: &[u8], order: &[u32]) -> Outcome
+/// Whether the numbers are an order of the calls of the history that the text spells: yes, or the
+/// first fault.
+pub fn check_outcome(alloc: Global, text: &[u8], order: &[u32]) -> RunOutcome
     ensures { IsTextOutcome (IsCheckAnswer order.now) IsHistoryRefusal (Some text.now) result }
 {
     let history = match read_history(alloc, text) {
@@ -51,7 +51,7 @@ pub fn check_outcome(alloc: Global, text: &[u8], order: &[u32]) -> Outcome
         Err(fault) => return refused_text(alloc, text, &fault),
     };
     match check(alloc, &history, order) {
-        Ok(()) => Outcome::answered(Answer::Yes, String::from_str(alloc, "ok\n")),
-        Err(fault) => Outcome::of_order_fault(alloc, &fault),
+        Ok(()) => RunOutcome::from_answer(Answer::Yes, String::from_str(alloc, "ok\n")),
+        Err(fault) => RunOutcome::of_order_fault(alloc, &fault),
     }
 }

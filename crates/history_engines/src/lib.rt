@@ -1,4 +1,5 @@
-//! The engines on the text of a history, over any source and sinks: whether calls are an order of it, and its verdict.
+//! The engines on the text of a history, over any source and sinks: whether calls are an order of
+//! it, and its verdict.
 #![tactic(auto)]
 
 mod check;

@@ -10,34 +10,40 @@ ghost use Rattle.history_engines.specs.Refusals.{first_line, stream_elsewhere, B
 
 use events::{HistoryFault, Memory};
 use history_text::{JsonFault, json_of};
-use outcomes::{Outcome, found_hint, history_fault_line, history_wanted, wanted_hint};
+use outcomes::{RunOutcome, found_hint, history_fault_line, history_wanted, wanted_hint};
 use serde_json::Value;
 use std::alloc::{AllocError, Global};
 use stream_text::{LineFault, first_line_feed, read_first_line};
 
-/// The refusal of a text that spells no history, for its first fault, or want of memory. A text with a faulty event or starting pair
-/// is read once more, and of one that is no JSON the first line.
-pub fn refused_text(alloc: Global, text: &[u8], fault: &HistoryFault) -> Outcome
+/// The refusal of a text that spells no history, for its first fault, or want of memory. A text
+/// with a faulty event or starting pair is read once more, and of one that is no JSON the first
+/// line.
+pub fn refused_text(alloc: Global, text: &[u8], fault: &HistoryFault) -> RunOutcome
     ensures { IsTextFault text.now fault.now → IsRefusedText text.now fault.now result }
 {
     if matches!(fault, HistoryFault::Memory) {
-        return Outcome::Memory;
+        return RunOutcome::Memory;
     }
     match found_in(alloc, text, fault) {
         Ok(found) => refused_as(alloc, text, fault, &found),
-        Err(_) => Outcome::Memory,
+        Err(_) => RunOutcome::Memory,
     }
 }
 
 /// The refusal, with the text of what stands in the place of the fault.
-fn refused_as(alloc: Global, text: &[u8], fault: &HistoryFault, found: &Option<String>) -> Outcome
+fn refused_as(
+    alloc: Global,
+    text: &[u8],
+    fault: &HistoryFault,
+    found: &Option<String>,
+) -> RunOutcome
     requires { fault.now ≢ histories.Memory }
     ensures { IsTextOfFound (found_in text.now fault.now) (option_map string_bytes found.now)
         → IsRefusedText text.now fault.now result }
 {
     match hint_on(alloc, text, fault, found) {
-        Ok(hint) => Outcome::refused(history_fault_line(alloc, fault), Ok(hint)),
-        Err(_) => Outcome::Memory,
+        Ok(hint) => RunOutcome::from_refusal(history_fault_line(alloc, fault), Ok(hint)),
+        Err(_) => RunOutcome::Memory,
     }
 }
 
@@ -48,7 +54,8 @@ fn hint_on(
     fault: &HistoryFault,
     found: &Option<String>,
 ) -> Result<String, Memory>
-    ensures { IfOk result (λ hint. IsFaultHint text.now fault.now (option_map string_bytes found.now) (string_bytes hint)) }
+    ensures { IfOk result (λ hint. IsFaultHint text.now fault.now
+        (option_map string_bytes found.now) (string_bytes hint)) }
 {
     match fault {
         HistoryFault::NotJson => no_json_hint(alloc, text, found),
@@ -58,7 +65,8 @@ fn hint_on(
 
 /// The hint on a text that is no JSON.
 fn no_json_hint(alloc: Global, text: &[u8], found: &Option<String>) -> Result<String, Memory>
-    ensures { IfOk result (λ hint. IsFaultHint text.now histories.NotJson (option_map string_bytes found.now) (string_bytes hint)) }
+    ensures { IfOk result (λ hint. IsFaultHint text.now histories.NotJson
+        (option_map string_bytes found.now) (string_bytes hint)) }
 {
     if begins_stream(alloc, text)? {
         Ok(wanted_hint(alloc, stream_elsewhere())?)
@@ -105,7 +113,8 @@ fn fault_hint(
     fault: &HistoryFault,
     found: &Option<String>,
 ) -> Result<String, AllocError>
-    ensures { IfOk result (λ hint. string_bytes hint ≡ fault_hint fault.now (option_map string_bytes found.now)) }
+    ensures { IfOk result (λ hint. string_bytes hint ≡ fault_hint fault.now
+        (option_map string_bytes found.now)) }
 {
     match found {
         Some(text) => found_hint(alloc, text.as_bytes(), history_wanted(fault)),
@@ -116,7 +125,8 @@ fn fault_hint(
 /// The text of what stands in the place that a fault names.
 fn found_in(alloc: Global, text: &[u8], fault: &HistoryFault) -> Result<Option<String>, Memory>
     ensures { IsTextFault text.now fault.now
-        → IfOk result (λ found. IsTextOfFound (found_in text.now fault.now) (option_map string_bytes found)) }
+        → IfOk result (λ found. IsTextOfFound (found_in text.now fault.now)
+        (option_map string_bytes found)) }
 {
     match fault {
         HistoryFault::Shape { event } => item_in(alloc, text, "events", *event),
@@ -129,7 +139,8 @@ fn found_in(alloc: Global, text: &[u8], fault: &HistoryFault) -> Result<Option<S
 /// The text of an item of an array in a text's value.
 fn item_in(alloc: Global, text: &[u8], name: &str, place: usize) -> Result<Option<String>, Memory>
     ensures { (d : Data) → IsJson text.now d
-        → IfOk result (λ found. IsTextOfFound (item_in name.now place text.now) (option_map string_bytes found)) }
+        → IfOk result (λ found. IsTextOfFound (item_in name.now place text.now)
+        (option_map string_bytes found)) }
 {
     match json_of(alloc, text) {
         Ok(value) => item_of(alloc, &value, name, place),
@@ -140,7 +151,8 @@ fn item_in(alloc: Global, text: &[u8], name: &str, place: usize) -> Result<Optio
 
 /// The text of an item of an array in a value.
 fn item_of(alloc: Global, value: &Value, name: &str, place: usize) -> Result<Option<String>, Memory>
-    ensures { IfOk result (λ found. IsTextOfFound (item_of name.now place (view value.now)) (option_map string_bytes found)) }
+    ensures { IfOk result (λ found. IsTextOfFound (item_of name.now place (view value.now))
+        (option_map string_bytes found)) }
 {
     let Some(items) = value.get(name) else {
         return Ok(None);

@@ -20,11 +20,12 @@ use answer_hints::{hinted_no, hinted_undecided, hinted_yes, overlap_of};
 use events::{History, Memory};
 use history_text::{MAX_TEXT, read_history};
 use judge::{Judge, Verdict, report};
-use outcomes::{Answer, Outcome, line_of, text_from, write_outcome};
+use outcomes::{Answer, RunOutcome, line_of, run_text};
 use std::alloc::{AllocError, Global};
 use streams::{Sink, Source};
 
-/// Reads a history text to the end of the source, or until it is too long, and has it judged. Answers the exit status.
+/// Reads a history text to the end of the source, or until it is too long, and has it judged.
+/// Answers the exit status.
 pub fn run_judge<S: Source, O: Sink, F: Sink, H: Sink, J: Judge>(
     alloc: Global,
     source: &mut S,
@@ -43,22 +44,23 @@ pub fn run_judge<S: Source, O: Sink, F: Sink, H: Sink, J: Judge>(
         (change O.written O.failures output.old output.new)
         (change F.written F.failures faults.old faults.new)
         (change H.written H.failures hints.old hints.new) result }
-    ensures read { IsTextRead text_limit (change S.remaining S.failures source.old source.new) result }
-    ensures asked { OnAnswerStatus result (IfSome (S.remaining source.old) (HoldsForText (J.was_asked judge.now))) }
+    ensures read { IsTextRead text_limit (change S.remaining S.failures source.old source.new)
+        result }
+    ensures asked { OnAnswerStatus result
+        (IfSome (S.remaining source.old) (HoldsForText (J.was_asked judge.now))) }
 {
-    match text_from(alloc, source, MAX_TEXT) {
-        Ok(text) => {
-            let outcome = judge_outcome(alloc, &text, judge);
-            write_outcome(output, faults, hints, &outcome)
-        }
-        Err(outcome) => write_outcome(output, faults, hints, &outcome),
-    }
+    let answer = |text: &[u8]|
+        requires { J.ready judge.now }
+    { judge_outcome(alloc, text, judge) };
+    run_text(alloc, source, output, faults, hints, MAX_TEXT, answer)
 }
 
-/// The verdict on the history that the text spells, as its report, with a hint on it, where it has one.
-pub fn judge_outcome<J: Judge>(alloc: Global, text: &[u8], judge: &J) -> Outcome
+/// The verdict on the history that the text spells, as its report, with a hint on it, where it has
+/// one.
+pub fn judge_outcome<J: Judge>(alloc: Global, text: &[u8], judge: &J) -> RunOutcome
     requires { J.ready judge.now }
-    ensures outcome { IsHintedOutcome (IsHintedJudgeAnswer (J.budget judge.now)) IsHistoryRefusal (Some text.now) result }
+    ensures outcome { IsHintedOutcome (IsHintedJudgeAnswer (J.budget judge.now)) IsHistoryRefusal
+        (Some text.now) result }
     ensures asked { OnAnswered result (HoldsForText (J.was_asked judge.now) text.now) }
 {
     match read_history(alloc, text) {
@@ -71,7 +73,11 @@ pub fn judge_outcome<J: Judge>(alloc: Global, text: &[u8], judge: &J) -> Outcome
 }
 
 /// How a verdict on a history comes out, or want of memory for it.
-fn hinted_outcome_of(alloc: Global, history: &History, judged: Result<Verdict, Memory>) -> Outcome
+fn hinted_outcome_of(
+    alloc: Global,
+    history: &History,
+    judged: Result<Verdict, Memory>,
+) -> RunOutcome
     ensures outcome { (budget : ℕ) (text : List ℕ) → IsTextOf text history.now
         → IfOk judged (IsShown history.now.start budget (operations history.now.events))
         → IfOk judged (IsExactVerdict history.now.start budget (operations history.now.events))
@@ -79,23 +85,24 @@ fn hinted_outcome_of(alloc: Global, history: &History, judged: Result<Verdict, M
     ensures answered { OnAnswered result (IsOk judged) }
 {
     let Ok(verdict) = judged else {
-        return Outcome::Memory;
+        return RunOutcome::Memory;
     };
     match report(alloc, &verdict) {
-        Ok(report) => hinted(alloc, history, &verdict, line_of(report)),
-        Err(_) => Outcome::Memory,
+        Ok(report) => outcome_with_hint(alloc, history, &verdict, line_of(report)),
+        Err(_) => RunOutcome::Memory,
     }
 }
 
 /// The answer that a verdict on a history is, with this line, and with its hint.
-fn hinted(
+fn outcome_with_hint(
     alloc: Global,
     history: &History,
     verdict: &Verdict,
     line: Result<String, AllocError>,
-) -> Outcome
+) -> RunOutcome
     ensures { (bytes : List ℕ) → IfOk line (λ text. string_bytes text ≡ bytes)
-        → IsHintedBy (answer_of verdict.now) bytes (verdict_hint (answer_of verdict.now) history.now.events) result }
+        → IsHintedBy (answer_of verdict.now) bytes
+        (verdict_hint (answer_of verdict.now) history.now.events) result }
 {
     match verdict {
         Verdict::Yes(_) => hinted_yes(

@@ -24,9 +24,9 @@ IsBeyond budget segment = ReachesMoreThan segment.start segment.calls budget
 abbrev pub IsUnrefuted : ℕ → SegmentView → Type 0
 IsUnrefuted budget segment = HasOrder segment ⊎ IsBeyond budget segment
 
--- yes: an order of the whole history, with all completed and some pending calls, that keeps each response-before-invocation pair and in
--- which a sorted list
--- used alone gives every recorded reply; it merges orders of the segments
+-- yes: an order of the whole history, with all completed and some pending calls, that keeps each
+-- response-before-invocation pair and in which a sorted list used alone gives every recorded reply;
+-- it merges orders of the segments
 pub record ShowsYes (start : Contents) (calls : List Operation) (order : List ℕ) : Type 0 where
   pub segments : List SegmentView
   pub orders : List (List ℕ)

@@ -42,7 +42,7 @@ pub(crate) fn conclude(
     if let Some(place) = first_spent(&answers) {
         return Ok(Verdict::Undecided(segment_at(segments, place)));
     }
-    Ok(Verdict::Yes(merged(alloc, history, answers)?))
+    Ok(Verdict::Yes(merge_answers(alloc, history, answers)?))
 }
 
 /// The place of the first answer that there is no order.
@@ -80,7 +80,7 @@ fn segment_at(mut segments: Vec<Segment>, place: usize) -> Segment
 }
 
 /// The merged order of the orders among the answers.
-fn merged(alloc: Global, history: &History, answers: Vec<Found>) -> Result<Vec<u32>, Memory>
+fn merge_answers(alloc: Global, history: &History, answers: Vec<Found>) -> Result<Vec<u32>, Memory>
     requires { AreOrdersOfSegments history.now.start (operations history.now.events) (orders_in answers.items) }
     ensures merged { IfOk result (λ v. IsMergedOrder (operations history.now.events) (orders_in answers.items) v.items) }
     ensures order { IfOk result (λ v. IsOrderOfHistory history.now v.items) }

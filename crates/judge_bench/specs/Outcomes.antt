@@ -1,11 +1,11 @@
 -- How a run comes out, for the words of the command line and the text on the source.
 use Rattle.std.specs.Prelude.{List}
 use Rattle.clap.specs.Words.{Text}
-use Rattle.outcomes.specs.declared.outcome.Outcome.{Outcome}
+use Rattle.outcomes.specs.declared.outcome.RunOutcome.{RunOutcome}
 use Rattle.outcomes.specs.Ends.{Change}
 use Rattle.line_outcomes.specs.Outcomes.{IsPartOutcome}
 use Rattle.judge_lines.specs.Outcomes.{AsksForTrees, IsJudgeLineOutcome, no_trees_line}
 
 -- the outcome of a run with these words
-abbrev pub IsJudgeWordsOutcome : List Text → Change → Outcome → Type 0
+abbrev pub IsJudgeWordsOutcome : List Text → Change → RunOutcome → Type 0
 IsJudgeWordsOutcome words source outcome = IsPartOutcome IsJudgeLineOutcome AsksForTrees no_trees_line words source outcome

@@ -10,7 +10,7 @@ mod command;
 use command::run;
 use judge_lines::TerminalProgress;
 use line_outcomes::{texts_of, words_of};
-use outcomes::{Outcome, write_outcome};
+use outcomes::{RunOutcome, write_outcome};
 use std::process::ExitCode;
 use streams::{StandardError, StandardInput, StandardOutput, terminal_of};
 
@@ -38,7 +38,7 @@ fn main(rt: HostRuntime) -> ExitCode {
             &texts,
             &mut progress,
         ),
-        Err(_) => write_outcome(&mut output, &mut faults, &mut hints, &Outcome::Memory),
+        Err(_) => write_outcome(&mut output, &mut faults, &mut hints, &RunOutcome::Memory),
     };
     ExitCode::from(status)
 }

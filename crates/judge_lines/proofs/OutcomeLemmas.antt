@@ -3,7 +3,7 @@ use Rattle.std.proofs.Common.{List}
 use Rattle.clap.specs.Words.{Text}
 use Rattle.command_line.specs.declared.line.Line.{Line}
 use Rattle.command_line.specs.declared.line.Line.TheVariants.{Check, Judge, Locate, Explain, Draw, Follow, Generate, Replay, Drive}
-use Rattle.outcomes.specs.declared.outcome.Outcome.{Outcome}
+use Rattle.outcomes.specs.declared.outcome.RunOutcome.{RunOutcome}
 use Rattle.outcomes.specs.Ends.{Change}
 use Rattle.history_engines.specs.Answers.{IsCheckAnswer, IsHistoryRefusal, IsHintedJudgeAnswer}
 use Rattle.location_engines.specs.Answers.{IsLocateAnswer}
@@ -15,7 +15,7 @@ use Rattle.line_outcomes.proofs.OutcomeLemmas.{read-words, hinted-words}
 use Rattle.judge_lines.specs.Outcomes.{AsksForTrees, IsJudgeLineOutcome}
 
 -- of any line that asks for neither a plan nor a tree
-pub judged-words : (L : Line → Change → Outcome → Type 0) (line : Line) (words : List Text) (source : Change) (outcome : Outcome)
+pub judged-words : (L : Line → Change → RunOutcome → Type 0) (line : Line) (words : List Text) (source : Change) (outcome : RunOutcome)
     → ¬ (AsksForTrees line) → (IsJudgeLineOutcome line source outcome → IsAskedOutcome L words source outcome)
     → IsJudgeLineOutcome line source outcome → IsWordsOutcome L words source outcome
 judged-words L (Check order) words source outcome here ask comes =

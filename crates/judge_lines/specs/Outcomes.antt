@@ -2,7 +2,7 @@
 use Rattle.std.specs.Prelude.{⊤, ℕ, List, codes}
 use Rattle.command_line.specs.declared.line.Line.{Line}
 use Rattle.command_line.specs.declared.line.Line.TheVariants.{Check, Judge, Locate, Explain, Draw, Follow}
-use Rattle.outcomes.specs.declared.outcome.Outcome.{Outcome}
+use Rattle.outcomes.specs.declared.outcome.RunOutcome.{RunOutcome}
 use Rattle.outcomes.specs.Ends.{Change, IsUnused}
 use Rattle.outcomes.specs.Lines.{line}
 use Rattle.history_engines.specs.Outcomes.{IsCheckOutcome, IsJudgeOutcome}
@@ -26,8 +26,9 @@ AsksForTrees other = ⊤
 abbrev pub no_trees_line : List ℕ
 no_trees_line = line (codes "error: this program has no plans and no trees")
 
--- the outcome of what a line asks of a history or of a stream, whatever the number of workers; another is told that it has nothing here
-abbrev pub IsJudgeLineOutcome : Line → Change → Outcome → Type 0
+-- the outcome of what a line asks of a history or of a stream, whatever the number of workers;
+-- another is told that it has nothing here
+abbrev pub IsJudgeLineOutcome : Line → Change → RunOutcome → Type 0
 IsJudgeLineOutcome (Check order) source outcome = IsCheckOutcome order.items source outcome
 IsJudgeLineOutcome (Judge budget workers) source outcome = IsJudgeOutcome budget source outcome
 IsJudgeLineOutcome (Locate budget) source outcome = IsLocateOutcome budget source outcome

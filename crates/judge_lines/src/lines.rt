@@ -13,7 +13,7 @@ use events::History;
 use explain_engines::run_explain;
 use history_engines::{run_check, run_judge};
 use judge::{ByCalls, judge};
-use line_outcomes::elsewhere;
+use line_outcomes::elsewhere_outcome;
 use location_engines::run_locate;
 use outcomes::write_outcome;
 use picture_engines::{View, run_draw};
@@ -23,9 +23,9 @@ use std::thread::Threads;
 use stream_engines::{Progress, run_follow};
 use streams::{Sink, Source};
 
-/// Does what a line asks of a history or of a stream, and answers the exit status; a line that asks for a plan or a tree is told that it
-/// has none here. Its numbers are within their limits. Nothing stops workers before a segment that they search; how far a stream was
-/// followed is shown.
+/// Does what a line asks of a history or of a stream, and answers the exit status; a line that asks
+/// for a plan or a tree is told that it has none here. Its numbers are within their limits. Nothing
+/// stops workers before a segment that they search; how far a stream was followed is shown.
 pub fn run_line<R: Threads + Sync, S: Source, O: Sink, F: Sink, H: Sink, P: Progress>(
     rt: &R,
     alloc: Global,
@@ -86,7 +86,10 @@ pub fn run_line<R: Threads + Sync, S: Source, O: Sink, F: Sink, H: Sink, P: Prog
             alloc, source, output, faults, hints, budget, progress,
         ),
         _ => {
-            let outcome = elsewhere(alloc, "error: this program has no plans and no trees\n");
+            let outcome = elsewhere_outcome(
+                alloc,
+                "error: this program has no plans and no trees\n",
+            );
             write_outcome(output, faults, hints, &outcome)
         }
     }

@@ -4,7 +4,8 @@ use std::io::{IsTerminal, Stderr, Write};
 use std::time::{Clock, Instant};
 use stream_engines::Progress;
 
-/// Tells on standard error, where that is a terminal, each second how many calls were taken, and how many a second since it last told so.
+/// Tells on standard error, where that is a terminal, each second how many calls were taken, and
+/// how many a second since it last told so.
 #[derive(Drop)]
 pub struct TerminalProgress<'a, R> {
     rt: &'a R,

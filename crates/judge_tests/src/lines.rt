@@ -1,10 +1,10 @@
-// Sources that are cut at their line feeds, wherever a read of them ends or fails, lines that events are written as, and a history.
-ghost use Rattle.std.specs.Prelude.{◌≡◌, ◌<◌, IfOk};
+// Sources that are cut at their line feeds, wherever a read of them ends or fails, lines that events are read from, and a history.
+ghost use Rattle.std.specs.Prelude.{◌≡◌, ◌<◌};
 
-use history_text::{TextVersion, read_history, write_history};
-use std::alloc::{AllocError, Global};
+use history_text::{TextVersion, call_value, read_history, reply_value, write_history};
+use std::alloc::Global;
 use std::test::Fail;
-use stream_text::{LineReader, NoLine, event_line, read_event_line};
+use stream_text::{NoLine, StreamEvent, Window, next_line, read_event_line};
 use streams::memory_ends::MemorySource;
 
 /// The lines of a text with a bar behind each, and how many calls failed: at most so many bytes come at once, and a read may fail.
@@ -16,35 +16,26 @@ fn read_all(
 ) -> Result<(Vec<u8>, u64), Fail>
     requires { 0 < most }
 {
-    let mut reader = reader_of(alloc, text, most, fails_in)?;
+    let mut source = MemorySource::new(text.as_bytes().to_vec(alloc)?, most, fails_in);
+    let mut window = Window::new(alloc)?;
     let mut lines = Vec::new(alloc);
-    let failed = put_lines(&mut reader, &mut lines)?;
+    let failed = put_lines(&mut window, &mut source, &mut lines)?;
     Ok((lines, failed))
 }
 
-/// A reader of a text, before its first line.
-fn reader_of(
-    alloc: Global,
-    text: &str,
-    most: usize,
-    fails_in: Option<u64>,
-) -> Result<LineReader<MemorySource>, AllocError>
-    requires { 0 < most }
-    ensures { IfOk result (λ reader. reader.failures ≡ 0) }
-{
-    let source = MemorySource::new(text.as_bytes().to_vec(alloc)?, most, fails_in);
-    LineReader::new(alloc, source)
-}
-
-/// Puts all lines that a reader has, with a bar behind each, and counts the calls that failed.
-fn put_lines(reader: &mut LineReader<MemorySource>, lines: &mut Vec<u8>) -> Result<u64, Fail>
-    requires { reader.old.failures ≡ 0 }
+/// Puts all lines that a source has, with a bar behind each, and counts the calls that failed.
+fn put_lines(
+    window: &mut Window,
+    source: &mut MemorySource,
+    lines: &mut Vec<u8>,
+) -> Result<u64, Fail>
+    requires { source.old.failures ≡ 0 }
 {
     let mut failed = 0;
     for _turn in 0..100u64 {
-        match reader.advance() {
+        match next_line(window, source) {
             Ok(true) => {
-                lines.extend_from_slice(reader.line())?;
+                lines.extend_from_slice(window.line())?;
                 lines.push(b'|')?;
             }
             Ok(false) => return Ok(failed),
@@ -95,27 +86,67 @@ fn lines_come_wherever_a_read_ends_or_fails(rt: HostRuntime) -> Result<(), Fail>
     Ok(())
 }
 
-/// Lines of events in the compact form, of each call and each reply.
-static COMPACT: [&str; 12] = [
-    r#"{"invoke":["get",5],"process":64}"#,
-    r#"{"invoke":["insert",5,1],"process":0}"#,
-    r#"{"invoke":["remove",0],"process":65535}"#,
-    r#"{"invoke":["scan",0,18446744073709551615],"process":2}"#,
-    r#"{"invoke":["replace",1,2,3],"process":0}"#,
-    r#"{"answer":null,"process":64}"#,
-    r#"{"answer":18446744073709551615,"process":3}"#,
-    r#"{"answer":[[3,4],[1,2]],"process":3}"#,
-    r#"{"answer":"refused","process":3}"#,
-    r#"{"answer":"done","process":3}"#,
-    r#"{"answer":"found","process":3}"#,
-    r#"{"answer":"other","process":3}"#,
+/// Lines of each call and each reply, the process of each, and the call or the reply.
+static EVENTS: [(&'static str, u16, &'static str); 12] = [
+    (r#"{"invoke":["get",5],"process":64}"#, 64, r#"["get",5]"#),
+    (
+        r#"{"invoke":["insert",5,1],"process":0}"#,
+        0,
+        r#"["insert",5,1]"#,
+    ),
+    (
+        r#"{"invoke":["remove",0],"process":65535}"#,
+        65535,
+        r#"["remove",0]"#,
+    ),
+    (
+        r#"{"process":2,"invoke":["scan",0,18446744073709551615]}"#,
+        2,
+        r#"["scan",0,18446744073709551615]"#,
+    ),
+    (
+        r#"{"invoke":["replace",1,2,3],"process":0}"#,
+        0,
+        r#"["replace",1,2,3]"#,
+    ),
+    (r#"{"answer":null,"process":64}"#, 64, "null"),
+    (
+        r#"{"answer":18446744073709551615,"process":3}"#,
+        3,
+        "18446744073709551615",
+    ),
+    (
+        r#"{ "process": 3, "answer": [[3, 4], [1, 2]] }"#,
+        3,
+        "[[3,4],[1,2]]",
+    ),
+    (r#"{"answer":"refused","process":3}"#, 3, r#""refused""#),
+    (r#"{"answer":"done","process":3}"#, 3, r#""done""#),
+    (r#"{"answer":"found","process":3}"#, 3, r#""found""#),
+    (r#"{"answer":"other","process":3}"#, 3, r#""other""#),
 ];
 
+/// The process of an event, and its call or its reply as it is written.
+fn told(alloc: Global, event: &StreamEvent) -> Result<(u16, String), Fail> {
+    Ok(match event {
+        StreamEvent::Invoke { process, call } => (
+            *process,
+            call_value(alloc, call)?.to_string(alloc)?,
+        ),
+        StreamEvent::Answer { process, reply } => (
+            *process,
+            reply_value(alloc, reply)?.to_string(alloc)?,
+        ),
+    })
+}
+
 #[test]
-fn events_are_written_as_lines(rt: HostRuntime) -> Result<(), Fail> {
-    for line in &COMPACT {
+fn events_are_read_from_lines(rt: HostRuntime) -> Result<(), Fail> {
+    for (line, process, done) in &EVENTS {
         let event = read_event_line(rt.alloc(), TextVersion::Three, line.as_bytes())?;
-        assert!(rt; event_line(rt.alloc(), &event)?.as_str() == *line, "{line}");
+        let (by, text) = told(rt.alloc(), &event)?;
+        assert_eq!(rt; by, *process, "{line}");
+        assert!(rt; text.as_str() == *done, "{line}");
     }
     Ok(())
 }

@@ -34,16 +34,19 @@ use Rattle.following.specs.keys.Laws.{KeysGoOn, AnswersNarrow, SilentCallsGo, Sa
 use Rattle.following.specs.moments.KeyCalls.{spread_call, part_at}
 use Rattle.following.specs.rows.ExactMoments.{places_by}
 use Rattle.following.specs.rows.Twins.{IsTimingAt}
-use Rattle.kept_keys.specs.Calls.{AreCallsOf}
-use Rattle.kept_keys.specs.Kept.{IsKept, IsFormed, IsOpenAhead}
+use Rattle.key_configurations.specs.Calls.{AreCallsOf}
+use Rattle.kept_keys.specs.Kept.{IsKept}
+use Rattle.key_configurations.specs.Formed.{IsFormed, IsOpenAhead}
 use Rattle.kept_keys.specs.Laws.{KeptKeysTakeAnswers}
+use Rattle.kept_keys.specs.Puts.{ArePutBy}
 use Rattle.kept_keys.specs.Steps.{IsOpenCall, respond, HasAnswer, HasGone}
-use Rattle.kept_keys.specs.Views.{KeptView, state, width}
+use Rattle.key_configurations.specs.Views.{KeptView, state, width}
 use Rattle.kept_keys.specs.Answering.{with_response}
 use Rattle.kept_keys.proofs.EventOpenLemmas.{IsOpenIn, open_in, calls_with_answer}
 use Rattle.kept_keys.proofs.EventPartLemmas.{own_part, own_not_told, HasPartAs, timing_from, named_call, name_of_call, call_before}
 use Rattle.kept_keys.proofs.EventLawLemmas.{past_more}
 use Rattle.kept_keys.proofs.EventReplyLemmas.{answered_here, answered_elsewhere, answered_inv, name_cases, left_is, is_one}
+use Rattle.kept_keys.proofs.PutLemmas.{put_on}
 
 -- ---- lists of names and calls
 
@@ -328,6 +331,7 @@ module _ (go_on : KeysGoOn) (narrow : AnswersNarrow) (start : Contents) (events 
           timed = subst (λ (calls : List Operation). IsTimingAt key calls spread moment) (sym left_then) timed_then;
           left = subst (λ (calls : List Operation). AreCallsOf key spread moment calls l.names l.calls) (sym left_then) left;
           formed = All-from_contains (IsFormed l) l.configurations stays_formed;
+          put = subst (ArePutBy (events ++ e ∷ []) key) (sym has.puts) (put_on events (e ∷ []) key k.puts h.put);
         }
 
   -- ---- where it says nothing and goes
@@ -497,6 +501,7 @@ module _ (go_on : KeysGoOn) (narrow : AnswersNarrow) (start : Contents) (events 
           timed = timing_from key spread moment old left_last (λ b is told over. (goes_back b is).0) h.timed;
           left = left;
           formed = All-from_contains (IsFormed l) l.configurations goes_formed;
+          put = subst (ArePutBy (events ++ e ∷ []) key) (sym has.puts) (put_on events (e ∷ []) key k.puts h.put);
         }
 
 pub kept_answered : KeysGoOn → AnswersNarrow → SilentCallsGo → SameChoicesStand → KeptKeysTakeAnswers

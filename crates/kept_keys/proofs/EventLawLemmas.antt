@@ -24,12 +24,14 @@ use Rattle.following.specs.moments.KeyCalls.{kind_of, spread_call, part_at}
 use Rattle.following.specs.rows.ExactMoments.{places_by}
 use Rattle.following.specs.rows.Twins.{IsTimingAt}
 use Rattle.following.proofs.moments.TimedLemmas.{row_before}
-use Rattle.kept_keys.specs.Calls.{AreCallsOf}
-use Rattle.kept_keys.specs.Kept.{IsKept, IsFormed, IsOpenAhead}
+use Rattle.key_configurations.specs.Calls.{AreCallsOf}
+use Rattle.kept_keys.specs.Kept.{IsKept}
+use Rattle.key_configurations.specs.Formed.{IsFormed, IsOpenAhead}
 use Rattle.kept_keys.specs.Laws.{KeptKeysBegin, KeptKeysNarrow, KeptKeysTakeCalls}
 use Rattle.kept_keys.specs.Steps.{with_call, IsNotAt}
-use Rattle.kept_keys.specs.Views.{KeptView, fresh, state, width}
+use Rattle.key_configurations.specs.Views.{KeptView, fresh, state, width}
 use Rattle.kept_keys.proofs.EventPartLemmas.{not_at, own_part, pending_not_told, calls_from, timing_from}
+use Rattle.kept_keys.proofs.PutLemmas.{put_none, put_on}
 use Rattle.kept_keys.proofs.EventPartLemmas.{name_before, call_before}
 
 -- ---- before any event
@@ -62,6 +64,7 @@ kept_begins begins start allows moment key rising = record {
         taken = All-nil (Contains []);
         ahead = All-nil (IsOpenAhead (fresh (value_at start key)) (record { taken = []; values = value_at start key ∷ []; ahead = [] }));
       }) (All-nil (IsFormed (fresh (value_at start key))));
+  put = put_none [] key;
 }
 
 -- ---- in a narrower class
@@ -74,6 +77,7 @@ kept_narrows go_on start events allows narrower moment key gone k within h = rec
   timed = h.timed;
   left = h.left;
   formed = h.formed;
+  put = h.put;
 }
 
 -- ---- with an event more
@@ -113,6 +117,7 @@ kept_invoked go_on start events process call allows moment key gone k other h =
       timed = subst (λ (l : List Operation). IsTimingAt key l spread moment) (sym left_is) timed;
       left = subst (λ (l : List Operation). AreCallsOf key spread moment l k.names k.calls) (sym left_is) left;
       formed = h.formed;
+      put = put_on events (e ∷ []) key k.puts h.put;
     }
 
 -- ---- a call of the key
@@ -199,4 +204,5 @@ kept_takes go_on start events process call allows moment key gone k own h =
               (Contains-append_left (zip k.names k.calls) ((place, shown) ∷ []) call call_is)) same,
         )) c.ahead is.ahead;
       }) k.configurations h.formed;
+      put = put_on events (e ∷ []) key k.puts h.put;
     }

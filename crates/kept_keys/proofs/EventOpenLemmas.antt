@@ -20,15 +20,15 @@ use Rattle.quiet_cuts.proofs.EventLemmas.{response_found, turns_later, operation
 use Rattle.kept_keys.specs.Steps.{IsOpenCall}
 
 -- a call among events that start at a place: which process invoked it, and what stands behind
-record IsFoundAt (i : ℕ) (events : List Event) (a : Operation) : Type 0 where
-  process : ℕ
-  before : List Event
-  between : List Event
-  parts : events ≡ before ++ Invoke process a.call ∷ between
-  place : a.inv ≡ i + length before
-  response : a.response ≡ response_from process (suc a.inv) between
+pub record IsFoundAt (i : ℕ) (events : List Event) (a : Operation) : Type 0 where
+  pub process : ℕ
+  pub before : List Event
+  pub between : List Event
+  pub parts : events ≡ before ++ Invoke process a.call ∷ between
+  pub place : a.inv ≡ i + length before
+  pub response : a.response ≡ response_from process (suc a.inv) between
 
-found_at : (i : ℕ) (events : List Event) (n : ℕ) (a : Operation) → slice_get (operations_from i events) n ≡ Some a
+pub found_at : (i : ℕ) (events : List Event) (n : ℕ) (a : Operation) → slice_get (operations_from i events) n ≡ Some a
     → IsFoundAt i events a
 found_at i [] n a here = absurd (none-some a here)
 found_at i (Answer p reply ∷ events) n a here =

@@ -26,9 +26,9 @@ use Rattle.following.proofs.moments.KindLemmas.{is_part, part_is}
 use Rattle.following.proofs.moments.PartLemmas.{part_inv}
 use Rattle.following.proofs.moments.TimedLemmas.{told_completed}
 use Rattle.following.proofs.rows.UntouchedLemmas.{over_from_part}
-use Rattle.kept_keys.specs.Calls.{AreCallsOf}
+use Rattle.key_configurations.specs.Calls.{AreCallsOf}
 use Rattle.kept_keys.specs.Steps.{IsNotAt}
-use Rattle.kept_keys.specs.Views.{width}
+use Rattle.key_configurations.specs.Views.{width}
 
 -- ---- a call at a key
 

@@ -27,14 +27,15 @@ use Rattle.following.specs.rows.Blocks.{IsOver}
 use Rattle.following.specs.rows.ExactMoments.{places_by}
 use Rattle.following.specs.rows.Twins.{IsTimingAt}
 use Rattle.following.proofs.rows.EndLemmas.{told_call}
-use Rattle.kept_keys.specs.Calls.{AreCallsOf}
+use Rattle.key_configurations.specs.Calls.{AreCallsOf}
 use Rattle.kept_keys.specs.Kept.{IsKept}
 use Rattle.kept_keys.specs.Laws.{KeptKeysGoOn}
 use Rattle.kept_keys.specs.Steps.{IsOpenCall, IsNotAt}
-use Rattle.kept_keys.specs.Views.{KeptView, state, width}
+use Rattle.key_configurations.specs.Views.{KeptView, state, width}
 use Rattle.kept_keys.proofs.EventOpenLemmas.{IsOpenIn, open_in, left_with_answer}
 use Rattle.kept_keys.proofs.EventPartLemmas.{not_at, calls_from, timing_from}
 use Rattle.kept_keys.proofs.EventLawLemmas.{past_more, kept_invoked}
+use Rattle.kept_keys.proofs.PutLemmas.{put_on}
 
 -- ---- one call is answered
 
@@ -155,6 +156,7 @@ module _ (go_on : KeysGoOn) (start : Contents) (events : List Event) (process na
         timed = subst (λ (l : List Operation). IsTimingAt key l spread moment) (sym left_is) timed_then;
         left = subst (λ (l : List Operation). AreCallsOf key spread moment l k.names k.calls) (sym left_is) left_then;
         formed = h.formed;
+        put = put_on events (Answer process reply ∷ []) key k.puts h.put;
       }
 
 pub kept_goes_on : KeysGoOn → KeptKeysGoOn

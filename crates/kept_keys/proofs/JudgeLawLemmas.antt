@@ -26,12 +26,12 @@ use Rattle.following.proofs.keys.ChoiceLemmas.{any_from, any_to}
 use Rattle.following.proofs.moments.KindLemmas.{IsPart, part_is}
 use Rattle.following.proofs.moments.DistinctLemmas.{InvocationsDiffer, differ_from_rise, one_before, same_invocation, order_from_linearizable}
 use Rattle.following.proofs.moments.DistinctLemmas.{linearizable_from_order}
-use Rattle.kept_keys.specs.Calls.{AreCallsOf, calls_but}
-use Rattle.kept_keys.specs.Judging.{HasOrderFrom}
-use Rattle.kept_keys.specs.Kept.{IsFormed, IsOpenAhead}
+use Rattle.key_configurations.specs.Calls.{AreCallsOf, calls_but}
+use Rattle.key_orders.specs.Judging.{HasOrderFrom}
+use Rattle.key_configurations.specs.Formed.{IsFormed, IsOpenAhead}
 use Rattle.kept_keys.specs.Laws.{KeptKeysJudge}
-use Rattle.kept_keys.specs.Views.{KeptView, width}
-use Rattle.kept_keys.proofs.JudgeLemmas.{calls_but_rise}
+use Rattle.key_configurations.specs.Views.{KeptView, width}
+use Rattle.key_orders.proofs.JudgeLemmas.{calls_but_rise}
 
 -- lists of the same calls have the same orders
 same_orders : (start : Contents) (calls others : List Operation) → InvocationsDiffer calls → InvocationsDiffer others

@@ -2,26 +2,16 @@ mod CutLemmas
 mod EventAnswerLemmas
 mod EventAnsweredLemmas
 mod EventCallLemmas
-mod SettleChoiceLemmas
-mod SettleDueLemmas
 mod SettleGoesLemmas
 mod SettleLawLemmas
-mod SettleOneLemmas
-mod SettleOutcomeLemmas
-mod SettleStartLemmas
-mod SettleUniteLemmas
 mod SettleWholeLemmas
 mod EventLawLemmas
 mod EventNarrowLemmas
 mod EventOpenLemmas
 mod EventPartLemmas
 mod EventReplyLemmas
-mod GuessLemmas
-mod JoinLemmas
-mod JudgeFewLemmas
 mod JudgeLawLemmas
-mod JudgeLemmas
-mod JudgeVerdictLemmas
+pub mod PutLemmas
 pub mod ReadFoundLemmas
 pub mod ReadGoLemmas
 pub mod ReadKeepLemmas
@@ -36,3 +26,5 @@ pub mod ScanRetimeLemmas
 pub mod ScanSortLemmas
 pub mod ScanTakeLemmas
 pub mod ScanZipLemmas
+mod FrontAnswerLemmas
+mod SettleJoinLemmas

@@ -10,7 +10,7 @@ use Rattle.events.specs.declared.operation.Operation.{Operation}
 use Rattle.events.specs.declared.operation.Response.{Response}
 use Rattle.list_laws.proofs.Lists.{Contains-first, Contains-later, Contains-nil, Contains-cases}
 use Rattle.map_object.specs.MapObject.{value_at, value_reply, is_value, misses, TellsOf}
-use Rattle.call_search.specs.Replies.{says_unchanged}
+use Rattle.quiet_cuts.specs.Replies.{says_unchanged}
 use Rattle.following.specs.keys.Still.{IsFoundBy}
 use Rattle.following.specs.keys.Still as still
 use Rattle.following.specs.moments.KeyCalls.{Kind, OfKey, Told, Silent, kind_of, spread_response, part_at}

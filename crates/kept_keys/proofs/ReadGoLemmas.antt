@@ -11,7 +11,7 @@ use Rattle.events.specs.declared.operation.Operation.{Operation}
 use Rattle.events.specs.declared.operation.Response.{Response}
 use Rattle.events.specs.Operations.{operations}
 use Rattle.events.specs.Precedence.{precedes}
-use Rattle.call_search.specs.Replies.{says_unchanged}
+use Rattle.quiet_cuts.specs.Replies.{says_unchanged}
 use Rattle.list_laws.proofs.FilterLemmas.{AllPairs-from_map}
 use Rattle.list_laws.proofs.Lists.{AllPairs-head, AllPairs-tail, All-from_contains, Contains-first, Contains-later, Contains-nil, Contains-cases}
 use Rattle.map_object.specs.MapObject.{Contents}
@@ -29,11 +29,14 @@ use Rattle.following.proofs.keys.ChoiceLemmas.{any_from, any_to}
 use Rattle.following.proofs.keys.SettleBackLemmas.{zip_each}
 use Rattle.following.proofs.moments.KindLemmas.{IsPart, part_is, is_part}
 use Rattle.past_choices.specs.Values.{MayBeAnswered}
-use Rattle.kept_keys.specs.Calls.{AreCallsOf}
-use Rattle.kept_keys.specs.Kept.{IsOpenAhead, IsFormed, IsKept}
+use Rattle.key_configurations.specs.Calls.{AreCallsOf}
+use Rattle.key_configurations.specs.Formed.{IsOpenAhead, IsFormed}
+use Rattle.kept_keys.specs.Kept.{IsKept}
 use Rattle.kept_keys.specs.Laws.{KeptReadsGo}
+use Rattle.kept_keys.specs.Puts.{ArePutBy, noted_put, values_of}
 use Rattle.kept_keys.specs.Reads.{IsStillKept, AllFind, AreReadOff}
-use Rattle.kept_keys.specs.Views.{KeptView, width}
+use Rattle.key_configurations.specs.Views.{KeptView, width}
+use Rattle.kept_keys.proofs.PutLemmas.{put_among}
 use Rattle.kept_keys.proofs.ReadFoundLemmas.{found_or_not, those_of, found_as_kept}
 use Rattle.kept_keys.proofs.ScanPartLemmas.{call_at, pair_at}
 use Rattle.kept_keys.proofs.ScanZipLemmas.{zip_names, zip_all, name_of_pair, call_of_pair, call_of_name, name_of_call}
@@ -147,8 +150,8 @@ pub kept_without : (start : Contents) (events : List Event) (allows : Timings) (
     → IsTimingAt key (calls_left gone (operations events)) (places_by width) moment
     → ((a x : Operation) → Contains (calls_left gone (operations events)) a → part_at key (places_by width) moment a ≡ Some x → ⊥)
     → k.names ≡ [] → k.calls ≡ [] → All (λ c. (c.taken ≡ []) × (c.ahead ≡ []) × (c.values ≡ [] → ⊥)) k.configurations
-    → IsKept start events allows moment key gone k
-kept_without start events allows moment key gone k stands past timed none no_names no_calls plain = record {
+    → ArePutBy events key k.puts → IsKept start events allows moment key gone k
+kept_without start events allows moment key gone k stands past timed none no_names no_calls plain put = record {
   stands = stands;
   past = past;
   timed = timed;
@@ -156,6 +159,7 @@ kept_without start events allows moment key gone k stands past timed none no_nam
       (subst (λ (calls : List Operation). AreCallsOf key (places_by width) moment (calls_left gone (operations events)) [] calls) (sym no_calls)
       (none_left key (places_by width) moment (calls_left gone (operations events)) none));
   formed = All-weaker (λ c. (c.taken ≡ []) × (c.ahead ≡ []) × (c.values ≡ [] → ⊥)) (IsFormed k) (plain_formed k) k.configurations plain;
+  put = put;
 }
 
 -- one name more is gone, and then others
@@ -385,6 +389,7 @@ module _ (start : Contents) (events : List Event) (allows : Timings) (moment : �
       omega (arith, early, place))))
       (timing_less key left (calls_left (gone ++ k.names) (operations events)) spread moment (left_less gone k.names (operations events)) kept.timed)
       none_at read.names read.calls read.taken
+      (subst (ArePutBy events key) (sym read.puts) (put_among events key (noted_put k.puts) (values_of l.configurations) kept.put))
 
 pub reads_go : StillKeysNarrow → EqualConfigurationsJoin → KeptReadsGo
 reads_go still_keys join start events allows moment key gone k l still read kept =

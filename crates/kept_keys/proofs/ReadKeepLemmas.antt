@@ -8,21 +8,14 @@ use Rattle.std.proofs.lemmas.Bool.{cases_lt, false≢true, ne_eqb}
 use Rattle.std.proofs.lemmas.List.{get_or_default}
 use Rattle.std.proofs.lemmas.List.Elements.{All-cons, All-nil}
 use Rattle.events.specs.declared.operation.Operation.{Operation}
-use Rattle.call_search.specs.Replies.{says_unchanged}
+use Rattle.quiet_cuts.specs.Replies.{says_unchanged}
 use Rattle.list_laws.proofs.Lists.{Any-first, Any-later, Contains-first, Contains-later, Contains-nil, Contains-cases}
 use Rattle.following.specs.keys.KeyStates.{Configuration}
 use Rattle.following.proofs.keys.ChoiceLemmas.{any_from, any_to}
 use Rattle.past_choices.specs.Values.{MayBeAnswered}
 use Rattle.kept_keys.specs.Reads.{AreReadOff, HasSeen, IsNarrowedByReads, IsStillKept}
-use Rattle.kept_keys.specs.Views.{KeptView, fresh}
-
--- a key that has a value alone sees it
-pub seen_fresh : (value : Option ℕ) (k : KeptView) → k ≡ fresh value → HasSeen value k k
-seen_fresh value k is = record {
-  stays = λ some. is;
-  goes = λ none. absurd (none (subst (λ (l : KeptView). Any (λ c. Contains c.values value) l.configurations) (sym is)
-      (Any-first (λ c. Contains c.values value) (record { taken = []; values = value ∷ []; ahead = [] }) [] (Contains-first value []))));
-}
+use Rattle.kept_keys.specs.Puts.{noted_put, puts_of, seen, values_of}
+use Rattle.key_configurations.specs.Views.{KeptView}
 
 -- ---- a test that stays as it is
 
@@ -158,12 +151,14 @@ narrowed_is calls old new values any same taken ahead stays is = record {
   some = subst (λ (b : Bool). IsTrue b ↔ (new.values ≡ [] → ⊥)) (sym is) (has_any new.values);
 }
 
-pub read_off_is : (inside old new : KeptView) → inside ≡ old → new.names ≡ [] → new.calls ≡ [] → All IsPlain new.configurations
+pub read_off_is : (inside old new : KeptView) → inside ≡ old → new.names ≡ [] → new.calls ≡ []
+    → new.puts ≡ puts_of (noted_put inside.puts) (values_of new.configurations) → All IsPlain new.configurations
     → ((value : Option ℕ) → Any (λ c. Contains c.values value) new.configurations
     ↔ (All (λ a. MayBeAnswered value a.call a.response) inside.calls × Any (λ c. Contains c.values value) inside.configurations))
     → AreReadOff old new
-read_off_is inside old new same names calls plain values =
-    subst (λ (k : KeptView). AreReadOff k new) same (record { names = names; calls = calls; taken = plain; values = values })
+read_off_is inside old new same names calls puts plain values =
+    subst (λ (k : KeptView). AreReadOff k new) same
+    (record { names = names; calls = calls; puts = puts; taken = plain; values = values })
 
 -- not all calls are reads
 pub not_reads : (inside k : KeptView) (lent : List Operation) (reads : Bool) → inside ≡ k → lent ≡ inside.calls → reads ≡ false
@@ -195,5 +190,5 @@ none_more cs value i c none within is other k d less has = ⊎_elim
     (cases_lt k i)
 
 -- the key sees a value, where some configuration has it
-pub seen_some : (value : Option ℕ) (k l : KeptView) → Any (λ c. Contains c.values value) k.configurations → l ≡ fresh value → HasSeen value k l
+pub seen_some : (value : Option ℕ) (k l : KeptView) → Any (λ c. Contains c.values value) k.configurations → l ≡ seen value k → HasSeen value k l
 seen_some value k l some is = record { stays = λ h. is; goes = λ none. absurd (none some) }

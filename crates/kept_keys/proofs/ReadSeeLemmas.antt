@@ -24,11 +24,14 @@ use Rattle.following.specs.rows.ExactMoments.{places_by}
 use Rattle.following.proofs.keys.ChoiceLemmas.{any_from, any_to}
 use Rattle.following.proofs.keys.SettleBackLemmas.{zip_each}
 use Rattle.following.proofs.moments.KindLemmas.{is_part}
-use Rattle.kept_keys.specs.Kept.{IsFormed, IsKept}
+use Rattle.key_configurations.specs.Formed.{IsFormed}
+use Rattle.kept_keys.specs.Kept.{IsKept}
 use Rattle.kept_keys.specs.Laws.{KeptKeysSeeScans}
+use Rattle.kept_keys.specs.Puts.{ArePutBy, noted_put, seen}
 use Rattle.kept_keys.specs.Reads.{HasSeen}
 use Rattle.kept_keys.specs.Steps.{IsOpenCall}
-use Rattle.kept_keys.specs.Views.{KeptView, fresh, width}
+use Rattle.key_configurations.specs.Views.{KeptView, fresh, width}
+use Rattle.kept_keys.proofs.PutLemmas.{put_none, put_note, put_on}
 use Rattle.kept_keys.proofs.ReadFoundLemmas.{found_or_not, those_of, has_or_not, some_or_none}
 use Rattle.kept_keys.proofs.ReadGoLemmas.{zip_some, zip_some_back, left_less, timing_less, none_ahead, kept_without}
 use Rattle.kept_keys.proofs.ScanAnswerLemmas.{open_call}
@@ -113,12 +116,13 @@ module _ (start : Contents) (events : List Event) (process name low high : ℕ) 
 
   -- a key without calls is kept, where it has the same values
   seen_kept : KeysGoOn → StillKeysNarrow → EqualConfigurationsJoin → (next : KeptView) → next.names ≡ [] → next.calls ≡ []
+      → ArePutBy events key next.puts
       → All (λ c. (c.taken ≡ []) × (c.ahead ≡ []) × (c.values ≡ [] → ⊥)) next.configurations
       → ((configurations : List Configuration) → AllZip (IsNarrowedConfiguration key the_scan) k.configurations configurations
       → HaveSameValues (record { gone = gone ++ name ∷ []; configurations = configurations })
       (record { gone = gone ++ name ∷ []; configurations = next.configurations }))
       → IsKept start all allows moment key (gone ++ name ∷ []) next
-  seen_kept go_on still_keys join next names calls plain same =
+  seen_kept go_on still_keys join next names calls put plain same =
       let (configurations, zipped) = zip_each (IsNarrowedConfiguration key the_scan) k.configurations narrowed in
       let within : (a : Operation) → Contains (calls_left (gone ++ name ∷ []) (operations all)) a → Contains (calls_left gone (operations events)) a =
       λ a a_is. ⊎_elim
@@ -136,6 +140,7 @@ module _ (start : Contents) (events : List Event) (process name low high : ℕ) 
       (All-cons (λ n. n < length all) name [] (omega (arith, early, more, scan_place)) (All-nil (λ n. n < length all))))
       (timing_less key (calls_left gone (operations events)) (calls_left (gone ++ name ∷ []) (operations all)) spread moment within kept.timed)
       (λ a x a_is. none_there a x (within a a_is)) names calls plain
+      (put_on events (Answer process (replies.Pairs pairs) ∷ []) key next.puts put)
 
   module _ (configurations : List Configuration) (zipped : AllZip (IsNarrowedConfiguration key the_scan) k.configurations configurations) where
     -- what a narrowed configuration has is the told value
@@ -203,14 +208,14 @@ module _ (start : Contents) (events : List Event) (process name low high : ℕ) 
     )
 
   pub see_kept : KeysGoOn → StillKeysNarrow → EqualConfigurationsJoin → HasSeen value k l → IsKept start all allows moment key (gone ++ name ∷ []) l
-  see_kept go_on still_keys join seen = ⊎_elim
-      (λ some. subst (λ (next : KeptView). IsKept start all allows moment key (gone ++ name ∷ []) next) (sym (seen.stays some))
-      (seen_kept go_on still_keys join (fresh value) refl refl
+  see_kept go_on still_keys join has = ⊎_elim
+      (λ some. subst (λ (next : KeptView). IsKept start all allows moment key (gone ++ name ∷ []) next) (sym (has.stays some))
+      (seen_kept go_on still_keys join (seen value k) refl refl (put_note events key (noted_put k.puts) value kept.put)
       (All-cons (λ c. (c.taken ≡ []) × (c.ahead ≡ []) × (c.values ≡ [] → ⊥)) (record { taken = []; values = value ∷ []; ahead = [] }) []
       (refl, refl, λ e. cc) (All-nil (λ c. (c.taken ≡ []) × (c.ahead ≡ []) × (c.values ≡ [] → ⊥))))
       (λ configurations zipped. same_fresh configurations zipped some)))
-      (λ none. subst (λ (next : KeptView). IsKept start all allows moment key (gone ++ name ∷ []) next) (sym (seen.goes none))
-      (seen_kept go_on still_keys join (record { configurations = []; names = []; calls = [] }) refl refl
+      (λ none. subst (λ (next : KeptView). IsKept start all allows moment key (gone ++ name ∷ []) next) (sym (has.goes none))
+      (seen_kept go_on still_keys join (record { configurations = []; names = []; calls = []; puts = [] }) refl refl (put_none events key)
       (All-nil (λ c. (c.taken ≡ []) × (c.ahead ≡ []) × (c.values ≡ [] → ⊥)))
       (λ configurations zipped. same_none configurations zipped none)))
       (some_or_none (λ c. Contains c.values value) (λ c. has_or_not c.values value) k.configurations)

@@ -10,7 +10,7 @@ use Rattle.std.proofs.lemmas.List.{take-append-drop}
 use Rattle.std.proofs.lemmas.Bool.Decides.{nat_tests}
 use Rattle.events.specs.declared.operation.Operation.{Operation}
 use Rattle.kept_keys.specs.Steps.{get_of, HasGet}
-use Rattle.kept_keys.specs.Views.{KeptView}
+use Rattle.key_configurations.specs.Views.{KeptView}
 use Rattle.kept_keys.proofs.ScanZipLemmas.{zip_insert, zip_take, zip_drop, All-take_within, All-drop_within}
 
 -- calls by rising number are so weakly
@@ -33,12 +33,13 @@ less_false number x (h, other) = grind (arith, nat_tests)
 pub get_comes : (old new : KeptView) (key name number place : ℕ) (value : Option ℕ) → length old.names ≡ length old.calls
     → All (λ x. x.inv ≢ number) old.calls → place ≤ length old.calls
     → AllWithin (λ x. nat_lt x.inv number ≡ true) old.calls 0 place × AllWithin (λ x. nat_lt x.inv number ≡ false) old.calls place (length old.calls)
-    → new.configurations ≡ old.configurations → new.names ≡ insert old.names place name
+    → new.configurations ≡ old.configurations → new.puts ≡ old.puts → new.names ≡ insert old.names place name
     → new.calls ≡ insert old.calls place (get_of key number value) → HasGet key name number value old new
-get_comes old new key name number place value each other within parts same names_are calls_are =
+get_comes old new key name number place value each other within parts same puts names_are calls_are =
     let get = get_of key number value in
     let pairs = zip old.names old.calls in record {
       configurations = same;
+      puts = puts;
       front = take place pairs;
       back = drop place pairs;
       before = sym (take-append-drop place pairs);

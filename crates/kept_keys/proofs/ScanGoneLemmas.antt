@@ -13,7 +13,7 @@ use Rattle.events.specs.declared.operation.Response.{Response}
 use Rattle.events.specs.Operations.{operations}
 use Rattle.events.specs.Precedence.{is_before}
 use Rattle.events.proofs.TimeLemmas.{inv_rises}
-use Rattle.call_search.specs.Replies.{says_unchanged}
+use Rattle.quiet_cuts.specs.Replies.{says_unchanged}
 use Rattle.list_laws.proofs.FilterLemmas.{Contains-from_map, Contains-from_filter}
 use Rattle.list_laws.proofs.Lists.{Contains-nil, Contains-cases}
 use Rattle.quiet_cuts.specs.Cells.{calls_left}
@@ -28,7 +28,7 @@ use Rattle.following.proofs.moments.TimedLemmas.{told_completed}
 use Rattle.kept_keys.specs.Gone.{GoneStayAnswered, AnsweredCallsGo, EndedCallsGo, AnsweredReadsGo}
 use Rattle.kept_keys.specs.Kept.{AreAnswered}
 use Rattle.kept_keys.specs.Settling.{has_ended, names_ended}
-use Rattle.kept_keys.specs.Views.{KeptView, width}
+use Rattle.key_configurations.specs.Views.{KeptView, width}
 use Rattle.kept_keys.proofs.ScanAnswerLemmas.{answered_calls}
 use Rattle.kept_keys.proofs.ScanPartLemmas.{call_at}
 use Rattle.kept_keys.proofs.ScanZipLemmas.{call_of_name, call_of_pair}

@@ -22,9 +22,9 @@ use Rattle.following.specs.rows.Twins.{IsTimingAt}
 use Rattle.following.proofs.keys.ChoiceLemmas.{any_from, any_to}
 use Rattle.following.proofs.moments.KindLemmas.{IsPart, part_is, is_part}
 use Rattle.following.proofs.rows.UntouchedLemmas.{over_from_part}
-use Rattle.kept_keys.specs.Calls.{AreCallsOf}
+use Rattle.key_configurations.specs.Calls.{AreCallsOf}
 use Rattle.kept_keys.specs.Retiming.{number_of, response_at, call_at, retimed_call, retimed_pair, IsRetimed}
-use Rattle.kept_keys.specs.Views.{KeptView, width}
+use Rattle.key_configurations.specs.Views.{KeptView, width}
 use Rattle.kept_keys.proofs.ScanOrderLemmas.{apart_in_order}
 use Rattle.kept_keys.proofs.ScanPartLemmas.{part_stays, pair_at}
 use Rattle.kept_keys.proofs.ScanPartLemmas as part
@@ -235,11 +235,12 @@ module _ (key : ℕ) (numbers : List (ℕ × ℕ)) (left : List Operation) (mome
     }
 
 -- a key is retimed where its calls have moved, and stand by rising number again
-pub retimed_is : (key : ℕ) (numbers : List (ℕ × ℕ)) (old new : KeptView) → new.configurations ≡ old.configurations
+pub retimed_is : (key : ℕ) (numbers : List (ℕ × ℕ)) (old new : KeptView) → new.configurations ≡ old.configurations → new.puts ≡ old.puts
     → length new.names ≡ length new.calls → IsPermutation (map (retimed_pair numbers) (zip old.names old.calls)) (zip new.names new.calls)
     → IsNonDecreasingBy (λ x. x.inv) new.calls → IsRetimed key numbers old new
-retimed_is key numbers old new same each moved sorted = record {
+retimed_is key numbers old new same puts each moved sorted = record {
   configurations = same;
+  puts = puts;
   calls = λ left moment other h timing other_timing each_number known.
       moved_calls key numbers left moment other timing other_timing each_number known old new h each moved sorted;
 }
@@ -247,13 +248,14 @@ retimed_is key numbers old new same each moved sorted = record {
 -- the same from lists that were lent and written back
 pub retimed_from : (key : ℕ) (numbers : List (ℕ × ℕ)) (inside old new : KeptView) (names : List ℕ) (lent moved written : List Operation)
     → inside ≡ old → names ≡ inside.names → lent ≡ inside.calls → zip names moved ≡ map (retimed_pair numbers) (zip names lent)
-    → written ≡ moved → new.configurations ≡ inside.configurations → length new.names ≡ length new.calls
+    → written ≡ moved → new.configurations ≡ inside.configurations → new.puts ≡ inside.puts → length new.names ≡ length new.calls
     → IsPermutation (zip inside.names written) (zip new.names new.calls) → IsNonDecreasingBy (λ x. x.inv) new.calls
     → IsRetimed key numbers old new
-retimed_from key numbers inside old new names lent moved written same names_are lent_is all written_is configurations each permutation sorted =
+retimed_from key numbers inside old new names lent moved written same names_are lent_is all written_is configurations puts each permutation sorted =
     let pairs : zip inside.names written ≡ map (retimed_pair numbers) (zip old.names old.calls) =
     ap₂ zip (sym names_are) written_is
     ∙ (all ∙ (ap₂ (λ ns xs. map (retimed_pair numbers) (zip ns xs)) names_are lent_is
     ∙ ap (λ (k : KeptView). map (retimed_pair numbers) (zip k.names k.calls)) same)) in
-    retimed_is key numbers old new (configurations ∙ ap (λ (k : KeptView). k.configurations) same) each
+    retimed_is key numbers old new (configurations ∙ ap (λ (k : KeptView). k.configurations) same)
+    (puts ∙ ap (λ (k : KeptView). k.puts) same) each
     (subst (λ (l : List (ℕ × Operation)). IsPermutation l (zip new.names new.calls)) pairs permutation) sorted

@@ -8,9 +8,9 @@ use Rattle.following.specs.moments.KeyCalls.{Kind, OfKey, Told, Silent, kind_of,
 use Rattle.following.specs.keys.KeyStates.{Configuration}
 use Rattle.following.proofs.keys.ChoiceLemmas.{any_from, any_to}
 use Rattle.following.proofs.moments.KindLemmas.{IsPart, part_is, is_part}
-use Rattle.kept_keys.specs.Calls.{AreCallsOf}
-use Rattle.kept_keys.specs.Kept.{IsOpenAhead, IsFormed}
-use Rattle.kept_keys.specs.Views.{KeptView}
+use Rattle.key_configurations.specs.Calls.{AreCallsOf}
+use Rattle.key_configurations.specs.Formed.{IsOpenAhead, IsFormed}
+use Rattle.key_configurations.specs.Views.{KeptView}
 
 -- a call that is something at a key is so with other moments too
 pub part_stays : (key : ℕ) (spread moment other : ℕ → ℕ) (a x : Operation) → part_at key spread moment a ≡ Some x

@@ -7,14 +7,15 @@ use Rattle.events.specs.Operations.{operations}
 use Rattle.quiet_cuts.specs.Cells.{calls_left}
 use Rattle.following.specs.keys.KeyStates.{Configuration, KeyStandsFor}
 use Rattle.following.specs.rows.ExactMoments.{places_by}
-use Rattle.kept_keys.specs.Kept.{IsFormed}
+use Rattle.key_configurations.specs.Formed.{IsFormed}
 use Rattle.kept_keys.specs.Laws.{KeptKeysRetime}
-use Rattle.kept_keys.specs.Views.{width}
+use Rattle.kept_keys.specs.Puts.{ArePutBy}
+use Rattle.key_configurations.specs.Views.{width}
 use Rattle.kept_keys.proofs.ScanPartLemmas.{part_stays, open_part_stays, call_at, pair_at, formed_on}
 use Rattle.kept_keys.proofs.ScanZipLemmas.{name_of_pair, call_of_name}
 
 pub retimes : KeptKeysRetime
-retimes start events allows moment other key gone k l same timed calls kept = record {
+retimes start events allows moment other key gone k l same puts timed calls kept = record {
   stands = subst (λ (cs : List Configuration). KeyStandsFor start events allows key (record { gone = gone; configurations = cs })) (sym same)
       kept.stands;
   past = kept.past;
@@ -22,6 +23,7 @@ retimes start events allows moment other key gone k l same timed calls kept = re
   left = calls;
   formed = subst (λ (cs : List Configuration). All (IsFormed l) cs) (sym same)
       (All-weaker (IsFormed k) (IsFormed l) (formed_on k l stays pending) k.configurations kept.formed);
+  put = subst (ArePutBy events key) (sym puts) kept.put;
 }
   where
     stays : (n : ℕ) → Contains k.names n → Contains l.names n

@@ -34,11 +34,13 @@ use Rattle.following.specs.moments.KeyCalls.{Told, Silent, kind_of, kind_of_answ
 use Rattle.following.specs.rows.ExactMoments.{places_by}
 use Rattle.following.proofs.keys.ChoiceLemmas.{any_from, any_to}
 use Rattle.following.proofs.moments.KindLemmas.{is_part}
-use Rattle.kept_keys.specs.Calls.{AreCallsOf}
-use Rattle.kept_keys.specs.Kept.{IsFormed}
+use Rattle.key_configurations.specs.Calls.{AreCallsOf}
+use Rattle.key_configurations.specs.Formed.{IsFormed}
 use Rattle.kept_keys.specs.Laws.{KeptKeysTakeScans}
+use Rattle.kept_keys.specs.Puts.{ArePutBy}
 use Rattle.kept_keys.specs.Steps.{get_of, HasGet, IsOpenCall}
-use Rattle.kept_keys.specs.Views.{KeptView, width}
+use Rattle.key_configurations.specs.Views.{KeptView, width}
+use Rattle.kept_keys.proofs.PutLemmas.{put_on}
 use Rattle.kept_keys.proofs.ScanAnswerLemmas.{open_call, answered_calls}
 use Rattle.kept_keys.proofs.ScanPartLemmas.{call_at, pair_at, formed_on}
 use Rattle.kept_keys.proofs.ScanZipLemmas.{zip_names, zip_calls, name_of_pair, call_of_pair, call_of_name, name_of_call}
@@ -260,4 +262,5 @@ takes_scan go_on start events process name low high pairs allows moment key gone
           (formed_now events process name low high pairs moment key gone k l is_open low_in high_in scan scan_is place which pending not_gone
           kept.left h)
           k.configurations kept.formed);
+      put = subst (ArePutBy (events ++ e ∷ []) key) (sym h.puts) (put_on events (e ∷ []) key k.puts kept.put);
     }

@@ -28,13 +28,13 @@ use Rattle.following.specs.moments.KeyCalls.{at_key}
 use Rattle.following.specs.rows.ExactMoments.{places_by}
 use Rattle.past_choices.specs.PastChoices.{PastChoice, calls_done, IsPastChoice}
 use Rattle.past_choices.specs.Positions.{FindsAt}
-use Rattle.kept_keys.specs.Calls.{AreCallsOf}
+use Rattle.key_configurations.specs.Calls.{AreCallsOf}
 use Rattle.kept_keys.specs.Settling.{was_open, names_ended, names_open}
-use Rattle.kept_keys.specs.SettleSteps.{begun, names_begun, calls_begun, names_gone, names_of, found_of, start_from, which_ended, which_taken}
-use Rattle.kept_keys.specs.Views.{KeptView, width}
-use Rattle.kept_keys.proofs.SettleChoiceLemmas.{one_call, range_rises, look, look_to, look_from, found_one, ended_at, done_to, done_from, at_number}
-use Rattle.kept_keys.proofs.SettleChoiceLemmas.{to_number, name_at, begun_parts, begun_of, ended_began, gone_to, gone_from, at_key_to, at_key_from}
-use Rattle.kept_keys.proofs.SettleChoiceLemmas.{found_names, free_name, name_free, name_here, taken_at}
+use Rattle.key_outcomes.specs.SettleSteps.{begun, names_begun, calls_begun, names_gone, names_of, found_of, start_from, which_ended, which_taken}
+use Rattle.key_configurations.specs.Views.{KeptView, width}
+use Rattle.key_outcomes.proofs.SettleChoiceLemmas.{one_call, range_rises, look, look_to, look_from, found_one, ended_at, done_to, done_from, at_number}
+use Rattle.key_outcomes.proofs.SettleChoiceLemmas.{to_number, name_at, begun_parts, begun_of, ended_began, gone_to, gone_from, at_key_to, at_key_from}
+use Rattle.key_outcomes.proofs.SettleChoiceLemmas.{found_names, free_name, name_free, name_here, taken_at}
 
 -- the numbers of a range
 range_below : (a n m : ℕ) → Contains (range_with_len a n) m → m < a + n

@@ -30,13 +30,15 @@ use Rattle.following.proofs.keys.ChoiceLemmas.{any_from, any_to, same_test}
 use Rattle.following.proofs.moments.KindLemmas.{IsPart, part_is, is_part}
 use Rattle.following.proofs.rows.UntouchedLemmas.{over_from_part}
 use Rattle.following.proofs.rows.PartedLemmas.{IsMomentWithin, said_before, said_behind}
-use Rattle.kept_keys.specs.Calls.{AreCallsOf}
+use Rattle.key_configurations.specs.Calls.{AreCallsOf}
 use Rattle.kept_keys.specs.Laws.{KeptKeysSettle}
+use Rattle.kept_keys.specs.Puts.{ArePutBy, values_of}
 use Rattle.kept_keys.specs.Settling.{has_ended, was_open, names_ended, names_open, IsSettledAt}
-use Rattle.kept_keys.specs.Views.{KeptView, state, width}
+use Rattle.key_configurations.specs.Views.{KeptView, state, width}
 use Rattle.kept_keys.proofs.EventPartLemmas.{timing_from, name_before}
-use Rattle.kept_keys.proofs.SettleChoiceLemmas.{one_call, zip_name}
-use Rattle.kept_keys.proofs.SettleDueLemmas.{zip_names, zip_calls, picked_all, picked_pairs}
+use Rattle.kept_keys.proofs.PutLemmas.{put_settled}
+use Rattle.key_outcomes.proofs.SettleChoiceLemmas.{one_call, zip_name}
+use Rattle.key_outcomes.proofs.SettleDueLemmas.{zip_names, zip_calls, picked_all, picked_pairs}
 
 -- ---- calls left
 
@@ -277,4 +279,6 @@ kept_settles law start events kept others moment key gone k l place whole_spread
           (λ a is told over. (fewer_left gone (names_ended place k) (operations events) a is).0) h.timed;
       left = rest_left events kept moment key gone k place h.timed hold parted h.left l settled;
       formed = settled.formed h.left.named h.formed;
+      put = subst (ArePutBy events key) (sym settled.puts)
+          (put_settled events key moment gone k (width * place) (values_of l.configurations) h.left h.put);
     }

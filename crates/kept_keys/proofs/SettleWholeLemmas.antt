@@ -20,15 +20,15 @@ use Rattle.following.specs.rows.Fixed.{SettlesIn}
 use Rattle.following.proofs.keys.ChoiceLemmas.{any_from, any_to}
 use Rattle.past_choices.specs.PastChoices.{PastChoice, IsPastChoice}
 use Rattle.past_choices.specs.Starts.{Start}
-use Rattle.kept_keys.specs.Calls.{AreCallsOf}
-use Rattle.kept_keys.specs.Kept.{IsOpenAhead, IsFormed}
+use Rattle.key_configurations.specs.Calls.{AreCallsOf}
+use Rattle.key_configurations.specs.Formed.{IsOpenAhead, IsFormed}
 use Rattle.kept_keys.specs.Settling.{has_ended, names_ended, names_open}
-use Rattle.kept_keys.specs.SettleSteps.{ended_by, has_begun, begun, names_begun, calls_begun, names_gone, names_of, found_of, which_ended, which_taken}
-use Rattle.kept_keys.specs.SettleSteps.{start_from, starts_from, IsOneOf}
-use Rattle.kept_keys.specs.SettleSteps.{IsChoiceAt, IsOutcomeAt, AreOutcomes, AreUnited}
-use Rattle.kept_keys.specs.Views.{KeptView, state, width}
-use Rattle.kept_keys.proofs.SettleDueLemmas.{picked_pairs}
-use Rattle.kept_keys.proofs.SettleChoiceLemmas.{one_call, zip_name, found_by, done_to, at_number, begun_parts, gone_from}
+use Rattle.key_outcomes.specs.SettleSteps.{ended_by, has_begun, begun, names_begun, calls_begun, names_gone, names_of, found_of, which_ended, which_taken}
+use Rattle.key_outcomes.specs.SettleSteps.{start_from, starts_from, IsOneOf}
+use Rattle.key_outcomes.specs.SettleSteps.{IsChoiceAt, IsOutcomeAt, AreOutcomes, AreUnited}
+use Rattle.key_configurations.specs.Views.{KeptView, state, width}
+use Rattle.key_outcomes.proofs.SettleDueLemmas.{picked_pairs}
+use Rattle.key_outcomes.proofs.SettleChoiceLemmas.{one_call, zip_name, found_by, done_to, at_number, begun_parts, gone_from}
 use Rattle.kept_keys.proofs.SettleGoesLemmas.{chosen_open, taken_whole, goes_by_name, choice_of, goes_by_number, number_taken, number_found}
 
 -- a value of a configuration that is united is one of an outcome

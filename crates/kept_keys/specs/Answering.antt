@@ -15,7 +15,8 @@ use Rattle.kept_keys.specs.Steps.{AgreesAt, respond}
 abbrev pub names_call : ℕ → Configuration → Bool
 names_call name c = has_number c.taken name || list_any (λ entry. entry.0 == name) c.ahead
 
--- a configuration without what is noted for a call, and without the call, where its answer says nothing
+-- a configuration without what is noted for a call, and without the call, where its answer says
+-- nothing
 abbrev pub less_of : Bool → ℕ → Configuration → Configuration
 less_of silent name c = if silent then without_taken name (without_ahead name c) else without_ahead name c
 

@@ -1,7 +1,7 @@
 -- Past moments at which a key may settle.
-use Rattle.std.specs.Prelude.{◌≡◌, ◌⊎◌, ℕ, ◌*◌, ◌/◌, ◌≤◌, ◌&&◌, Bool, true, max, nat_lt, if◌then◌else◌, [], Option, Some, None, Any}
+use Rattle.std.specs.Prelude.{◌≡◌, ◌⊎◌, ℕ, ◌*◌, ◌/◌, ◌≤◌, ◌&&◌, Bool, true, nat_lt, if◌then◌else◌, [], Option, Some, None, Any}
 use Rattle.kept_keys.specs.Settling.{names_open}
-use Rattle.kept_keys.specs.Views.{KeptView, width}
+use Rattle.key_configurations.specs.Views.{KeptView, width}
 
 -- a place up to a limit, of the invocation of a call left or of the next event
 pub record IsPlaceOf (k : KeptView) (limit now place : ℕ) : Type 0 where
@@ -19,16 +19,12 @@ pub record IsQuietPlace (k : KeptView) (limit now place : ℕ) : Type 0 where
 abbrev pub HasNoQuietPlace : KeptView → ℕ → ℕ → Type 0
 HasNoQuietPlace k limit now = (place : ℕ) → IsPlaceOf k limit now place → names_open place k ≡ [] → ⊥
 
--- the later of two answers, where there is a first
-abbrev pub later : Option ℕ → ℕ → Option ℕ
-later None answer = Some answer
-later (Some latest) answer = Some (max latest answer)
-
 -- whether calls ended before a number, by their latest answer
 abbrev pub is_past : Option ℕ → ℕ → Bool
 is_past None number = true
 is_past (Some latest) number = nat_lt latest number
 
--- the place of a number where it is one, and all calls before it had ended, and else what was found before
+-- the place of a number where it is one, and all calls before it had ended, and else what was found
+-- before
 abbrev pub picked : Option ℕ → Option ℕ → Bool → ℕ → Option ℕ
 picked found latest is_place number = if is_place && is_past latest number then Some (number / width) else found

@@ -10,7 +10,7 @@ use Rattle.kept_keys.specs.Kept.{AreAnswered, IsKept}
 use Rattle.kept_keys.specs.Reads.{IsStillKept}
 use Rattle.kept_keys.specs.Settling.{names_ended}
 use Rattle.kept_keys.specs.Steps.{IsOpenCall}
-use Rattle.kept_keys.specs.Views.{KeptView}
+use Rattle.key_configurations.specs.Views.{KeptView}
 
 -- they are so with further events
 abbrev pub GoneStayAnswered : Type 0

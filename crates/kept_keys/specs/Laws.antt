@@ -22,13 +22,13 @@ use Rattle.following.specs.rows.Rows.{IsWithin}
 use Rattle.following.specs.rows.Twins.{IsTimingAt}
 use Rattle.following_reads.specs.Reads.{AreFixedUpToReads}
 use Rattle.past_choices.specs.Values.{IsCallOf}
-use Rattle.kept_keys.specs.Calls.{AreCallsOf}
-use Rattle.kept_keys.specs.Judging.{HasOrder}
+use Rattle.key_configurations.specs.Calls.{AreCallsOf}
+use Rattle.key_orders.specs.Judging.{HasOrder}
 use Rattle.kept_keys.specs.Kept.{AreAnswered, IsKept}
 use Rattle.kept_keys.specs.Reads.{IsStillKept, AreReadOff, HasSeen}
 use Rattle.kept_keys.specs.Settling.{IsSettledAt, names_ended}
 use Rattle.kept_keys.specs.Steps.{with_call, IsAnswered, IsOpenCall, PassesBy, HasGet}
-use Rattle.kept_keys.specs.Views.{KeptView, fresh, state, width}
+use Rattle.key_configurations.specs.Views.{KeptView, fresh, state, width}
 
 -- before any event a key is kept as fresh, with the value of the start
 abbrev pub KeptKeysBegin : Type 0
@@ -79,7 +79,7 @@ KeptKeysSeeScans = (start : Contents) (events : List Event) (process name low hi
 -- its scans get other moments: its calls are those by the new numbers
 abbrev pub KeptKeysRetime : Type 0
 KeptKeysRetime = (start : Contents) (events : List Event) (allows : Timings) (moment other : ℕ → ℕ) (key : ℕ) (gone : List ℕ) (k l : KeptView)
-    → l.configurations ≡ k.configurations
+    → l.configurations ≡ k.configurations → l.puts ≡ k.puts
     → IsTimingAt key (calls_left gone (operations events)) (places_by width) other
     → AreCallsOf key (places_by width) other (calls_left gone (operations events)) l.names l.calls
     → IsKept start events allows moment key gone k → IsKept start events allows other key gone l
@@ -90,7 +90,8 @@ KeptKeysJudge = (start : Contents) (events : List Event) (allows : Timings) (mom
     → IsKept start events allows moment key gone k
     → SomeHolds key (places_by width) moment (operations events) (state gone k) ↔ HasOrder key k
 
--- it settles at a place at which no scan over it was open that is open yet, and from which comparisons part the scans that are left of it
+-- it settles at a place at which no scan over it was open that is open yet, and from which
+-- comparisons part the scans that are left of it
 abbrev pub KeptKeysSettle : Type 0
 KeptKeysSettle = (start : Contents) (events : List Event) (kept others : List Comparison) (moment : ℕ → ℕ) (key : ℕ) (gone : List ℕ) (k l : KeptView)
     (place : ℕ) (whole_spread whole_moment : ℕ → ℕ)

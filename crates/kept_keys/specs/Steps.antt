@@ -15,7 +15,7 @@ use Rattle.following.specs.keys.Answers.{IsSilent, without_ahead}
 use Rattle.following.specs.keys.Choices.{without_taken}
 use Rattle.following.specs.keys.KeyStates.{Configuration, Tells}
 use Rattle.following.specs.moments.KeyCalls.{Kind, OfKey, Told, Silent, kind_of}
-use Rattle.kept_keys.specs.Views.{KeptView, width}
+use Rattle.key_configurations.specs.Views.{KeptView, width}
 
 -- an own call is invoked at a place
 abbrev pub with_call : ℕ → Call → KeptView → KeptView
@@ -23,6 +23,7 @@ with_call place call k = record {
   configurations = k.configurations;
   names = k.names ++ place ∷ [];
   calls = k.calls ++ record { call = call; inv = width * place; response = None } ∷ [];
+  puts = k.puts;
 }
 
 -- a configuration notes of an open call only values that its answer may tell, if it notes any
@@ -43,11 +44,13 @@ respond name response call =
 pub record HasAnswer (place name : ℕ) (call : Call) (reply : Reply) (old new : KeptView) : Type 0 where
   pub configurations : AreNarrowed without_ahead name call reply old.configurations new.configurations
   pub calls : zip new.names new.calls ≡ map (respond name (record { res = width * place; reply = reply })) (zip old.names old.calls)
+  pub puts : new.puts ≡ old.puts
 
 -- a call that says nothing then goes
 pub record HasGone (name : ℕ) (call : Call) (reply : Reply) (old new : KeptView) : Type 0 where
   pub configurations : AreNarrowed (λ n c. without_taken n (without_ahead n c)) name call reply old.configurations new.configurations
   pub calls : zip new.names new.calls ≡ filter (λ other. not (other.0 == name)) (zip old.names old.calls)
+  pub puts : new.puts ≡ old.puts
 
 pub record IsAnswered (place name : ℕ) (call : Call) (reply : Reply) (old new : KeptView) : Type 0 where
   pub each : length new.names ≡ length new.calls
@@ -83,6 +86,7 @@ get_of key number value = record {
 -- the get of a scan comes to the calls, by its number
 pub record HasGet (key name number : ℕ) (value : Option ℕ) (old new : KeptView) : Type 0 where
   pub configurations : new.configurations ≡ old.configurations
+  pub puts : new.puts ≡ old.puts
   pub front : List (ℕ × Operation)
   pub back : List (ℕ × Operation)
   pub before : zip old.names old.calls ≡ front ++ back

@@ -8,17 +8,17 @@ ghost use Rattle.following.specs.keys.Answers.{IsSilent};
 ghost use Rattle.following.specs.keys.KeyStates.{Tells};
 ghost use Rattle.kept_keys.specs.Steps.{IsAnswered, AgreesAt, AreNarrowed};
 ghost use Rattle.kept_keys.specs.Answering.{names_call, less_of, IsAdded, with_response, AreRespondedTo, AreLeftOf};
-ghost use Rattle.kept_keys.specs.Views.{place_limit};
+ghost use Rattle.key_configurations.specs.Views.{place_limit};
 
-use crate::configuration::{Ahead, Configuration};
 use crate::kept::{KeptKey, WIDTH};
 use events::{Call, Memory, Operation, Reply, Response};
-use order_guesses::{forget, note};
+use key_configurations::{Ahead, Configuration};
 use std::alloc::Global;
 
 impl KeptKey {
-    /// Takes the answer at a place of the stream, of the call of this name. Configurations in which it took effect ahead of its answer stay where they
-    /// agree with it. A refused call, and a get that tells nothing, is left no longer.
+    /// Takes the answer at a place of the stream, of the call of this name. Configurations in which
+    /// it took effect ahead of its answer stay where they agree with it. A refused call, and a get
+    /// that tells nothing, is left no longer.
     pub fn answer(
         self,
         alloc: Global,
@@ -32,38 +32,42 @@ impl KeptKey {
         ensures { IfOk result (IsAnswered place name call.now reply self) }
     {
         let silent = is_silent(call, &reply);
-        let configurations = narrowed(alloc, self.configurations, name, call, &reply, silent)?;
+        let configurations = narrow_all(alloc, self.configurations, name, call, &reply, silent)?;
         let mut names = self.names;
         let mut calls = self.calls;
-        let mut guess = self.guess;
+        let puts = self.puts;
+        let mut order = self.order;
         if silent {
-            forget(&mut guess, &names, name);
+            order.forget(&names, name);
             remove_call(&mut names, &mut calls, name);
             return Ok(KeptKey {
                 configurations,
                 names,
                 calls,
-                guess,
+                puts,
+                order,
             });
         }
         let response = Response {
             res: WIDTH * place,
             reply,
         };
-        note(&mut guess, &names, name);
+        order.note_answer(&names, name);
         respond_at(alloc, &names, &mut calls, name, &response)?;
         Ok(KeptKey {
             configurations,
             names,
             calls,
-            guess,
+            puts,
+            order,
         })
     }
 }
 
 /// Whether a reply is a refusal, or a get that says nothing.
 fn is_silent(call: &Call, reply: &Reply) -> bool
-    ensures { (res : ℕ) → IsTrue result ↔ IsSilent call.now (Some (record { res = res; reply = reply.now })) }
+    ensures { (res : ℕ) → IsTrue result
+        ↔ IsSilent call.now (Some (record { res = res; reply = reply.now })) }
 {
     match reply {
         Reply::Refused => true,
@@ -72,8 +76,9 @@ fn is_silent(call: &Call, reply: &Reply) -> bool
     }
 }
 
-/// The configurations that agree with an answer, without what they note for its call; where it says nothing, without the call too.
-fn narrowed(
+/// The configurations that agree with an answer, without what they note for its call; where it says
+/// nothing, without the call too.
+fn narrow_all(
     alloc: Global,
     configurations: Vec<Configuration>,
     name: usize,
@@ -81,7 +86,8 @@ fn narrowed(
     reply: &Reply,
     silent: bool,
 ) -> Result<Vec<Configuration>, Memory>
-    ensures { IfOk result (λ all. AreNarrowed (less_of silent) name call.now reply.now configurations.items all.items) }
+    ensures { IfOk result (λ all. AreNarrowed (less_of silent) name call.now reply.now
+        configurations.items all.items) }
 {
     if !some_names_call(&configurations, name) {
         return Ok(configurations);
@@ -126,7 +132,8 @@ fn narrowed_each(
     reply: &Reply,
     silent: bool,
 ) -> Result<Vec<Configuration>, Memory>
-    ensures { IfOk result (λ all. AreNarrowed (less_of silent) name call.now reply.now configurations.items all.items) }
+    ensures { IfOk result (λ all. AreNarrowed (less_of silent) name call.now reply.now
+        configurations.items all.items) }
 {
     let mut all = Vec::new(alloc);
     for configuration in configurations {
@@ -144,7 +151,8 @@ fn add_narrowed(
     reply: &Reply,
     silent: bool,
 ) -> Result<(), Memory>
-    ensures { OnOk result (IsAdded (less_of silent) name call.now reply.now configuration all.old.items all.new.items) }
+    ensures { OnOk result (IsAdded (less_of silent) name call.now reply.now configuration
+        all.old.items all.new.items) }
 {
     if !agrees(&configuration, name, call, reply) {
         return Ok(());
@@ -163,7 +171,8 @@ fn agrees(configuration: &Configuration, name: usize, call: &Call, reply: &Reply
 
 /// Whether a reply tells of some of these values.
 fn tells_some(found: &[Option<u64>], call: &Call, reply: &Reply) -> bool
-    ensures { IsTrue result ↔ Any (Tells call.now (Some (record { res = 0; reply = reply.now }))) found.now }
+    ensures { IsTrue result ↔ Any (Tells call.now (Some (record { res = 0; reply = reply.now })))
+        found.now }
 {
     found.iter().any(|value| tells(*value, call, reply))
 }
@@ -193,7 +202,8 @@ fn misses(value: Option<u64>, call: &Call) -> bool
     }
 }
 
-/// A configuration without what is noted for a call; where its answer says nothing, without the call too.
+/// A configuration without what is noted for a call; where its answer says nothing, without the
+/// call too.
 fn without_call(configuration: Configuration, name: usize, silent: bool) -> Configuration
     ensures { result ≡ less_of silent name configuration }
 {
@@ -237,7 +247,8 @@ fn respond_at(
 ) -> Result<(), Memory>
     requires { length names.now ≡ length calls.old }
     ensures each { OnOk result (length calls.new ≡ length calls.old) }
-    ensures answered { OnOk result (AreRespondedTo name response.now names.now calls.old calls.new) }
+    ensures answered { OnOk result (AreRespondedTo name response.now names.now calls.old
+        calls.new) }
 {
     for place in 0..names.len() {
         if names[place] == name {

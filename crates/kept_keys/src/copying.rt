@@ -1,10 +1,11 @@
 // Copies.
 ghost use Rattle.std.specs.Prelude.{◌≡◌, ◌↔◌, IsTrue, IfOk};
 
-use crate::configuration::{Ahead, Configuration};
 use crate::kept::KeptKey;
-use events::{Memory, Operation, Reply, Response};
-use order_guesses::copied_guess;
+use events::Memory;
+use key_configurations::{
+    are_same_calls, are_same_configurations, copied_calls, copied_configurations,
+};
 use std::alloc::Global;
 
 impl KeptKey {
@@ -16,7 +17,8 @@ impl KeptKey {
             configurations: copied_configurations(alloc, &self.configurations)?,
             names: Vec::from_slice(alloc, &self.names)?,
             calls: copied_calls(alloc, &self.calls)?,
-            guess: copied_guess(alloc, &self.guess)?,
+            puts: Vec::from_slice(alloc, &self.puts)?,
+            order: self.order.copy(alloc)?,
         })
     }
 
@@ -27,169 +29,28 @@ impl KeptKey {
         self.names == other.names
             && are_same_configurations(&self.configurations, &other.configurations)
             && are_same_calls(&self.calls, &other.calls)
+            && are_same_puts(&self.puts, &other.puts)
     }
 }
 
-/// Copies of configurations.
-fn copied_configurations(
-    alloc: Global,
-    configurations: &[Configuration],
-) -> Result<Vec<Configuration>, Memory>
-    ensures { IfOk result (λ all. all.items ≡ configurations.now) }
+/// Whether the same is noted of who put values, one by one.
+fn are_same_puts(puts: &[(Option<u64>, usize)], others: &[(Option<u64>, usize)]) -> bool
+    ensures { IsTrue result ↔ (puts.now ≡ others.now) }
 {
-    let mut copies = Vec::with_capacity(alloc, configurations.len())?;
-    for place in 0..configurations.len() {
-        copies.push(copied_configuration(alloc, &configurations[place])?)?;
-    }
-    Ok(copies)
-}
-
-/// A copy of a configuration.
-fn copied_configuration(
-    alloc: Global,
-    configuration: &Configuration,
-) -> Result<Configuration, Memory>
-    ensures { IfOk result (λ c. c ≡ configuration.now) }
-{
-    Ok(Configuration {
-        taken: Vec::from_slice(alloc, &configuration.taken)?,
-        values: Vec::from_slice(alloc, &configuration.values)?,
-        ahead: copied_ahead(alloc, &configuration.ahead)?,
-    })
-}
-
-/// Copies of what calls may have found ahead of their answers.
-pub(crate) fn copied_ahead(alloc: Global, ahead: &[Ahead]) -> Result<Vec<Ahead>, Memory>
-    ensures { IfOk result (λ all. all.items ≡ ahead.now) }
-{
-    let mut copies = Vec::with_capacity(alloc, ahead.len())?;
-    for place in 0..ahead.len() {
-        let entry = &ahead[place];
-        copies.push(Ahead {
-            call: entry.call,
-            found: Vec::from_slice(alloc, &entry.found)?,
-        })?;
-    }
-    Ok(copies)
-}
-
-/// Copies of calls.
-fn copied_calls(alloc: Global, calls: &[Operation]) -> Result<Vec<Operation>, Memory>
-    ensures { IfOk result (λ all. all.items ≡ calls.now) }
-{
-    let mut copies = Vec::with_capacity(alloc, calls.len())?;
-    for place in 0..calls.len() {
-        copies.push(calls[place].copy(alloc)?)?;
-    }
-    Ok(copies)
-}
-
-/// Whether configurations are the same, one by one.
-fn are_same_configurations(configurations: &[Configuration], others: &[Configuration]) -> bool
-    ensures { IsTrue result ↔ (configurations.now ≡ others.now) }
-{
-    if configurations.len() != others.len() {
+    if puts.len() != others.len() {
         return false;
     }
-    for place in 0..configurations.len() {
-        if !is_same_configuration(&configurations[place], &others[place]) {
+    for place in 0..puts.len() {
+        if !is_same_put(puts[place], others[place]) {
             return false;
         }
     }
     true
 }
 
-/// Whether two configurations are one.
-fn is_same_configuration(configuration: &Configuration, other: &Configuration) -> bool
-    ensures { IsTrue result ↔ (configuration.now ≡ other.now) }
+/// Whether the same call put the same value.
+fn is_same_put(put: (Option<u64>, usize), other: (Option<u64>, usize)) -> bool
+    ensures { IsTrue result ↔ (put ≡ other) }
 {
-    configuration.taken == other.taken
-        && are_same_values(&configuration.values, &other.values)
-        && are_same_ahead(&configuration.ahead, &other.ahead)
-}
-
-/// Whether the same is noted, one by one.
-pub(crate) fn are_same_ahead(ahead: &[Ahead], others: &[Ahead]) -> bool
-    ensures { IsTrue result ↔ (ahead.now ≡ others.now) }
-{
-    if ahead.len() != others.len() {
-        return false;
-    }
-    for place in 0..ahead.len() {
-        if !is_same_entry(&ahead[place], &others[place]) {
-            return false;
-        }
-    }
-    true
-}
-
-/// Whether the same is noted for the same call.
-fn is_same_entry(entry: &Ahead, other: &Ahead) -> bool
-    ensures { IsTrue result ↔ (entry.now ≡ other.now) }
-{
-    entry.call == other.call && are_same_values(&entry.found, &other.found)
-}
-
-/// Whether values are the same, one by one.
-pub(crate) fn are_same_values(values: &[Option<u64>], others: &[Option<u64>]) -> bool
-    ensures { IsTrue result ↔ (values.now ≡ others.now) }
-{
-    values == others
-}
-
-/// Whether calls are the same, one by one.
-fn are_same_calls(calls: &[Operation], others: &[Operation]) -> bool
-    ensures { IsTrue result ↔ (calls.now ≡ others.now) }
-{
-    if calls.len() != others.len() {
-        return false;
-    }
-    for place in 0..calls.len() {
-        if !is_same_call(&calls[place], &others[place]) {
-            return false;
-        }
-    }
-    true
-}
-
-/// Whether two calls are one.
-fn is_same_call(call: &Operation, other: &Operation) -> bool
-    ensures { IsTrue result ↔ (call.now ≡ other.now) }
-{
-    call.inv == other.inv
-        && call.call == other.call
-        && is_same_response(&call.response, &other.response)
-}
-
-/// Whether two responses are one, or none.
-fn is_same_response(response: &Option<Response>, other: &Option<Response>) -> bool
-    ensures { IsTrue result ↔ (response.now ≡ other.now) }
-{
-    match (response, other) {
-        (None, None) => true,
-        (Some(response), Some(other)) => response.res == other.res
-            && is_same_reply(&response.reply, &other.reply),
-        _ => false,
-    }
-}
-
-/// Whether two replies are one.
-fn is_same_reply(reply: &Reply, other: &Reply) -> bool
-    ensures { IsTrue result ↔ (reply.now ≡ other.now) }
-{
-    match reply {
-        Reply::None => matches!(other, Reply::None),
-        Reply::Refused => matches!(other, Reply::Refused),
-        Reply::Done => matches!(other, Reply::Done),
-        Reply::Found => matches!(other, Reply::Found),
-        Reply::Other => matches!(other, Reply::Other),
-        Reply::Some(value) => match other {
-            Reply::Some(other) => *value == *other,
-            _ => false,
-        },
-        Reply::Pairs(pairs) => match other {
-            Reply::Pairs(other) => pairs.as_slice() == other.as_slice(),
-            _ => false,
-        },
-    }
+    put.1 == other.1 && put.0 == other.0
 }

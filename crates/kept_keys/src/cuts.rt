@@ -1,19 +1,21 @@
 // At which past moment a key settles.
 ghost use Rattle.std.specs.Prelude.{◌≡◌, ◌<◌, length, AllPairs, MatchOption, IfSome, ◌⊎◌, ◌/◌, true};
-ghost use Rattle.kept_keys.specs.Cuts.{IsPlaceOf, IsQuietPlace, HasNoQuietPlace, is_past, later, picked};
-ghost use Rattle.kept_keys.specs.Views.{place_limit, width};
+ghost use Rattle.kept_keys.specs.Cuts.{IsPlaceOf, IsQuietPlace, HasNoQuietPlace, is_past, picked};
+ghost use Rattle.kept_keys.specs.Puts.{later};
+ghost use Rattle.key_configurations.specs.Views.{place_limit, width};
 
 use crate::kept::{KeptKey, WIDTH};
 use events::Operation;
 
 impl KeptKey {
-    /// The last place up to `limit` at which no call of the key was open: that of the invocation of a call left, or `now`, the number of
-    /// events so far.
+    /// The last place up to `limit` at which no call of the key was open: that of the invocation of
+    /// a call left, or `now`, the number of events so far.
     pub fn quiet_place(&self, limit: usize, now: usize) -> Option<usize>
         requires now { now < place_limit }
         requires each { length self.now.names ≡ length self.now.calls }
         requires rising { AllPairs (λ x y. x.inv < y.inv) self.now.calls }
-        ensures { MatchOption result (HasNoQuietPlace self.now limit now) (IsQuietPlace self.now limit now) }
+        ensures { MatchOption result (HasNoQuietPlace self.now limit now)
+            (IsQuietPlace self.now limit now) }
     {
         let last = limit.min(now);
         let end = last * WIDTH;
@@ -21,19 +23,20 @@ impl KeptKey {
         let mut latest = None;
         for call in &self.calls {
             if call.inv >= end {
-                return picked(found, latest, (last == now) | (call.inv == end), end);
+                return pick_place(found, latest, (last == now) | (call.inv == end), end);
             }
-            found = picked(found, latest, call.inv % WIDTH == 0, call.inv);
+            found = pick_place(found, latest, call.inv % WIDTH == 0, call.inv);
             let Some(response) = &call.response else {
                 return found;
             };
-            latest = later(latest, response.res);
+            latest = later_answer(latest, response.res);
         }
-        picked(found, latest, last == now, end)
+        pick_place(found, latest, last == now, end)
     }
 
-    /// A place up to `limit` at which few calls of the key were open, and before which some have ended, if there is one: of those with the fewest the
-    /// last, where one that is open yet counts as four. Where more than `FEW` calls were open at once places are left out.
+    /// A place up to `limit` at which few calls of the key were open, and before which some have
+    /// ended, if there is one: of those with the fewest the last, where one that is open yet counts
+    /// as four. Where more than `FEW` calls were open at once places are left out.
     pub fn few_open_place(&self, limit: usize, now: usize) -> Option<usize>
         requires now { now < place_limit }
         ensures { IfSome result (IsPlaceOf self.now limit now) }
@@ -41,20 +44,21 @@ impl KeptKey {
         let last = limit.min(now);
         let end = last * WIDTH;
         let mut found = None;
-        let mut opens = Opens::none();
+        let mut opens = Opens::new();
         for call in &self.calls {
             if call.inv >= end {
-                return place_of(opens.fewest(found, (last == now) | (call.inv == end), end));
+                return place_of(opens.pick_fewest(found, (last == now) | (call.inv == end), end));
             }
-            found = opens.fewest(found, call.inv % WIDTH == 0, call.inv);
+            found = opens.pick_fewest(found, call.inv % WIDTH == 0, call.inv);
             opens.take(call);
         }
-        place_of(opens.fewest(found, last == now, end))
+        place_of(opens.pick_fewest(found, last == now, end))
     }
 }
 
-/// The place of a number, if it is one and all calls before it had ended by their latest answer, and else what was found before.
-fn picked(
+/// The place of a number, if it is one and all calls before it had ended by their latest answer,
+/// and else what was found before.
+fn pick_place(
     found: Option<usize>,
     latest: Option<usize>,
     is_place: bool,
@@ -79,8 +83,8 @@ fn is_past(latest: Option<usize>, number: usize) -> bool
     }
 }
 
-/// The later of two answers.
-fn later(latest: Option<usize>, answer: usize) -> Option<usize>
+/// The later of two, where there is a first.
+pub(crate) fn later_answer(latest: Option<usize>, answer: usize) -> Option<usize>
     ensures { result ≡ later latest answer }
 {
     match latest {
@@ -125,7 +129,7 @@ struct Opens {
 
 impl Opens {
     /// Before any call.
-    fn none() -> Opens {
+    fn new() -> Opens {
         Opens {
             answers: [0; FEW],
             beyond: 0,
@@ -133,10 +137,11 @@ impl Opens {
         }
     }
 
-    /// The place of a number, if it is one, and some call ended before it, and no more calls were open there than at the place that was found before, and
-    /// else the latter.
-    fn fewest(&self, found: Option<OpenAt>, is_place: bool, number: usize) -> Option<OpenAt>
-        ensures { (result ≡ found) ⊎ ((is_place ≡ true) × IfSome result (λ at. at.place ≡ number / width)) }
+    /// The place of a number, if it is one, and some call ended before it, and no more calls were
+    /// open there than at the place that was found before, and else the latter.
+    fn pick_fewest(&self, found: Option<OpenAt>, is_place: bool, number: usize) -> Option<OpenAt>
+        ensures { (result ≡ found) ⊎ ((is_place ≡ true)
+            × IfSome result (λ at. at.place ≡ number / width)) }
     {
         if !is_place || number <= self.first || number <= self.beyond {
             return found;
@@ -154,7 +159,8 @@ impl Opens {
         }
     }
 
-    /// How many calls are open at a number. One that is open yet counts as four: what it found is noted for each way in which it may have come.
+    /// How many calls are open at a number. One that is open yet counts as four: what it found is
+    /// noted for each way in which it may have come.
     fn count(&self, number: usize) -> usize {
         let open = self.answers.iter().filter(|answer| number <= **answer);
         let open_yet = self.answers.iter().filter(|answer| **answer == usize::MAX);

@@ -4,11 +4,11 @@ ghost use Rattle.kept_keys.specs.Steps.{get_of, HasGet};
 
 use crate::kept::KeptKey;
 use events::{Call, Memory, Operation, Reply, Response};
-use order_guesses::make_room;
 use std::alloc::Global;
 
 impl KeptKey {
-    /// Takes a scan over the key as a get of it, at the number of its moment, which no call left has, with the value or none that it was told.
+    /// Takes a scan over the key as a get of it, at the number of its moment, which no call left
+    /// has, with the value or none that it was told.
     pub fn take_get(
         mut self,
         alloc: Global,
@@ -23,7 +23,7 @@ impl KeptKey {
         ensures { IfOk result (HasGet key name number value self) }
     {
         let place = self.calls.partition_point(|call| call.inv < number);
-        make_room(&mut self.guess, place);
+        self.order.make_room(place);
         self.names.insert(place, name)?;
         self.calls.insert(place, get_at(key, number, value))?;
         Ok(self)

@@ -1,35 +1,29 @@
-//! What is kept of one key of a stream while events come: what it may hold, and those of its calls that matter yet. It goes on with each event,
-//! says whether its calls have an order, and settles at past moments, at which calls may be open.
+//! What is kept of one key of a stream while events come: what it may hold, and those of its calls
+//! that matter yet. It goes on with each event, says whether its calls have an order, and settles
+//! at past moments, at which calls may be open.
 #![tactic(auto)]
 
 mod answering;
-mod configuration;
 mod copying;
 mod cuts;
-mod due;
-mod few;
 mod gets;
 mod gone;
-mod guess;
-mod guessing;
-mod joining;
 mod judging;
 mod kept;
 mod laws;
-mod outcomes;
+mod puts;
 mod reads;
 mod retiming;
 mod settling;
-mod starting;
-mod uniting;
 
-pub use configuration::{Ahead, Configuration};
 pub use gone::gone_calls_are_answered;
-pub use judging::Judged;
 pub use kept::{KeptKey, PLACE_LIMIT, WIDTH};
+pub use key_configurations::{Ahead, Configuration};
+pub use key_orders::Judged;
 pub use laws::{
     kept_keys_begin, kept_keys_go_on, kept_keys_judge, kept_keys_narrow, kept_keys_retime,
     kept_keys_see_scans, kept_keys_settle, kept_keys_take_answers, kept_keys_take_calls,
     kept_keys_take_scans, kept_reads_go,
 };
+pub use puts::is_same_value;
 pub use reads::is_read_of;

@@ -2,16 +2,18 @@
 ghost use Rattle.std.specs.Prelude.{◌≡◌, length, map, zip, IfOk, IsTrue};
 ghost use Rattle.std.specs.List.Sorted.{IsPermutation, IsNonDecreasingBy};
 ghost use Rattle.kept_keys.specs.Retiming as spec;
-ghost use Rattle.kept_keys.specs.Retiming.{call_at, retimed_call, retimed_pair, IsRetimed};
+ghost use Rattle.kept_keys.specs.Retiming.{retimed_call, retimed_pair, IsRetimed};
 
 use crate::kept::{KeptKey, WIDTH};
 use events::{Memory, Operation};
+use key_orders::KeptOrder;
 use std::alloc::Global;
 
 impl KeptKey {
-    /// The same with its gets of scans at other numbers: `numbers` has names of scans with the numbers of their moments. Each get costs as much as
-    /// `numbers`; where the calls come to stand otherwise they are sorted anew.
-    pub fn retimed(
+    /// The same with its gets of scans at other numbers: `numbers` has names of scans with the
+    /// numbers of their moments. Each get costs as much as `numbers`; where the calls come to stand
+    /// otherwise they are sorted anew.
+    pub fn retime(
         self,
         alloc: Global,
         key: u64,
@@ -24,7 +26,8 @@ impl KeptKey {
             configurations,
             names,
             mut calls,
-            guess,
+            puts,
+            order,
         } = self;
         retime_calls(&names, &mut calls, numbers);
         if stand_by_number(&calls) {
@@ -32,15 +35,17 @@ impl KeptKey {
                 configurations,
                 names,
                 calls,
-                guess,
+                puts,
+                order: order.without_front(),
             });
         }
-        let (names, calls) = sorted(alloc, names, calls)?;
+        let (names, calls) = sort_calls(alloc, names, calls)?;
         Ok(KeptKey {
             configurations,
             names,
             calls,
-            guess: None,
+            puts,
+            order: KeptOrder::none(),
         })
     }
 }
@@ -96,23 +101,24 @@ fn stand_by_number(calls: &[Operation]) -> bool
 }
 
 /// Calls with their names, by rising number.
-fn sorted(
+fn sort_calls(
     alloc: Global,
     names: Vec<usize>,
     calls: Vec<Operation>,
 ) -> Result<(Vec<usize>, Vec<Operation>), Memory>
     requires { length names.items ≡ length calls.items }
-    ensures permutation { IfOk result (λ both. IsPermutation (zip names.items calls.items) (zip both.0.items both.1.items)) }
+    ensures permutation { IfOk result (λ both. IsPermutation (zip names.items calls.items)
+        (zip both.0.items both.1.items)) }
     ensures each { IfOk result (λ both. length both.0.items ≡ length both.1.items) }
     ensures sorted { IfOk result (λ both. IsNonDecreasingBy (λ x. x.inv) both.1.items) }
 {
-    let mut pairs = paired(alloc, &names, calls)?;
+    let mut pairs = pair_calls(alloc, &names, calls)?;
     pairs.sort_by_key(|pair| pair.1.inv)?;
-    parted(alloc, pairs)
+    split_pairs(alloc, pairs)
 }
 
 /// Names and calls, as pairs.
-fn paired(
+fn pair_calls(
     alloc: Global,
     names: &[usize],
     calls: Vec<Operation>,
@@ -130,7 +136,7 @@ fn paired(
 }
 
 /// The names and the calls of pairs.
-fn parted(
+fn split_pairs(
     alloc: Global,
     pairs: Vec<(usize, Operation)>,
 ) -> Result<(Vec<usize>, Vec<Operation>), Memory>

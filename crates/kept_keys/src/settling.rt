@@ -1,26 +1,25 @@
 // A key settles at a past moment.
-ghost use Rattle.std.specs.Prelude.{◌<◌, ◌≤◌, ◌≡◌, [], take, slice_get, Some, length, All, Any, AllPairs, Contains, IfOk, IfSome, MatchOption};
+ghost use Rattle.std.specs.Prelude.{◌<◌, ◌≤◌, ◌≡◌, take, slice_get, Some, length, All, AllPairs, IfOk, IfSome, MatchOption};
 ghost use Rattle.events.specs.Precedence.{NonePrecedesItself};
 ghost use Rattle.kept_keys.specs.Settling.{IsSettledAt, IsBeyondAt};
-ghost use Rattle.kept_keys.specs.SettleSteps.{AreOutcomes, calls_begun, names_begun, names_gone, starts_of};
-ghost use Rattle.kept_keys.specs.Views.{place_limit};
+ghost use Rattle.key_outcomes.specs.SettleSteps.{AreOutcomes, calls_begun, names_begun, names_gone, starts_of};
+ghost use Rattle.key_configurations.specs.Views.{place_limit};
 ghost use Rattle.past_choices.specs.Positions.{ReachesMoreThan};
 ghost use Rattle.past_choices.specs.Values.{IsCallOf};
 
-use crate::configuration::Configuration;
-use crate::due::{gone_names, rest_of};
-use crate::joining::joined;
 use crate::kept::{KeptKey, WIDTH};
-use crate::outcomes::outcomes_of;
-use crate::uniting::united;
+use crate::puts::puts_behind;
 use events::{Memory, Operation};
+use key_configurations::Configuration;
+use key_outcomes::{gone_names, join_all, outcomes_of, rest_of, unite_all};
 use std::alloc::Global;
 
 impl KeptKey {
-    /// What the key settles to at a place of the stream: the calls that ended before it are gone, and each configuration becomes those to which these
-    /// calls, and some of those that were open then, may have led. None where from all values of the configurations together more than `budget`
-    /// positions are reachable.
-    pub fn settled(
+    /// What the key settles to at a place of the stream: the calls that ended before it are gone,
+    /// and each configuration becomes those to which these calls, and some of those that were open
+    /// then, may have led. None where from all values of the configurations together more than
+    /// `budget` positions are reachable.
+    pub fn settle(
         &self,
         alloc: Global,
         key: u64,
@@ -32,26 +31,32 @@ impl KeptKey {
         requires rising { AllPairs (λ x y. x.inv < y.inv) self.now.calls }
         requires apart { NonePrecedesItself self.now.calls }
         requires of_key { All (λ a. IsCallOf key a.call) self.now.calls }
-        ensures { IfOk result (λ found. MatchOption found (IsBeyondAt budget key place self.now) (IsSettledAt key place self.now)) }
+        ensures { IfOk result (λ found. MatchOption found (IsBeyondAt budget key place self.now)
+            (IsSettledAt key place self.now)) }
     {
         let limit = WIDTH * place;
         let gone = gone_names(alloc, &self.names, &self.calls, limit)?;
         let Some(outcomes) = self.outcomes(alloc, &gone, limit, key, budget)? else {
             return Ok(None);
         };
-        let apart = united(alloc, outcomes)?;
-        let configurations = joined(alloc, apart)?;
+        let apart = unite_all(alloc, outcomes)?;
+        let configurations = join_all(alloc, apart)?;
         let rest = rest_of(alloc, &self.names, &self.calls, limit)?;
-        let guess = self.guess_left(alloc, limit)?;
+        let order = self
+            .order
+            .left_behind(alloc, &self.names, &self.calls, limit)?;
+        let puts = puts_behind(alloc, &configurations, self, limit)?;
         Ok(Some(KeptKey {
             configurations,
             names: rest.names,
             calls: rest.calls,
-            guess,
+            puts,
+            order,
         }))
     }
 
-    /// What the choices of calls make of the configurations, or none where more than `budget` positions are reachable from them.
+    /// What the choices of calls make of the configurations, or none where more than `budget`
+    /// positions are reachable from them.
     fn outcomes(
         &self,
         alloc: Global,
@@ -66,10 +71,11 @@ impl KeptKey {
         requires of_key { All (λ a. IsCallOf key a.call) self.now.calls }
         requires gone { gone.now ≡ names_gone limit self.now }
         ensures { IfOk result (λ found. MatchOption found
-            (ReachesMoreThan key (starts_of (names_begun limit self.now) self.now.configurations) (calls_begun limit self.now) budget)
+            (ReachesMoreThan key (starts_of (names_begun limit self.now) self.now.configurations)
+            (calls_begun limit self.now) budget)
             (λ v. AreOutcomes key limit self.now self.now.configurations v.items)) }
     {
-        let count = begun(&self.calls, limit);
+        let count = count_begun(&self.calls, limit);
         let names = &self.names[..count];
         let calls = &self.calls[..count];
         let configurations = &self.configurations;
@@ -87,7 +93,7 @@ impl KeptKey {
 }
 
 /// How many calls began before a moment.
-fn begun(calls: &[Operation], limit: usize) -> usize
+fn count_begun(calls: &[Operation], limit: usize) -> usize
     ensures within { result ≤ length calls.now }
     ensures before { All (λ a. a.inv < limit) (take result calls.now) }
     ensures behind { IfSome (slice_get calls.now result) (λ a. limit ≤ a.inv) }

@@ -21,27 +21,35 @@ use Rattle.following.specs.moments.Timings.{ArePairsOf}
 use Rattle.following.proofs.keys.ChoiceLemmas.{any_to, any_from}
 use Rattle.kept_keys.specs.Calls.{calls_but}
 use Rattle.kept_keys.specs.Judging.{HasOrderFrom}
-use Rattle.kept_keys.specs.Kept.{IsFormed}
+use Rattle.kept_keys.specs.Formed.{IsFormed}
 use Rattle.kept_keys.specs.Laws.{KeptKeysRetime}
 use Rattle.kept_keys.specs.Steps.{IsOpenCall, get_of}
 use Rattle.kept_keys.specs.Views.{KeptView, place_limit}
 use Rattle.kept_rows.specs.Beginning.{first_keys}
 use Rattle.kept_rows.specs.Followed.{RowGhost, AreFollowed, IsRowOf}
-use Rattle.kept_rows.specs.Limits.{limit_of}
-use Rattle.kept_rows.specs.Outcomes.{HasNoOrder, IsLimitOf, AreOpenScans, IsScanAnswered}
+use Rattle.row_parting.specs.Limits.{limit_of}
+use Rattle.kept_rows.specs.Outcomes.{HasNoOrder, IsLimitOf, AreOpenScans, IsLostWithin, IsScanAnswered}
 use Rattle.kept_rows.specs.PartLaws.{with_scan, IsScanAnswerOf, OpenedRowsFollow, RowsTakeScans, UnseenScansAreLost}
-use Rattle.kept_rows.specs.Parting.{ScanAnswer, IsInRange, IsSameRow, HaveColumns, AreOpened, IsUnseen}
-use Rattle.kept_rows.specs.Rows.{RowView, RowsView, entry_at, or_fresh}
-use Rattle.kept_rows.specs.Scannable.{IsSoundRow}
+use Rattle.row_parting.specs.ScanAnswers.{ScanAnswer, IsInRange}
+use Rattle.kept_rows.specs.Opening.{IsSameRow, HaveColumns, AreOpened}
+use Rattle.kept_rows.specs.Seeing.{IsUnseen, last_number}
+use Rattle.row_parting.specs.Placed.{IsPlacedInRows}
+use Rattle.kept_rows.specs.Reaching.{HasReach, IsReachOf, reaching}
+use Rattle.scan_rows.specs.RowView.{RowView}
+use Rattle.kept_rows.specs.Rows.{RowsView}
+use Rattle.scan_rows.specs.Entries.{entry_at, or_fresh}
+use Rattle.row_parting.specs.Scannable.{IsSoundRow}
 use Rattle.kept_rows.specs.Taken.{IsTakenAs}
-use Rattle.kept_rows.specs.declared.outcomes.Answered.{Answered}
-use Rattle.kept_rows.specs.declared.outcomes.Answered.TheVariants.{Going, Lost, Spent, Crowded}
-use Rattle.kept_rows.specs.declared.outcomes.KeyLoss.{KeyLoss}
-use Rattle.kept_rows.specs.declared.rows.OpenScan.{OpenScan}
+use Rattle.kept_rows.specs.TellLaws.{PartedRowsTellKeys, PlacedKeysWereKept, UnseenKeysWereKept}
+use Rattle.kept_rows.specs.declared.outcomes.AnsweredRows.{AnsweredRows}
+use Rattle.kept_rows.specs.declared.outcomes.AnsweredRows.TheVariants.{Going, Lost, Spent, Crowded}
+use Rattle.scan_rows.specs.declared.key_loss.KeyLoss.{KeyLoss}
+use Rattle.scan_rows.specs.declared.row.OpenScan.{OpenScan}
 use Rattle.kept_rows.proofs.RowEntryLemmas.{keys_of, has_entry, kept_elsewhere}
 use Rattle.kept_rows.proofs.ScanEndLemmas.{IsLossIn, parted_losses}
 use Rattle.kept_rows.proofs.ScanSoundLemmas.{sound_row}
 use Rattle.kept_rows.proofs.TakenLemmas.{one_value}
+use Rattle.kept_rows.proofs.TellLemmas.{parted_placed}
 
 -- ---- the limits
 
@@ -90,7 +98,7 @@ limits_are events scans now key are a is over = by_call a.call a.response refl r
 module _ (start : Contents) (events : List Event) (process : ℕ) (s : ScanAnswer) (base : List (ℕ × KeptView)) (columns : List ℕ)
     (retime : KeptKeysRetime) (place : s.place ≡ length events) (below : s.place < place_limit)
     (is_open : IsOpenCall events process s.name (Scan s.low s.high)) (rising : AllPairs (λ k l. k < l) columns)
-    (rest : (key : ℕ) → IsInRange s key → (Contains columns key → ⊥) → (or_fresh (entry_at base key)).names ≡ []) where
+    (rest : (key : ℕ) → IsInRange s key → (Contains columns key → ⊥) → (or_fresh (entry_at base key)).names ≡ []) (reach : HasReach s columns base) where
   rows_sound : (rows : List RowView) (ghosts : List RowGhost) → All (λ r. keys_of r.keys ≡ columns) rows
       → AllZip (IsRowOf start events base) rows ghosts → All (IsSoundRow s) rows
   rows_sound [] ghosts own zip = All-nil (IsSoundRow s)
@@ -103,6 +111,7 @@ module _ (start : Contents) (events : List Event) (process : ℕ) (s : ScanAnswe
         begun = is_open;
         rising = subst (AllPairs (λ k l. k < l)) same rising;
         rest = subst (λ (l : List ℕ). (key : ℕ) → IsInRange s key → (Contains l key → ⊥) → (or_fresh (entry_at base key)).names ≡ []) same rest;
+        reach = subst (λ (l : List ℕ). HasReach s l base) same reach;
         row = zip.0;
       }) below)
       (rows_sound rows ghosts (All-tail (λ (r : RowView). keys_of r.keys ≡ columns) r rows own) zip.1)
@@ -125,9 +134,9 @@ module _ (start : Contents) (events : List Event) (process : ℕ) (s : ScanAnswe
     (followed : AreFollowed start events w) (place : s.place ≡ length events)
     (is_open : IsOpenCall events process s.name (Scan s.low s.high)) (columns_are : HaveColumns columns w)
     (rest : (key : ℕ) → IsInRange s key → (Contains columns key → ⊥) → (or_fresh (entry_at w.base key)).names ≡ []) where
-  pub opened_sound : KeptKeysRetime → s.place < place_limit → All (IsSoundRow s) w.rows
-  opened_sound retime below =
-      rows_sound start events process s w.base columns retime place below is_open columns_are.rising rest w.rows followed.ghosts columns_are.own followed.each
+  pub opened_sound : HasReach s columns w.base → KeptKeysRetime → s.place < place_limit → All (IsSoundRow s) w.rows
+  opened_sound reach retime below =
+      rows_sound start events process s w.base columns retime place below is_open columns_are.rising rest reach w.rows followed.ghosts columns_are.own followed.each
 
   -- the own keys are those of the first row
   pub first_columns : keys_of (first_keys w.rows) ≡ columns
@@ -207,7 +216,7 @@ unseen_none s columns base loss unseen none formed order =
     let k : KeptView = or_fresh (entry_at base key) in
     let told = value_at s.pairs key in
     let got = unseen.kept in
-    let get = get_of key unseen.number told in
+    let get = get_of key (last_number s) told in
     let empty : [] ≡ got.front ++ got.back = sym (ap (λ (l : List ℕ). zip l k.calls) none) ∙ got.before in
     let no_front : got.front ≡ [] = front_nil got.front got.back empty in
     let no_back : got.back ≡ [] = ap (λ (l : List (ℕ × Operation)). l ++ got.back) (sym no_front) ∙ sym empty in
@@ -218,35 +227,61 @@ unseen_none s columns base loss unseen none formed order =
     let c_old : Contains k.configurations c = subst (λ (l : List Configuration). Contains l c) got.configurations c_is in
     let taken = none_taken k.names c.taken none (All-contains (IsFormed k) k.configurations c formed c_old).taken in
     let calls = one_get c.taken loss.kept.names loss.kept.calls s.name get taken one in
-    let same = get_order key unseen.number value told (subst (IsLinearizable (one_key key value)) calls ordered) in
+    let same = get_order key (last_number s) value told (subst (IsLinearizable (one_key key value)) calls ordered) in
     unseen.lost (any_from (λ (c : Configuration). Contains c.values told) k.configurations c c_old
     (subst (Contains c.values) same value_is))
 
 -- ---- what it comes to
 
-pub scan_comes_to : RowsTakeScans → UnseenScansAreLost → (start : Contents) (events : List Event) (process : ℕ) (s : ScanAnswer) (limit : ℕ → ℕ)
-    (budget : ℕ) (columns : List ℕ) (w : RowsView) (answered : Answered) → AreFollowed start events w
+-- the laws on which this stands
+pub record ScanLaws : Type 0 where
+  pub take : RowsTakeScans
+  pub unseen : UnseenScansAreLost
+  pub tell : PartedRowsTellKeys
+  pub placed : PlacedKeysWereKept
+  pub unseen_kept : UnseenKeysWereKept
+
+pub scan_comes_to : ScanLaws → (start : Contents) (events : List Event) (process : ℕ) (s : ScanAnswer) (limit : ℕ → ℕ)
+    (budget : ℕ) (columns : List ℕ) (w : RowsView) (answered : AnsweredRows) → AreFollowed start events w
     → IsScanAnswerOf events process s limit columns w → IsTakenAs s limit budget columns w answered
     → IsScanAnswered start (with_scan events process s) budget s.low s.high answered
-scan_comes_to take unseen start events process s limit budget columns w (Going next) followed is taken =
-    (take start events process s limit columns w next.base next.rows taken.losses followed is taken.taken.seen taken.taken.parted).0 taken.some
-scan_comes_to take unseen start events process s limit budget columns w (Lost losses) followed is taken = ⊎_elim
-    (λ none. (
-      parted_losses s limit w.rows [] losses.items none.taken.parted,
-      (take start events process s limit columns w none.base [] losses.items followed is none.taken.seen none.taken.parted).1 refl,
+scan_comes_to laws start events process s limit budget columns w (Going next) followed is taken =
+    (laws.take start events process s limit columns w next.base next.rows taken.losses followed is taken.taken.seen taken.taken.parted).0 taken.some
+scan_comes_to laws start events process s limit budget columns w (Lost losses) followed is taken = ⊎_elim
+    (λ none.
+    let parted = none.taken.parted in
+    let In = parted_losses s limit w.rows [] losses.items parted in
+    let Placed = parted_placed s limit parted in (
+      laws.tell start events process s limit columns w losses.items followed is parted,
+      All-from_contains (IsLostWithin start (with_scan events process s) s.low s.high) losses.items (λ loss loss_is.
+          let here = All-contains (IsLossIn s) losses.items loss In loss_is in record {
+            in_range = (here.0, here.1);
+            none = here.2;
+            was = laws.placed start events process s limit columns w loss followed is (All-contains (IsPlacedInRows s w.rows) losses.items loss Placed loss_is);
+          }),
+      (laws.take start events process s limit columns w none.base [] losses.items followed is none.taken.seen parted).1 refl,
     ))
     (λ one.
     let loss = one.loss in
     let no_names = is.rest loss.key one.unseen.in_range one.unseen.is_other in
     let none = unseen_none s columns w.base loss one.unseen no_names
-    (opened_formed start events process s w columns followed is.place is.is_open is.columns_are is.rest loss.key one.unseen.is_other) in (
-      subst (All (IsLossIn s)) (sym one.one)
-          (All-cons (IsLossIn s) loss [] (one.unseen.in_range.0, one.unseen.in_range.1, none) (All-nil (IsLossIn s))),
-      unseen start events process s limit columns w loss followed is one.unseen,
+    (opened_formed start events process s w columns followed is.place is.is_open is.columns_are is.rest loss.key one.unseen.is_other) in
+    let Is = IsLostWithin start (with_scan events process s) s.low s.high in (
+      λ nothing. no_first (sym one.one ∙ nothing),
+      subst (All Is) (sym one.one) (All-cons Is loss [] (record {
+        in_range = one.unseen.in_range;
+        none = none;
+        was = laws.unseen_kept start events process s limit columns w loss followed is one.unseen;
+      }) (All-nil Is)),
+      laws.unseen start events process s limit columns w loss followed is one.unseen,
     ))
     taken
-scan_comes_to take unseen start events process s limit budget columns w (Spent loss) followed is taken = (taken.0.0, taken.0.1, taken.1)
-scan_comes_to take unseen start events process s limit budget columns w Crowded followed is taken = tt
+  where
+    no_first : {X : Type 0} {x : X} {xs : List X} → x ∷ xs ≡ [] → ⊥
+    no_first e = cc
+scan_comes_to laws start events process s limit budget columns w (Spent loss) followed is taken =
+    (taken.0.0, taken.0.1, taken.1, laws.placed start events process s limit columns w loss followed is taken.2)
+scan_comes_to laws start events process s limit budget columns w Crowded followed is taken = tt
 
 -- ---- rows that are opened, with all that the answer wants of them
 
@@ -274,11 +309,6 @@ ready law start events process s v w h long own opens =
       many = sym (length_all_zip (IsSameRow v.base w.base) v.rows w.rows are.same);
     }
 
--- the answer of an open scan
-abbrev pub told_of : ℕ → OpenScan → Contents → List OpenScan → ScanAnswer
-told_of place scan pairs still_open =
-    record { place = place; name = scan.name; low = scan.low; high = scan.high; pairs = pairs; still_open = still_open }
-
 -- and so where the rows are lent
 pub lent_ready : OpenedRowsFollow → (start : Contents) (events : List Event) (process : ℕ) (s : ScanAnswer) (v w : RowsView)
     (base : List (ℕ × KeptView)) (rows lent : List RowView) → (let kept : RowsView = record { base = base; rows = rows } in kept ≡ v) → lent ≡ rows
@@ -291,8 +321,21 @@ lent_ready law start events process s v w base rows lent same one h =
     (subst (λ (l : List RowView). AreFollowed start events (record { base = base; rows = l })) (sym one) (subst (AreFollowed start events) (sym same) h))
 
 module _ (start : Contents) (events : List Event) (process : ℕ) (s : ScanAnswer) (v w : RowsView) (h : AreReady start events process s v w) where
-  pub ready_sound : KeptKeysRetime → s.place < place_limit → All (IsSoundRow s) w.rows
-  ready_sound = opened_sound start events process s w h.columns h.followed h.place h.is_open h.columns_are h.rest
+  -- the reach has all keys of the range, and is at rest but for the rows' own keys
+  ready_reach : (own : List (ℕ × KeptView)) (reach : ℕ × ℕ) → IsReachOf s.low s.high s.still_open own w.base reach → HasReach (reaching s reach) h.columns w.base
+  ready_reach own reach is = ⊎_elim
+      (λ wide. record { first = wide.1.0.first; last = wide.1.0.last; rest = λ key within other. wide.1.1 key within.0 within.1 })
+      (λ narrow. subst (λ (r : ℕ × ℕ). HasReach (reaching s r) h.columns w.base) (sym narrow.0) (record {
+        first = omega arith;
+        last = omega arith;
+        rest = h.rest;
+      }))
+      is
+
+  pub ready_sound : (own : List (ℕ × KeptView)) (reach : ℕ × ℕ) → IsReachOf s.low s.high s.still_open own w.base reach → KeptKeysRetime → s.place < place_limit
+      → All (IsSoundRow (reaching s reach)) w.rows
+  ready_sound own reach is =
+      opened_sound start events process (reaching s reach) w h.columns h.followed h.place h.is_open h.columns_are h.rest (ready_reach own reach is)
 
   pub ready_parted : All (λ entry. entry_at w.base entry.0 ≡ None) (first_keys w.rows)
   ready_parted = opened_parted start events process s w h.columns h.followed h.place h.is_open h.columns_are h.rest
@@ -304,19 +347,20 @@ module _ (start : Contents) (events : List Event) (process : ℕ) (s : ScanAnswe
   ready_calls = opened_calls start events process s w h.columns h.followed h.place h.is_open h.columns_are h.rest
 
   -- what the answer comes to, where it is taken so
-  pub ready_comes_to : RowsTakeScans → UnseenScansAreLost → ArePairsOf s.low s.high s.pairs → (scans : List OpenScan) (budget : ℕ) (answered : Answered)
-      → s.still_open ≡ scans → AreOpenScans (with_scan events process s) scans
-      → IsTakenAs s (limit_of scans (suc s.place)) budget (map (λ entry. entry.0) (first_keys w.rows)) w answered
+  pub ready_comes_to : (own : List (ℕ × KeptView)) (reach : ℕ × ℕ) → IsReachOf s.low s.high s.still_open own w.base reach → ScanLaws → ArePairsOf s.low s.high s.pairs
+      → (scans : List OpenScan) (budget : ℕ) (answered : AnsweredRows) → s.still_open ≡ scans → AreOpenScans (with_scan events process s) scans
+      → IsTakenAs (reaching s reach) (limit_of scans (suc s.place)) budget (map (λ entry. entry.0) (first_keys w.rows)) w answered
       → IsScanAnswered start (with_scan events process s) budget s.low s.high answered
-  ready_comes_to take unseen pairs scans budget answered same opened taken =
+  ready_comes_to own reach is laws pairs scans budget answered same opened taken =
       let limit = limit_of scans (suc s.place) in
       let columns = first_columns start events process s w h.columns h.followed h.place h.is_open h.columns_are h.rest in
-      scan_comes_to take unseen start events process s limit budget h.columns w answered h.followed (record {
+      scan_comes_to laws start events process (reaching s reach) limit budget h.columns w answered h.followed (record {
         place = h.place;
         is_open = h.is_open;
         pairs = pairs;
         columns_are = h.columns_are;
         rest = h.rest;
+        reach = ready_reach own reach is;
         limits = λ key. limits_are (with_scan events process s) scans (suc s.place) key opened;
         opened = subst (AreOpenScans (with_scan events process s)) (sym same) opened;
-      }) (subst (λ (l : List ℕ). IsTakenAs s limit budget l w answered) columns taken)
+      }) (subst (λ (l : List ℕ). IsTakenAs (reaching s reach) limit budget l w answered) columns taken)

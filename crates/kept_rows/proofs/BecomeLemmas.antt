@@ -15,7 +15,7 @@ use Rattle.following.proofs.rows.RowLemmas.{rows_judge}
 use Rattle.kept_keys.specs.Views.{KeptView}
 use Rattle.kept_rows.specs.Followed.{RowGhost, row_of, rows_of, IsRowOf}
 use Rattle.kept_rows.specs.Laws.{RowsMayBecome, FollowedRowsHaveOrders}
-use Rattle.kept_rows.specs.Rows.{RowView}
+use Rattle.scan_rows.specs.RowView.{RowView}
 
 pub may_become : RowsMayBecome
 may_become start events rows next rising stand where_next stands = record {

@@ -31,9 +31,11 @@ use Rattle.kept_keys.specs.Kept.{IsKept}
 use Rattle.kept_keys.specs.Laws.{KeptKeysGoOn, KeptKeysTakeCalls}
 use Rattle.kept_keys.specs.Steps.{IsNotAt, with_call}
 use Rattle.kept_keys.specs.Views.{KeptView, state}
-use Rattle.kept_rows.specs.Beginning.{AreRising, HasBegun, HasBegunIn, first_keys}
+use Rattle.kept_rows.specs.Beginning.{AreRising, HasBegun, first_keys}
+use Rattle.scan_rows.specs.Entries.{HasBegunIn, entry_at, or_fresh}
 use Rattle.kept_rows.specs.Followed.{RowGhost, class_of_row, rows_of, IsRowOf, AreFollowed}
-use Rattle.kept_rows.specs.Rows.{RowView, RowsView, entry_at, or_fresh, or_else, kept_at, number_of}
+use Rattle.scan_rows.specs.RowView.{RowView, number_of}
+use Rattle.kept_rows.specs.Rows.{RowsView, or_else, kept_at}
 use Rattle.kept_rows.proofs.EventLemmas.{invoked_later, invoke_tells_none, invoke_holds, timed_on}
 use Rattle.kept_rows.proofs.PassLemmas.{with_keys, row_on}
 

@@ -20,10 +20,11 @@ use Rattle.kept_keys.specs.Kept.{IsKept}
 use Rattle.kept_keys.specs.Views.{KeptView, state, width}
 use Rattle.kept_keys.proofs.ScanPartLemmas.{pair_at}
 use Rattle.kept_rows.specs.Followed.{RowGhost, class_of_row, row_of, rows_of, IsRowOf}
-use Rattle.kept_rows.specs.Rows.{RowView, kept_at, comparisons_of, number_of}
+use Rattle.scan_rows.specs.RowView.{RowView, comparisons_of, number_of}
+use Rattle.kept_rows.specs.Rows.{kept_at}
 use Rattle.kept_rows.specs.TidyLaws.{ClosedKeysFollow}
-use Rattle.kept_rows.specs.Tidying.{HasNoGets}
-use Rattle.kept_rows.specs.declared.row.KeptScan.{KeptScan}
+use Rattle.kept_rows.specs.Closing.{HasNoGets}
+use Rattle.scan_rows.specs.declared.row.KeptScan.{KeptScan}
 use Rattle.kept_rows.proofs.EventLemmas.{told_over}
 use Rattle.kept_rows.proofs.RowEntryLemmas.{keys_of, kept_here}
 

@@ -13,9 +13,11 @@ use Rattle.list_laws.proofs.Lists.{AllPairs-head, AllPairs-nil, AllPairs-tail, A
 use Rattle.list_laws.proofs.FilterLemmas.{Contains-map}
 use Rattle.events.specs.declared.operation.Operation.{Operation}
 use Rattle.kept_keys.specs.Views.{KeptView, width}
-use Rattle.kept_rows.specs.Parting.{HaveColumns}
-use Rattle.kept_rows.specs.Rows.{RowView, RowsView, entry_at, or_fresh, or_else, kept_at}
-use Rattle.kept_rows.specs.Tidying.{AreClosed, HasNoGets, IsWithout}
+use Rattle.kept_rows.specs.Opening.{HaveColumns}
+use Rattle.scan_rows.specs.RowView.{RowView}
+use Rattle.kept_rows.specs.Rows.{RowsView, or_else, kept_at}
+use Rattle.scan_rows.specs.Entries.{entry_at, or_fresh}
+use Rattle.kept_rows.specs.Closing.{AreClosed, HasNoGets, IsWithout}
 use Rattle.kept_rows.proofs.RowEntryLemmas.{keys_of, entry_is, no_entry}
 
 abbrev Entries : Type 0

@@ -19,7 +19,8 @@ use Rattle.list_laws.proofs.Lists.{AllPairs-head, AllPairs-tail, Contains-at}
 use Rattle.kept_keys.specs.Steps.{with_call}
 use Rattle.kept_keys.specs.Views.{KeptView, fresh}
 use Rattle.kept_rows.specs.Beginning.{AreRising, IsEntryAt, HaveNoEntry, HasBegun, first_keys}
-use Rattle.kept_rows.specs.Rows.{RowView, entry_at}
+use Rattle.scan_rows.specs.RowView.{RowView}
+use Rattle.scan_rows.specs.Entries.{entry_at}
 
 abbrev Entry : Type 0
 Entry = ℕ × KeptView

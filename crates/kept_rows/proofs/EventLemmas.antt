@@ -41,13 +41,14 @@ use Rattle.following.proofs.moments.PartLemmas.{waits_from}
 use Rattle.following.proofs.moments.TimedLemmas.{told_completed}
 use Rattle.following.proofs.rows.EndLemmas.{grown_call, told_call}
 use Rattle.following_reads.specs.Reads.{AreFixedUpToReads, IsReadOf}
-use Rattle.kept_keys.specs.Kept.{IsOpenAhead, IsFormed, IsKept}
+use Rattle.kept_keys.specs.Formed.{IsOpenAhead, IsFormed}
+use Rattle.kept_keys.specs.Kept.{IsKept}
 use Rattle.kept_keys.specs.Steps.{IsOpenCall, IsNotAt, PassesBy}
 use Rattle.kept_keys.specs.Views.{KeptView, state, width}
 use Rattle.kept_keys.proofs.ScanAnswerLemmas.{open_call, answered_calls}
 use Rattle.kept_rows.specs.Followed.{RowGhost, IsKeptScan, AreScansKept, WasTold, IsTimedExactly, IsRowOf}
-use Rattle.kept_rows.specs.Rows.{RowView, scan_comparisons, turn_comparisons, comparisons_of, names_of}
-use Rattle.kept_rows.specs.declared.row.KeptScan.{KeptScan}
+use Rattle.scan_rows.specs.RowView.{RowView, scan_comparisons, turn_comparisons, comparisons_of, names_of}
+use Rattle.scan_rows.specs.declared.row.KeptScan.{KeptScan}
 
 -- ---- the calls with an event more
 
@@ -400,7 +401,7 @@ open_was_not_told events process name call begun was =
 abbrev pub with_number : ℕ → ℕ → (ℕ → ℕ) → ℕ → ℕ
 with_number name number numbers n = cond (n == name) number (numbers n)
 
-number_here : (name number : ℕ) (numbers : ℕ → ℕ) (n : ℕ) → n ≡ name → with_number name number numbers n ≡ number
+pub number_here : (name number : ℕ) (numbers : ℕ → ℕ) (n : ℕ) → n ≡ name → with_number name number numbers n ≡ number
 number_here name number numbers n same = rw (eq-eqb n name same) refl
 
 number_there : (name number : ℕ) (numbers : ℕ → ℕ) (n : ℕ) → n ≢ name → with_number name number numbers n ≡ numbers n

@@ -33,15 +33,17 @@ use Rattle.kept_keys.specs.Views.{KeptView, width}
 use Rattle.kept_keys.proofs.ScanPartLemmas.{pair_at}
 use Rattle.kept_keys.proofs.ScanZipLemmas.{name_of_pair}
 use Rattle.kept_rows.specs.Followed.{RowGhost, class_of_row, row_of, rows_of, IsKeptScan, WasTold, IsRowOf}
-use Rattle.kept_rows.specs.Moments.{IsNumbered}
-use Rattle.kept_rows.specs.Rows.{RowView, kept_at, comparisons_of, number_of, names_of}
+use Rattle.scan_rows.specs.Moments.{IsNumbered}
+use Rattle.scan_rows.specs.RowView.{RowView, comparisons_of, number_of, names_of}
+use Rattle.kept_rows.specs.Rows.{kept_at}
 use Rattle.kept_rows.specs.TidyLaws.{ForgottenScansFollow}
-use Rattle.kept_rows.specs.Tidying.{HasForgotten}
-use Rattle.kept_rows.specs.declared.row.KeptScan.{KeptScan}
+use Rattle.scan_rows.specs.Tidying.{HasForgotten}
+use Rattle.scan_rows.specs.declared.row.KeptScan.{KeptScan}
 use Rattle.kept_rows.proofs.BecomeLemmas.{may_become}
 use Rattle.kept_rows.proofs.EventLemmas.{told_over, speaks_weaker, row_speaks}
-use Rattle.kept_rows.proofs.HoldLemmas.{hold_each, hold_fewer, holds_of, behind_said, before_said, turn_said, from_comparisons, more_said}
-use Rattle.kept_rows.proofs.NumberLemmas.{number_is, scan_named, name_is}
+use Rattle.row_parting.proofs.HoldLemmas.{hold_each, hold_fewer, holds_of, behind_said, before_said, turn_said, from_comparisons, more_said}
+use Rattle.kept_rows.proofs.NumberLemmas.{number_is}
+use Rattle.scan_rows.proofs.NameLemmas.{scan_named, name_is}
 use Rattle.kept_rows.proofs.RowEntryLemmas.{keys_of, kept_here, row_from}
 
 -- ---- names of scans
@@ -168,6 +170,7 @@ kept_agrees start events allows moment other key gone k agree h =
         apart = h.left.apart;
       };
       formed = h.formed;
+      put = h.put;
     }
 
 -- ---- a row that has forgotten scans

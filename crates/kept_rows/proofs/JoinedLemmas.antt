@@ -37,15 +37,17 @@ use Rattle.kept_keys.specs.Kept.{AreAnswered, IsKept}
 use Rattle.kept_keys.specs.Views.{KeptView, state, width}
 use Rattle.kept_keys.proofs.ScanPartLemmas.{call_at, pair_at}
 use Rattle.kept_rows.specs.Followed.{RowGhost, class_of_row, row_of, rows_of, WasTold, IsRowOf}
-use Rattle.kept_rows.specs.Moments.{IsSameScan}
-use Rattle.kept_rows.specs.Rows.{RowView, kept_at, comparisons_of, number_of, names_of}
+use Rattle.scan_rows.specs.Moments.{IsSameScan}
+use Rattle.scan_rows.specs.RowView.{RowView, comparisons_of, number_of, names_of}
+use Rattle.kept_rows.specs.Rows.{kept_at}
 use Rattle.kept_rows.specs.TidyLaws.{JoinedRowsFollow}
-use Rattle.kept_rows.specs.Tidying.{AreSameRows, AreJoined}
-use Rattle.kept_rows.specs.declared.row.KeptScan.{KeptScan}
+use Rattle.scan_rows.specs.Tidying.{AreSameRows, AreJoined}
+use Rattle.scan_rows.specs.declared.row.KeptScan.{KeptScan}
 use Rattle.kept_rows.proofs.EventLemmas.{speaks_weaker}
 use Rattle.kept_rows.proofs.ForgetLemmas.{HaveBecome, has_or_not, row_names, stand_too}
-use Rattle.kept_rows.proofs.HoldLemmas.{hold_fewer, both_more, more_said}
-use Rattle.kept_rows.proofs.NumberLemmas.{scan_named, name_is}
+use Rattle.row_parting.proofs.HoldLemmas.{hold_fewer, more_said}
+use Rattle.kept_rows.proofs.FixedLemmas.{both_more}
+use Rattle.scan_rows.proofs.NameLemmas.{scan_named, name_is}
 use Rattle.kept_rows.proofs.RowEntryLemmas.{keys_of, row_from}
 
 -- ---- the names of comparisons

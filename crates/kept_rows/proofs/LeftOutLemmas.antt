@@ -1,80 +1,50 @@
 -- Where a row holds with a scan in a gap that is left out, it holds with the scan in one that is tried.
-use Rattle.std.proofs.Common.{◌≡◌, ℕ, ◌*◌, ◌<◌, ◌≤◌, true, List, [], ◌∷◌, ◌++◌, length, zip, map, Option, Some, is_some, refl, sym, ap, ◌∙◌, subst, ⊎_elim, inl, inr, arith}
-use Rattle.std.specs.Prelude.{◌≢◌, ◌⊎◌, All, AllPairs, Any, Contains}
+use Rattle.std.proofs.Common.{◌≡◌, ℕ, ◌<◌, ◌≤◌, true, List, [], ◌∷◌, ◌++◌, length, zip, Option, Some, is_some, sym, ap, ◌∙◌, subst, ⊎_elim, inl, inr, arith}
+use Rattle.std.specs.Prelude.{◌≢◌, ◌⊎◌, All, Any, Contains}
 use Rattle.std.proofs.lemmas.Bool.{cases_lt, lt-ltb, ltb-true}
-use Rattle.std.proofs.lemmas.List.Elements.{All-contains, All-head, All-tail, Contains-append_left, Contains-append_right, Contains-append_cases}
+use Rattle.std.proofs.lemmas.List.Elements.{All-contains, Contains-append_left, Contains-append_right, Contains-append_cases}
 use Rattle.events.specs.declared.event.Call.TheVariants.{Scan}
 use Rattle.events.specs.declared.event.Event.{Event}
 use Rattle.events.specs.declared.operation.Operation.{Operation}
 use Rattle.events.specs.declared.operation.Response.{Response}
 use Rattle.events.specs.Operations.{operations}
-use Rattle.list_laws.proofs.Lists.{AllPairs-head, AllPairs-tail, Contains-nil, Contains-first, Contains-later, Contains-cases}
+use Rattle.list_laws.proofs.Lists.{Contains-nil, Contains-first, Contains-later, Contains-cases}
 use Rattle.map_object.specs.MapObject.{Contents, value_at}
-use Rattle.quiet_cuts.specs.Cells.{calls_left}
 use Rattle.quiet_cuts.proofs.ContinueLemmas.{completed_stays}
 use Rattle.quiet_cuts.proofs.LeftLemmas.{from_left}
-use Rattle.following.specs.moments.KeyCalls.{Kind, OfKey, Told, Silent, kind_of, part_at, spread_call, get_at}
 use Rattle.following.specs.moments.Timings.{IsToldScan}
-use Rattle.following.specs.rows.Comparisons.{Comparison, Behind, Before, class_of, holds_in}
+use Rattle.following.specs.rows.Comparisons.{Comparison, Behind, Before, holds_in}
 use Rattle.following.specs.rows.ExactMoments.{places_by}
 use Rattle.following.specs.rows.Rows.{RowHolds}
 use Rattle.following.proofs.keys.ChoiceLemmas.{any_from, any_to}
 use Rattle.following.proofs.keys.GrownLemmas.{in_later, grown_inv}
-use Rattle.following.proofs.moments.KindLemmas.{IsPart, part_is, response_spread}
-use Rattle.dead_events.specs.Laws.{EndsJoin, BeginsJoin, row_between}
-use Rattle.kept_keys.specs.Kept.{IsKept}
+use Rattle.following.proofs.moments.KindLemmas.{response_spread}
+use Rattle.dead_events.specs.Laws.{row_between}
 use Rattle.kept_keys.specs.Views.{KeptView, width}
-use Rattle.kept_rows.specs.Candidates.{IsEventAt, ArePlacesWithin}
-use Rattle.kept_rows.specs.Followed.{RowGhost, IsKeptScan, class_of_row, row_of}
+use Rattle.row_parting.specs.Candidates.{IsEventAt, ArePlacesWithin}
+use Rattle.kept_rows.specs.Followed.{RowGhost, IsKeptScan, row_of}
 use Rattle.kept_rows.specs.Outcomes.{AreOpenScans}
-use Rattle.kept_rows.specs.Parting.{ScanAnswer, Way, choices_among, IsLeftOut, AreRivals, AreWays}
-use Rattle.kept_rows.specs.Passing.{IsEndAt, HasEndAt, MayPass}
-use Rattle.kept_rows.specs.Rows.{RowView, kept_at, number_of, names_of}
-use Rattle.kept_rows.specs.declared.row.KeptScan.{KeptScan}
-use Rattle.kept_rows.proofs.EventLemmas.{told_stays, told_over, open_was_not_told}
-use Rattle.kept_rows.proofs.HoldLemmas.{hold_each, holds_of}
-use Rattle.kept_rows.proofs.NumberLemmas.{placed_at, scan_named}
+use Rattle.row_parting.specs.ScanAnswers.{ScanAnswer}
+use Rattle.row_parting.specs.Parting.{Way, AreRivals, ways_by, AreGapWays, IsLastTried, IsLastLeftOut}
+use Rattle.row_parting.specs.Passing.{IsEndAt, HasEndAt, MayPass, TurnsBack, TurnsOn}
+use Rattle.scan_rows.specs.RowView.{RowView, names_of}
+use Rattle.kept_rows.specs.Rows.{kept_at}
+use Rattle.scan_rows.specs.declared.key_loss.KeyLoss.{KeyLoss}
+use Rattle.kept_rows.proofs.DeadBeginLemmas.{own_call, dead_back}
+use Rattle.kept_rows.proofs.DeadEndLemmas.{dead_on}
+use Rattle.kept_rows.proofs.EventLemmas.{told_stays, open_was_not_told}
+use Rattle.kept_rows.proofs.GapLaws.{GapLaws}
+use Rattle.row_parting.proofs.HoldLemmas.{hold_each, holds_of}
+use Rattle.scan_rows.proofs.NameLemmas.{scan_named}
 use Rattle.kept_rows.proofs.PassingLemmas.{states, Kept, tied, passes_back, passes_on}
-use Rattle.kept_rows.proofs.RowEntryLemmas.{kept_here}
 use Rattle.kept_rows.proofs.SilentLemmas.{silent_go, silent_come}
-use Rattle.kept_rows.proofs.TakenLemmas.{IsMet, answer, later, before_calls, calls, new, new_is, new_told, old_told}
-use Rattle.kept_rows.proofs.WayLemmas.{HoldsInWay, way_by, gap_holds}
+use Rattle.kept_rows.proofs.TakenLemmas.{IsMet, answer, later, before_calls, calls, new, new_is, new_told}
+use Rattle.kept_rows.proofs.WayLemmas.{HoldsInWay, gap_holds, AreInScan, IsLastOf, fewer_in, gap_in, last_of, in_scan}
 
-module _ (ends : EndsJoin) (begins : BeginsJoin) {start : Contents} {events : List Event} {process : ℕ} {s : ScanAnswer}
+module _ (laws : GapLaws) {start : Contents} {events : List Event} {process : ℕ} {s : ScanAnswer}
     {base : List (ℕ × KeptView)} {r : RowView} {g : RowGhost} (m : IsMet start events process s base r g)
     (opened : AreOpenScans (later m) s.still_open) where
   -- ---- the events at the ends of gaps
-
-  -- an own call that is kept of an own key is one of the key, at its place
-  abbrev IsOwn : ℕ → ℕ → Operation → Operation → Type 0
-  IsOwn key n x a = Contains (calls_left (g.gones key) (before_calls m)) a × ((a.inv ≡ n) × (spread_call (places_by width) a ≡ x))
-
-  own_call : (key : ℕ) (k : KeptView) (n : ℕ) (x : Operation) → Contains r.keys (key, k) → Contains (zip k.names k.calls) (n, x)
-      → x.inv ≡ width * n → (a : Operation) × IsOwn key n x a
-  own_call key k n x k_is x_is own =
-      let kept = subst (IsKept start events (class_of_row r g) (number_of r.scans) key (g.gones key)) (kept_here base r.keys key k m.rising k_is)
-      (m.row.kept key) in
-      let (a, a_is, (name, part)) = any_to (λ a. (a.inv ≡ n) × (part_at key (places_by width) (number_of r.scans) a ≡ Some x))
-      (calls_left (g.gones key) (before_calls m)) ((kept.left.are n x).0 x_is) in (
-        a,
-        by_kind a a_is name (kind_of a.call a.response) refl
-            (part_is key (places_by width) (number_of r.scans) a x (kind_of a.call a.response) part),
-      )
-    where
-      by_kind : (a : Operation) → Contains (calls_left (g.gones key) (before_calls m)) a → a.inv ≡ n → (kind : Kind)
-          → kind_of a.call a.response ≡ kind → IsPart key (places_by width) (number_of r.scans) a x kind → IsOwn key n x a
-      by_kind a a_is name (OfKey own) is part = (a_is, (name, part.1))
-      by_kind a a_is name (Told low high pairs) is part =
-          let there = old_told m key a a_is (low, (high, (pairs, is))) (told_over key a low high pairs is part.0 part.1) in
-          let (t, t_is, at) = scan_named r.scans a.inv there.0 in
-          let placed = placed_at r.scans t m.row.named m.row.numbered t_is in
-          let number = placed.number in
-          let positive = placed.positive in
-          let ranked = placed.ranked in
-          let same : number_of r.scans t.name ≡ number_of r.scans a.inv = ap (number_of r.scans) at in
-          let get : number_of r.scans a.inv ≡ x.inv = ap (λ (y : Operation). y.inv) part.2 in
-          absurd (omega (arith, number, positive, ranked, same, get, own))
-      by_kind a a_is name Silent is part = absurd part
 
   end_there : (place : ℕ) → HasEndAt s.low s.high r.keys place
       → (b : Operation) × ((q : Response) × (Contains (calls m) b × ((b.response ≡ Some q) × (q.res ≡ place))))
@@ -82,7 +52,7 @@ module _ (ends : EndsJoin) (begins : BeginsJoin) {start : Contents} {events : Li
       let (entry, entry_is, (within, some)) = any_to
       (λ (entry : ℕ × KeptView). ((s.low ≤ entry.0) × (entry.0 ≤ s.high)) × Any (IsEndAt place) (zip entry.1.names entry.1.calls)) r.keys h in
       let (call, call_is, (own, (q, answered, at))) = any_to (IsEndAt place) (zip entry.1.names entry.1.calls) some in
-      let (a, (a_is, (name, same))) = own_call entry.0 entry.1 call.0 call.1 entry_is call_is own in
+      let (a, (a_is, (name, (same, own_over)))) = own_call m entry.0 entry.1 call.0 call.1 entry_is call_is own in
       let (p, ended, where_is) = response_spread (places_by width) a.response q (ap (λ (y : Operation). y.response) same ∙ answered) in
       let here : p.res ≡ place = omega (arith, where_is, at) in (
         a,
@@ -102,7 +72,7 @@ module _ (ends : EndsJoin) (begins : BeginsJoin) {start : Contents} {events : Li
       let h = (are.each place).0 is in
       let (call, call_is, (own, other, which)) = any_to (IsEventAt (value_at s.pairs h.key) place) (zip h.kept.names h.kept.calls) h.event in ⊎_elim
       (λ begun.
-      let (a, (a_is, (name, same))) = own_call h.key h.kept call.0 call.1 h.known call_is own in
+      let (a, (a_is, (name, (same, own_over)))) = own_call m h.key h.kept call.0 call.1 h.known call_is own in
       let (b, b_is, grown) = in_later events (answer m ∷ []) a (from_left (g.gones h.key) (before_calls m) a a_is).0 in
       (b, (b_is, sym (grown_inv (length events) a b grown) ∙ (name ∙ sym begun))))
       (λ ended.
@@ -173,23 +143,50 @@ module _ (ends : EndsJoin) (begins : BeginsJoin) {start : Contents} {events : Li
     -- ---- the scan passes the event at an end of a gap
 
     abbrev May : ℕ → ℕ → Type 0
-    May low high = MayPass s.low s.high s.still_open r.keys r.scans low high
+    May low high = MayPass s.first s.last s.still_open r.keys r.scans low high
 
-    back : (prev low high : ℕ) → s.name < low → prev < low → low < high → high ≤ s.place → HasEndAt s.low s.high r.keys low → May low high
+    abbrev Turns : ℕ → Type 0
+    Turns place = TurnsBack s.low s.high s.pairs r.keys place
+
+    back_end : (prev low high : ℕ) → s.name < low → prev < low → low < high → high ≤ s.place → HasEndAt s.low s.high r.keys low → May low high
         → InGap low high → InGap prev low
-    back prev low high above first less upto end may gap =
+    back_end prev low high above first less upto end may gap =
         let (b, (q, (b_is, (answered, at)))) = end_there low end in
         let begun : s.name ≤ low = omega (arith, above) in
-        from_law prev low (ends (later m) (states m opened) (Kept m opened) (tied m opened low high begun less upto may) (new m) b q prev low high
+        from_law prev low (laws.ends (later m) (states m opened) (Kept m opened) (tied m opened low high begun less upto may) (new m) b q prev low high
         (new_is m) (new_told m) b_is answered at first (passes_back m opened low high begun less upto may above) more (to_law low high gap))
 
-    on : (low high : ℕ) (places : List ℕ) → ArePlacesWithin s.low s.high s.name s.place s.pairs r.keys places → Contains places high → s.name ≤ low
+    back : (prev low high : ℕ) → s.name < low → prev < low → low < high → high ≤ s.place → Turns low → May low high → InGap low high → InGap prev low
+    back prev low high above first less upto turns may gap = ⊎_elim
+        (λ end. back_end prev low high above first less upto end.0 may gap)
+        (λ begin.
+        let begun : s.name ≤ low = omega (arith, above) in
+        from_law prev low (dead_back m opened low high begun less upto may laws.values laws.dead_begins prev above first begin more (to_law low high gap)))
+        turns
+
+    on_begin : (low high : ℕ) (places : List ℕ) → ArePlacesWithin s.low s.high s.name s.place s.pairs r.keys places → Contains places high → s.name ≤ low
         → low < high → high < s.place → (HasEndAt s.low s.high r.keys high → ⊥) → May low high → InGap low high → InGap high s.place
-    on low high places are is begun less before none may gap =
+    on_begin low high places are is begun less before none may gap =
         let (b, (b_is, at)) = begin_there places high are is none in
         let upto : high ≤ s.place = omega (arith, before) in
-        from_law high s.place (begins (later m) (states m opened) (Kept m opened) (tied m opened low high begun less upto may) (new m) b low high s.place
+        from_law high s.place (laws.begins (later m) (states m opened) (Kept m opened) (tied m opened low high begun less upto may) (new m) b low high s.place
         (new_is m) (new_told m) b_is at before (passes_on m opened low high begun less upto may before) more (to_law low high gap))
+
+    on : (low high : ℕ) (places : List ℕ) → ArePlacesWithin s.low s.high s.name s.place s.pairs r.keys places → Contains places high → s.name ≤ low
+        → low < high → high < s.place → TurnsOn s.low s.high s.pairs r.keys high → May low high → InGap low high → InGap high s.place
+    on low high places are is begun less before turns may gap = ⊎_elim
+        (λ none. on_begin low high places are is begun less before none may gap)
+        (λ dead.
+        let upto : high ≤ s.place = omega (arith, before) in
+        from_law high s.place (dead_on m opened low high begun less upto may laws.apart laws.answers laws.values_ends laws.dead_ends before dead more
+        (to_law low high gap)))
+        turns.1
+
+    not_both : {place : ℕ} → TurnsOn s.low s.high s.pairs r.keys place → Turns place → ⊥
+    not_both on back = ⊎_elim
+        (λ end. ⊎_elim (λ none. none end.0) (λ dead. end.1 dead) on.1)
+        (λ begin. on.0 begin)
+        back
 
     -- ---- where the moment of the scan lies
 
@@ -215,17 +212,17 @@ module _ (ends : EndsJoin) (begins : BeginsJoin) {start : Contents} {events : Li
       abbrev Covers : List Way → Type 0
       Covers ways = (way : Way) → Contains ways way → (held : Held) → HoldsInWay s r held.spread held.moment way → Result
 
-      -- what comes of the gap before a place at which a call ends
+      -- what comes of the gap before a place that is passed back
       abbrev ComesBack : ℕ → Type 0
-      ComesBack behind = s.name < behind → HasEndAt s.low s.high r.keys behind → (prev : ℕ) × ((prev < behind) × (InGap prev behind → Result))
+      ComesBack behind = s.name < behind → Turns behind → (prev : ℕ) × ((prev < behind) × (InGap prev behind → Result))
 
       tried_gap : (behind before : ℕ) (rivals : List ℕ) → AreRivals s behind before r rivals
-          → Covers (map (way_by behind before) (choices_among s.name rivals)) → InGap behind before → Result
+          → Covers (ways_by s behind before rivals) → InGap behind before → Result
       tried_gap behind before rivals rival covers gap =
           let (way, way_is, holds) = gap_holds s r gap.held.spread gap.held.moment behind before rivals rival gap.behind gap.before (apart gap.held) in
           covers way way_is gap.held holds
 
-      back_gap : (behind before : ℕ) → s.name < behind → behind < before → before ≤ s.place → HasEndAt s.low s.high r.keys behind → May behind before
+      back_gap : (behind before : ℕ) → s.name < behind → behind < before → before ≤ s.place → Turns behind → May behind before
           → ComesBack behind → InGap behind before → Result
       back_gap behind before above less upto end may come gap =
           let (prev, (first, k)) = come above end in k (back prev behind before above first less upto end may gap)
@@ -238,52 +235,67 @@ module _ (ends : EndsJoin) (begins : BeginsJoin) {start : Contents} {events : Li
           rest (record { held = gap.held; behind = omega arith; before = gap.before }))
           (cases_lt (gap.held.moment s.name) (gap.held.spread before))
 
-      pub come : {behind : ℕ} {places : List ℕ} {ways : List Way} → AreWays s r behind places ways → AllPairs (λ p q. p < q) places
-          → All (λ p. (behind < p) × (p < s.place)) places → s.name ≤ behind → behind < s.place → ((p : ℕ) → Contains places p → Contains whole p)
-          → Covers ways → ComesBack behind → InGap behind s.place → Result
-      come (AreWays.last behind rivals rival) rising within begun short among covers returns gap = tried_gap behind s.place rivals rival covers gap
-      come (AreWays.out_last behind (inl out)) rising within begun short among covers returns gap =
-          back_gap behind s.place out.0 short (omega arith) out.1.0 out.1.1 returns gap
-      come (AreWays.out_last behind (inr out)) rising within begun short among covers returns gap = let never = out.0 in absurd (omega (arith, never))
-      come (AreWays.gap behind before places rivals ways rival rest) rising within begun short among covers returns gap =
-          let Within = λ (p : ℕ). (behind < p) × (p < s.place) in
-          let first = All-head Within before places within in
-          let less = first.0 in
-          let mine = map (way_by behind before) (choices_among s.name rivals) in
-          let here = tried_gap behind before rivals rival (λ way is. covers way (Contains-append_left mine ways way is)) in
-          split behind before here
-          (come rest (AllPairs-tail (λ p q. p < q) before places rising)
-          (above before places (AllPairs-head (λ p q. p < q) before places rising) (All-tail Within before places within)) (omega (arith, begun, less)) first.1
-          (λ p is. among p (Contains-later before places p is)) (λ way is. covers way (Contains-append_right mine ways way is))
-          (λ over end. (behind, (first.0, here)))) gap
+      comes_back : {places : List ℕ} {behind : ℕ} {ways : List Way} → AreGapWays s r places behind ways → AreInScan s r places → Covers ways
+          → ComesBack behind
+      comes_back AreGapWays.at_start inside covers above turns = absurd (omega (arith, above))
+      comes_back (AreGapWays.tried places behind before ways rivals earlier needed rival) inside covers above turns = (
+        behind,
+        (
+          (gap_in s r places behind before (last_of s r earlier (fewer_in s r places before inside)) inside).less,
+          tried_gap behind before rivals rival (λ way is. covers way (Contains-append_right ways (ways_by s behind before rivals) way is)),
+        ),
+      )
+      comes_back (AreGapWays.out places behind before ways earlier (inl out)) inside covers above turns =
+          let fewer = fewer_in s r places before inside in
+          let gap = gap_in s r places behind before (last_of s r earlier fewer) inside in
+          let ended = gap.ended in
+          (behind, (gap.less, back_gap behind before out.0 gap.less (omega (arith, ended)) out.1.0 out.1.1 (comes_back earlier fewer covers)))
+      comes_back (AreGapWays.out places behind before ways earlier (inr out)) inside covers above turns = absurd (not_both out.1.0 turns)
+
+      -- what comes of the gaps up to a place, and of the rest
+      ahead : {places : List ℕ} {behind : ℕ} {ways : List Way} → AreGapWays s r places behind ways → AreInScan s r places
+          → ((p : ℕ) → Contains places p → Contains whole p) → Covers ways → (InGap behind s.place → Result) → InGap s.name s.place → Result
+      ahead AreGapWays.at_start inside among covers rest gap = rest gap
+      ahead (AreGapWays.tried places behind before ways rivals earlier needed rival) inside among covers rest gap =
+          ahead earlier (fewer_in s r places before inside) (λ p is. among p (Contains-append_left places (before ∷ []) p is))
+          (λ way is. covers way (Contains-append_left ways (ways_by s behind before rivals) way is))
+          (split behind before
+          (tried_gap behind before rivals rival (λ way is. covers way (Contains-append_right ways (ways_by s behind before rivals) way is))) rest) gap
+      ahead (AreGapWays.out places behind before ways earlier (inl out)) inside among covers rest gap =
+          let fewer = fewer_in s r places before inside in
+          let here = gap_in s r places behind before (last_of s r earlier fewer) inside in
+          let ended = here.ended in
+          ahead earlier fewer (λ p is. among p (Contains-append_left places (before ∷ []) p is)) covers
+          (split behind before
+          (back_gap behind before out.0 here.less (omega (arith, ended)) out.1.0 out.1.1 (comes_back earlier fewer covers)) rest) gap
+      ahead (AreGapWays.out places behind before ways earlier (inr out)) inside among covers rest gap =
+          let fewer = fewer_in s r places before inside in
+          let here = gap_in s r places behind before (last_of s r earlier fewer) inside in
+          ahead earlier fewer (λ p is. among p (Contains-append_left places (before ∷ []) p is)) covers
+          (split behind before
+          (λ within. rest (on behind before whole are
+          (among before (Contains-append_right places (before ∷ []) before (Contains-first before []))) here.begun here.less here.ended out.1.0 out.1.1 within))
+          rest) gap
+
+      pub come : {limit : ℕ → ℕ} {behind : ℕ} {front ways : List Way} {next : List RowView} {losses : List KeyLoss} → AreGapWays s r whole behind front
+          → IsLastTried s limit r behind front ways ⊎ IsLastLeftOut s r behind front ways next losses → s.name < s.place → Covers ways
+          → InGap s.name s.place → Result
+      come {limit} {behind} {front} {ways} gaps (inl last) short covers gap =
+          let all = λ (way : Way) (is : Contains (front ++ ways_by s behind s.place last.rivals) way).
+          covers way (subst (λ (l : List Way). Contains l way) (sym last.ways_are) is) in
+          ahead gaps (in_scan s r whole are) (λ p is. is)
+          (λ way is. all way (Contains-append_left front (ways_by s behind s.place last.rivals) way is))
+          (tried_gap behind s.place last.rivals last.are_rivals
+          (λ way is. all way (Contains-append_right front (ways_by s behind s.place last.rivals) way is))) gap
+      come {limit} {behind} {front} {ways} gaps (inr left) short covers gap =
+          let inside = in_scan s r whole are in
+          let fewer = λ (way : Way) (is : Contains front way). covers way (subst (λ (l : List Way). Contains l way) (sym left.ways_are) is) in
+          ahead gaps inside (λ p is. is) fewer
+          (⊎_elim
+          (λ out. back_gap behind s.place out.0 (before_end whole behind inside short (last_of s r gaps inside)) (omega arith) out.1.0 out.1.1
+          (comes_back gaps inside fewer))
+          (λ out. absurd (let never = out.0 in omega (arith, never)))
+          left.left_out) gap
         where
-          above : (before : ℕ) (places : List ℕ) → All (λ q. before < q) places → All (λ p. (behind < p) × (p < s.place)) places
-              → All (λ p. (before < p) × (p < s.place)) places
-          above before places higher others n d less = (higher n d less, (others n d less).1)
-      come (AreWays.out behind before places ways (inl out) rest) rising within begun short among covers returns gap =
-          let Within = λ (p : ℕ). (behind < p) × (p < s.place) in
-          let first = All-head Within before places within in
-          let less = first.0 in
-          let upto = first.1 in
-          let here = back_gap behind before out.0 first.0 (omega (arith, upto)) out.1.0 out.1.1 returns in
-          split behind before here
-          (come rest (AllPairs-tail (λ p q. p < q) before places rising)
-          (above before places (AllPairs-head (λ p q. p < q) before places rising) (All-tail Within before places within)) (omega (arith, begun, less)) first.1
-          (λ p is. among p (Contains-later before places p is)) covers (λ over end. (behind, (first.0, here)))) gap
-        where
-          above : (before : ℕ) (places : List ℕ) → All (λ q. before < q) places → All (λ p. (behind < p) × (p < s.place)) places
-              → All (λ p. (before < p) × (p < s.place)) places
-          above before places higher others n d less = (higher n d less, (others n d less).1)
-      come (AreWays.out behind before places ways (inr out) rest) rising within begun short among covers returns gap =
-          let Within = λ (p : ℕ). (behind < p) × (p < s.place) in
-          let first = All-head Within before places within in
-          let less = first.0 in
-          let further = come rest (AllPairs-tail (λ p q. p < q) before places rising)
-          (above before places (AllPairs-head (λ p q. p < q) before places rising) (All-tail Within before places within)) (omega (arith, begun, less)) first.1
-          (λ p is. among p (Contains-later before places p is)) covers (λ over end. absurd (out.1.0 end)) in
-          split behind before
-          (λ here. further (on behind before whole are (among before (Contains-first before places)) begun first.0 first.1 out.1.0 out.1.1 here)) further gap
-        where
-          above : (before : ℕ) (places : List ℕ) → All (λ q. before < q) places → All (λ p. (behind < p) × (p < s.place)) places
-              → All (λ p. (before < p) × (p < s.place)) places
-          above before places higher others n d less = (higher n d less, (others n d less).1)
+          before_end : (places : List ℕ) (behind : ℕ) → AreInScan s r places → s.name < s.place → IsLastOf s r places behind → behind < s.place
+          before_end places behind inside short last = ⊎_elim (λ same. omega (arith, same, short)) (λ is. (inside.within behind is).1) last.which

@@ -4,16 +4,17 @@ pub mod BecomeLemmas
 pub mod BeginLemmas
 pub mod ClosedLemmas
 pub mod ClosingLemmas
+pub mod CountedLemmas
+pub mod DeadBeginLemmas
+pub mod DeadEndLemmas
 pub mod EntryLemmas
 pub mod EventLemmas
+pub mod FixedLemmas
 pub mod ForgetLemmas
-pub mod ForgettingLemmas
-pub mod HoldLemmas
+pub mod GapLaws
 pub mod JoinedLemmas
-pub mod JoiningLemmas
-pub mod KnownLemmas
+mod LastMomentLemmas
 pub mod LeftOutLemmas
-pub mod MomentLemmas
 pub mod NewKeyLemmas
 pub mod NewRowLemmas
 pub mod NumberLemmas
@@ -24,18 +25,12 @@ pub mod OwnKeyLemmas
 pub mod PartedLemmas
 pub mod PassLemmas
 pub mod PassingLemmas
-pub mod PlaceLemmas
-pub mod RestingLemmas
+mod ReachLemmas
 pub mod RowEntryLemmas
 pub mod ScanEndLemmas
-pub mod ScanGapLemmas
 pub mod ScanKeyLemmas
-pub mod ScanListLemmas
 pub mod ScanOpenLemmas
-pub mod ScanPlaceLemmas
 pub mod ScanSoundLemmas
-pub mod ScanTryLemmas
-pub mod ScanWayLemmas
 pub mod SettleLemmas
 pub mod SettledKeyLemmas
 pub mod SilentLemmas
@@ -43,10 +38,11 @@ pub mod SoundLemmas
 pub mod StartLemmas
 pub mod TakenLemmas
 pub mod TakenRowLemmas
-pub mod TimingLemmas
+mod TellLemmas
 pub mod TurnLemmas
 pub mod TurnedLemmas
 pub mod TurnedRowsLemmas
 pub mod UnseenLemmas
 mod WasKeptLemmas
 pub mod WayLemmas
+pub use Rattle.kept_keys.proofs.ScanAnswerLemmas

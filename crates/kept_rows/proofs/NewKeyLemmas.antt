@@ -25,7 +25,6 @@ use Rattle.following_reads.specs.Laws.{ReadTimingsHold, ReadRowsJudge}
 use Rattle.following.specs.rows.Rows.{IsWithin}
 use Rattle.following.proofs.keys.ChoiceLemmas.{any_from, any_to}
 use Rattle.following.proofs.rows.AlikeLemmas.{left_weaker}
-use Rattle.dead_events.specs.Laws.{EndsJoin, BeginsJoin}
 use Rattle.kept_keys.specs.Gone.{GoneStayAnswered, AnsweredCallsGo}
 use Rattle.kept_keys.specs.Judging.{HasOrder, HasOrderFrom}
 use Rattle.kept_keys.specs.Kept.{IsKept}
@@ -35,13 +34,19 @@ use Rattle.kept_keys.specs.Steps.{PassesBy}
 use Rattle.kept_keys.specs.Retiming.{IsRetimed}
 use Rattle.kept_keys.specs.Views.{KeptView, fresh, width}
 use Rattle.kept_rows.specs.Followed.{RowGhost, class_of_row}
-use Rattle.kept_rows.specs.Parting.{ScanAnswer, IsInRange, Way, HasPlacedGet}
-use Rattle.kept_rows.specs.Rows.{RowView, entry_at, or_fresh, kept_at, comparisons_of, number_of}
-use Rattle.kept_rows.specs.declared.row.KeptScan.{KeptScan}
+use Rattle.row_parting.specs.ScanAnswers.{ScanAnswer, IsInRange}
+use Rattle.row_parting.specs.Parting.{Way, HasPlacedGet}
+use Rattle.scan_rows.specs.RowView.{RowView, comparisons_of, number_of}
+use Rattle.scan_rows.specs.Entries.{entry_at, or_fresh}
+use Rattle.kept_rows.specs.Rows.{kept_at}
+use Rattle.scan_rows.specs.declared.row.KeptScan.{KeptScan}
+use Rattle.kept_rows.proofs.GapLaws.{GapLaws}
 use Rattle.kept_rows.proofs.RowEntryLemmas.{keys_of, kept_elsewhere}
 use Rattle.kept_rows.proofs.EventLemmas.{told_over}
-use Rattle.kept_rows.proofs.HoldLemmas.{both_more, hold_fewer}
-use Rattle.kept_rows.proofs.NumberLemmas.{number_is, scan_named}
+use Rattle.kept_rows.proofs.FixedLemmas.{both_more}
+use Rattle.row_parting.proofs.HoldLemmas.{hold_fewer}
+use Rattle.kept_rows.proofs.NumberLemmas.{number_is}
+use Rattle.scan_rows.proofs.NameLemmas.{scan_named}
 use Rattle.kept_rows.proofs.TakenLemmas.{IsTaken, answer, later, before_calls, calls, new_or_old, left_before, old_told, kept, old_comparison, old_name}
 use Rattle.kept_rows.proofs.TakenLemmas.{numbers_time, numbers_time_before}
 
@@ -59,8 +64,7 @@ pub record KeyLaws : Type 0 where
   pub answered : AnsweredCallsGo
   pub read_timings : ReadTimingsHold
   pub read_rows : ReadRowsJudge
-  pub ends : EndsJoin
-  pub begins : BeginsJoin
+  pub gaps : GapLaws
 
 -- ---- other moments, where no told scan is left of a key
 
@@ -109,6 +113,7 @@ kept_untold start events allows moment other key gone k none h =
         apart = h.left.apart;
       };
       formed = h.formed;
+      put = h.put;
     }
 
 -- ---- small facts
@@ -176,7 +181,7 @@ module _ (laws : KeyLaws) {start : Contents} {events : List Event} {process : â„
   retimed_kept key k l same is =
       let old = laws.narrow start events (class_of_row r g) allows (number_of r.scans) key (g.gones key) k class_within
       (subst (IsKept start events (class_of_row r g) (number_of r.scans) key (g.gones key)) same (t.met.row.kept key)) in
-      laws.retime start events allows (number_of r.scans) (number_of scans) key (g.gones key) k l is.configurations
+      laws.retime start events allows (number_of r.scans) (number_of scans) key (g.gones key) k l is.configurations is.puts
       (numbers_time_before t key)
       (is.calls (calls_left (g.gones key) (before_calls t.met)) (number_of r.scans) (number_of scans) old.left old.timed
       (numbers_time_before t key) numbers_are (have_numbers key)) old

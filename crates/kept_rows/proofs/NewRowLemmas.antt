@@ -16,12 +16,14 @@ use Rattle.following.specs.rows.Comparisons.{Comparison, Behind, Before, InTurn,
 use Rattle.following.specs.rows.ExactMoments.{AreExact, places_by, SayExactly, HasRank}
 use Rattle.kept_keys.specs.Views.{KeptView, width}
 use Rattle.kept_rows.specs.Followed.{RowGhost, WasTold}
-use Rattle.kept_rows.specs.Parting.{ScanAnswer, Way}
-use Rattle.kept_rows.specs.Rows.{RowView, comparisons_of, number_of, names_of}
-use Rattle.kept_rows.specs.declared.row.KeptScan.{KeptScan}
+use Rattle.row_parting.specs.ScanAnswers.{ScanAnswer}
+use Rattle.row_parting.specs.Parting.{Way, IsRival}
+use Rattle.scan_rows.specs.RowView.{RowView, comparisons_of, number_of, names_of}
+use Rattle.scan_rows.specs.declared.row.KeptScan.{KeptScan}
 use Rattle.kept_rows.proofs.EventLemmas.{speaks_weaker, open_was_not_told, was_told_on}
-use Rattle.kept_rows.proofs.HoldLemmas.{holds_of, turn_said, from_comparisons}
-use Rattle.kept_rows.proofs.NumberLemmas.{IsPlaced, gap_in, rank_in, placed_at, scan_named, name_is, placed, numbers_differ}
+use Rattle.row_parting.proofs.HoldLemmas.{holds_of, turn_said, from_comparisons}
+use Rattle.kept_rows.proofs.NumberLemmas.{IsPlaced, gap_in, rank_in, placed_at, placed, numbers_differ}
+use Rattle.scan_rows.proofs.NameLemmas.{scan_named, name_is}
 use Rattle.kept_rows.proofs.TakenLemmas.{IsTaken, answer, later, calls, new_or_old, turns, kept, old_name, new_name, from_name, kept_scans}
 use Rattle.kept_rows.proofs.WayLemmas.{chosen_turn}
 
@@ -149,9 +151,8 @@ module _ {start : Contents} {events : List Event} {process : ℕ} {s : ScanAnswe
     where
       rival : {n : ℕ} → Contains t.is_way.rivals n → Contains (names_of scans) n
       rival {n} is =
-          let Is = λ (name : ℕ). (scan : KeptScan) × Contains r.scans scan × (scan.name ≡ name) in
-          let (x, x_is, at) = All-contains Is t.is_way.rivals n t.is_way.are_rivals.are is in
-          old_name t n (subst (Contains (names_of r.scans)) at (name_is r.scans x x_is))
+          let other = All-contains (IsRival s way.behind way.before r) t.is_way.rivals n t.is_way.are_rivals.are is in
+          old_name t n (subst (Contains (names_of r.scans)) other.named (name_is r.scans other.scan other.is_kept))
 
   -- the others are still of scans that are forgotten
   pub new_forgotten : All (SpeaksOf (λ n. Contains (names_of scans) n → ⊥)) g.others

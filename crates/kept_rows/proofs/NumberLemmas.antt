@@ -3,23 +3,23 @@ use Rattle.std.proofs.Common.{◌≡◌, ℕ, ◌+◌, ◌*◌, ◌/◌, ◌%◌
 use Rattle.std.specs.Prelude.{◌≢◌, All, AllPairs, Contains}
 use Rattle.std.proofs.lemmas.Bool.{eq-eqb, ne_eqb}
 use Rattle.std.proofs.lemmas.List.Elements.{All-contains}
+use Rattle.list_laws.proofs.Lists.{AllPairs-head, AllPairs-tail, Contains-nil, Contains-cases}
+use Rattle.events.specs.Operations.{operations}
+use Rattle.events.proofs.TimeLemmas.{inv_rises}
 use Rattle.events.specs.declared.event.Event.{Event}
 use Rattle.events.specs.declared.operation.Operation.{Operation}
 use Rattle.events.specs.declared.operation.Response.{Response}
-use Rattle.events.specs.Operations.{operations}
-use Rattle.events.proofs.TimeLemmas.{inv_rises}
-use Rattle.list_laws.proofs.Lists.{AllPairs-head, AllPairs-tail, Contains-nil, Contains-cases}
-use Rattle.list_laws.proofs.FilterLemmas.{Contains-map, Contains-from_map}
 use Rattle.quiet_cuts.proofs.SetLemmas.{same_call}
 use Rattle.following.specs.moments.Timings.{IsToldScan}
 use Rattle.following.specs.rows.Blocks.{IsOver}
 use Rattle.following.specs.rows.ExactMoments.{places_by}
 use Rattle.following.specs.rows.Twins.{IsTimingAt}
 use Rattle.kept_keys.specs.Views.{width}
+use Rattle.scan_rows.specs.Moments.{IsNumbered}
+use Rattle.scan_rows.specs.RowView.{number_of, names_of}
+use Rattle.scan_rows.proofs.NameLemmas.{scan_named}
+use Rattle.scan_rows.specs.declared.row.KeptScan.{KeptScan}
 use Rattle.kept_rows.specs.Followed.{IsKeptScan}
-use Rattle.kept_rows.specs.Moments.{IsNumbered}
-use Rattle.kept_rows.specs.Rows.{number_of, names_of}
-use Rattle.kept_rows.specs.declared.row.KeptScan.{KeptScan}
 
 -- two of some items that differ have different numbers
 one_number : {X : Type 0} (f : X → ℕ) (xs : List X) (x y : X) → AllPairs (λ x y. f x ≢ f y) xs → Contains xs x → Contains xs y → (x ≡ y → ⊥)
@@ -89,13 +89,6 @@ placed_at scans t named numbered is =
       behind = omega (arith, gap_is, behind);
       before = omega (arith, gap_is, before);
     }
-
--- the scan of a name
-pub scan_named : (scans : List KeptScan) (n : ℕ) → Contains (names_of scans) n → (t : KeptScan) × Contains scans t × (t.name ≡ n)
-scan_named scans n is = Contains-from_map (λ (s : KeptScan). s.name) scans n is
-
-pub name_is : (scans : List KeptScan) (t : KeptScan) → Contains scans t → Contains (names_of scans) t.name
-name_is scans t is = Contains-map (λ (s : KeptScan). s.name) scans t is
 
 module _ (events : List Event) (scans : List KeptScan) (kept : All (IsKeptScan events) scans) (named : AllPairs (λ s t. s.name ≢ t.name) scans)
     (numbered : All IsNumbered scans) (rising : AllPairs (λ s t. s.number ≢ t.number) scans) where

@@ -13,9 +13,9 @@ use Rattle.kept_keys.specs.Kept.{IsKept}
 use Rattle.kept_keys.specs.Views.{KeptView, state}
 use Rattle.kept_rows.specs.Followed.{RowGhost, class_of_row, row_of, rows_of, IsRowOf}
 use Rattle.kept_rows.specs.PartLaws.{OpenedRowsFollow}
-use Rattle.kept_rows.specs.Parting.{IsSameRow}
-use Rattle.kept_rows.specs.Rows.{RowView, comparisons_of, number_of}
-use Rattle.kept_rows.specs.declared.row.KeptScan.{KeptScan}
+use Rattle.kept_rows.specs.Opening.{IsSameRow}
+use Rattle.scan_rows.specs.RowView.{RowView, comparisons_of, number_of}
+use Rattle.scan_rows.specs.declared.row.KeptScan.{KeptScan}
 
 -- a row that keeps the same of each key is the same for the laws
 pub one_row : (base other : List (ℕ × KeptView)) (r s : RowView) (g : RowGhost) → IsSameRow base other r s → row_of base r g ≡ row_of other s g

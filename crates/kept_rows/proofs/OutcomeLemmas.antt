@@ -12,13 +12,15 @@ use Rattle.kept_keys.specs.Steps as steps
 use Rattle.kept_keys.specs.Views.{KeptView}
 use Rattle.kept_rows.specs.Followed.{AreFollowed}
 use Rattle.kept_rows.specs.Outcomes.{IsAnswered, IsLostAt, WasKept}
-use Rattle.kept_rows.specs.Rows.{RowView, RowsView, entry_at, or_fresh, or_else, kept_at}
+use Rattle.scan_rows.specs.RowView.{RowView}
+use Rattle.kept_rows.specs.Rows.{RowsView, or_else, kept_at}
+use Rattle.scan_rows.specs.Entries.{entry_at, or_fresh}
 use Rattle.kept_rows.specs.Turned.{AreRowsTurned, IsBaseTurned}
 use Rattle.kept_rows.specs.Turning.{CallAnswer, IsTurnedDown, IsTurnedAway, IsRowTurnedAway, AreTurned, at_start, stays, goes}
 use Rattle.kept_rows.specs.TurnLaws.{AnswersAreKept, BaseIsLost, BaseTakesAnswers, IsAnswerOf, RowsTakeAnswers}
-use Rattle.kept_rows.specs.declared.outcomes.Answered.{Answered}
-use Rattle.kept_rows.specs.declared.outcomes.Answered.TheVariants as answers
-use Rattle.kept_rows.specs.declared.outcomes.KeyLoss.{KeyLoss}
+use Rattle.kept_rows.specs.declared.outcomes.AnsweredRows.{AnsweredRows}
+use Rattle.kept_rows.specs.declared.outcomes.AnsweredRows.TheVariants as answers
+use Rattle.scan_rows.specs.declared.key_loss.KeyLoss.{KeyLoss}
 use Rattle.kept_rows.proofs.TurnedRowsLemmas.{kept_for_all}
 
 -- what an answer of a call of a key makes of what is kept is kept then
@@ -92,7 +94,7 @@ module _ (start : Contents) (events : List Event) (process : ℕ) (a : CallAnswe
       keeps are r r_is old (kept_for_all start events v followed a.key old here r r_is)
 
   -- where the key is kept once for all rows
-  pub base_answered : BaseTakesAnswers → BaseIsLost → AnswersAreKept → (old : KeptView) (base : List (ℕ × KeptView)) (answered : Answered)
+  pub base_answered : BaseTakesAnswers → BaseIsLost → AnswersAreKept → (old : KeptView) (base : List (ℕ × KeptView)) (answered : AnsweredRows)
       → entry_at v.base a.key ≡ Some old → ((other : ℕ) → other ≢ a.key → entry_at base other ≡ entry_at v.base other)
       → IsBaseTurned a limit budget old base v.rows answered → IsAnswered start whole budget a.key answered
   base_answered take lose are old base (answers.Going w) here others turned =
@@ -111,7 +113,7 @@ module _ (start : Contents) (events : List Event) (process : ℕ) (a : CallAnswe
   base_answered take lose are old base answers.Crowded here others turned = turned
 
   -- where it is each row's own
-  pub rows_answered : RowsTakeAnswers → AnswersAreKept → (base : List (ℕ × KeptView)) (answered : Answered) → AreRowsTurned a limit budget base v.rows answered
+  pub rows_answered : RowsTakeAnswers → AnswersAreKept → (base : List (ℕ × KeptView)) (answered : AnsweredRows) → AreRowsTurned a limit budget base v.rows answered
       → base ≡ v.base → IsAnswered start whole budget a.key answered
   rows_answered take are base (answers.Going w) (base_is, some, found) same =
       let (losses, turned) = found in

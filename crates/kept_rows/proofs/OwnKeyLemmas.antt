@@ -4,7 +4,8 @@ use Rattle.std.proofs.lemmas.List.{get_or-set_same, set-set}
 use Rattle.std.proofs.lemmas.Option.{get_or_from_slice_get, slice_get_within}
 use Rattle.kept_keys.specs.Views.{KeptView}
 use Rattle.kept_rows.specs.Beginning.{AreRising, IsEntryAt}
-use Rattle.kept_rows.specs.Rows.{RowView, entry_at}
+use Rattle.scan_rows.specs.RowView.{RowView}
+use Rattle.scan_rows.specs.Entries.{entry_at}
 use Rattle.kept_rows.specs.Turned.{HasOther}
 use Rattle.kept_rows.specs.Turning.{HasChanged}
 use Rattle.kept_rows.proofs.EntryLemmas.{entry_here, entry_written, names_written}

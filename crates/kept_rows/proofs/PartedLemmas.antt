@@ -20,23 +20,28 @@ use Rattle.following.specs.rows.Rows.{Row, RowHolds}
 use Rattle.following.proofs.keys.ChoiceLemmas.{any_from, any_to}
 use Rattle.following.proofs.rows.RowLemmas.{rows_go_on}
 use Rattle.kept_keys.specs.Views.{KeptView}
-use Rattle.kept_rows.specs.Candidates.{ArePlacesWithin}
+use Rattle.row_parting.specs.Candidates.{ArePlacesWithin}
 use Rattle.kept_rows.specs.Followed.{RowGhost, row_of, rows_of, IsKeptScan, IsRowOf}
 use Rattle.kept_rows.specs.Outcomes.{IsLimitOf, AreOpenScans}
 use Rattle.kept_rows.specs.PartLaws.{IsScanAnswerOf, RowsTakeScans}
-use Rattle.kept_rows.specs.Parting.{ScanAnswer, Way, HaveSeen, IsTimedWay, AreTried, IsParted, AreParted}
-use Rattle.kept_rows.specs.Rows.{RowView, RowsView, entry_at}
-use Rattle.kept_rows.specs.declared.outcomes.KeyLoss.{KeyLoss}
-use Rattle.kept_rows.specs.declared.row.KeptScan.{KeptScan}
+use Rattle.row_parting.specs.ScanAnswers.{ScanAnswer}
+use Rattle.row_parting.specs.Parting.{Way, IsTimedWay, AreTried, IsParted, AreParted}
+use Rattle.kept_rows.specs.Seeing.{HaveSeen}
+use Rattle.kept_rows.specs.Reaching.{HasReach}
+use Rattle.scan_rows.specs.RowView.{RowView}
+use Rattle.kept_rows.specs.Rows.{RowsView}
+use Rattle.scan_rows.specs.Entries.{entry_at}
+use Rattle.scan_rows.specs.declared.key_loss.KeyLoss.{KeyLoss}
+use Rattle.scan_rows.specs.declared.row.KeptScan.{KeptScan}
 use Rattle.kept_rows.proofs.BecomeLemmas.{may_become}
 use Rattle.kept_rows.proofs.RowEntryLemmas.{keys_of, row_from}
 use Rattle.kept_rows.proofs.EventLemmas.{answered_later, told_stays, open_was_not_told}
 use Rattle.kept_rows.proofs.NewKeyLemmas.{KeyLaws}
-use Rattle.kept_rows.proofs.NumberLemmas.{scan_named}
+use Rattle.scan_rows.proofs.NameLemmas.{scan_named}
 use Rattle.kept_rows.proofs.OpenCallLemmas.{well_formed_on}
 use Rattle.kept_rows.proofs.TakenLemmas.{IsMet, IsTaken, answer, later, new, new_is, new_told}
 use Rattle.kept_rows.proofs.TakenRowLemmas.{same_names, not_void, not_lost, new_ghost, new_row, new_holds}
-use Rattle.kept_rows.proofs.WayLemmas.{IsWayOf, HoldsInWay, way_of}
+use Rattle.kept_rows.proofs.WayLemmas.{IsWayOf, HoldsInWay, parted_way}
 use Rattle.kept_rows.proofs.LeftOutLemmas.{InGap, come}
 
 -- ---- lists side by side
@@ -173,10 +178,7 @@ module _ (laws : KeyLaws) {start : Contents} {events : List Event} {process : �
 
   pub has_parted : (next : List RowView) (losses : List KeyLoss) → IsParted s limit r next losses → HasParted next
   has_parted next losses parted =
-      let Within = λ (p : ℕ). (s.name < p) × (p < s.place) in
-      let within = All-from_contains Within parted.places (λ p is. ((parted.are_places.each p).0 is).within) in
-      let made = made_of parted.places parted.are_places parted.tried
-      (λ way is. way_of s r parted.are_ways way is parted.are_places.rising within) in record {
+      let made = made_of parted.places parted.are_places parted.tried (parted_way s r limit next losses parted) in record {
         ghosts = made.ghosts;
         each = made.each;
         names = made.names;
@@ -188,10 +190,8 @@ module _ (laws : KeyLaws) {start : Contents} {events : List Event} {process : �
             let begun = held.timing.begun (new m) there (new_told m) in
             let upto = subst (λ (n : ℕ). held.moment s.name < held.spread n) (sym place) ended in
             let short = in_order held.spread held.timing.rises s.name s.place (omega (arith, begun, upto)) in
-            come laws.ends laws.begins m opened more (Any (HoldsLater more) (rows_of next_base next made.ghosts)) parted.places parted.are_places
-            parted.are_ways parted.are_places.rising within (omega arith) short (λ p is. is)
-            (λ way way_is other holds. made.cover more other way way_is holds)
-            (λ above. absurd (omega (arith, above)))
+            come laws.gaps m opened more (Any (HoldsLater more) (rows_of next_base next made.ghosts)) parted.places parted.are_places
+            parted.gaps parted.last short (λ way way_is other holds. made.cover more other way way_is holds)
             (record {
               held = held;
               behind = begun;
@@ -213,6 +213,7 @@ module _ (laws : KeyLaws) (start : Contents) (events : List Event) (process : �
     begun = is.is_open;
     rising = subst (AllPairs (λ k l. k < l)) (sym own) is.columns_are.rising;
     rest = λ key within other. is.rest key within (λ there. other (subst (λ (l : List ℕ). Contains l key) (sym own) there));
+    reach = subst (λ (l : List ℕ). HasReach s l v.base) (sym own) is.reach;
     row = known;
   }
 

@@ -33,7 +33,8 @@ use Rattle.kept_keys.proofs.ScanAnswerLemmas.{open_call}
 use Rattle.kept_keys.proofs.ScanGoneLemmas.{stay_answered}
 use Rattle.kept_rows.specs.Followed.{RowGhost, class_of_row, row_of, rows_of, IsKeptScan, WasTold, IsTimedExactly, IsRowOf}
 use Rattle.kept_rows.specs.Laws.{RowsPassBy}
-use Rattle.kept_rows.specs.Rows.{RowView, kept_at, comparisons_of, number_of}
+use Rattle.scan_rows.specs.RowView.{RowView, comparisons_of, number_of}
+use Rattle.kept_rows.specs.Rows.{kept_at}
 use Rattle.kept_rows.proofs.EventLemmas.{TellsNoneOver, fixed_on, scans_kept_on, kept_scan_on, was_told_on, timed_on, invoke_tells_none}
 use Rattle.kept_rows.proofs.EventLemmas.{answer_tells_none, passing_tells_none, passing_holds, speaks_weaker, row_speaks, with_number, exact_more}
 use Rattle.kept_rows.proofs.EventLemmas.{still_ranked, still_say}

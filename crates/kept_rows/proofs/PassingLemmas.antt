@@ -36,20 +36,23 @@ use Rattle.following.proofs.rows.EndLemmas.{told_call}
 use Rattle.dead_events.specs.Passing.{StaysEarlier, StaysLater, StandsElsewhere, IsCrossing, MayPassBack, MayPassOn}
 use Rattle.kept_keys.specs.Kept.{IsKept}
 use Rattle.kept_keys.specs.Views.{KeptView, state, width}
-use Rattle.kept_rows.specs.Candidates.{IsEventAt, IsEventWithin, ArePlacesWithin}
+use Rattle.row_parting.specs.Candidates.{IsEventAt, IsEventWithin, ArePlacesWithin}
 use Rattle.kept_rows.specs.Followed.{RowGhost, IsKeptScan, WasTold, class_of_row}
 use Rattle.kept_rows.specs.Outcomes.{IsOpenScan, AreOpenScans}
-use Rattle.kept_rows.specs.Parting.{ScanAnswer, IsInRange, IsLeftOut}
-use Rattle.kept_rows.specs.Passing.{IsWithinCall, HasEventWithin, IsElsewhere, IsTiedOrApart, MayPass}
-use Rattle.kept_rows.specs.Rows.{RowView, kept_at, comparisons_of, number_of, names_of}
-use Rattle.kept_rows.specs.declared.row.KeptScan.{KeptScan}
-use Rattle.kept_rows.specs.declared.rows.OpenScan.{OpenScan}
+use Rattle.row_parting.specs.ScanAnswers.{ScanAnswer, IsInRange}
+use Rattle.row_parting.specs.Passing.{IsLeftOut, IsWithinCall, HasEventWithin, IsElsewhere, IsTiedOrApart, MayPass}
+use Rattle.row_parting.specs.Reaching.{IsInReach}
+use Rattle.scan_rows.specs.RowView.{RowView, comparisons_of, number_of, names_of}
+use Rattle.kept_rows.specs.Rows.{kept_at}
+use Rattle.scan_rows.specs.declared.row.KeptScan.{KeptScan}
+use Rattle.scan_rows.specs.declared.row.OpenScan.{OpenScan}
 use Rattle.kept_rows.proofs.EventLemmas.{told_stays, told_over, names_were_told, row_speaks, open_was_not_told}
-use Rattle.kept_rows.proofs.HoldLemmas.{behind_said, before_said}
-use Rattle.kept_rows.proofs.NumberLemmas.{placed_at, scan_named}
+use Rattle.row_parting.proofs.HoldLemmas.{behind_said, before_said}
+use Rattle.kept_rows.proofs.NumberLemmas.{placed_at}
+use Rattle.scan_rows.proofs.NameLemmas.{scan_named}
 use Rattle.kept_rows.proofs.RowEntryLemmas.{kept_here, has_entry}
 use Rattle.kept_rows.proofs.SilentLemmas.{is_silent, silent_names, silent_named}
-use Rattle.kept_rows.proofs.TakenLemmas.{IsMet, answer, later, before_calls, calls, new, new_or_old, new_is, new_told, left_before, own_is_kept, old_told, none_left}
+use Rattle.kept_rows.proofs.TakenLemmas.{IsMet, answer, later, before_calls, calls, new, new_or_old, new_is, new_told, left_before, own_is_kept, old_told, none_reached}
 
 -- a scan that is answered, and not silent, was told pairs
 told_or_silent : (b : Operation) → is_scan b.call ≡ true → (is_silent b ≡ true) ⊎ ((b.response ≡ None) ⊎ IsToldScan b)
@@ -91,11 +94,11 @@ module _ {start : Contents} {events : List Event} {process : ℕ} {s : ScanAnswe
   Kept = comparisons_of r.scans r.turns ++ g.others
 
   module _ (low high : ℕ) (begun : s.name ≤ low) (less : low < high) (ended : high ≤ s.place)
-      (may : MayPass s.low s.high s.still_open r.keys r.scans low high) where
-    -- ---- the scans that are tied to the answered one: open ones that began before and have no other key
+      (may : MayPass s.first s.last s.still_open r.keys r.scans low high) where
+    -- ---- the scans that are tied to the answered one: open ones that began before and have a key of the reach
 
     abbrev pub is_tied : OpenScan → Bool
-    is_tied o = nat_lt o.name low && (nat_le s.low o.low && nat_le o.high s.high)
+    is_tied o = nat_lt o.name low && (nat_le s.first o.low && nat_le o.high s.last)
 
     abbrev pub tie : OpenScan → ℕ
     tie o = if is_tied o then o.name else s.name
@@ -104,12 +107,12 @@ module _ {start : Contents} {events : List Event} {process : ℕ} {s : ScanAnswe
     tied = s.name ∷ map tie s.still_open
 
     abbrev IsTied : OpenScan → Type 0
-    IsTied o = (o.name < low) × ((s.low ≤ o.low) × (o.high ≤ s.high))
+    IsTied o = (o.name < low) × ((s.first ≤ o.low) × (o.high ≤ s.last))
 
     into_tied : (o : OpenScan) → Contains s.still_open o → IsTied o → Contains tied o.name
     into_tied o is within =
-        let test = and_from (nat_lt o.name low) (nat_le s.low o.low && nat_le o.high s.high) (lt-ltb o.name low within.0)
-        (and_from (nat_le s.low o.low) (nat_le o.high s.high) (le-leb s.low o.low within.1.0) (le-leb o.high s.high within.1.1)) in
+        let test = and_from (nat_lt o.name low) (nat_le s.first o.low && nat_le o.high s.last) (lt-ltb o.name low within.0)
+        (and_from (nat_le s.first o.low) (nat_le o.high s.last) (le-leb s.first o.low within.1.0) (le-leb o.high s.last within.1.1)) in
         let same : tie o ≡ o.name = rw test refl in
         Contains-later s.name (map tie s.still_open) o.name (subst (Contains (map tie s.still_open)) same (Contains-map tie s.still_open o is))
 
@@ -123,17 +126,17 @@ module _ {start : Contents} {events : List Event} {process : ℕ} {s : ScanAnswe
         by_test : (o : OpenScan) → Contains s.still_open o → tie o ≡ n → (b : Bool) → is_tied o ≡ b
             → (n ≡ s.name) ⊎ ((o : OpenScan) × (Contains s.still_open o × ((n ≡ o.name) × IsTied o)))
         by_test o o_is same true e =
-            let (first, rest) = and_parts (nat_lt o.name low) (nat_le s.low o.low && nat_le o.high s.high) e in
-            let (second, third) = and_parts (nat_le s.low o.low) (nat_le o.high s.high) rest in
+            let (first, rest) = and_parts (nat_lt o.name low) (nat_le s.first o.low && nat_le o.high s.last) e in
+            let (second, third) = and_parts (nat_le s.first o.low) (nat_le o.high s.last) rest in
             let at : tie o ≡ o.name = rw e refl in
-            inr (o, (o_is, (sym same ∙ at, (ltb-true o.name low first, (leb-true s.low o.low second, leb-true o.high s.high third)))))
+            inr (o, (o_is, (sym same ∙ at, (ltb-true o.name low first, (leb-true s.first o.low second, leb-true o.high s.last third)))))
         by_test o o_is same false e = let at : tie o ≡ s.name = rw e refl in inl (sym same ∙ at)
 
     -- what is known of a tied scan
     pub record IsTiedCall (a : Operation) : Type 0 where
       pub past : a.inv ≤ low
       pub apart : s.name < low → a.inv ≢ low
-      pub range : (key : ℕ) → IsOver key a.call → IsInRange s key
+      pub range : (key : ℕ) → IsOver key a.call → IsInReach s key
       pub answered : (q : Response) → a.response ≡ Some q → q.res ≡ length events
       pub untold : WasTold events a.inv → ⊥
 
@@ -145,7 +148,12 @@ module _ {start : Contents} {events : List Event} {process : ℕ} {s : ScanAnswe
         (λ name. let one = one_call a (new m) is (new_is m) name in record {
           past = omega (arith, name, begun);
           apart = λ above same. omega (arith, name, above, same);
-          range = λ key over. subst (λ (c : Call). IsOver key c) (ap (λ (b : Operation). b.call) one) over;
+          range = λ key over.
+              let reach = m.reach in
+              let first = reach.first in
+              let last = reach.last in
+              let (from, to) = subst (λ (c : Call). IsOver key c) (ap (λ (b : Operation). b.call) one) over in
+              (omega (arith, first, from), omega (arith, to, last));
           answered = λ q at.
               let here : Some (record { res = length events; reply = replies.Pairs s.pairs }) ≡ Some q = sym (ap (λ (b : Operation). b.response) one) ∙ at in
               sym (ap (λ (x : Response). x.res) (same_Some (record { res = length events; reply = replies.Pairs s.pairs }) q here));
@@ -203,7 +211,7 @@ module _ {start : Contents} {events : List Event} {process : ℕ} {s : ScanAnswe
     abbrev Left : ℕ → List Operation
     Left key = calls_left (g.gones key ++ silent_names (later m)) (calls m)
 
-    fewer_left : (key : ℕ) (b : Operation) → Contains (Left key) b → Contains (calls_left (g.gones key) (calls m)) b
+    pub fewer_left : (key : ℕ) (b : Operation) → Contains (Left key) b → Contains (calls_left (g.gones key) (calls m)) b
     fewer_left key b is =
         let (b_is, left) = from_left (g.gones key ++ silent_names (later m)) (calls m) b is in
         in_left (g.gones key) (calls m) b b_is (left_from (g.gones key) b (λ gone.
@@ -215,9 +223,9 @@ module _ {start : Contents} {events : List Event} {process : ℕ} {s : ScanAnswe
         not_dropped (g.gones key ++ silent_names (later m)) b left
         (Contains-append_right (g.gones key) (silent_names (later m)) b.inv (silent_named (later m) b b_is silent))
 
-    own_outside : (key : ℕ) (b : Operation) → IsInRange s key → Contains (Left key) b → is_scan b.call ≡ false → IsOver key b.call
+    reach_outside : (key : ℕ) (b : Operation) → IsInReach s key → Contains (Left key) b → is_scan b.call ≡ false → IsOver key b.call
         → IsOutside low high b.inv × ((q : Response) → b.response ≡ Some q → IsOutside low high q.res)
-    own_outside key b within is own over = ⊎_elim
+    reach_outside key b within is own over = ⊎_elim
         (λ one. absurd (false≢true (sym own ∙ ap (λ (c : Operation). is_scan c.call) one)))
         (λ old.
         let left = left_before m (g.gones key) b (fewer_left key b is) old.0 in ⊎_elim
@@ -230,7 +238,7 @@ module _ {start : Contents} {events : List Event} {process : ℕ} {s : ScanAnswe
         (λ upto. inl upto)
         (cases_lt low p) in
         let none = λ (event : IsWithinCall low high (b.inv, x)).
-        may.none (any_from (λ (entry : ℕ × KeptView). ((s.low ≤ entry.0) × (entry.0 ≤ s.high)) × Any (IsWithinCall low high) (zip entry.1.names entry.1.calls))
+        may.none (any_from (λ (entry : ℕ × KeptView). ((s.first ≤ entry.0) × (entry.0 ≤ s.last)) × Any (IsWithinCall low high) (zip entry.1.names entry.1.calls))
         r.keys (key, k) k_is (within, any_from (IsWithinCall low high) (zip k.names k.calls) (b.inv, x) there event)) in (
           outside b.inv (λ inside. none (refl, inl inside)),
           λ q answered. outside q.res (λ inside.
@@ -238,16 +246,25 @@ module _ {start : Contents} {events : List Event} {process : ℕ} {s : ScanAnswe
               let whole : own_end.res / width ≡ q.res = omega arith in
               none (refl, inr (own_end, ap (spread_response (places_by width)) answered, (omega (arith, whole, inside.0), omega (arith, whole, inside.1))))),
         ))
-        (λ other. absurd (none_left m key b within other left own over))
+        (λ other. absurd (none_reached m key b within other left own over))
         (has_entry r.keys key))
         (new_or_old m b (from_left (g.gones key) (calls m) b (fewer_left key b is)).0)
+
+    pub own_outside : (key : ℕ) (b : Operation) → IsInRange s key → Contains (Left key) b → is_scan b.call ≡ false → IsOver key b.call
+        → IsOutside low high b.inv × ((q : Response) → b.response ≡ Some q → IsOutside low high q.res)
+    own_outside key b within is own over =
+        let reach = m.reach in
+        let first = reach.first in
+        let last = reach.last in
+        let from = within.0 in
+        let to = within.1 in reach_outside key b (omega (arith, first, from), omega (arith, to, last)) is own over
 
     -- another scan over a key is tied, begins later, or stands elsewhere
     abbrev IsPast : (ℕ → Comparison) → Operation → Type 0
     IsPast turn b = Contains tied b.inv
         ⊎ ((((q : Response) × (b.response ≡ Some q) × (q.res ≤ low)) ⊎ (high ≤ b.inv)) ⊎ (IsToldScan b × StandsElsewhere Kept turn low high b))
 
-    open_past : (key : ℕ) (b : Operation) → IsInRange s key → Contains (calls m) b → is_scan b.call ≡ true
+    open_past : (key : ℕ) (b : Operation) → IsInReach s key → Contains (calls m) b → is_scan b.call ≡ true
         → IsOver key b.call → b.response ≡ None → (Contains tied b.inv) ⊎ (high ≤ b.inv)
     open_past key b within is scan over none =
         let (first, (last, call)) = scan_range b.call scan in
@@ -256,9 +273,9 @@ module _ {start : Contents} {events : List Event} {process : ℕ} {s : ScanAnswe
         let (from, to) = subst (λ (c : Call). IsOver key c) call over in ⊎_elim
         (λ apart. absurd (⊎_elim (λ below. omega (arith, below, to, within.0)) (λ above. omega (arith, above, from, within.1)) apart))
         (λ rest. ⊎_elim (λ behind. inr behind) (λ tied_one. inl (into_tied o o_is tied_one)) rest)
-        (All-contains (IsTiedOrApart s.low s.high low high) s.still_open o may.opened o_is)
+        (All-contains (IsTiedOrApart s.first s.last low high) s.still_open o may.opened o_is)
 
-    told_past : (turn : ℕ → Comparison) (key : ℕ) (b : Operation) → IsInRange s key → Contains (before_calls m) b
+    told_past : (turn : ℕ → Comparison) (key : ℕ) (b : Operation) → IsInReach s key → Contains (before_calls m) b
         → Contains (calls_left (g.gones key) (before_calls m)) b → IsToldScan b → IsOver key b.call → StandsElsewhere Kept turn low high b
     told_past turn key b within is left told over =
         let (name, own) = old_told m key b left told over in
@@ -283,13 +300,13 @@ module _ {start : Contents} {events : List Event} {process : ℕ} {s : ScanAnswe
           behind,
         ))))
         rest)
-        (All-contains (IsElsewhere s.low s.high low high) r.scans x may.scans x_is)
+        (All-contains (IsElsewhere s.first s.last low high) r.scans x may.scans x_is)
       where
         told_over_range : (c : Call) (o : Option Response) (first last : ℕ) (pairs : Contents) → kind_of c o ≡ Told first last pairs → (key : ℕ)
             → IsOver key c → (first ≤ key) × (key ≤ last)
         told_over_range c o first last pairs is key over = subst (IsOver key) (told_call c o first last pairs is) over
 
-    scan_past : (turn : ℕ → Comparison) (key : ℕ) (b : Operation) → IsInRange s key → Contains (Left key) b → is_scan b.call ≡ true
+    scan_past : (turn : ℕ → Comparison) (key : ℕ) (b : Operation) → IsInReach s key → Contains (Left key) b → is_scan b.call ≡ true
         → IsOver key b.call → IsPast turn b
     scan_past turn key b within is scan over =
         let b_is = (from_left (g.gones key) (calls m) b (fewer_left key b is)).0 in ⊎_elim
@@ -307,7 +324,7 @@ module _ {start : Contents} {events : List Event} {process : ℕ} {s : ScanAnswe
     crossing : (turn : ℕ → Comparison) → IsCrossing (calls m) states tied (StandsElsewhere Kept turn low high) low high
     crossing turn = record {
       begun = λ a is among. inl (tied_call a is among).past;
-      events = λ key a b a_is among past over b_is own b_over. own_outside key b ((tied_call a a_is among).range key over) b_is own b_over;
+      events = λ key a b a_is among past over b_is own b_over. reach_outside key b ((tied_call a a_is among).range key over) b_is own b_over;
       scans = λ key a b a_is among past over b_is scan b_over. scan_past turn key b ((tied_call a a_is among).range key over) b_is scan b_over;
     }
 

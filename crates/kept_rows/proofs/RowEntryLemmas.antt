@@ -11,7 +11,9 @@ use Rattle.map_object.specs.MapObject.{Contents}
 use Rattle.following.specs.rows.Rows.{Row}
 use Rattle.kept_keys.specs.Views.{KeptView}
 use Rattle.kept_rows.specs.Followed.{RowGhost, row_of, rows_of, IsRowOf}
-use Rattle.kept_rows.specs.Rows.{RowView, entry_at, or_fresh, or_else, kept_at}
+use Rattle.scan_rows.specs.RowView.{RowView}
+use Rattle.scan_rows.specs.Entries.{entry_at, or_fresh}
+use Rattle.kept_rows.specs.Rows.{or_else, kept_at}
 
 abbrev pub keys_of : List (ℕ × KeptView) → List ℕ
 keys_of entries = map (λ entry. entry.0) entries

@@ -4,9 +4,10 @@ use Rattle.std.specs.Prelude.{All, Contains, nat_le}
 use Rattle.std.proofs.lemmas.List.Elements.{All-nil, All-cons, All-append}
 use Rattle.kept_keys.specs.Judging.{HasOrder}
 use Rattle.kept_rows.specs.Outcomes.{HasNoOrder}
-use Rattle.kept_rows.specs.Parting.{ScanAnswer, IsInRange, Way, AreTried, AreParted}
-use Rattle.kept_rows.specs.Rows.{RowView}
-use Rattle.kept_rows.specs.declared.outcomes.KeyLoss.{KeyLoss}
+use Rattle.row_parting.specs.ScanAnswers.{ScanAnswer, IsInRange}
+use Rattle.row_parting.specs.Parting.{Way, AreTried, AreParted}
+use Rattle.scan_rows.specs.RowView.{RowView}
+use Rattle.scan_rows.specs.declared.key_loss.KeyLoss.{KeyLoss}
 
 -- a key of the range has no order
 abbrev pub IsLossIn : ScanAnswer → KeyLoss → Type 0

@@ -14,11 +14,12 @@ use Rattle.list_laws.proofs.Lists.{AllPairs-append, All-from_contains, Contains-
 use Rattle.list_laws.proofs.Lists.{filter_all, filter_none, Contains-filter, Contains-from_filter}
 use Rattle.list_laws.proofs.FilterLemmas.{AllPairs-from_map}
 use Rattle.kept_keys.specs.Views.{KeptView}
-use Rattle.kept_rows.specs.Parting.{IsSameRow, HaveColumns, AreOpened}
-use Rattle.kept_rows.specs.Rows.{RowView, RowsView, entry_at, or_fresh, or_else, kept_at}
-use Rattle.kept_rows.specs.Steps.{HasNoCalls, HasOwn, HasOpened, IsOpenedAt}
+use Rattle.kept_rows.specs.Opening.{IsSameRow, HaveColumns, HasCallsWithin, AreOpened, HasNoCalls, HasOwn, HasOpened, IsOpenedAt}
+use Rattle.scan_rows.specs.RowView.{RowView}
+use Rattle.kept_rows.specs.Rows.{RowsView, or_else, kept_at}
+use Rattle.scan_rows.specs.Entries.{entry_at, or_fresh}
 use Rattle.kept_rows.proofs.RowEntryLemmas.{keys_of, no_entry}
-use Rattle.kept_rows.proofs.ScanListLemmas.{take_cases, take_whole}
+use Rattle.scan_rows.proofs.ScanListLemmas.{take_cases, take_here, take_old, take_whole}
 
 abbrev Entry : Type 0
 Entry = ℕ × KeptView
@@ -231,36 +232,46 @@ opened_columns key columns v w have opened =
 
 -- ---- the keys of a range
 
--- those before a place are opened where calls of them are left
+-- a key was the rows' own before, or is one of some of which calls were left
+abbrev pub WasOrHasCalls : List ℕ → List ℕ → List Entry → ℕ → Type 0
+WasOrHasCalls old keys base key = Contains old key ⊎ (Contains keys key × (HasNoCalls base key → ⊥))
+
+-- those before a place are opened where calls of them are left, and no others
 pub record AreOpenedUpTo (keys : List ℕ) (i : ℕ) (v w : RowsView) : Type 0 where
-  pub columns : (old : List ℕ) → HaveColumns old v → (new : List ℕ) × HaveColumns new w × AllZip (IsSameRow v.base w.base) v.rows w.rows
+  pub columns : (old : List ℕ) → HaveColumns old v
+      → (new : List ℕ) × HaveColumns new w × AllZip (IsSameRow v.base w.base) v.rows w.rows
+      × ((key : ℕ) → Contains new key → WasOrHasCalls old (take i keys) v.base key)
   pub done : (key : ℕ) → Contains (take i keys) key → HasNoCalls w.base key
-  pub none : (key : ℕ) → entry_at v.base key ≡ None → entry_at w.base key ≡ None
+  pub as_before : (key : ℕ) → (entry_at w.base key ≡ None) ⊎ (entry_at w.base key ≡ entry_at v.base key)
 
 no_calls : (base : List Entry) (key : ℕ) → entry_at base key ≡ None → HasNoCalls base key
 no_calls base key none = ap (λ (o : Option KeptView). (or_fresh o).names) none
 
 pub opened_none : (keys : List ℕ) (v : RowsView) → AreOpenedUpTo keys 0 v v
 opened_none keys v = record {
-  columns = λ old have. (old, have, rows_are_same v.base v.rows);
+  columns = λ old have. (old, have, rows_are_same v.base v.rows, λ key is. inl is);
   done = λ key is. absurd (Contains-nil key is);
-  none = λ key none. none;
+  as_before = λ key. inr refl;
 }
 
 pub opened_more : (keys : List ℕ) (i key : ℕ) (v w x : RowsView) → i < length keys → key ≡ get_or keys i key → AreOpenedUpTo keys i v w
     → IsOpenedAt key w.base x.base w.rows x.rows → AreOpenedUpTo keys (i + 1) v x
 opened_more keys i key v w x within is before now = ⊎_elim same other now
   where
+    further : (old : List ℕ) (k : ℕ) → WasOrHasCalls old (take i keys) v.base k → WasOrHasCalls old (take (i + 1) keys) v.base k
+    further old k h = ⊎_elim (λ own. inl own) (λ some. inr (take_old keys i key k within is some.0, some.1)) h
+
     same : HasNoCalls w.base key × (x.base ≡ w.base) × (x.rows ≡ w.rows) → AreOpenedUpTo keys (i + 1) v x
     same (quiet, base_is, rows_are) =
         let one : w ≡ x = ap₂ (λ (b : List Entry) (r : List RowView). let y : RowsView = record { base = b; rows = r } in y) (sym base_is) (sym rows_are) in
         subst (AreOpenedUpTo keys (i + 1) v) one (record {
-          columns = before.columns;
+          columns = λ old have.
+              let (new, known, rows, only) = before.columns old have in (new, known, rows, λ k k_is. further old k (only k k_is));
           done = λ k k_is. ⊎_elim
               (λ old. before.done k old)
               (λ here. subst (HasNoCalls w.base) here quiet)
               (take_cases keys i key k within is k_is);
-          none = before.none;
+          as_before = before.as_before;
         })
 
     gone : HasOpened key w.base x.base w.rows x.rows → entry_at x.base key ≡ None
@@ -273,34 +284,55 @@ opened_more keys i key v w x within is before now = ⊎_elim same other now
         (λ apart. subst P (sym (opened.left k ∙ ap (λ b. cond b None (entry_at w.base k)) apart)) old)
         (cases_Bool (k == key))
 
+    had_calls : HasOpened key w.base x.base w.rows x.rows → HasNoCalls v.base key → ⊥
+    had_calls opened quiet = opened.calls (⊎_elim
+        (λ none. no_calls w.base key none)
+        (λ same. subst (λ (o : Option KeptView). (or_fresh o).names ≡ []) (sym same) quiet)
+        (before.as_before key))
+
     other : HasOpened key w.base x.base w.rows x.rows → AreOpenedUpTo keys (i + 1) v x
     other opened = record {
       columns = λ old have.
-          let (middle, known, rows) = before.columns old have in
-          let (now_known, now_rows) = opened_columns key middle w x known opened in
-          (with_key key middle, now_known, rows_through v.base w.base x.base v.rows w.rows x.rows rows now_rows);
+          let (middle, known, rows, only) = before.columns old have in
+          let (now_known, now_rows) = opened_columns key middle w x known opened in (
+            with_key key middle,
+            now_known,
+            rows_through v.base w.base x.base v.rows w.rows x.rows rows now_rows,
+            λ k k_is. ⊎_elim
+                (λ here. subst (WasOrHasCalls old (take (i + 1) keys) v.base) here (inr (take_here keys i key within is, had_calls opened)))
+                (λ own. further old k (only k own))
+                (with_key-cases key middle k k_is),
+          );
       done = λ k k_is. ⊎_elim
           (λ old. stays opened k (λ o. (or_fresh o).names ≡ []) refl (before.done k old))
           (λ here. subst (HasNoCalls x.base) here (no_calls x.base key (gone opened)))
           (take_cases keys i key k within is k_is);
-      none = λ k none. stays opened k (λ o. o ≡ None) refl (before.none k none);
+      as_before = λ k. stays opened k (λ o. (o ≡ None) ⊎ (o ≡ entry_at v.base k)) (inl refl) (before.as_before k);
     }
 
 pub opened_all : (keys : List ℕ) (i low high : ℕ) (v w : RowsView) → length keys ≤ i
     → ((key : ℕ) → Contains keys key ↔ ((low ≤ key) × (key ≤ high) × IsSome (entry_at v.base key))) → AreOpenedUpTo keys i v w
     → (columns : List ℕ) → HaveColumns columns v → (opened : List ℕ) × AreOpened low high opened v w
 opened_all keys i low high v w past each upto columns have =
-    let (opened, known, rows) = upto.columns columns have in (
+    let (opened, known, rows, only) = upto.columns columns have in (
       opened,
       record {
         same = rows;
         columns_are = known;
         rest = λ key above below other. by_entry key above below (entry_at v.base key) refl;
+        only = All-weaker (λ (r : RowView). keys_of r.keys ≡ columns)
+            (λ r. (key : ℕ) → Contains opened key → Contains (keys_of r.keys) key ⊎ HasCallsWithin low high v.base key)
+            (λ r own key is. ⊎_elim
+            (λ old. inl (subst (λ (l : List ℕ). Contains l key) (sym own) old))
+            (λ some. let (above, below, entry) = (each key).0 (subst (λ (l : List ℕ). Contains l key) (take_whole keys i past) some.0) in
+            inr (above, below, some.1))
+            (only key is)) v.rows have.own;
       },
     )
   where
     by_entry : (key : ℕ) → low ≤ key → key ≤ high → (o : Option KeptView) → entry_at v.base key ≡ o → HasNoCalls w.base key
-    by_entry key above below None is = no_calls w.base key (upto.none key is)
+    by_entry key above below None is =
+        no_calls w.base key (⊎_elim (λ none. none) (λ same. same ∙ is) (upto.as_before key))
     by_entry key above below (Some k) is =
         upto.done key (subst (λ (l : List ℕ). Contains l key) (sym (take_whole keys i past))
         ((each key).1 (above, below, subst IsSome (sym is) refl)))

@@ -37,15 +37,15 @@ use Rattle.kept_keys.proofs.ScanAnswerLemmas.{open_call}
 use Rattle.kept_keys.proofs.ScanZipLemmas.{name_of_call, zip_calls}
 use Rattle.kept_rows.specs.Beginning.{first_keys}
 use Rattle.kept_rows.specs.Followed.{RowGhost, IsKeptScan, class_of_row}
-use Rattle.kept_rows.specs.Moments.{IsSameScan, AreTimed}
-use Rattle.kept_rows.specs.Parting.{ScanAnswer, IsInRange}
-use Rattle.kept_rows.specs.Rows.{RowView, number_of, names_of}
-use Rattle.kept_rows.specs.Scannable.{IsSoundRow, MayTakeGet, numbers_of}
-use Rattle.kept_rows.specs.Sound.{IsSound}
-use Rattle.kept_rows.specs.declared.row.KeptScan.{KeptScan}
+use Rattle.scan_rows.specs.Moments.{IsSameScan, AreTimed}
+use Rattle.row_parting.specs.ScanAnswers.{ScanAnswer, IsInRange}
+use Rattle.scan_rows.specs.RowView.{RowView, number_of, names_of}
+use Rattle.row_parting.specs.Scannable.{IsSoundRow, MayTakeGet, numbers_of, IsSound}
+use Rattle.scan_rows.specs.declared.row.KeptScan.{KeptScan}
 use Rattle.kept_rows.proofs.ScanEndLemmas.{parted_losses}
 use Rattle.kept_rows.proofs.EventLemmas.{told_over, told_stays, kept_scan_on, answered_so_far, some_of}
-use Rattle.kept_rows.proofs.NumberLemmas.{number_is, scan_named, name_is, placed_at, timing_by_numbers, numbers_differ}
+use Rattle.kept_rows.proofs.NumberLemmas.{number_is, placed_at, timing_by_numbers, numbers_differ}
+use Rattle.scan_rows.proofs.NameLemmas.{scan_named, name_is}
 use Rattle.kept_rows.proofs.RowEntryLemmas.{kept_here}
 use Rattle.kept_rows.proofs.SoundLemmas.{sound_kept}
 use Rattle.kept_rows.proofs.TakenLemmas.{IsMet, answer, later, before_calls, new, new_is, old_told}
@@ -151,7 +151,7 @@ module _ (retime : KeptKeysRetime) {start : Contents} {events : List Event} {pro
     retimed_kept entry k is moved =
         let key = entry.0 in
         let old = own_kept entry is in
-        retime start events (class_of_row r g) (number_of r.scans) (number_of scans) key (g.gones key) entry.1 k moved.configurations
+        retime start events (class_of_row r g) (number_of r.scans) (number_of scans) key (g.gones key) entry.1 k moved.configurations moved.puts
         (numbers_time key)
         (moved.calls (calls_left (g.gones key) (before_calls m)) (number_of r.scans) (number_of scans) old.left old.timed (numbers_time key)
         numbers_are (have_numbers key)) old

@@ -25,11 +25,11 @@ use Rattle.kept_keys.specs.Views.{KeptView, width}
 use Rattle.kept_keys.proofs.ScanGoneLemmas.{ended_go, reads_answered}
 use Rattle.kept_rows.specs.Followed.{IsKeptScan}
 use Rattle.kept_rows.specs.Outcomes.{IsLimitOf}
-use Rattle.kept_rows.specs.Rows.{comparisons_of, names_of}
-use Rattle.kept_rows.specs.Settling.{IsAround, IsClear, HasSettled}
-use Rattle.kept_rows.specs.declared.row.KeptScan.{KeptScan}
-use Rattle.kept_rows.proofs.HoldLemmas.{behind_said, before_said}
-use Rattle.kept_rows.proofs.NumberLemmas.{scan_named}
+use Rattle.scan_rows.specs.RowView.{comparisons_of, names_of}
+use Rattle.scan_rows.specs.Settling.{IsAround, IsClear, HasSettled}
+use Rattle.scan_rows.specs.declared.row.KeptScan.{KeptScan}
+use Rattle.row_parting.proofs.HoldLemmas.{behind_said, before_said}
+use Rattle.scan_rows.proofs.NameLemmas.{scan_named}
 
 module _ (start : Contents) (events : List Event) (scans : List KeptScan) (turns : List (ℕ × ℕ)) (others : List Comparison) (moment : ℕ → ℕ)
     (key limit : ℕ) (gone : List ℕ) (k l : KeptView) (fixed : AreFixedUpToReads (comparisons_of scans turns) key (calls_left gone (operations events)))

@@ -26,13 +26,16 @@ use Rattle.kept_keys.specs.Retiming.{IsRetimed}
 use Rattle.kept_keys.specs.Views.{KeptView, state, width}
 use Rattle.kept_rows.specs.Followed.{RowGhost, class_of_row, row_of}
 use Rattle.kept_rows.specs.Outcomes.{IsLimitOf}
-use Rattle.kept_rows.specs.Parting.{ScanAnswer, IsInRange, Way, HasPlacedGet, MayHave}
-use Rattle.kept_rows.specs.Rows.{RowView, entry_at, or_fresh, kept_at, comparisons_of, number_of}
-use Rattle.kept_rows.specs.Settling.{HasSettled}
-use Rattle.kept_rows.specs.declared.row.KeptScan.{KeptScan}
+use Rattle.row_parting.specs.ScanAnswers.{ScanAnswer, IsInRange}
+use Rattle.row_parting.specs.Parting.{Way, HasPlacedGet}
+use Rattle.scan_rows.specs.Entries.{MayHave, entry_at, or_fresh}
+use Rattle.scan_rows.specs.RowView.{RowView, comparisons_of, number_of}
+use Rattle.kept_rows.specs.Rows.{kept_at}
+use Rattle.scan_rows.specs.Settling.{HasSettled}
+use Rattle.scan_rows.specs.declared.row.KeptScan.{KeptScan}
 use Rattle.kept_rows.proofs.RowEntryLemmas.{keys_of, kept_elsewhere}
 use Rattle.kept_rows.proofs.EventLemmas.{passing_holds, told_over}
-use Rattle.kept_rows.proofs.HoldLemmas.{fixed_within, fixed_fewer}
+use Rattle.kept_rows.proofs.FixedLemmas.{fixed_within, fixed_fewer}
 use Rattle.kept_rows.proofs.NewKeyLemmas.{KeyLaws, allows, class_within, passes, placed_kept, aside_kept, elsewhere_kept, none_told, none_told_seen}
 use Rattle.kept_rows.proofs.NewKeyLemmas.{seen_kept, fresh_ordered}
 use Rattle.kept_rows.proofs.SettleLemmas.{settled_kept}

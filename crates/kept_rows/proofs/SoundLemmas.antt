@@ -31,8 +31,11 @@ use Rattle.kept_keys.specs.Views.{KeptView, fresh, width}
 use Rattle.kept_keys.proofs.ScanZipLemmas.{name_of_call, name_of_pair}
 use Rattle.kept_rows.specs.Beginning.{AreRising, first_keys}
 use Rattle.kept_rows.specs.Followed.{AreFollowed, IsRowOf, RowGhost, class_of_row}
-use Rattle.kept_rows.specs.Rows.{RowView, RowsView, entry_at, kept_at, or_fresh, or_else, number_of}
-use Rattle.kept_rows.specs.Sound.{IsSound, MayTurn, MayRowTurn}
+use Rattle.scan_rows.specs.RowView.{RowView, number_of}
+use Rattle.kept_rows.specs.Rows.{RowsView, kept_at, or_else}
+use Rattle.scan_rows.specs.Entries.{entry_at, or_fresh}
+use Rattle.row_parting.specs.Scannable.{IsSound}
+use Rattle.kept_rows.specs.Sound.{MayTurn, MayRowTurn}
 use Rattle.kept_rows.specs.Turning.{CallAnswer}
 use Rattle.kept_rows.proofs.AnswerLemmas.{is_silent}
 

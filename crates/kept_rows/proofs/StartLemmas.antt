@@ -18,9 +18,11 @@ use Rattle.kept_keys.specs.Kept.{IsKept}
 use Rattle.kept_keys.specs.Laws.{KeptKeysBegin}
 use Rattle.kept_keys.specs.Views.{KeptView, fresh, state}
 use Rattle.kept_rows.specs.Followed.{RowGhost, class_of_row, row_of, IsKeptScan, WasTold, IsRowOf, AreFollowed}
-use Rattle.kept_rows.specs.Moments.{IsNumbered}
-use Rattle.kept_rows.specs.Rows.{RowView, entry_at, or_fresh, kept_at, names_of, number_of}
-use Rattle.kept_rows.specs.declared.row.KeptScan.{KeptScan}
+use Rattle.scan_rows.specs.Moments.{IsNumbered}
+use Rattle.scan_rows.specs.RowView.{RowView, names_of, number_of}
+use Rattle.scan_rows.specs.Entries.{entry_at, or_fresh}
+use Rattle.kept_rows.specs.Rows.{kept_at}
+use Rattle.scan_rows.specs.declared.row.KeptScan.{KeptScan}
 
 abbrev pub empty_row : RowView
 empty_row = record { scans = []; turns = []; keys = [] }

@@ -37,16 +37,23 @@ use Rattle.kept_keys.specs.Steps.{IsOpenCall}
 use Rattle.kept_keys.specs.Views.{KeptView, width}
 use Rattle.kept_keys.proofs.ReadFoundLemmas.{read_at_or_not}
 use Rattle.kept_keys.proofs.ScanAnswerLemmas.{open_call, answered_calls}
-use Rattle.kept_rows.specs.Candidates.{IsEventAt, ArePlacesWithin}
+use Rattle.row_parting.specs.Candidates.{IsEventAt, ArePlacesWithin}
 use Rattle.kept_rows.specs.Followed.{RowGhost, class_of_row, IsKeptScan, IsRowOf}
-use Rattle.kept_rows.specs.Moments.{IsSameScan}
-use Rattle.kept_rows.specs.Parting.{ScanAnswer, IsInRange, Way, IsRival, IsTimedWay}
-use Rattle.kept_rows.specs.Rows.{RowView, entry_at, or_fresh, kept_at, comparisons_of, number_of, names_of}
-use Rattle.kept_rows.specs.declared.row.KeptScan.{KeptScan}
+use Rattle.scan_rows.specs.Moments.{IsSameScan}
+use Rattle.row_parting.specs.ScanAnswers.{ScanAnswer, IsInRange}
+use Rattle.row_parting.specs.Parting.{Way, IsRival, IsTimedWay}
+use Rattle.row_parting.specs.Reaching.{IsInReach}
+use Rattle.kept_rows.specs.Reaching.{HasReach}
+use Rattle.scan_rows.specs.RowView.{RowView, comparisons_of, number_of, names_of}
+use Rattle.scan_rows.specs.Entries.{entry_at, or_fresh}
+use Rattle.kept_rows.specs.Rows.{kept_at}
+use Rattle.scan_rows.specs.declared.row.KeptScan.{KeptScan}
 use Rattle.kept_rows.proofs.RowEntryLemmas.{keys_of, has_entry, kept_here, kept_elsewhere}
 use Rattle.kept_rows.proofs.EventLemmas.{with_answer, answered_later, told_stays, kept_scan_on}
-use Rattle.kept_rows.proofs.HoldLemmas.{behind_said, before_said, turn_said, more_said, parted_within, first_within}
-use Rattle.kept_rows.proofs.NumberLemmas.{scan_named, name_is, timing_by_numbers}
+use Rattle.row_parting.proofs.HoldLemmas.{behind_said, before_said, turn_said, more_said}
+use Rattle.kept_rows.proofs.FixedLemmas.{parted_within, first_within}
+use Rattle.scan_rows.proofs.NameLemmas.{scan_named, name_is}
+use Rattle.kept_rows.proofs.NumberLemmas.{timing_by_numbers}
 use Rattle.kept_rows.proofs.WayLemmas.{IsWayOf, turn_chosen}
 
 -- ---- calls at a key
@@ -124,6 +131,7 @@ pub record IsMet (start : Contents) (events : List Event) (process : ℕ) (s : S
   pub begun : IsOpenCall events process s.name (Scan s.low s.high)
   pub rising : AllPairs (λ k l. k < l) (keys_of r.keys)
   pub rest : (key : ℕ) → IsInRange s key → (Contains (keys_of r.keys) key → ⊥) → (or_fresh (entry_at base key)).names ≡ []
+  pub reach : HasReach s (keys_of r.keys) base
   pub row : IsRowOf start events base r g
 
 -- and takes it in a way
@@ -209,14 +217,24 @@ module _ {start : Contents} {events : List Event} {process : ℕ} {s : ScanAnswe
       let (from, to) = subst (IsOver key) (told_call a.call a.response low high pairs told) over in
       m.row.left key a low high pairs is told from to
 
-  -- no own call is left of a key of the range that is not the row's own
-  pub none_left : (key : ℕ) (b : Operation) → IsInRange s key → (Contains (keys_of r.keys) key → ⊥) → Contains (calls_left (g.gones key) before_calls) b
-      → is_scan b.call ≡ false → IsOver key b.call → ⊥
-  none_left key b within other is own over =
+  -- no own call is left of a key that is not the row's own, and of which none is kept
+  none_at_rest : (key : ℕ) (b : Operation) → (Contains (keys_of r.keys) key → ⊥) → (or_fresh (entry_at base key)).names ≡ []
+      → Contains (calls_left (g.gones key) before_calls) b → is_scan b.call ≡ false → IsOver key b.call → ⊥
+  none_at_rest key b other rest is own over =
       let k = or_fresh (entry_at base key) in
       let there = own_is_kept key k b (kept_elsewhere base r.keys key other) is own over in
       Contains-nil (b.inv, spread_call (places_by width) b)
-      (subst (λ (names : List ℕ). Contains (zip names k.calls) (b.inv, spread_call (places_by width) b)) (m.rest key within other) there)
+      (subst (λ (names : List ℕ). Contains (zip names k.calls) (b.inv, spread_call (places_by width) b)) rest there)
+
+  -- so it is in the range
+  pub none_left : (key : ℕ) (b : Operation) → IsInRange s key → (Contains (keys_of r.keys) key → ⊥) → Contains (calls_left (g.gones key) before_calls) b
+      → is_scan b.call ≡ false → IsOver key b.call → ⊥
+  none_left key b within other is own over = none_at_rest key b other (m.rest key within other) is own over
+
+  -- and in the reach
+  pub none_reached : (key : ℕ) (b : Operation) → IsInReach s key → (Contains (keys_of r.keys) key → ⊥)
+      → Contains (calls_left (g.gones key) before_calls) b → is_scan b.call ≡ false → IsOver key b.call → ⊥
+  none_reached key b within other is own over = none_at_rest key b other (m.reach.rest key within other) is own over
 
 module _ {start : Contents} {events : List Event} {process : ℕ} {s : ScanAnswer} {base : List (ℕ × KeptView)} {r : RowView} {g : RowGhost} {way : Way}
     {scans : List KeptScan} (t : IsTaken start events process s base r g way scans) where

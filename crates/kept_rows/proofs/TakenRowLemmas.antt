@@ -24,14 +24,19 @@ use Rattle.following.proofs.rows.ExactLemmas.{exact_time, exact_say}
 use Rattle.kept_keys.specs.Judging.{HasOrder}
 use Rattle.kept_keys.specs.Views.{KeptView, state}
 use Rattle.kept_rows.specs.Followed.{RowGhost, class_of_row, row_of, IsRowOf}
-use Rattle.kept_rows.specs.Moments.{IsSameScan}
+use Rattle.scan_rows.specs.Moments.{IsSameScan}
 use Rattle.kept_rows.specs.Outcomes.{IsLimitOf}
-use Rattle.kept_rows.specs.Parting.{ScanAnswer, IsInRange, Way, scan_in, HasPlacedGet, HaveSeen, IsEntryPlaced, IsWayTaken, IsVoidWay}
-use Rattle.kept_rows.specs.Rows.{RowView, entry_at, or_fresh, kept_at, comparisons_of}
-use Rattle.kept_rows.specs.declared.row.KeptScan.{KeptScan}
+use Rattle.row_parting.specs.ScanAnswers.{ScanAnswer, IsInRange}
+use Rattle.row_parting.specs.Parting.{Way, scan_in, HasPlacedGet, IsEntryPlaced, IsWayTaken, IsVoidWay}
+use Rattle.kept_rows.specs.Seeing.{HaveSeen}
+use Rattle.scan_rows.specs.RowView.{RowView, comparisons_of}
+use Rattle.scan_rows.specs.Entries.{entry_at, or_fresh}
+use Rattle.kept_rows.specs.Rows.{kept_at}
+use Rattle.scan_rows.specs.declared.row.KeptScan.{KeptScan}
 use Rattle.kept_rows.proofs.RowEntryLemmas.{keys_of, has_entry, kept_here, kept_elsewhere}
 use Rattle.kept_rows.proofs.EventLemmas.{told_over}
-use Rattle.kept_rows.proofs.HoldLemmas.{hold_each, hold_fewer, holds_of, behind_said, before_said, turn_said, from_comparisons, fixed_fewer}
+use Rattle.row_parting.proofs.HoldLemmas.{hold_each, hold_fewer, holds_of, behind_said, before_said, turn_said, from_comparisons}
+use Rattle.kept_rows.proofs.FixedLemmas.{fixed_fewer}
 use Rattle.kept_rows.proofs.NewKeyLemmas.{KeyLaws, allows, placed_kept}
 use Rattle.kept_rows.proofs.NewRowLemmas.{new_room, new_gap, new_rank, new_exact, turns_named, new_forgotten, new_told, new_ranks, new_say}
 use Rattle.kept_rows.proofs.SettledKeyLemmas.{IsNewKey, new_aside, new_elsewhere, new_seen, new_placed, holds_judged}

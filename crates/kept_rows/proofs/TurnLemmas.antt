@@ -30,12 +30,13 @@ use Rattle.kept_keys.specs.Steps.{IsAnswered}
 use Rattle.kept_keys.specs.Views.{KeptView, state, width}
 use Rattle.kept_keys.proofs.ScanGoneLemmas.{answered_go, stay_answered}
 use Rattle.kept_rows.specs.Followed.{RowGhost, class_of_row, row_of, IsRowOf}
-use Rattle.kept_rows.specs.Rows.{RowView, kept_at, comparisons_of, number_of}
+use Rattle.scan_rows.specs.RowView.{RowView, comparisons_of, number_of}
+use Rattle.kept_rows.specs.Rows.{kept_at}
 use Rattle.kept_rows.specs.TurnLaws.{IsAnswerOf}
 use Rattle.kept_rows.specs.Turning.{CallAnswer, IsTurnedDown}
 use Rattle.kept_rows.proofs.AnswerLemmas.{own_tells_none, is_silent}
 use Rattle.kept_rows.proofs.EventLemmas.{TellsNone, fixed_on}
-use Rattle.kept_rows.proofs.HoldLemmas.{fixed_fewer}
+use Rattle.kept_rows.proofs.FixedLemmas.{fixed_fewer}
 
 abbrev Entries : Type 0
 Entries = List (ℕ × KeptView)

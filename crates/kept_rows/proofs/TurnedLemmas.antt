@@ -28,14 +28,15 @@ use Rattle.kept_keys.specs.Laws.{KeptKeysGoOn, KeptKeysSettle, KeptReadsGo}
 use Rattle.kept_keys.specs.Views.{KeptView, state}
 use Rattle.kept_keys.proofs.ScanGoneLemmas.{stay_answered}
 use Rattle.kept_rows.specs.Followed.{RowGhost, class_of_row, row_of, IsKeptScan, AreScansKept, WasTold, IsTimedExactly, IsRowOf}
-use Rattle.kept_rows.specs.Rows.{RowView, kept_at, comparisons_of, number_of, names_of}
-use Rattle.kept_rows.specs.Settling.{HasSettled}
+use Rattle.scan_rows.specs.RowView.{RowView, comparisons_of, number_of, names_of}
+use Rattle.kept_rows.specs.Rows.{kept_at}
+use Rattle.scan_rows.specs.Settling.{HasSettled}
 use Rattle.kept_rows.specs.TurnLaws.{IsAnswerOf}
 use Rattle.kept_rows.specs.Turning.{CallAnswer, IsTurned}
-use Rattle.kept_rows.specs.declared.row.KeptScan.{KeptScan}
+use Rattle.scan_rows.specs.declared.row.KeptScan.{KeptScan}
 use Rattle.kept_rows.proofs.AnswerLemmas.{own_tells_none, own_passes}
 use Rattle.kept_rows.proofs.EventLemmas.{TellsNone, fixed_on, scans_kept_on, kept_scan_on, was_told_on, timed_on, passing_holds, speaks_weaker}
-use Rattle.kept_rows.proofs.HoldLemmas.{fixed_fewer}
+use Rattle.kept_rows.proofs.FixedLemmas.{fixed_fewer}
 use Rattle.kept_rows.proofs.PassLemmas.{fixed_more, with_keys}
 use Rattle.kept_rows.proofs.SettleLemmas.{settled_kept}
 use Rattle.kept_rows.proofs.TurnLemmas.{AnswerLaws, same_now, fixed_then, holds_from, kept_then, ordered}

@@ -18,11 +18,13 @@ use Rattle.following.proofs.keys.ChoiceLemmas.{any_from, any_to}
 use Rattle.following.proofs.rows.RowLemmas.{only, rows_go_on}
 use Rattle.kept_keys.specs.Views.{KeptView}
 use Rattle.kept_rows.specs.Followed.{RowGhost, row_of, rows_of, IsRowOf, AreFollowed}
-use Rattle.kept_rows.specs.Rows.{RowView, RowsView, entry_at, or_fresh, or_else, kept_at}
+use Rattle.scan_rows.specs.RowView.{RowView}
+use Rattle.kept_rows.specs.Rows.{RowsView, or_else, kept_at}
+use Rattle.scan_rows.specs.Entries.{entry_at, or_fresh}
 use Rattle.kept_rows.specs.TurnLaws.{IsAnswerOf, RowsTakeAnswers, BaseTakesAnswers, BaseIsLost}
 use Rattle.kept_rows.specs.Turning.{CallAnswer, IsTurned, IsRowTurned, IsRowTurnedDown, AreTurned}
 use Rattle.kept_rows.specs.Turning.AreTurned.{at_start, stays, goes}
-use Rattle.kept_rows.specs.declared.outcomes.KeyLoss.{KeyLoss}
+use Rattle.scan_rows.specs.declared.key_loss.KeyLoss.{KeyLoss}
 use Rattle.kept_rows.proofs.AnswerLemmas.{own_has_form}
 use Rattle.kept_rows.proofs.BecomeLemmas.{may_become}
 use Rattle.kept_rows.proofs.OpenCallLemmas.{well_formed_on}

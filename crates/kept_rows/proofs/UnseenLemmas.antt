@@ -17,7 +17,8 @@ use Rattle.kept_keys.specs.Reads.{HasSeen}
 use Rattle.kept_keys.specs.Views.{KeptView}
 use Rattle.kept_rows.specs.Followed.{class_of_row, row_of, rows_of}
 use Rattle.kept_rows.specs.PartLaws.{UnseenScansAreLost}
-use Rattle.kept_rows.specs.Rows.{RowView, entry_at, or_fresh, number_of}
+use Rattle.scan_rows.specs.RowView.{RowView, number_of}
+use Rattle.scan_rows.specs.Entries.{entry_at, or_fresh}
 use Rattle.kept_rows.proofs.RowEntryLemmas.{kept_elsewhere, row_from}
 
 pub unseen_lost : KeptKeysSeeScans → UnseenScansAreLost
@@ -31,7 +32,7 @@ unseen_lost see start events process s limit columns v loss h is unseen more ord
     let held = subst RowIs (sym same) there in
     let key = loss.key in
     let k : KeptView = or_fresh (entry_at v.base key) in
-    let none : KeptView = record { configurations = []; names = []; calls = [] } in
+    let none : KeptView = record { configurations = []; names = []; calls = []; puts = [] } in
     let own = All-contains (λ (r : RowView). map (λ entry. entry.0) r.keys ≡ columns) v.rows r is.columns_are.own r_is in
     let elsewhere = kept_elsewhere v.base r.keys key (λ there. unseen.is_other (subst (λ (l : List ℕ). Contains l key) own there)) in
     let kept = subst (IsKept start events (class_of_row r g) (number_of r.scans) key (g.gones key)) elsewhere (known.kept key) in

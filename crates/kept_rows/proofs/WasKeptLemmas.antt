@@ -11,14 +11,14 @@ use Rattle.following.specs.rows.ExactMoments.{places_by, moments_by}
 use Rattle.following.proofs.rows.ExactLemmas.{exact_time, exact_say}
 use Rattle.kept_keys.specs.Views.{KeptView}
 use Rattle.kept_rows.specs.Followed.{RowGhost, class_of_row, IsRowOf}
-use Rattle.kept_rows.specs.Rows.{RowView, comparisons_of, number_of}
+use Rattle.scan_rows.specs.RowView.{RowView, comparisons_of, number_of}
 use Rattle.kept_rows.specs.TurnLaws.{AnswersAreKept}
 use Rattle.kept_rows.proofs.AnswerLemmas.{own_tells_none}
 use Rattle.kept_rows.proofs.EventLemmas.{timed_on}
 use Rattle.kept_rows.proofs.TurnLemmas.{AnswerLaws, kept_then}
 
 -- a row with what is known of it
-ghost_of : (start : Contents) (events : List Event) (base : List (ℕ × KeptView)) (rows : List RowView) (ghosts : List RowGhost) (r : RowView)
+pub ghost_of : (start : Contents) (events : List Event) (base : List (ℕ × KeptView)) (rows : List RowView) (ghosts : List RowGhost) (r : RowView)
     → AllZip (IsRowOf start events base) rows ghosts → Contains rows r → (g : RowGhost) × IsRowOf start events base r g
 ghost_of start events base [] ghosts r zip is = absurd (Contains-nil r is)
 ghost_of start events base (s ∷ rows) [] r zip is = absurd zip

@@ -1,13 +1,16 @@
 -- Ways in which a scan may have taken effect: what each says, and that in each timing one of them holds.
-use Rattle.std.proofs.Common.{◌≡◌, ℕ, ◌<◌, ◌≤◌, List, [], ◌∷◌, map, refl, sym, subst, ⊎_elim, inl, inr, arith}
+use Rattle.std.proofs.Common.{◌≡◌, ℕ, ◌<◌, ◌≤◌, List, [], ◌∷◌, ◌++◌, map, refl, sym, subst, ⊎_elim, inl, inr, arith}
 use Rattle.std.specs.Prelude.{◌≢◌, ◌⊎◌, All, AllPairs, Contains}
 use Rattle.std.proofs.lemmas.Bool.{cases_lt, cases_order}
-use Rattle.std.proofs.lemmas.List.Elements.{All-contains, All-head, All-tail, Contains-append_left, Contains-append_right, Contains-append_cases}
-use Rattle.list_laws.proofs.Lists.{AllPairs-head, AllPairs-tail, Contains-nil, Contains-first, Contains-later, Contains-cases}
+use Rattle.std.proofs.lemmas.List.Elements.{All-contains, Contains-append_left, Contains-append_right, Contains-append_cases}
+use Rattle.list_laws.proofs.Lists.{AllPairs-across, AllPairs-front, Contains-nil, Contains-first, Contains-later, Contains-cases}
 use Rattle.list_laws.proofs.FilterLemmas.{Contains-map, Contains-from_map}
-use Rattle.kept_rows.specs.Parting.{ScanAnswer, Way, either, choices_among, AreRivals, AreWays}
-use Rattle.kept_rows.specs.Rows.{RowView, names_of}
-use Rattle.kept_rows.specs.declared.row.KeptScan.{KeptScan}
+use Rattle.row_parting.specs.Candidates.{ArePlacesWithin}
+use Rattle.row_parting.specs.ScanAnswers.{ScanAnswer}
+use Rattle.row_parting.specs.Parting.{Way, either, choices_among, AreRivals, ways_by, AreGapWays, IsParted, IsRival}
+use Rattle.scan_rows.specs.RowView.{RowView, names_of}
+use Rattle.scan_rows.specs.declared.key_loss.KeyLoss.{KeyLoss}
+use Rattle.scan_rows.specs.declared.row.KeptScan.{KeptScan}
 
 abbrev pub Turns : Type 0
 Turns = List (ℕ × ℕ)
@@ -134,75 +137,152 @@ abbrev pub way_by : ℕ → ℕ → Turns → Way
 way_by behind before turns = record { behind = behind; before = before; turns = turns }
 
 module _ (s : ScanAnswer) (r : RowView) where
-  pub way_of : {behind : ℕ} {places : List ℕ} {ways : List Way} → AreWays s r behind places ways → (way : Way) → Contains ways way
-      → AllPairs (λ p q. p < q) places → All (λ p. (behind < p) × (p < s.place)) places → IsWayOf s r behind places way
-  way_of (AreWays.last behind rivals are) way is rising within =
-      let (turns, turns_is, same) = Contains-from_map (way_by behind s.place) (choices_among s.name rivals) way is in
-      subst (IsWayOf s r behind []) same (record {
-        begun = omega arith;
-        ended = omega arith;
-        parted = λ place is. absurd (Contains-nil place is);
-        rivals = rivals;
-        are_rivals = are;
-        chosen = turns_is;
-      })
-  way_of (AreWays.gap behind before places rivals ways are rest) way is rising within =
-      let Within = λ (p : ℕ). (behind < p) × (p < s.place) in
-      let first = All-head Within before places within in
-      let others = All-tail Within before places within in
-      let above = AllPairs-head (λ p q. p < q) before places rising in ⊎_elim
-      (λ here.
-      let (turns, turns_is, same) = Contains-from_map (way_by behind before) (choices_among s.name rivals) way here in
-      let less = first.1 in
-      subst (IsWayOf s r behind (before ∷ places)) same (record {
-        begun = omega arith;
-        ended = omega (arith, less);
-        parted = λ place is. ⊎_elim
-            (λ equal. inr (omega (arith, equal)))
-            (λ later. let more = All-contains (λ q. before < q) places place above later in inr (omega (arith, more)))
-            (Contains-cases before places place is);
-        rivals = rivals;
-        are_rivals = are;
-        chosen = turns_is;
-      }))
-      (λ later.
-      let h = way_of rest way later (AllPairs-tail (λ p q. p < q) before places rising) (both before places above others) in
-      let begun = h.begun in
-      let upto = first.0 in record {
-        begun = omega (arith, begun, upto);
-        ended = h.ended;
-        parted = λ place is. ⊎_elim
-            (λ equal. inl (omega (arith, equal, begun)))
-            (λ later. h.parted place later)
-            (Contains-cases before places place is);
-        rivals = h.rivals;
-        are_rivals = h.are_rivals;
-        chosen = h.chosen;
-      })
-      (Contains-append_cases (map (way_by behind before) (choices_among s.name rivals)) ways way is)
-    where
-      both : (before : ℕ) (places : List ℕ) → All (λ q. before < q) places → All (λ p. (behind < p) × (p < s.place)) places
-          → All (λ p. (before < p) × (p < s.place)) places
-      both before places above others n d less = (above n d less, (others n d less).1)
-  way_of (AreWays.out behind before places ways left rest) way is rising within =
-      let Within = λ (p : ℕ). (behind < p) × (p < s.place) in
-      let first = All-head Within before places within in
-      let others = All-tail Within before places within in
-      let above = AllPairs-head (λ p q. p < q) before places rising in
-      let h = way_of rest way is (AllPairs-tail (λ p q. p < q) before places rising) (λ n d less. (above n d less, (others n d less).1)) in
-      let begun = h.begun in
-      let upto = first.0 in record {
-        begun = omega (arith, begun, upto);
-        ended = h.ended;
-        parted = λ place is. ⊎_elim
-            (λ equal. inl (omega (arith, equal, begun)))
-            (λ later. h.parted place later)
-            (Contains-cases before places place is);
-        rivals = h.rivals;
-        are_rivals = h.are_rivals;
-        chosen = h.chosen;
+  -- some places rise, from the scan's invocation to its answer
+  pub record AreInScan (places : List ℕ) : Type 0 where
+    pub rising : AllPairs (λ p q. p < q) places
+    pub within : (p : ℕ) → Contains places p → (s.name < p) × (p < s.place)
+
+  -- the last of them, or the invocation
+  pub record IsLastOf (places : List ℕ) (behind : ℕ) : Type 0 where
+    pub which : (behind ≡ s.name) ⊎ Contains places behind
+    pub past : (p : ℕ) → Contains places p → p ≤ behind
+
+  pub fewer_in : (places : List ℕ) (before : ℕ) → AreInScan (places ++ before ∷ []) → AreInScan places
+  fewer_in places before are = record {
+    rising = AllPairs-front (λ p q. p < q) places (before ∷ []) are.rising;
+    within = λ p is. are.within p (Contains-append_left places (before ∷ []) p is);
+  }
+
+  -- a gap of them lies within the scan
+  pub record IsGapIn (behind before : ℕ) : Type 0 where
+    pub begun : s.name ≤ behind
+    pub less : behind < before
+    pub ended : before < s.place
+
+  begun_by : (places : List ℕ) (behind : ℕ) → AreInScan places → (behind ≡ s.name) ⊎ Contains places behind → s.name ≤ behind
+  begun_by places behind are which = ⊎_elim (λ same. omega (arith, same)) (λ is. let less = (are.within behind is).0 in omega (arith, less)) which
+
+  pub gap_in : (places : List ℕ) (behind before : ℕ) → IsLastOf places behind → AreInScan (places ++ before ∷ []) → IsGapIn behind before
+  gap_in places behind before last are =
+      let inside = are.within before (Contains-append_right places (before ∷ []) before (Contains-first before [])) in
+      let above = inside.0 in record {
+        begun = begun_by places behind (fewer_in places before are) last.which;
+        less = ⊎_elim
+            (λ same. omega (arith, same, above))
+            (λ is. All-contains (λ q. behind < q) (before ∷ []) before
+            (All-contains (λ p. All (λ q. p < q) (before ∷ [])) places behind (AllPairs-across (λ p q. p < q) places (before ∷ []) are.rising) is)
+            (Contains-first before []))
+            last.which;
+        ended = inside.1;
       }
-  way_of (AreWays.out_last behind left) way is rising within = absurd (Contains-nil way is)
+
+  last_more : (places : List ℕ) (behind before : ℕ) → IsLastOf places behind → AreInScan (places ++ before ∷ []) → IsLastOf (places ++ before ∷ []) before
+  last_more places behind before last are =
+      let less = (gap_in places behind before last are).less in record {
+        which = inr (Contains-append_right places (before ∷ []) before (Contains-first before []));
+        past = λ p is. ⊎_elim
+            (λ old. let upto = last.past p old in omega (arith, upto, less))
+            (λ new. ⊎_elim
+            (λ same. omega (arith, same))
+            (λ none. absurd (Contains-nil p none))
+            (Contains-cases before [] p new))
+            (Contains-append_cases places (before ∷ []) p is);
+      }
+
+  pub last_of : {places : List ℕ} {behind : ℕ} {ways : List Way} → AreGapWays s r places behind ways → AreInScan places → IsLastOf places behind
+  last_of AreGapWays.at_start are = record { which = inl refl; past = λ p is. absurd (Contains-nil p is) }
+  last_of (AreGapWays.tried places behind before ways rivals earlier needed rival) are =
+      last_more places behind before (last_of earlier (fewer_in places before are)) are
+  last_of (AreGapWays.out places behind before ways earlier left) are =
+      last_more places behind before (last_of earlier (fewer_in places before are)) are
+
+  -- a way of a gap behind some places and before another
+  gap_way : (places : List ℕ) (behind before : ℕ) (rivals : List ℕ) → s.name ≤ behind → before ≤ s.place
+      → ((p : ℕ) → Contains places p → (p ≤ behind) ⊎ (before ≤ p)) → AreRivals s behind before r rivals → (way : Way)
+      → Contains (ways_by s behind before rivals) way → IsWayOf s r s.name places way × (way.before ≤ before)
+  gap_way places behind before rivals begun ended parted are way is =
+      let (turns, turns_is, same) = Contains-from_map (way_by behind before) (choices_among s.name rivals) way is in
+      subst (λ (w : Way). IsWayOf s r s.name places w × (w.before ≤ before)) same (
+        record {
+          begun = begun;
+          ended = ended;
+          parted = parted;
+          rivals = rivals;
+          are_rivals = are;
+          chosen = turns_is;
+        },
+        omega arith,
+      )
+
+  -- and so it is with one place more
+  way_more : (places : List ℕ) (behind before : ℕ) (way : Way) → behind < before → IsWayOf s r s.name places way × (way.before ≤ behind)
+      → IsWayOf s r s.name (places ++ before ∷ []) way × (way.before ≤ before)
+  way_more places behind before way less h =
+      let upto = h.1 in (
+        record {
+          begun = h.0.begun;
+          ended = h.0.ended;
+          parted = λ p is. ⊎_elim
+              (λ old. h.0.parted p old)
+              (λ new. ⊎_elim
+              (λ same. inr (omega (arith, same, upto, less)))
+              (λ none. absurd (Contains-nil p none))
+              (Contains-cases before [] p new))
+              (Contains-append_cases places (before ∷ []) p is);
+          rivals = h.0.rivals;
+          are_rivals = h.0.are_rivals;
+          chosen = h.0.chosen;
+        },
+        omega (arith, upto, less),
+      )
+
+  pub way_of : {places : List ℕ} {behind : ℕ} {ways : List Way} → AreGapWays s r places behind ways → AreInScan places → (way : Way)
+      → Contains ways way → IsWayOf s r s.name places way × (way.before ≤ behind)
+  way_of AreGapWays.at_start are way is = absurd (Contains-nil way is)
+  way_of (AreGapWays.tried places behind before ways rivals earlier needed rival) are way is =
+      let fewer = fewer_in places before are in
+      let last = last_of earlier fewer in
+      let gap = gap_in places behind before last are in
+      let ended = gap.ended in ⊎_elim
+      (λ old. way_more places behind before way gap.less (way_of earlier fewer way old))
+      (λ new. gap_way (places ++ before ∷ []) behind before rivals gap.begun (omega (arith, ended))
+      (λ p p_is. ⊎_elim
+      (λ front. inl (last.past p front))
+      (λ back. ⊎_elim
+      (λ same. inr (omega (arith, same)))
+      (λ none. absurd (Contains-nil p none))
+      (Contains-cases before [] p back))
+      (Contains-append_cases places (before ∷ []) p p_is))
+      rival way new)
+      (Contains-append_cases ways (ways_by s behind before rivals) way is)
+  way_of (AreGapWays.out places behind before ways earlier left) are way is =
+      let fewer = fewer_in places before are in
+      way_more places behind before way (gap_in places behind before (last_of earlier fewer) are).less (way_of earlier fewer way is)
+
+  -- the places of a row that parts lie within the scan
+  pub in_scan : (places : List ℕ) → ArePlacesWithin s.low s.high s.name s.place s.pairs r.keys places → AreInScan places
+  in_scan places are = record {
+    rising = are.rising;
+    within = λ p is. ((are.each p).0 is).within;
+  }
+
+  -- each way of a row that parts is one of it
+  pub parted_way : (limit : ℕ → ℕ) (next : List RowView) (losses : List KeyLoss) (parted : IsParted s limit r next losses)
+      → (way : Way) → Contains parted.ways way → IsWayOf s r s.name parted.places way
+  parted_way limit next losses parted way is = ⊎_elim
+      (λ last. ⊎_elim
+      (λ front. of_front front)
+      (λ mine. (gap_way parted.places parted.behind s.place last.rivals
+      (begun_by parted.places parted.behind (in_scan parted.places parted.are_places) (last_of parted.gaps (in_scan parted.places parted.are_places)).which)
+      (omega arith)
+      (λ p p_is. inl ((last_of parted.gaps (in_scan parted.places parted.are_places)).past p p_is)) last.are_rivals way mine).0)
+      (Contains-append_cases parted.front (ways_by s parted.behind s.place last.rivals) way
+      (subst (λ (l : List Way). Contains l way) last.ways_are is)))
+      (λ left. of_front (subst (λ (l : List Way). Contains l way) left.ways_are is))
+      parted.last
+    where
+      of_front : Contains parted.front way → IsWayOf s r s.name parted.places way
+      of_front front = (way_of parted.gaps (in_scan parted.places parted.are_places) way front).0
 
   -- a way holds in a timing
   pub record HoldsInWay (spread moment : ℕ → ℕ) (way : Way) : Type 0 where
@@ -213,9 +293,8 @@ module _ (s : ScanAnswer) (r : RowView) where
   rivals_apart : (moment : ℕ → ℕ) (behind before : ℕ) (rivals : List ℕ) → AreRivals s behind before r rivals
       → ((n : ℕ) → Contains (names_of r.scans) n → moment s.name ≢ moment n) → (n : ℕ) → Contains rivals n → moment s.name ≢ moment n
   rivals_apart moment behind before rivals are apart n is =
-      let Is = λ (name : ℕ). (scan : KeptScan) × Contains r.scans scan × (scan.name ≡ name) in
-      let (scan, scan_is, name) = All-contains Is rivals n are.are is in
-      apart n (subst (Contains (names_of r.scans)) name (Contains-map (λ (scan : KeptScan). scan.name) r.scans scan scan_is))
+      let rival = All-contains (IsRival s behind before r) rivals n are.are is in
+      apart n (subst (Contains (names_of r.scans)) rival.named (Contains-map (λ (scan : KeptScan). scan.name) r.scans rival.scan rival.is_kept))
 
   -- in each timing of a gap one of its ways holds
   pub gap_holds : (spread moment : ℕ → ℕ) (behind before : ℕ) (rivals : List ℕ) → AreRivals s behind before r rivals

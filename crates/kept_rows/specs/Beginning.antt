@@ -3,7 +3,8 @@ use Rattle.std.specs.Prelude.{◌≡◌, ℕ, ◌<◌, ◌==◌, if◌then◌els
 use Rattle.events.specs.declared.event.Call.{Call}
 use Rattle.kept_keys.specs.Steps.{with_call}
 use Rattle.kept_keys.specs.Views.{KeptView}
-use Rattle.kept_rows.specs.Rows.{RowView, entry_at, or_fresh}
+use Rattle.scan_rows.specs.RowView.{RowView}
+use Rattle.scan_rows.specs.Entries.{entry_at}
 
 -- keys by rising key
 abbrev pub AreRising : List (ℕ × KeptView) → Type 0
@@ -28,8 +29,3 @@ pub record HasBegun (key place : ℕ) (call : Call) (old new : RowView) : Type 0
   pub names : map (λ entry. entry.0) new.keys ≡ map (λ entry. entry.0) old.keys
   pub keys : AreRising old.keys → (other : ℕ) → entry_at new.keys other
       ≡ (if other == key then option_map (with_call place call) (entry_at old.keys other) else entry_at old.keys other)
-
--- and so a key that is kept for all rows
-abbrev pub HasBegunIn : ℕ → ℕ → Call → List (ℕ × KeptView) → List (ℕ × KeptView) → Type 0
-HasBegunIn key place call old new = (other : ℕ) → entry_at new other
-    ≡ (if other == key then Some (with_call place call (or_fresh (entry_at old other))) else entry_at old other)

@@ -17,12 +17,14 @@ use Rattle.following.specs.rows.Rows.{Row, RowHolds, RowsStandFor}
 use Rattle.following_reads.specs.Reads.{AreFixedUpToReads}
 use Rattle.kept_keys.specs.Kept.{IsKept, AreAnswered}
 use Rattle.kept_keys.specs.Views.{KeptView, state, width}
-use Rattle.kept_rows.specs.Moments.{IsNumbered}
-use Rattle.kept_rows.specs.Rows.{RowView, RowsView, entry_at, kept_at, comparisons_of, number_of, names_of}
-use Rattle.kept_rows.specs.declared.row.KeptScan.{KeptScan}
+use Rattle.scan_rows.specs.Moments.{IsNumbered}
+use Rattle.scan_rows.specs.RowView.{RowView, comparisons_of, number_of, names_of}
+use Rattle.kept_rows.specs.Rows.{RowsView, kept_at}
+use Rattle.scan_rows.specs.Entries.{entry_at}
+use Rattle.scan_rows.specs.declared.row.KeptScan.{KeptScan}
 
--- what is known of a row beside what is kept: comparisons of scans that are forgotten, the names of the calls that are gone at each key, and exact
--- moments of all scans
+-- what is known of a row beside what is kept: comparisons of scans that are forgotten, the names of
+-- the calls that are gone at each key, and exact moments of all scans
 pub record RowGhost : Type 0 where
   pub others : List Comparison
   pub gones : ℕ → List ℕ
@@ -63,7 +65,8 @@ pub record IsTimedExactly (events : List Event) (r : RowView) (g : RowGhost) : T
   pub ranks : All (SpeaksOf (HasRank g.room g.rank)) (comparisons_of r.scans r.turns ++ g.others)
   pub say : All (SayExactly g.gap g.rank) (comparisons_of r.scans r.turns ++ g.others)
 
--- a row as it is kept follows the events: what it keeps of each key does, in its class of timings, which is not empty; and it holds now
+-- a row as it is kept follows the events: what it keeps of each key does, in its class of timings,
+-- which is not empty; and it holds now
 pub record IsRowOf (start : Contents) (events : List Event) (base : List (ℕ × KeptView)) (r : RowView) (g : RowGhost) : Type 0 where
   pub kept : (key : ℕ) → IsKept start events (class_of_row r g) (number_of r.scans) key (g.gones key) (kept_at base r.keys key)
   pub answered : (key : ℕ) → AreAnswered events (g.gones key)
@@ -84,8 +87,8 @@ abbrev pub rows_of : List (ℕ × KeptView) → List RowView → List RowGhost �
 rows_of base (r ∷ rows) (g ∷ ghosts) = row_of base r g ∷ rows_of base rows ghosts
 rows_of base rows ghosts = []
 
--- rows as they are kept follow the events from these pairs: one row at least, each follows them, all together stand for them, and all have the same
--- keys of their own
+-- rows as they are kept follow the events from these pairs: one row at least, each follows them,
+-- all together stand for them, and all have the same keys of their own
 pub record AreFollowed (start : Contents) (events : List Event) (v : RowsView) : Type 0 where
   pub start_rises : IsRising start
   pub well_formed : IsWellFormed events

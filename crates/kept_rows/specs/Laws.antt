@@ -12,7 +12,8 @@ use Rattle.events.specs.Events.{IsWellFormed}
 use Rattle.kept_rows.specs.Followed.{AreFollowed}
 use Rattle.kept_rows.specs.Rows.{RowsView}
 
--- rows may become others that stand at each key, and of which one holds wherever one of the rows does
+-- rows may become others that stand at each key, and of which one holds wherever one of the rows
+-- does
 abbrev pub RowsMayBecome : Type 0
 RowsMayBecome = (start : Contents) (events : List Event) (rows next : List Row) → IsRising start
     → ((row : Row) → Contains next row → (key : ℕ) → KeyStandsFor start events row.allows key (row.states key))
@@ -25,7 +26,8 @@ abbrev pub FollowedRowsHaveOrders : Type 0
 FollowedRowsHaveOrders = (start : Contents) (events : List Event) (v : RowsView) → AreFollowed start events v
     → IsLinearizable start (operations events)
 
--- an event that is nothing at any key is followed as it is: a scan is invoked, or answered without pairs, or a call refused
+-- an event that is nothing at any key is followed as it is: a scan is invoked, or answered without
+-- pairs, or a call refused
 abbrev pub RowsPassBy : Type 0
 RowsPassBy = (start : Contents) (events : List Event) (e : Event) (v : RowsView) → IsWellFormed (events ++ e ∷ [])
     → HaveScansForm (operations (events ++ e ∷ [])) → ((key : ℕ) → PassesBy events key e) → AreFollowed start events v

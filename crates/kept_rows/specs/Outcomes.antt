@@ -13,10 +13,10 @@ use Rattle.kept_keys.specs.Judging.{HasOrder, IsBeyond}
 use Rattle.kept_keys.specs.Kept.{IsKept}
 use Rattle.kept_keys.specs.Views.{KeptView}
 use Rattle.kept_rows.specs.Followed.{AreFollowed}
-use Rattle.kept_rows.specs.declared.outcomes.Answered.{Answered}
-use Rattle.kept_rows.specs.declared.outcomes.Answered.TheVariants.{Going, Lost, Spent, Crowded}
-use Rattle.kept_rows.specs.declared.outcomes.KeyLoss.{KeyLoss}
-use Rattle.kept_rows.specs.declared.rows.OpenScan.{OpenScan}
+use Rattle.kept_rows.specs.declared.outcomes.AnsweredRows.{AnsweredRows}
+use Rattle.kept_rows.specs.declared.outcomes.AnsweredRows.TheVariants.{Going, Lost, Spent, Crowded}
+use Rattle.scan_rows.specs.declared.key_loss.KeyLoss.{KeyLoss}
+use Rattle.scan_rows.specs.declared.row.OpenScan.{OpenScan}
 
 -- no further events have an order
 abbrev pub IsLostFor : Contents → List Event → Type 0
@@ -30,8 +30,9 @@ IsLimitOf events key limit = (a : Operation) → Contains (operations events) a 
 abbrev pub HasNoOrder : KeyLoss → Type 0
 HasNoOrder loss = HasOrder loss.key loss.kept → ⊥
 
--- What is told of a key is what is kept of it after the events, in a class of timings of which there is one: its configurations, and the values of each,
--- stand for them, and its calls are those that are left.
+-- What is told of a key is what is kept of it after the events, in a class of timings of which
+-- there is one: its configurations, and the values of each, stand for them, and its calls are those
+-- that are left.
 pub record WasKept (start : Contents) (events : List Event) (key : ℕ) (kept : KeptView) : Type 0 where
   pub allows : Timings
   pub spread : ℕ → ℕ
@@ -48,9 +49,10 @@ pub record IsLostAt (start : Contents) (events : List Event) (key : ℕ) (loss :
   pub none : HasNoOrder loss
   pub was : WasKept start events loss.key loss.kept
 
--- what the answer of a call of one key comes to: the rows follow the events with it, or no row has an order at that key, and no events have one, or
--- of what is kept there a search is beyond the budget
-abbrev pub IsAnswered : Contents → List Event → ℕ → ℕ → Answered → Type 0
+-- what the answer of a call of one key comes to: the rows follow the events with it, or no row has
+-- an order at that key, and no events have one, or of what is kept there a search is beyond the
+-- budget
+abbrev pub IsAnswered : Contents → List Event → ℕ → ℕ → AnsweredRows → Type 0
 IsAnswered start events budget key (Going rows) = AreFollowed start events rows
 IsAnswered start events budget key (Lost losses) =
     (losses.items ≢ []) × All (IsLostAt start events key) losses.items × IsLostFor start events
@@ -68,10 +70,19 @@ pub record IsOpenScan (events : List Event) (s : OpenScan) : Type 0 where
 abbrev pub AreOpenScans : List Event → List OpenScan → Type 0
 AreOpenScans events scans = (s : OpenScan) → Contains scans s ↔ IsOpenScan events s
 
--- what the answer of a scan comes to
-abbrev pub IsScanAnswered : Contents → List Event → ℕ → ℕ → ℕ → Answered → Type 0
+-- a key of a range that has no order with the events, as it is kept after them
+pub record IsLostWithin (start : Contents) (events : List Event) (low high : ℕ) (loss : KeyLoss) : Type 0 where
+  pub in_range : (low ≤ loss.key) × (loss.key ≤ high)
+  pub none : HasNoOrder loss
+  pub was : WasKept start events loss.key loss.kept
+
+-- what the answer of a scan comes to: the rows follow the events with it, or no row has an order,
+-- and no events have one, or at a key of its range a search is beyond the budget, or more rows have
+-- an order than are kept
+abbrev pub IsScanAnswered : Contents → List Event → ℕ → ℕ → ℕ → AnsweredRows → Type 0
 IsScanAnswered start events budget low high (Going rows) = AreFollowed start events rows
 IsScanAnswered start events budget low high (Lost losses) =
-    All (λ loss. (low ≤ loss.key) × (loss.key ≤ high) × HasNoOrder loss) losses.items × IsLostFor start events
-IsScanAnswered start events budget low high (Spent loss) = (low ≤ loss.key) × (loss.key ≤ high) × IsBeyond budget loss.key loss.kept
+    (losses.items ≢ []) × All (IsLostWithin start events low high) losses.items × IsLostFor start events
+IsScanAnswered start events budget low high (Spent loss) =
+    (low ≤ loss.key) × (loss.key ≤ high) × IsBeyond budget loss.key loss.kept × WasKept start events loss.key loss.kept
 IsScanAnswered start events budget low high Crowded = ⊤

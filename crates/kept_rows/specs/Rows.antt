@@ -1,29 +1,13 @@
--- Rows as they are kept: each is one way in which the scans of a stream may have taken effect.
-use Rattle.std.specs.Prelude.{ℕ, ◌==◌, if◌then◌else◌, List, [], ◌∷◌, ◌++◌, map, Option, Some, None}
-use Rattle.following.specs.rows.Comparisons.{Comparison, Behind, Before, InTurn}
-use Rattle.kept_keys.specs.Views.{KeptView, fresh}
-use Rattle.kept_rows.specs.declared.row.KeptScan.{KeptScan}
-
--- the scans that are left at some key, which of two took effect first, and what is kept of the keys at which rows may differ
-pub record RowView : Type 0 where
-  pub scans : List KeptScan
-  pub turns : List (ℕ × ℕ)
-  pub keys : List (ℕ × KeptView)
+-- What is kept of a stream: rows, and the keys at which they do not differ.
+use Rattle.std.specs.Prelude.{ℕ, List, Option, Some, None}
+use Rattle.kept_keys.specs.Views.{KeptView}
+use Rattle.scan_rows.specs.RowView.{RowView}
+use Rattle.scan_rows.specs.Entries.{entry_at, or_fresh}
 
 -- what is kept of all other keys, and the rows
 pub record RowsView : Type 0 where
   pub base : List (ℕ × KeptView)
   pub rows : List RowView
-
--- what is kept of a key
-abbrev pub entry_at : List (ℕ × KeptView) → ℕ → Option KeptView
-entry_at [] key = None
-entry_at (entry ∷ entries) key = if entry.0 == key then Some entry.1 else entry_at entries key
-
--- a key of which nothing is kept has no value, and no call left
-abbrev pub or_fresh : Option KeptView → KeptView
-or_fresh None = fresh None
-or_fresh (Some k) = k
 
 abbrev pub or_else : Option KeptView → Option KeptView → Option KeptView
 or_else None other = other
@@ -32,23 +16,3 @@ or_else (Some k) other = Some k
 -- what is kept of a key in a row
 abbrev pub kept_at : List (ℕ × KeptView) → List (ℕ × KeptView) → ℕ → KeptView
 kept_at base keys key = or_fresh (or_else (entry_at keys key) (entry_at base key))
-
--- what a row says of the moments of its scans
-abbrev pub scan_comparisons : List KeptScan → List Comparison
-scan_comparisons [] = []
-scan_comparisons (s ∷ scans) = Behind s.name s.behind ∷ Before s.name s.before ∷ scan_comparisons scans
-
-abbrev pub turn_comparisons : List (ℕ × ℕ) → List Comparison
-turn_comparisons turns = map (λ turn. InTurn turn.0 turn.1) turns
-
-abbrev pub comparisons_of : List KeptScan → List (ℕ × ℕ) → List Comparison
-comparisons_of scans turns = scan_comparisons scans ++ turn_comparisons turns
-
--- the numbers of their moments
-abbrev pub number_of : List KeptScan → ℕ → ℕ
-number_of [] name = 0
-number_of (s ∷ scans) name = if s.name == name then s.number else number_of scans name
-
--- their names
-abbrev pub names_of : List KeptScan → List ℕ
-names_of scans = map (λ s. s.name) scans

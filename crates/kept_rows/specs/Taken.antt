@@ -2,11 +2,17 @@
 use Rattle.std.specs.Prelude.{◌≡◌, ◌≢◌, ◌⊎◌, ℕ, List, [], ◌∷◌, ⊤}
 use Rattle.kept_keys.specs.Judging.{IsBeyond}
 use Rattle.kept_keys.specs.Views.{KeptView}
-use Rattle.kept_rows.specs.Parting.{ScanAnswer, IsInRange, HaveSeen, IsUnseen, AreParted}
-use Rattle.kept_rows.specs.Rows.{RowView, RowsView}
-use Rattle.kept_rows.specs.declared.outcomes.Answered.{Answered}
-use Rattle.kept_rows.specs.declared.outcomes.Answered.TheVariants.{Going, Lost, Spent, Crowded}
-use Rattle.kept_rows.specs.declared.outcomes.KeyLoss.{KeyLoss}
+use Rattle.row_parting.specs.Crowding.{AreCrowding}
+use Rattle.row_parting.specs.Crowds.{AreTooMany}
+use Rattle.row_parting.specs.ScanAnswers.{ScanAnswer, IsInRange}
+use Rattle.kept_rows.specs.Seeing.{HaveSeen, IsUnseen}
+use Rattle.row_parting.specs.Parting.{AreParted}
+use Rattle.row_parting.specs.Placed.{IsPlacedInRows}
+use Rattle.scan_rows.specs.RowView.{RowView}
+use Rattle.kept_rows.specs.Rows.{RowsView}
+use Rattle.kept_rows.specs.declared.outcomes.AnsweredRows.{AnsweredRows}
+use Rattle.kept_rows.specs.declared.outcomes.AnsweredRows.TheVariants.{Going, Lost, Spent, Crowded}
+use Rattle.scan_rows.specs.declared.key_loss.KeyLoss.{KeyLoss}
 
 -- the keys that are no rows' own see the scan, and the rows part
 pub record HaveTaken (s : ScanAnswer) (limit : ℕ → ℕ) (columns : List ℕ) (v : RowsView) (base : List (ℕ × KeptView)) (next : List RowView)
@@ -31,8 +37,15 @@ pub record GoOn (s : ScanAnswer) (limit : ℕ → ℕ) (columns : List ℕ) (v w
   pub taken : HaveTaken s limit columns v w.base w.rows losses
   pub some : w.rows ≢ []
 
-abbrev pub IsTakenAs : ScanAnswer → (ℕ → ℕ) → ℕ → List ℕ → RowsView → Answered → Type 0
+abbrev pub IsTakenAs : ScanAnswer → (ℕ → ℕ) → ℕ → List ℕ → RowsView → AnsweredRows → Type 0
 IsTakenAs s limit budget columns v (Going w) = GoOn s limit columns v w
 IsTakenAs s limit budget columns v (Lost losses) = NoneIsLeft s limit columns v losses.items ⊎ OneIsUnseen s columns v losses.items
-IsTakenAs s limit budget columns v (Spent loss) = IsInRange s loss.key × IsBeyond budget loss.key loss.kept
+IsTakenAs s limit budget columns v (Spent loss) = IsInRange s loss.key × IsBeyond budget loss.key loss.kept × IsPlacedInRows s v.rows loss
 IsTakenAs s limit budget columns v Crowded = ⊤
+
+-- how many they then are
+abbrev pub AreFewOr : ScanAnswer → (ℕ → ℕ) → List RowView → AnsweredRows → Type 0
+AreFewOr s limit rows (Going w) = AreTooMany w.rows → ⊥
+AreFewOr s limit rows (Lost losses) = ⊤
+AreFewOr s limit rows (Spent loss) = ⊤
+AreFewOr s limit rows Crowded = AreCrowding s limit rows

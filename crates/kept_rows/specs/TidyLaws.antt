@@ -4,8 +4,10 @@ use Rattle.std.specs.List.{AllZip}
 use Rattle.events.specs.declared.event.Event.{Event}
 use Rattle.map_object.specs.MapObject.{Contents}
 use Rattle.kept_rows.specs.Followed.{AreFollowed}
-use Rattle.kept_rows.specs.Rows.{RowView, RowsView}
-use Rattle.kept_rows.specs.Tidying.{HasForgotten, AreJoined, AreClosed}
+use Rattle.scan_rows.specs.RowView.{RowView}
+use Rattle.kept_rows.specs.Rows.{RowsView}
+use Rattle.scan_rows.specs.Tidying.{HasForgotten, AreJoined}
+use Rattle.kept_rows.specs.Closing.{AreClosed}
 
 abbrev pub ForgottenScansFollow : Type 0
 ForgottenScansFollow =

@@ -8,18 +8,22 @@ use Rattle.kept_keys.specs.Steps.{IsAnswered, IsOpenCall}
 use Rattle.kept_keys.specs.Views.{KeptView}
 use Rattle.kept_rows.specs.Followed.{AreFollowed}
 use Rattle.kept_rows.specs.Outcomes.{IsLostFor, IsLimitOf, WasKept}
-use Rattle.kept_rows.specs.Rows.{RowView, RowsView, entry_at, kept_at, or_fresh}
+use Rattle.scan_rows.specs.RowView.{RowView}
+use Rattle.kept_rows.specs.Rows.{RowsView, kept_at}
+use Rattle.scan_rows.specs.Entries.{entry_at, or_fresh}
 use Rattle.kept_rows.specs.Turning.{CallAnswer, IsTurned, IsTurnedDown, AreTurned}
-use Rattle.kept_rows.specs.declared.outcomes.KeyLoss.{KeyLoss}
+use Rattle.scan_rows.specs.declared.key_loss.KeyLoss.{KeyLoss}
 
--- the answer is that of an open call of its key, and no open scan over the key began before the limit
+-- the answer is that of an open call of its key, and no open scan over the key began before the
+-- limit
 pub record IsAnswerOf (events : List Event) (process : ℕ) (a : CallAnswer) (limit : ℕ) : Type 0 where
   pub place : a.place ≡ length events
   pub of_key : IsCallOf a.key a.call
   pub is_open : IsOpenCall events process a.name a.call
   pub limit_is : IsLimitOf (events ++ Answer process a.reply ∷ []) a.key limit
 
--- rows that turn, at a key of their own, follow the events with the answer; where none stays, no events have an order any more
+-- rows that turn, at a key of their own, follow the events with the answer; where none stays, no
+-- events have an order any more
 abbrev pub RowsTakeAnswers : Type 0
 RowsTakeAnswers =
     (start : Contents) (events : List Event) (process : ℕ) (a : CallAnswer) (limit : ℕ) (v : RowsView) (next : List RowView) (losses : List KeyLoss)

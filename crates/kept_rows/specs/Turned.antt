@@ -1,12 +1,14 @@
--- What becomes of a key, of a row and of rows where a call of the key is answered, as the code gives it.
+-- What becomes of a key, of a row and of rows where a call of the key is answered, as the code
+-- gives it.
 use Rattle.std.specs.Prelude.{◌≡◌, ◌≢◌, ℕ, List, [], ◌∷◌, Any, slice_index_or, slice_set}
 use Rattle.kept_keys.specs.Views.{KeptView}
-use Rattle.kept_rows.specs.Rows.{RowView, entry_at, or_fresh}
+use Rattle.scan_rows.specs.RowView.{RowView}
+use Rattle.scan_rows.specs.Entries.{entry_at, or_fresh}
 use Rattle.kept_rows.specs.Turning.{CallAnswer, IsTurned, IsTurnedDown, IsTurnedAway, IsRowTurned, IsRowTurnedDown, IsRowTurnedAway, AreTurned}
-use Rattle.kept_rows.specs.declared.outcomes.Answered.{Answered}
-use Rattle.kept_rows.specs.declared.outcomes.Answered.TheVariants as answers
-use Rattle.kept_rows.specs.declared.outcomes.KeyLoss.{KeyLoss}
-use Rattle.kept_rows.specs.declared.row.KeptScan.{KeptScan}
+use Rattle.kept_rows.specs.declared.outcomes.AnsweredRows.{AnsweredRows}
+use Rattle.kept_rows.specs.declared.outcomes.AnsweredRows.TheVariants as answers
+use Rattle.scan_rows.specs.declared.key_loss.KeyLoss.{KeyLoss}
+use Rattle.scan_rows.specs.declared.row.KeptScan.{KeptScan}
 use Rattle.kept_rows.specs.declared.turning.GivenAnswer.{GivenAnswer}
 use Rattle.kept_rows.specs.declared.turning.TurnedKey.{TurnedKey}
 use Rattle.kept_rows.specs.declared.turning.TurnedKey.TheVariants as keys
@@ -48,7 +50,7 @@ pub record HasKept (a : CallAnswer) (limit : ℕ) (old : KeptView) (base next : 
   pub others : (other : ℕ) → other ≢ a.key → entry_at next other ≡ entry_at base other
 
 -- a key that is kept once for all rows turns
-abbrev pub IsBaseTurned : CallAnswer → ℕ → ℕ → KeptView → List (ℕ × KeptView) → List RowView → Answered → Type 0
+abbrev pub IsBaseTurned : CallAnswer → ℕ → ℕ → KeptView → List (ℕ × KeptView) → List RowView → AnsweredRows → Type 0
 IsBaseTurned a limit budget old base rows (answers.Going v) = (v.rows ≡ rows) × HasKept a limit old base v.base
 IsBaseTurned a limit budget old base rows (answers.Lost losses) =
     (loss : KeyLoss) × ((losses.items ≡ loss ∷ []) × (loss.key ≡ a.key) × IsTurnedDown a old loss.kept)
@@ -56,7 +58,7 @@ IsBaseTurned a limit budget old base rows (answers.Spent loss) = (loss.key ≡ a
 IsBaseTurned a limit budget old base rows answers.Crowded = ⊥
 
 -- a key turns that is the rows' own
-abbrev pub AreRowsTurned : CallAnswer → ℕ → ℕ → List (ℕ × KeptView) → List RowView → Answered → Type 0
+abbrev pub AreRowsTurned : CallAnswer → ℕ → ℕ → List (ℕ × KeptView) → List RowView → AnsweredRows → Type 0
 AreRowsTurned a limit budget base rows (answers.Going v) =
     (v.base ≡ base) × (v.rows ≢ []) × ((losses : List KeyLoss) × AreTurned a limit rows v.rows losses)
 AreRowsTurned a limit budget base rows (answers.Lost losses) = AreTurned a limit rows [] losses.items

@@ -5,10 +5,11 @@ use Rattle.events.specs.declared.event.Reply.{Reply}
 use Rattle.kept_keys.specs.Judging.{HasOrder, IsBeyond}
 use Rattle.kept_keys.specs.Steps.{IsAnswered}
 use Rattle.kept_keys.specs.Views.{KeptView}
-use Rattle.kept_rows.specs.Rows.{RowView, entry_at}
-use Rattle.kept_rows.specs.Settling.{HasSettled}
-use Rattle.kept_rows.specs.declared.outcomes.KeyLoss.{KeyLoss}
-use Rattle.kept_rows.specs.declared.row.KeptScan.{KeptScan}
+use Rattle.scan_rows.specs.RowView.{RowView}
+use Rattle.scan_rows.specs.Entries.{entry_at}
+use Rattle.scan_rows.specs.Settling.{HasSettled}
+use Rattle.scan_rows.specs.declared.key_loss.KeyLoss.{KeyLoss}
+use Rattle.scan_rows.specs.declared.row.KeptScan.{KeptScan}
 
 -- the answer at a place of the stream, of a call of a key
 pub record CallAnswer : Type 0 where

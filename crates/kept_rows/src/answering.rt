@@ -8,26 +8,24 @@ ghost use Rattle.kept_keys.specs.Steps.{IsOpenCall};
 ghost use Rattle.kept_keys.specs.Views.{place_limit};
 ghost use Rattle.kept_rows.specs.Followed.{AreFollowed};
 ghost use Rattle.kept_rows.specs.Outcomes.{IsAnswered, IsLimitOf};
-ghost use Rattle.kept_rows.specs.Rows.{entry_at, or_fresh};
+ghost use Rattle.scan_rows.specs.Entries.{entry_at, or_fresh};
 ghost use Rattle.kept_rows.specs.Sound.{IsAnswerable, MayRowTurn, MayTurn};
 ghost use Rattle.kept_rows.specs.Turned.{AreRowsTurned, IsBaseTurned, answer_of};
 
-use crate::known::Known;
-use crate::known_key::KnownKey;
 use crate::laws::turns::{answers_are_kept, base_is_lost, base_takes_answers, rows_take_answers};
-use crate::outcomes::{Answered, KeyLoss};
+use crate::outcomes::AnsweredRows;
 use crate::own_keys::is_own;
-use crate::row::Row;
 use crate::rows::Rows;
 use crate::turning::{GivenAnswer, TurnedKey, turn_key};
 use crate::turning_rows::{TurnedRows, turn_rows};
 use events::{Call, Memory, Reply};
 use kept_keys::{KeptKey, kept_keys_take_answers};
+use scan_rows::{KeyLoss, Known, KnownKey, Row};
 use std::alloc::Global;
 
 impl Rows {
-    /// Takes the answer, at its place in the stream, of the call of one key that has this name, and judges it at that key in each row. No open scan
-    /// over the key began before `limit`.
+    /// Takes the answer, at its place in the stream, of the call of one key that has this name, and
+    /// judges it at that key in each row. No open scan over the key began before `limit`.
     pub fn answer_call(
         self,
         alloc: Global,
@@ -38,11 +36,13 @@ impl Rows {
         reply: Reply,
         limit: usize,
         budget: u32,
-    ) -> Result<Answered, Memory>
+    ) -> Result<AnsweredRows, Memory>
         requires place { place < place_limit - 1 }
         requires answerable { IsAnswerable self place key name call.now }
-        ensures { (start : Contents) (events : List Event) (process : ℕ) → AreFollowed start events self → length events ≡ place
-            → IsCallOf key call.now → IsOpenCall events process name call.now → IsLimitOf (events ++ Answer process reply ∷ []) key limit
+        ensures { (start : Contents) (events : List Event) (process : ℕ)
+            → AreFollowed start events self → length events ≡ place
+            → IsCallOf key call.now → IsOpenCall events process name call.now
+            → IsLimitOf (events ++ Answer process reply ∷ []) key limit
             → IfOk result (IsAnswered start (events ++ Answer process reply ∷ []) budget key) }
     {
         kept_keys_take_answers();
@@ -64,7 +64,7 @@ impl Rows {
         let Some(known) = base.take(key) else {
             unreachable!();
         };
-        let kept = known.whole(alloc)?;
+        let kept = known.into_kept(alloc)?;
         answer_in_base(alloc, &answer, kept, base, rows, limit, budget)
     }
 }
@@ -78,7 +78,7 @@ fn answer_in_base(
     rows: Vec<Row>,
     limit: usize,
     budget: u32,
-) -> Result<Answered, Memory>
+) -> Result<AnsweredRows, Memory>
     requires place { answer.now.place < place_limit - 1 }
     requires may_turn { MayTurn (answer_of answer.now) kept }
     requires taken { entry_at base answer.now.key ≡ None }
@@ -89,13 +89,13 @@ fn answer_in_base(
         TurnedKey::Stays(new) => {
             let known = KnownKey::of(alloc, new)?;
             keep(&mut base, key, known)?;
-            Ok(Answered::Going(Rows { base, rows }))
+            Ok(AnsweredRows::Going(Rows { base, rows }))
         }
         TurnedKey::Goes(kept) => {
             let losses = vec![in alloc; KeyLoss { key, kept }]?;
-            Ok(Answered::Lost(losses))
+            Ok(AnsweredRows::Lost(losses))
         }
-        TurnedKey::Away(kept) => Ok(Answered::Spent(KeyLoss { key, kept })),
+        TurnedKey::Away(kept) => Ok(AnsweredRows::Spent(KeyLoss { key, kept })),
     }
 }
 
@@ -103,9 +103,10 @@ fn answer_in_base(
 fn keep(base: &mut Known, key: u64, known: KnownKey) -> Result<(), Memory>
     requires { entry_at base.old key ≡ None }
     ensures here { OnOk result (or_fresh (entry_at base.new key) ≡ known) }
-    ensures others { OnOk result ((other : ℕ) → other ≢ key → entry_at base.new other ≡ entry_at base.old other) }
+    ensures others { OnOk result ((other : ℕ) → other ≢ key
+        → entry_at base.new other ≡ entry_at base.old other) }
 {
-    if known.is_fresh(None) {
+    if known.rests_with(None) {
         return Ok(());
     }
     base.put(key, known)
@@ -119,17 +120,17 @@ fn answer_in_rows(
     rows: Vec<Row>,
     limit: usize,
     budget: u32,
-) -> Result<Answered, Memory>
+) -> Result<AnsweredRows, Memory>
     requires place { answer.now.place < place_limit - 1 }
     requires may_turn { All (MayRowTurn (answer_of answer.now)) rows.items }
     ensures { IfOk result (AreRowsTurned (answer_of answer.now) limit budget base rows.items) }
 {
     match turn_rows(alloc, answer, rows, limit, budget)? {
         TurnedRows::Turned(next, losses) => Ok(if next.is_empty() {
-            Answered::Lost(losses)
+            AnsweredRows::Lost(losses)
         } else {
-            Answered::Going(Rows { base, rows: next })
+            AnsweredRows::Going(Rows { base, rows: next })
         }),
-        TurnedRows::Away(loss) => Ok(Answered::Spent(loss)),
+        TurnedRows::Away(loss) => Ok(AnsweredRows::Spent(loss)),
     }
 }

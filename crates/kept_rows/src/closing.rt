@@ -4,21 +4,22 @@ ghost use Rattle.std.specs.List.{AllZip};
 ghost use Rattle.events.specs.declared.event.Event.{Event};
 ghost use Rattle.map_object.specs.MapObject.{Contents};
 ghost use Rattle.kept_rows.specs.Followed.{AreFollowed};
-ghost use Rattle.kept_rows.specs.Parting.{HaveColumns};
+ghost use Rattle.kept_rows.specs.Opening.{HaveColumns};
 ghost use Rattle.kept_keys.specs.Views.{width};
-ghost use Rattle.kept_rows.specs.Tidying.{AreClosed, HasNoGets, IsWithout};
+ghost use Rattle.kept_rows.specs.Closing.{AreClosed, HasNoGets, IsWithout};
 
-use crate::known_key::KnownKey;
 use crate::laws::tidies::closed_keys_follow;
-use crate::row::Row;
 use crate::rows::Rows;
 use events::{Memory, Operation};
 use kept_keys::{KeptKey, WIDTH};
+use scan_rows::{KnownKey, Row};
 use std::alloc::Global;
 
-/// Keeps once, elsewhere, what all rows keep the same of a key, where no get of a scan is left of it.
+/// Keeps once, elsewhere, what all rows keep the same of a key, where no get of a scan is left of
+/// it.
 pub(crate) fn keys_closed(alloc: Global, all: Rows) -> Result<Rows, Memory>
-    ensures { (start : Contents) (events : List Event) → AreFollowed start events all → IfOk result (AreFollowed start events) }
+    ensures { (start : Contents) (events : List Event) → AreFollowed start events all
+        → IfOk result (AreFollowed start events) }
 {
     closed_keys_follow();
     let mut now = all;
@@ -42,7 +43,7 @@ fn own_count(rows: &[Row]) -> usize {
 fn key_closed(alloc: Global, all: Rows, column: usize) -> Result<Rows, Memory>
     ensures { (columns : List ℕ) → HaveColumns columns all → IfOk result (AreClosed all) }
 {
-    match closable(alloc, &all.rows, column)? {
+    match closable_entry(alloc, &all.rows, column)? {
         None => Ok(all),
         Some((key, kept)) => {
             let Rows { mut base, rows } = all;
@@ -54,9 +55,15 @@ fn key_closed(alloc: Global, all: Rows, column: usize) -> Result<Rows, Memory>
     }
 }
 
-/// The key at a place of the rows' own, with what all keep of it, if that is the same, and no get of a scan is left.
-fn closable(alloc: Global, rows: &[Row], column: usize) -> Result<Option<(u64, KeptKey)>, Memory>
-    ensures { IfOk result (λ found. MatchOption found ⊤ (λ entry. HasNoGets entry.1 × All (λ r. slice_get r.keys column ≡ Some entry) rows.now)) }
+/// The key at a place of the rows' own, with what all keep of it, if that is the same, and no get
+/// of a scan is left.
+fn closable_entry(
+    alloc: Global,
+    rows: &[Row],
+    column: usize,
+) -> Result<Option<(u64, KeptKey)>, Memory>
+    ensures { IfOk result (λ found. MatchOption found ⊤
+        (λ entry. HasNoGets entry.1 × All (λ r. slice_get r.keys column ≡ Some entry) rows.now)) }
 {
     match rows.first() {
         Some(row) => closable_as(alloc, rows, column, row),
@@ -71,7 +78,8 @@ fn closable_as(
     column: usize,
     row: &Row,
 ) -> Result<Option<(u64, KeptKey)>, Memory>
-    ensures { IfOk result (λ found. MatchOption found ⊤ (λ entry. HasNoGets entry.1 × All (λ r. slice_get r.keys column ≡ Some entry) rows.now)) }
+    ensures { IfOk result (λ found. MatchOption found ⊤
+        (λ entry. HasNoGets entry.1 × All (λ r. slice_get r.keys column ≡ Some entry) rows.now)) }
 {
     if column >= row.keys.len() {
         return Ok(None);

@@ -1,5 +1,6 @@
 // Laws of rows as they are kept.
 pub mod parts;
+pub mod tells;
 pub mod tidies;
 pub mod turns;
 
@@ -8,7 +9,8 @@ ghost use Rattle.kept_rows.specs.Laws.{RowsMayBecome, FollowedRowsHaveOrders, Ro
 use following_reads::read_rows_judge;
 use kept_keys::kept_keys_go_on;
 
-/// Rows may become others that stand at each key, and of which one holds wherever one of the rows does.
+/// Rows may become others that stand at each key, and of which one holds wherever one of the rows
+/// does.
 pub fn rows_may_become()
     ensures { RowsMayBecome }
 {}

@@ -1,17 +1,15 @@
 // Keys of which calls are left become the rows' own.
 ghost use Rattle.std.specs.Prelude.{◌≡◌, ◌↔◌, ◌≤◌, ℕ, List, IsTrue, OnOk};
 ghost use Rattle.std.specs.List.{AllZip};
-ghost use Rattle.kept_rows.specs.Parting.{HaveColumns, AreOpened};
-ghost use Rattle.kept_rows.specs.Steps.{HasNoCalls, HasOwn, IsOpenedAt};
+ghost use Rattle.kept_rows.specs.Opening.{HaveColumns, AreOpened, HasNoCalls, HasOwn, IsOpenedAt};
 
-use crate::known::Known;
-use crate::row::Row;
 use events::Memory;
 use kept_keys::KeptKey;
+use scan_rows::{Known, Row};
 use std::alloc::Global;
 
 /// Whether no call is left of a key that is not the rows' own.
-fn has_no_calls(base: &Known, key: u64) -> bool
+pub(crate) fn has_no_calls(base: &Known, key: u64) -> bool
     ensures { IsTrue result ↔ HasNoCalls base.now key }
 {
     match base.look(key) {
@@ -47,13 +45,14 @@ fn open_key(alloc: Global, base: &mut Known, rows: &mut [Row], key: u64) -> Resu
         return Ok(());
     }
     if let Some(known) = base.take(key) {
-        let kept = known.whole(alloc)?;
+        let kept = known.into_kept(alloc)?;
         insert_in_rows(alloc, rows, key, &kept)?;
     }
     Ok(())
 }
 
-/// Each key of a range becomes the rows' own of which calls are left. The others cost a look-up each.
+/// Each key of a range becomes the rows' own of which calls are left. The others cost a look-up
+/// each.
 pub(crate) fn open_range(
     alloc: Global,
     base: &mut Known,
@@ -62,8 +61,10 @@ pub(crate) fn open_range(
     high: u64,
 ) -> Result<(), Memory>
     requires { low ≤ high }
-    ensures { OnOk result ((columns : List ℕ) → HaveColumns columns (record { base = base.old; rows = rows.old })
-        → (opened : List ℕ) × AreOpened low high opened (record { base = base.old; rows = rows.old })
+    ensures { OnOk result ((columns : List ℕ)
+        → HaveColumns columns (record { base = base.old; rows = rows.old })
+        → (opened : List ℕ) × AreOpened low high opened
+        (record { base = base.old; rows = rows.old })
         (record { base = base.new; rows = rows.new })) }
 {
     let keys = base.within(alloc, low, high)?;

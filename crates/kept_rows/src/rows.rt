@@ -3,20 +3,11 @@ ghost use Rattle.std.specs.Prelude.{[], IfOk};
 ghost use Rattle.map_object.specs.MapObject.{IsRising};
 ghost use Rattle.kept_rows.specs.Followed.{AreFollowed};
 
-use crate::known::Known;
-use crate::row::Row;
 use events::Memory;
 use kept_keys::kept_keys_begin;
+use scan_rows::{Known, Row};
 use std::alloc::Global;
 use std::marker::Model;
-
-/// A scan that is open: the place of its invocation, and its range.
-#[derive(Clone, Copy, Debug)]
-pub struct OpenScan {
-    pub name: usize,
-    pub low: u64,
-    pub high: u64,
-}
 
 /// What is kept of a stream: rows, and what is kept of the keys at which they do not differ.
 #[derive(Drop)]

@@ -11,11 +11,11 @@ ghost use Rattle.kept_rows.specs.Beginning.{HasBegun};
 ghost use Rattle.kept_rows.specs.Followed.{AreFollowed};
 
 use crate::own_keys::{is_own, place_of};
-use crate::row::Row;
 use crate::rows::Rows;
 use events::{Call, Memory};
 use following_reads::read_rows_judge;
 use kept_keys::{kept_keys_go_on, kept_keys_take_calls};
+use scan_rows::Row;
 use std::alloc::Global;
 
 /// A key that is the row's own takes a call.
@@ -50,7 +50,8 @@ impl Rows {
         call: Call,
     ) -> Result<Rows, Memory>
         requires { place < place_limit }
-        ensures { (start : Contents) (events : List Event) (process : ℕ) → AreFollowed start events self → length events ≡ place
+        ensures { (start : Contents) (events : List Event) (process : ℕ)
+            → AreFollowed start events self → length events ≡ place
             → IsCallOf key call → IsWellFormed (events ++ Invoke process call ∷ [])
             → IfOk result (AreFollowed start (events ++ Invoke process call ∷ [])) }
     {

@@ -1,17 +1,17 @@
-// Rows that are the same become one, scans that are left nowhere are forgotten, and keys at which rows do not differ are kept once.
+// Rows that are the same become one, scans that are left nowhere are forgotten, and keys at which
+// rows do not differ are kept once.
 ghost use Rattle.std.specs.Prelude.{List, AllPairs, IsTrue, IfOk};
 ghost use Rattle.events.specs.declared.event.Event.{Event};
 ghost use Rattle.map_object.specs.MapObject.{Contents};
 ghost use Rattle.kept_rows.specs.Followed.{AreFollowed};
-ghost use Rattle.kept_rows.specs.Tidying.{AreSameRows, IsBare};
+ghost use Rattle.scan_rows.specs.Tidying.{AreSameRows};
+ghost use Rattle.kept_rows.specs.Closing.{IsBare};
 
 use crate::closing::keys_closed;
-use crate::forgetting::rows_forgotten;
-use crate::joining::rows_joined;
 use crate::laws::tidies::{forgotten_scans_follow, joined_rows_follow};
-use crate::row::Row;
 use crate::rows::Rows;
 use events::Memory;
+use scan_rows::{Row, rows_forgotten, rows_joined};
 use std::alloc::Global;
 
 /// Whether there is nothing to tidy: one row alone, without scans, turns and keys of its own.
@@ -25,10 +25,12 @@ fn is_bare(rows: &[Row]) -> bool
 }
 
 impl Rows {
-    /// The same rows with less: without scans that are left nowhere, without keys of their own of which all rows keep the same, and without rows that
-    /// are the same as others. Costs the size of what the rows keep, or next to nothing where one row keeps nothing.
-    pub fn tidied(self, alloc: Global) -> Result<Rows, Memory>
-        ensures followed { (start : Contents) (events : List Event) → AreFollowed start events self → IfOk result (AreFollowed start events) }
+    /// The same rows with less: without scans that are left nowhere, without keys of their own of
+    /// which all rows keep the same, and without rows that are the same as others. Costs the size
+    /// of what the rows keep, or next to nothing where one row keeps nothing.
+    pub fn tidy(self, alloc: Global) -> Result<Rows, Memory>
+        ensures followed { (start : Contents) (events : List Event) → AreFollowed start events self
+            → IfOk result (AreFollowed start events) }
         ensures apart { IfOk result (λ v. AllPairs (λ r s. AreSameRows r s → ⊥) v.rows) }
     {
         if is_bare(&self.rows) {

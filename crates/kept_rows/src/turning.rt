@@ -4,10 +4,9 @@ ghost use Rattle.kept_keys.specs.Views.{place_limit};
 ghost use Rattle.kept_rows.specs.Sound.{MayTurn};
 ghost use Rattle.kept_rows.specs.Turned.{IsKeyTurned, answer_of};
 
-use crate::row::KeptScan;
-use crate::settling::settle_key;
 use events::{Call, Memory, Reply};
 use kept_keys::{Judged, KeptKey};
+use scan_rows::{KeptScan, settle_key};
 use std::alloc::Global;
 
 /// The answer at a place of the stream, of the call of one key that has this name.

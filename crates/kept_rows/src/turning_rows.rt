@@ -4,12 +4,11 @@ ghost use Rattle.kept_keys.specs.Views.{KeptView, place_limit};
 ghost use Rattle.kept_rows.specs.Sound.{MayRowTurn};
 ghost use Rattle.kept_rows.specs.Turned.{AreAllTurned, HasOther, IsOneTurned, answer_of};
 
-use crate::outcomes::KeyLoss;
 use crate::own_keys::place_of;
-use crate::row::Row;
 use crate::turning::{GivenAnswer, TurnedKey, turn_key};
 use events::Memory;
 use kept_keys::KeptKey;
+use scan_rows::{KeyLoss, Row};
 use std::alloc::Global;
 use std::mem;
 
@@ -27,7 +26,7 @@ pub(crate) enum TurnedRow {
 /// What an answer makes of rows.
 #[derive(Drop)]
 pub(crate) enum TurnedRows {
-    /// Those that go on, and the key as it has no order in each of the others.
+    /// The first go on; in each of the others the key has no order, and is told.
     Turned(Vec<Row>, Vec<KeyLoss>),
     /// A search reaches more positions than the budget.
     Away(KeyLoss),
@@ -95,7 +94,7 @@ fn take_at(alloc: Global, keys: &mut Vec<(u64, KeptKey)>, at: usize) -> KeptKey
     ensures taken { (other : ℕ × KeptView) → result ≡ (slice_index_or keys.old.items at other).1 }
     ensures left { (nothing : KeptView) × HasOther at nothing keys.old.items keys.new.items }
 {
-    let nothing = KeptKey::of(Vec::new(alloc), Vec::new(alloc), Vec::new(alloc));
+    let nothing = KeptKey::of(alloc, Vec::new(alloc), Vec::new(alloc), Vec::new(alloc));
     mem::replace(&mut keys[at].1, nothing)
 }
 

@@ -3,16 +3,16 @@ use Rattle.std.proofs.Common.{ℕ, List, inl, inr}
 use Rattle.clap.specs.Words.{Text}
 use Rattle.command_line.specs.declared.line.Line.{Line}
 use Rattle.outcomes.specs.declared.outcome.Answer.{Answer}
-use Rattle.outcomes.specs.declared.outcome.Outcome.{Outcome}
-use Rattle.outcomes.specs.declared.outcome.Outcome.TheVariants.{Answered, Noted, Refused, Memory, Words, Failed}
+use Rattle.outcomes.specs.declared.outcome.RunOutcome.{RunOutcome}
+use Rattle.outcomes.specs.declared.outcome.RunOutcome.TheVariants.{Answered, Noted, Refused, Memory, Words, Failed}
 use Rattle.outcomes.specs.Ends.{Change, IsSound}
 use Rattle.outcomes.specs.Outcomes.{IsReadOutcome}
 use Rattle.answer_hints.specs.Outcomes.{IsHintedRead}
 use Rattle.line_outcomes.specs.Outcomes.{IsAskedOutcome, IsFaultOutcome, IsWordsOutcome}
 
 -- of a subcommand that reads a text
-pub read-words : (L : Line → Change → Outcome → Type 0) (A : List ℕ → Answer → List ℕ → Type 0) (R : List ℕ → List ℕ → List ℕ → Type 0)
-    (words : List Text) (source : Change) (outcome : Outcome)
+pub read-words : (L : Line → Change → RunOutcome → Type 0) (A : List ℕ → Answer → List ℕ → Type 0) (R : List ℕ → List ℕ → List ℕ → Type 0)
+    (words : List Text) (source : Change) (outcome : RunOutcome)
     → (IsReadOutcome A R source outcome → IsAskedOutcome L words source outcome) → IsReadOutcome A R source outcome
     → IsWordsOutcome L words source outcome
 read-words L A R words source (Answered answer bytes) ask comes = ask comes
@@ -25,8 +25,8 @@ read-words L A R words source (Words text) ask (inr read) = absurd read.1
 read-words L A R words source Failed ask comes = ask comes
 
 -- of one whose answers may have hints
-pub hinted-words : (L : Line → Change → Outcome → Type 0) (A : List ℕ → Answer → List ℕ → List ℕ → Type 0)
-    (R : List ℕ → List ℕ → List ℕ → Type 0) (words : List Text) (source : Change) (outcome : Outcome)
+pub hinted-words : (L : Line → Change → RunOutcome → Type 0) (A : List ℕ → Answer → List ℕ → List ℕ → Type 0)
+    (R : List ℕ → List ℕ → List ℕ → Type 0) (words : List Text) (source : Change) (outcome : RunOutcome)
     → (IsHintedRead A R source outcome → IsAskedOutcome L words source outcome) → IsHintedRead A R source outcome
     → IsWordsOutcome L words source outcome
 hinted-words L A R words source (Answered answer bytes) ask comes = ask comes
@@ -39,7 +39,7 @@ hinted-words L A R words source (Words text) ask (inr read) = absurd read.1
 hinted-words L A R words source Failed ask comes = ask comes
 
 -- of words that ask for no line
-pub fault-words : (L : Line → Change → Outcome → Type 0) (words : List Text) (source : Change) (outcome : Outcome)
+pub fault-words : (L : Line → Change → RunOutcome → Type 0) (words : List Text) (source : Change) (outcome : RunOutcome)
     → IsFaultOutcome words outcome → IsSound source → IsWordsOutcome L words source outcome
 fault-words L words source (Answered answer bytes) fault sound = absurd fault
 fault-words L words source (Noted answer bytes note) fault sound = absurd fault

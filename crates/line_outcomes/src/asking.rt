@@ -6,29 +6,30 @@ ghost use Rattle.command_line.specs.Lines.{IsLineOf, IsWithinLimits};
 ghost use Rattle.line_outcomes.specs.Outcomes.{IsElsewhereOutcome, IsFaultOutcome};
 
 use command_line::{Line, LineFault, read_line};
-use outcomes::Outcome;
+use outcomes::RunOutcome;
 use std::alloc::{Alloc, AllocError, Global};
 use std::env;
 use std::env::Env;
 use std::io::ErrorKind;
 
-/// The words that the program was called with, its name first; or, where one is no text, the outcome of words with a fault.
-pub fn words_of<R: Env + Alloc>(rt: &R, alloc: Global) -> Result<Vec<String>, Outcome> {
+/// The words that the program was called with, its name first; or, where one is no text, the
+/// outcome of words with a fault.
+pub fn words_of<R: Env + Alloc>(rt: &R, alloc: Global) -> Result<Vec<String>, RunOutcome> {
     let words = match env::args(&(rt, alloc)) {
         Ok(words) => words.collect(alloc),
         Err(error) => {
             if error.kind() == ErrorKind::OutOfMemory {
-                return Err(Outcome::Memory);
+                return Err(RunOutcome::Memory);
             }
             return match String::from_str(alloc, "error: a word is no text\n") {
-                Ok(text) => Err(Outcome::Words(text)),
-                Err(_) => Err(Outcome::Memory),
+                Ok(text) => Err(RunOutcome::Words(text)),
+                Err(_) => Err(RunOutcome::Memory),
             };
         }
     };
     match words {
         Ok(words) => Ok(words),
-        Err(_) => Err(Outcome::Memory),
+        Err(_) => Err(RunOutcome::Memory),
     }
 }
 
@@ -39,25 +40,27 @@ pub fn texts_of(alloc: Global, words: &[String]) -> Result<Vec<&str>, AllocError
     words.iter().map(|word| word.as_str()).collect(alloc)
 }
 
-/// The line that the words ask for, the program's name first; or the outcome of words with a fault, or of want of memory.
-pub fn asked_line(alloc: Global, words: &[&str]) -> Result<Line, Outcome>
-    ensures line { IfOk result (λ line. IsLineOf (texts words.entry.now) line × IsAccepted (texts words.entry.now)) }
+/// The line that the words ask for, the program's name first; or the outcome of words with a fault,
+/// or of want of memory.
+pub fn asked_line(alloc: Global, words: &[&str]) -> Result<Line, RunOutcome>
+    ensures line { IfOk result (λ line. IsLineOf (texts words.entry.now) line
+        × IsAccepted (texts words.entry.now)) }
     ensures limits { IfOk result IsWithinLimits }
     ensures refused { IfErr result (IsFaultOutcome (texts words.entry.now)) }
 {
     match read_line(alloc, words) {
         Ok(line) => Ok(line),
-        Err(LineFault::Line(text)) => Err(Outcome::Words(text)),
-        Err(LineFault::Memory) => Err(Outcome::Memory),
+        Err(LineFault::Line(text)) => Err(RunOutcome::Words(text)),
+        Err(LineFault::Memory) => Err(RunOutcome::Memory),
     }
 }
 
 /// That the words ask for what a part of the program does not do: it is told so.
-pub fn elsewhere(alloc: Global, told: &str) -> Outcome
+pub fn elsewhere_outcome(alloc: Global, told: &str) -> RunOutcome
     ensures { IsElsewhereOutcome told.now result }
 {
     match String::from_str(alloc, told) {
-        Ok(text) => Outcome::Words(text),
-        Err(_) => Outcome::Memory,
+        Ok(text) => RunOutcome::Words(text),
+        Err(_) => RunOutcome::Memory,
     }
 }

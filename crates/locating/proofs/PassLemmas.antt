@@ -28,9 +28,9 @@ use Rattle.prefixes.specs.Prefixes.{GoesWrongAt, IsAnswerOf}
 use Rattle.follower.specs.Faults.{event_limit, invocation_fault, answer_fault}
 use Rattle.follower.specs.FollowerView.{FollowerView}
 use Rattle.follower.specs.Following.{IsFollowing}
-use Rattle.follower.specs.Outcomes.{IsLost, IsSpent, IsAnswered}
-use Rattle.follower.specs.declared.answered.Answered.{Answered}
-use Rattle.follower.specs.declared.answered.Answered.TheVariants.{Lost, Spent}
+use Rattle.follower.specs.Outcomes.{IsLost, IsSpent, IsAnswered, IsDoubtOf, IsCountedAs}
+use Rattle.follower.specs.declared.answered.AnsweredStream.{AnsweredStream}
+use Rattle.follower.specs.declared.answered.AnsweredStream.TheVariants.{Lost, Spent}
 use Rattle.follower.specs.declared.answered.Doubt.{Doubt}
 use Rattle.follower.specs.declared.answered.Loss.{Loss}
 use Rattle.locating.specs.Locations.{IsAnswerFollowed, IsLostAt, IsUndecidedAt}
@@ -106,10 +106,10 @@ fine_answer history place process reply here few is =
 module _ (history : HistoryView) (place process : ℕ) (reply : Reply) (here : slice_get history.events place ≡ Some (Answer process reply))
     (budget : ℕ) (f : FollowerView) (follows : IsFollowing history.start (take place history.events) f) where
   -- what an answer makes of the follower, said of the event where it stands
-  followed : (event : ℕ) (answered : Answered) → event ≡ length (take place history.events)
-      → IsAnswered history.start (take place history.events) f process reply budget answered
+  followed : (event : ℕ) (answered : AnsweredStream) → event ≡ length (take place history.events)
+      → IsAnswered history.start (take place history.events) f process reply budget answered → IsCountedAs f process reply answered
       → IsAnswerFollowed budget history event answered
-  followed event answered event_is is =
+  followed event answered event_is is counted =
       let at : place ≡ event = sym (event_is ∙ size history place (Answer process reply) here) in
       subst (λ (n : ℕ). IsAnswerFollowed budget history n answered) at (record {
         process = process;
@@ -118,21 +118,22 @@ module _ (history : HistoryView) (place process : ℕ) (reply : Reply) (here : s
         follower = f;
         follows = follows;
         answered_is = is;
+        counted = counted;
       })
 
   pub lost : (loss : Loss) → IsLost history.start (take place history.events) process reply loss → IsLostAt budget history loss
   lost loss is = record {
     wrong = subst (λ (es : List Event). GoesWrongAt (record { start = history.start; events = es }) loss.number loss.event)
         (parts history place (Answer process reply) here) (is.wrong (drop (suc place) history.events)).1;
-    followed = followed loss.event (Lost loss) is.told.event_is is;
+    followed = followed loss.event (Lost loss) is.told.event_is is tt;
   }
 
   pub spent : (event number : ℕ) (doubt : Doubt) → IsSpent history.start (take place history.events) process reply budget event number doubt
-      → IsUndecidedAt budget history event number doubt
-  spent event number doubt is = record {
+      → IsDoubtOf f process reply doubt → IsUndecidedAt budget history event number doubt
+  spent event number doubt is counted = record {
     before = subst (λ (n : ℕ). IsLinearizable history.start (operations (take n history.events)))
         (sym (is.told.event_is ∙ size history place (Answer process reply) here)) follows.linearizable;
     answer = subst (λ (es : List Event). IsAnswerOf es number event) (parts history place (Answer process reply) here)
         (is.told.answers reply (drop (suc place) history.events));
-    followed = followed event (Spent event number doubt) is.told.event_is is;
+    followed = followed event (Spent event number doubt) is.told.event_is is counted;
   }

@@ -6,8 +6,8 @@ use Rattle.locating.specs.declared.location.Location.{Location}
 use Rattle.locating.specs.declared.location.Location.TheVariants.{Yes, No, Undecided}
 use Rattle.locating.specs.Locations.{IsLocated}
 
--- two locations do not contradict: of two that say no both say the same event of the same call; none says no where another says yes, and none
--- is undecided behind the event of a no
+-- two locations do not contradict: of two that say no both say the same event of the same call;
+-- none says no where another says yes, and none is undecided behind the event of a no
 abbrev pub Agree : Location → Location → Type 0
 Agree Yes (No loss) = ⊥
 Agree (No loss) Yes = ⊥

@@ -7,29 +7,32 @@ use Rattle.orders.specs.Orders.{IsLinearizableHistory}
 use Rattle.prefixes.specs.Prefixes.{prefix_of, IsAnswerOf, GoesWrongAt}
 use Rattle.follower.specs.FollowerView.{FollowerView}
 use Rattle.follower.specs.Following.{IsFollowing}
-use Rattle.follower.specs.Outcomes.{IsAnswered}
-use Rattle.follower.specs.declared.answered.Answered.{Answered}
-use Rattle.follower.specs.declared.answered.Answered.TheVariants as outcomes
+use Rattle.follower.specs.Outcomes.{IsAnswered, IsCountedAs}
+use Rattle.follower.specs.declared.answered.AnsweredStream.{AnsweredStream}
+use Rattle.follower.specs.declared.answered.AnsweredStream.TheVariants as outcomes
 use Rattle.follower.specs.declared.answered.Doubt.{Doubt}
 use Rattle.follower.specs.declared.answered.Loss.{Loss}
 use Rattle.locating.specs.declared.location.Location.{Location}
 use Rattle.locating.specs.declared.location.Location.TheVariants.{Yes, No, Undecided}
 
--- the event at a place is an answer, and this is what it makes of a follower that has taken the events before it
-pub record IsAnswerFollowed (budget : ℕ) (history : HistoryView) (place : ℕ) (answered : Answered) : Type 0 where
+-- the event at a place is an answer, and this is what it makes of a follower that has taken the
+-- events before it
+pub record IsAnswerFollowed (budget : ℕ) (history : HistoryView) (place : ℕ) (answered : AnsweredStream) : Type 0 where
   pub process : ℕ
   pub reply : Reply
   pub event_is : slice_get history.events place ≡ Some (Answer process reply)
   pub follower : FollowerView
   pub follows : IsFollowing history.start (take place history.events) follower
   pub answered_is : IsAnswered history.start (take place history.events) follower process reply budget answered
+  pub counted : IsCountedAs follower process reply answered
 
 -- the history goes wrong at this event and call, and there the follower lost so
 pub record IsLostAt (budget : ℕ) (history : HistoryView) (loss : Loss) : Type 0 where
   pub wrong : GoesWrongAt history loss.number loss.event
   pub followed : IsAnswerFollowed budget history loss.event (outcomes.Lost loss)
 
--- the events before this one have an order, it is the answer of this call, and there the follower did not find out, for this reason
+-- the events before this one have an order, it is the answer of this call, and there the follower
+-- did not find out, for this reason
 pub record IsUndecidedAt (budget : ℕ) (history : HistoryView) (event number : ℕ) (doubt : Doubt) : Type 0 where
   pub before : IsLinearizableHistory (prefix_of history event)
   pub answer : IsAnswerOf history.events number event

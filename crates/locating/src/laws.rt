@@ -3,8 +3,9 @@ ghost use Rattle.locating.specs.Laws.{LocationsAgree};
 
 use prefixes::{answers_have_one_call, one_event_goes_wrong};
 
-/// What `locate` answers of one history at any two budgets never contradicts: where one says that it goes wrong, the other says the same event
-/// of the same call, or is undecided at that event or before it.
+/// What `locate` answers of one history at any two budgets never contradicts: where one says that
+/// it goes wrong, the other says the same event of the same call, or is undecided at that event or
+/// before it.
 pub fn locations_agree()
     ensures { LocationsAgree }
 {

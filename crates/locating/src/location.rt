@@ -1,16 +1,17 @@
 // Locations of the event at which a history goes wrong.
 use follower::{Doubt, Loss};
 
-/// Where a history goes wrong, as far as searches within a budget tell. Events and calls are numbered from 0.
+/// Where a history goes wrong, as far as searches within a budget tell. Events and calls are
+/// numbered from 0.
 #[derive(Debug, Drop)]
 pub enum Location {
-    /// Nowhere: the history is linearizable.
+    /// It goes wrong nowhere: the history is linearizable.
     Yes,
-    /// The events before this one are linearizable, and with it they are not. It is the answer of the call of this number, and the keys
-    /// are some at which what was kept has no order with it.
+    /// The events before this one are linearizable, and with it they are not. It is the answer of
+    /// the call of this number, and the keys are some at which what was kept has no order with it.
     No(Loss),
-    /// The events before this one, the answer of the call of this number, are linearizable. Whether they are with it is not known, for
-    /// this reason.
+    /// The events before this one, the answer of the call of this number, are linearizable. Whether
+    /// they are with it is not known, for this reason.
     Undecided {
         event: usize,
         number: usize,

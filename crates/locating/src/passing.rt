@@ -9,7 +9,7 @@ ghost use Rattle.locating.specs.Passing.{IsPassed};
 
 use crate::location::Location;
 use events::{Call, Event, History, Memory, Reply};
-use follower::{Answered, FollowFault, Follower};
+use follower::{AnsweredStream, FollowFault, Follower};
 use prefixes::histories_have_few_events;
 use std::alloc::Global;
 
@@ -22,10 +22,11 @@ pub(crate) enum Passed {
     Ended(Location),
 }
 
-/// The event at which a history goes wrong. Having an order is closed under prefixes, so that a history without order loses it at one
-/// event, which is an answer: the events go through a follower of streams one by one, and the pass ends at the first answer at which it
-/// finds that there is no order any more, or, for `budget` positions of a search at one key, does not find out. Want of memory is an error
-/// and decides nothing.
+/// The event at which a history goes wrong. Having an order is closed under prefixes, so that a
+/// history without order loses it at one event, which is an answer: the events go through a
+/// follower of streams one by one, and the pass ends at the first answer at which it finds that
+/// there is no order any more, or, for `budget` positions of a search at one key, does not find
+/// out. Want of memory is an error and decides nothing.
 pub fn locate(alloc: Global, history: &History, budget: u32) -> Result<Location, Memory>
     ensures { IfOk result (IsLocated budget history.now) }
 {
@@ -53,18 +54,18 @@ fn pass(
 {
     match &history.events()[place] {
         Event::Invoke { process, call } => {
-            let next = invoked(alloc, follower, history, place, *process, *call)?;
+            let next = pass_invocation(alloc, follower, history, place, *process, *call)?;
             Ok(Passed::Going(next))
         }
         Event::Answer { process, reply } => {
             let reply = reply.copy(alloc)?;
-            answered(alloc, follower, history, place, *process, reply, budget)
+            pass_answer(alloc, follower, history, place, *process, reply, budget)
         }
     }
 }
 
 /// Passes an invocation, which no history has where it could be refused.
-fn invoked(
+fn pass_invocation(
     alloc: Global,
     follower: Follower,
     history: &History,
@@ -95,7 +96,7 @@ fn memory_of(fault: FollowFault) -> Memory
 }
 
 /// Passes an answer, which no history has where it could be refused.
-fn answered(
+fn pass_answer(
     alloc: Global,
     follower: Follower,
     history: &History,
@@ -111,9 +112,9 @@ fn answered(
 {
     histories_have_few_events();
     match follower.answer(alloc, process as u16, reply, budget)? {
-        Answered::Going(next) => Ok(Passed::Going(next)),
-        Answered::Lost(loss) => Ok(Passed::Ended(Location::No(loss))),
-        Answered::Spent {
+        AnsweredStream::Going(next) => Ok(Passed::Going(next)),
+        AnsweredStream::Lost(loss) => Ok(Passed::Ended(Location::No(loss))),
+        AnsweredStream::Spent {
             event,
             number,
             doubt,
@@ -122,6 +123,6 @@ fn answered(
             number,
             doubt,
         })),
-        Answered::Refused(..) => unreachable!(),
+        AnsweredStream::Refused(..) => unreachable!(),
     }
 }

@@ -17,7 +17,8 @@ answer_of_location locations.Yes = Yes
 answer_of_location (locations.No loss) = No
 answer_of_location (locations.Undecided event number doubt) = Undecided
 
--- `locate` answers the text at the budget so: with the report of a location that is so of the history
+-- `locate` answers the text at the budget so: with the report of a location that is so of the
+-- history
 pub record IsLocateAnswer (budget : ℕ) (text : List ℕ) (answer : Answer) (bytes : List ℕ) : Type 0 where
   pub history : HistoryView
   pub location : Location

@@ -1,4 +1,5 @@
-//! The engine that locates: the event at which the history of a text goes wrong, over any source and sinks.
+//! The engine that locates: the event at which the history of a text goes wrong, over any source
+//! and sinks.
 #![tactic(auto)]
 
 mod location;

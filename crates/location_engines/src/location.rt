@@ -15,12 +15,13 @@ use events::Memory;
 use history_engines::refused_text;
 use history_text::{MAX_TEXT, read_history};
 use locating::{Location, locate, location_line};
-use outcomes::{Answer, Outcome, line_of, text_from, write_outcome};
+use outcomes::{Answer, RunOutcome, line_of, run_text};
 use std::alloc::Global;
 use streams::{Sink, Source};
 
-/// Reads a history text to the end of the source, or until it is too long, and looks for the event at which the history
-/// goes wrong, where a search at one key reaches at most `budget` positions. It starts no thread. Answers the exit status.
+/// Reads a history text to the end of the source, or until it is too long, and looks for the event
+/// at which the history goes wrong, where a search at one key reaches at most `budget` positions.
+/// It starts no thread. Answers the exit status.
 pub fn run_locate<S: Source, O: Sink, F: Sink, H: Sink>(
     alloc: Global,
     source: &mut S,
@@ -38,16 +39,15 @@ pub fn run_locate<S: Source, O: Sink, F: Sink, H: Sink>(
         (change O.written O.failures output.old output.new)
         (change F.written F.failures faults.old faults.new)
         (change H.written H.failures hints.old hints.new) result }
-    ensures read { IsTextRead text_limit (change S.remaining S.failures source.old source.new) result }
+    ensures read { IsTextRead text_limit (change S.remaining S.failures source.old source.new)
+        result }
 {
-    match text_from(alloc, source, MAX_TEXT) {
-        Ok(text) => write_outcome(output, faults, hints, &locate_outcome(alloc, &text, budget)),
-        Err(outcome) => write_outcome(output, faults, hints, &outcome),
-    }
+    let answer = |text: &[u8]| locate_outcome(alloc, text, budget);
+    run_text(alloc, source, output, faults, hints, MAX_TEXT, answer)
 }
 
 /// The event at which the history that the text spells goes wrong, as its report.
-pub fn locate_outcome(alloc: Global, text: &[u8], budget: u32) -> Outcome
+pub fn locate_outcome(alloc: Global, text: &[u8], budget: u32) -> RunOutcome
     ensures { IsTextOutcome (IsLocateAnswer budget) IsHistoryRefusal (Some text.now) result }
 {
     match read_history(alloc, text) {
@@ -57,17 +57,17 @@ pub fn locate_outcome(alloc: Global, text: &[u8], budget: u32) -> Outcome
 }
 
 /// How a location comes out, or want of memory for it.
-fn outcome_of(alloc: Global, located: Result<Location, Memory>) -> Outcome
+fn outcome_of(alloc: Global, located: Result<Location, Memory>) -> RunOutcome
     ensures { (budget : ℕ) (text : List ℕ) (history : HistoryView) → IsTextOf text history
         → IfOk located (IsLocated budget history)
         → IsTextOutcome (IsLocateAnswer budget) IsHistoryRefusal (Some text) result }
 {
     let Ok(location) = located else {
-        return Outcome::Memory;
+        return RunOutcome::Memory;
     };
     match location_line(alloc, &location) {
-        Ok(report) => Outcome::answered(answer_of(&location), line_of(report)),
-        Err(_) => Outcome::Memory,
+        Ok(report) => RunOutcome::from_answer(answer_of(&location), line_of(report)),
+        Err(_) => RunOutcome::Memory,
     }
 }
 

@@ -14,13 +14,13 @@ pub fn runners(alloc: Global, scripts: Vec<Vec<TreeCall>>) -> Result<Vec<Runner>
 {
     let mut runners = Vec::new(alloc);
     for script in scripts {
-        runners.push(fresh(alloc, script))?;
+        runners.push(fresh_runner(alloc, script))?;
     }
     Ok(runners)
 }
 
 /// A process before its first step.
-fn fresh(alloc: Global, script: Vec<TreeCall>) -> Runner
+fn fresh_runner(alloc: Global, script: Vec<TreeCall>) -> Runner
     ensures { IsFresh script.items result }
 {
     Runner {

@@ -47,7 +47,7 @@ impl Machine {
         ensures same_start { start_of self.new ≡ start_of self.old }
     {
         let process = process_of(item);
-        let before = self.finished(process);
+        let before = self.finished_calls(process);
         let mut made = 0;
         'turns: while self.wants(item, before, made) {
             self.turn(alloc, process)?;
@@ -64,15 +64,15 @@ impl Machine {
     {
         match item {
             Item::Turns { turns, .. } => made < turns,
-            Item::End { process } => self.finished(process) == before,
+            Item::End { process } => self.finished_calls(process) == before,
             Item::Until { process, point } => {
-                self.finished(process) == before && !is_at(self.point(process), point)
+                self.finished_calls(process) == before && !is_at(self.point(process), point)
             }
         }
     }
 
     /// How many calls a process has finished.
-    fn finished(&self, process: usize) -> usize
+    fn finished_calls(&self, process: usize) -> usize
         ensures { (plan : Plan) (s : State) → Shows plan self.now s → result ≡ finished_count (slice_get s.processes process) }
     {
         match self.runners.get(process) {

@@ -34,7 +34,7 @@ pub fn starting_words(
     ensures words { IfOk result (λ words. StartsOn shape variant start.now words.items) }
     ensures refused { IfErr result (IsNotOpened shape variant start.now) }
 {
-    let machine = inserted(alloc, shape, variant, start)?;
+    let machine = insert_pairs(alloc, shape, variant, start)?;
     if machine.has_refused(0) {
         return Err(MachineFault::StartRefused);
     }
@@ -42,7 +42,7 @@ pub fn starting_words(
 }
 
 /// A machine that has inserted the pairs. `starts_end` is the law that the turns are enough for it.
-fn inserted(
+fn insert_pairs(
     alloc: Global,
     shape: Shape,
     variant: Variant,

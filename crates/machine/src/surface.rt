@@ -30,11 +30,11 @@ impl Machine {
         ensures opened { IfOk result (IsOpened shape variant (map (λ script. script.items) scripts.items) limit) }
         ensures refused { IfErr result (λ fault. fault ≡ faults.Memory) }
     {
-        let words = match shape.opening(alloc) {
+        let words = match shape.opening_words(alloc) {
             Ok(words) => words,
             Err(_) => return Err(MachineFault::Memory),
         };
-        match Machine::opened(
+        match Machine::open_on(
             alloc,
             shape,
             variant,
@@ -65,14 +65,14 @@ impl Machine {
         ensures refused { IfErr result (IsNotOpened shape variant start.items) }
     {
         let words = starting_words(alloc, shape, variant, &start)?;
-        match Machine::opened(alloc, shape, variant, start, words, scripts, limit) {
+        match Machine::open_on(alloc, shape, variant, start, words, scripts, limit) {
             Ok(machine) => Ok(machine),
             Err(_) => Err(MachineFault::Memory),
         }
     }
 
     /// A machine before its first turn, on these words.
-    fn opened(
+    fn open_on(
         alloc: Global,
         shape: Shape,
         variant: Variant,

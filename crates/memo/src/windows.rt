@@ -54,12 +54,12 @@ pub(crate) fn without_lowest(alloc: Global, words: &[u64], count: u32) -> Result
     ensures trimmed { IfOk result (λ v. IsTrimmed v.items) }
     ensures each { IfOk result (λ v. AreWords v.items) }
 {
-    let moved = shifted(alloc, words, count)?;
-    Ok(trimmed(moved))
+    let moved = shift_down(alloc, words, count)?;
+    Ok(without_zeros(moved))
 }
 
 /// The words, with each bit moved down by one more place than `count`.
-fn shifted(alloc: Global, words: &[u64], count: u32) -> Result<Vec<u64>, Memory>
+fn shift_down(alloc: Global, words: &[u64], count: u32) -> Result<Vec<u64>, Memory>
     requires { count < 64 }
     ensures { IfOk result (λ v. v.items ≡ map (shifted_word words.now count) (range_with_len 0 (length words.now))) }
 {
@@ -72,7 +72,7 @@ fn shifted(alloc: Global, words: &[u64], count: u32) -> Result<Vec<u64>, Memory>
 }
 
 /// The words without those at the end that are 0.
-fn trimmed(words: Vec<u64>) -> Vec<u64>
+fn without_zeros(words: Vec<u64>) -> Vec<u64>
     ensures bits { (n : ℕ) → bit_of result.items n ≡ bit_of words.items n }
     ensures trimmed { IsTrimmed result.items }
     ensures each { AreWords result.items }

@@ -3,8 +3,9 @@ use events::{Memory, Operation};
 use past_choices::value_behind;
 use std::alloc::Global;
 
-/// An order of the calls left by their places, the calls taken before it by name, and the value, or none, that it goes on from; and the place of a call
-/// that came since. It may be none by now: the next order is looked for near it, and nothing rests on it.
+/// An order of the calls left by their places, the calls taken before it by name, and the value, or
+/// none, that it goes on from; and the place of a call that came since. It may be none by now: the
+/// next order is looked for near it, and nothing rests on it.
 #[derive(Debug, Drop)]
 pub struct Guess {
     pub taken: Vec<usize>,
@@ -25,9 +26,21 @@ impl Guess {
     }
 
     /// The same by the numbers of its calls among these places, which rise.
-    fn within(&self, alloc: Global, places: &[usize]) -> Result<Guess, Memory> {
-        let mut order = Vec::with_capacity(alloc, self.order.len())?;
-        for place in &self.order {
+    fn to_numbers(&self, alloc: Global, places: &[usize]) -> Result<Guess, Memory> {
+        self.end_to_numbers(alloc, 0, places)
+    }
+
+    /// What of it stands behind its first calls, by the numbers of the calls among these places,
+    /// which rise.
+    pub fn end_to_numbers(
+        &self,
+        alloc: Global,
+        depth: usize,
+        places: &[usize],
+    ) -> Result<Guess, Memory> {
+        let end = self.end(depth);
+        let mut order = Vec::with_capacity(alloc, end.len())?;
+        for place in end {
             if let Ok(number) = places.binary_search(place) {
                 order.push(number)?;
             }
@@ -44,8 +57,35 @@ impl Guess {
         })
     }
 
+    /// Its order without so many calls at its end.
+    pub fn front(&self, count: usize) -> &[usize] {
+        &self.order[..self.order.len().saturating_sub(count)]
+    }
+
+    /// Its order behind its first calls.
+    pub fn end(&self, depth: usize) -> &[usize] {
+        &self.order[depth.min(self.order.len())..]
+    }
+
+    /// Has another end behind its first calls, of numbers of these places.
+    pub fn set_end(&mut self, depth: usize, end: &Guess, places: &[usize]) -> Result<(), Memory> {
+        self.order.truncate(depth);
+        for number in &end.order {
+            if let Some(place) = places.get(*number) {
+                self.order.push(*place)?;
+            }
+        }
+        self.new = None;
+        Ok(())
+    }
+
     /// Of numbers of these places the same by place, where these calls are taken.
-    pub fn among(&self, alloc: Global, taken: &[usize], places: &[usize]) -> Result<Guess, Memory> {
+    pub fn to_places(
+        &self,
+        alloc: Global,
+        taken: &[usize],
+        places: &[usize],
+    ) -> Result<Guess, Memory> {
         let mut order = Vec::with_capacity(alloc, self.order.len())?;
         for number in &self.order {
             if let Some(place) = places.get(*number) {
@@ -60,8 +100,8 @@ impl Guess {
         })
     }
 
-    /// What is left of it behind the last of its calls that ended before a moment, where the calls go that did: of calls, each with its name, as they
-    /// were.
+    /// What is left of it behind the last of its calls that ended before a moment, where the calls
+    /// go that did: of calls, each with its name, as they were.
     pub fn left_behind(
         &self,
         alloc: Global,
@@ -92,13 +132,13 @@ pub fn copied_guess(
 }
 
 /// A guess by the numbers of its calls among these places, which rise.
-pub fn within(
+pub fn numbers_of_guess(
     alloc: Global,
     guess: Option<&Guess>,
     places: &[usize],
 ) -> Result<Option<Guess>, Memory> {
     match guess {
-        Some(guess) => Ok(Some(guess.within(alloc, places)?)),
+        Some(guess) => Ok(Some(guess.to_numbers(alloc, places)?)),
         None => Ok(None),
     }
 }
@@ -137,11 +177,12 @@ pub fn make_room(guess: &mut Option<Box<Guess>>, new: usize) {
 /// The named call is answered.
 pub fn note(guess: &mut Option<Box<Guess>>, names: &[usize], name: usize) {
     if let Some(guess) = guess {
-        guess.new = names.iter().position(|n| *n == name);
+        guess.new = names.iter().rposition(|n| *n == name);
     }
 }
 
-/// The names of those of some calls that did not end before a moment: of some by name, and of others by place.
+/// The names of those of some calls that did not end before a moment: of some by name, and of
+/// others by place.
 fn taken_left(
     alloc: Global,
     names: &[usize],

@@ -1,12 +1,14 @@
-// An order that was found before is mended where calls came since: what is found is a guess, to be checked.
+// An order that was found before is mended where calls came since: what is found is a guess, to be
+// checked.
 use crate::guess::{is_ended, value_after};
 use crate::scout::{answer_of, guessed_order, left_by};
 use events::{Memory, Operation};
-use past_choices::{is_read, may_be_answered, value_behind};
+use past_choices::{may_be_answered, value_behind};
+use quiet_cuts::is_read;
 use std::alloc::Global;
 
-/// An order with one call besides, if it is not there yet: as far behind as it may stand, where that is found; else the order as it is. Only its end is
-/// looked at.
+/// An order with one call besides, if it is not there yet: as far behind as it may stand, where
+/// that is found; else the order as it is. Only its end is looked at.
 pub fn order_with(
     alloc: Global,
     value: Option<u64>,
@@ -27,7 +29,8 @@ pub fn order_with(
     Ok(more)
 }
 
-/// The last place that a call may take among others: a read where it may be answered as it was, another one only behind all.
+/// The last place that a call may take among others: a read where it may be answered as it was,
+/// another one only behind all.
 fn last_room(
     value: Option<u64>,
     calls: &[Operation],
@@ -102,7 +105,8 @@ fn reach(value: Option<u64>, calls: &[Operation], order: &[usize]) -> usize {
     order.len()
 }
 
-/// An order that is like this one as far as it may be, with all completed calls, where one is found soon.
+/// An order that is like this one as far as it may be, with all completed calls, where one is found
+/// soon.
 pub fn mended_order(
     alloc: Global,
     value: Option<u64>,
@@ -111,7 +115,7 @@ pub fn mended_order(
 ) -> Result<Option<Vec<usize>>, Memory> {
     let reach = reach(value, calls, order);
     let stands = &order[..reach.min(order.len())];
-    let missing = missing(alloc, calls, stands)?;
+    let missing = missing_places(alloc, calls, stands)?;
     if missing.as_slice().is_empty() {
         return Ok(Some(Vec::from_slice(alloc, stands)?));
     }
@@ -119,7 +123,11 @@ pub fn mended_order(
 }
 
 /// The completed calls that are not among these.
-fn missing(alloc: Global, calls: &[Operation], order: &[usize]) -> Result<Vec<usize>, Memory> {
+fn missing_places(
+    alloc: Global,
+    calls: &[Operation],
+    order: &[usize],
+) -> Result<Vec<usize>, Memory> {
     let taken = marks(alloc, calls, order)?;
     let mut missing = Vec::new(alloc);
     for place in 0..calls.len() {
@@ -149,7 +157,8 @@ fn is_marked(taken: &[bool], place: usize) -> bool {
     }
 }
 
-/// The calls of an order from which on another end is looked for, at the first, at the second, and so on.
+/// The calls of an order from which on another end is looked for, at the first, at the second, and
+/// so on.
 const ENDS: [usize; 4] = [0, 16, 128, 1024];
 
 /// An order that begins as this one, and ends in another way.

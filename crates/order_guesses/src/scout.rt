@@ -1,10 +1,12 @@
 // A quick look for an order of calls of one key: what is found is a guess, to be checked.
 use events::{Call, Memory, Operation, Reply};
-use past_choices::{is_read, may_be_answered, value_behind};
+use past_choices::{may_be_answered, value_behind};
+use quiet_cuts::is_read;
 use std::alloc::Global;
 
-/// An order of calls of one key from a value, or none, by their places, where one is found soon. The calls are tried as they stand. Else it goes by
-/// depth: reads at once, then the call that has to be answered first; and back where a value is told of by calls left that none of them puts.
+/// An order of calls of one key from a value, or none, by their places, where one is found soon.
+/// The calls are tried as they stand. Else it goes by depth: reads at once, then the call that has
+/// to be answered first; and back where a value is told of by calls left that none of them puts.
 pub fn guessed_order(
     alloc: Global,
     value: Option<u64>,
@@ -12,7 +14,7 @@ pub fn guessed_order(
     rounds: usize,
 ) -> Result<Option<Vec<usize>>, Memory> {
     if come_as_they_stand(value, calls) {
-        return Ok(Some(completed(alloc, calls)?));
+        return Ok(Some(completed_places(alloc, calls)?));
     }
     scouted_order(alloc, value, calls, rounds)
 }
@@ -37,7 +39,7 @@ fn come_as_they_stand(value: Option<u64>, calls: &[Operation]) -> bool {
 }
 
 /// The places of the completed calls.
-fn completed(alloc: Global, calls: &[Operation]) -> Result<Vec<usize>, Memory> {
+fn completed_places(alloc: Global, calls: &[Operation]) -> Result<Vec<usize>, Memory> {
     let mut places = Vec::new(alloc);
     for place in 0..calls.len() {
         if calls[place].is_completed() {
@@ -89,7 +91,7 @@ struct Way {
 
 /// Which of some values a call puts, and which it tells of.
 #[derive(Clone, Copy)]
-struct Part {
+struct CallValues {
     put: Option<usize>,
     told: Option<usize>,
 }
@@ -107,11 +109,12 @@ struct Scout {
     value: Option<u64>,
     digest: u64,
     seen: Vec<u64>,
-    /// The values that calls tell of, rising, and how many calls that are left put and tell of each.
+    /// The values that calls tell of, rising, and how many calls that are left put and tell of
+    /// each.
     values: Vec<Option<u64>>,
     puts: Vec<usize>,
     tells: Vec<usize>,
-    parts: Vec<Part>,
+    parts: Vec<CallValues>,
     /// A value is told of by calls left that none puts.
     is_lost: bool,
 }
@@ -260,7 +263,7 @@ impl Scout {
         if call.is_completed() {
             self.left = self.left.saturating_add(1);
         }
-        self.parts.push(Part { put, told })?;
+        self.parts.push(CallValues { put, told })?;
         Ok(())
     }
 
@@ -280,10 +283,10 @@ impl Scout {
     }
 
     /// What a call puts and tells.
-    fn part(&self, place: usize) -> Part {
+    fn call_values(&self, place: usize) -> CallValues {
         match self.parts.get(place) {
             Some(part) => *part,
-            None => Part {
+            None => CallValues {
                 put: None,
                 told: None,
             },
@@ -320,7 +323,7 @@ impl Scout {
         if call.is_completed() {
             self.left = self.left.saturating_sub(1);
         }
-        let part = self.part(place);
+        let part = self.call_values(place);
         lower(&mut self.puts, part.put);
         lower(&mut self.tells, part.told);
         self.value = value_behind(before, call);
@@ -364,7 +367,7 @@ impl Scout {
         self.value = turn.value;
         self.digest = self.digest.wrapping_sub(word_of(turn.place));
         self.low = self.low.min(turn.place);
-        let part = self.part(turn.place);
+        let part = self.call_values(turn.place);
         raise(&mut self.puts, part.put);
         raise(&mut self.tells, part.told);
         if let Some(call) = calls.get(turn.place) {
@@ -419,7 +422,8 @@ impl Scout {
         Ok(())
     }
 
-    /// Notes the calls that may come next as ways, the one that is answered first to be tried first.
+    /// Notes the calls that may come next as ways, the one that is answered first to be tried
+    /// first.
     fn look_on(&mut self, alloc: Global, calls: &[Operation]) -> Result<(), Memory> {
         if self.is_lost || self.is_met() {
             return Ok(());
@@ -465,13 +469,14 @@ impl Scout {
         if call.is_completed() {
             return true;
         }
-        match self.part(place).put {
+        match self.call_values(place).put {
             Some(put) => count_at(&self.tells, put) > 0,
             None => false,
         }
     }
 
-    /// Whether a position of this digest was met, which is noted. One that is met later may take its room.
+    /// Whether a position of this digest was met, which is noted. One that is met later may take
+    /// its room.
     fn is_met(&mut self) -> bool {
         let value = match self.value {
             Some(value) => word_of(value as usize),

@@ -1,5 +1,5 @@
--- Which of the pairs that calls tell come from outside of these calls. Of a transaction such reads are called external: Cerone, Bernardi and
--- Gotsman 2015.
+-- Which of the pairs that calls tell come from outside of these calls. Of a transaction such reads
+-- are called external: Cerone, Bernardi and Gotsman 2015.
 use Rattle.std.specs.Prelude.{◌≡◌, ◌⊎◌, ◌↔◌, ℕ, ◌==◌, ◌<◌, Bool, false, not, ◌&&◌, ◌||◌, List, Option, Some, None, is_some, AllPairs, Contains}
 use Rattle.std.specs.List.{list_any}
 use Rattle.events.specs.declared.operation.Operation.{Operation}
@@ -25,7 +25,8 @@ may_change key a = low_key a.call == key && is_some (put_of a.call a.response)
 abbrev pub holds : Contents → ℕ × ℕ → Bool
 holds m pair = is_just (value_at m pair.0) pair.1
 
--- whether a pair is the calls' own: one of them may put it, or it is there at the start and none of them may change its key
+-- whether a pair is the calls' own: one of them may put it, or it is there at the start and none of
+-- them may change its key
 abbrev pub is_internal : Contents → List Operation → ℕ × ℕ → Bool
 is_internal start calls pair = list_any (may_put pair) calls || (holds start pair && not (list_any (may_change pair.0) calls))
 
@@ -33,7 +34,8 @@ is_internal start calls pair = list_any (may_put pair) calls || (holds start pai
 abbrev pub IsBelow : ℕ × ℕ → ℕ × ℕ → Type 0
 IsBelow p q = (p.0 < q.0) ⊎ ((p.0 ≡ q.0) × (p.1 < q.1))
 
--- the pairs that answers of the calls tell and that are not their own, each once, by rising key and value
+-- the pairs that answers of the calls tell and that are not their own, each once, by rising key and
+-- value
 pub record AreExternal (start : Contents) (calls : List Operation) (pairs : List (ℕ × ℕ)) : Type 0 where
   pub rising : AllPairs IsBelow pairs
   pub each : (pair : ℕ × ℕ) → Contains pairs pair ↔ (Contains (all_told calls) pair × (is_internal start calls pair ≡ false))

@@ -11,7 +11,8 @@ use Rattle.origins.specs.External.{holds}
 use Rattle.origins.specs.Writers.{writes}
 use Rattle.origins.specs.Missed.{missed_by}
 
--- where calls have an order, each pair that their answers tell was there at the start, or one of the calls puts it
+-- where calls have an order, each pair that their answers tell was there at the start, or one of
+-- the calls puts it
 abbrev pub WhatIsToldWasPut : Type 0
 WhatIsToldWasPut =
     (start : Contents) (calls : List Operation) (pair : ℕ × ℕ) → IsRising start → IsLinearizable start calls → Contains (all_told calls) pair

@@ -1,5 +1,6 @@
--- Which calls another one misses: what each left at its key is there when the other takes effect, in each order, and the other was answered
--- otherwise. In the field the other reads stale, or loses a write.
+-- Which calls another one misses: what each left at its key is there when the other takes effect,
+-- in each order, and the other was answered otherwise. In the field the other reads stale, or loses
+-- a write.
 use Rattle.events.specs.declared.event.Reply.TheVariants as replies
 use Rattle.std.specs.Prelude.{ℕ, ◌==◌, ◌&&◌, Bool, true, false, not, if◌then◌else◌, List, [], ◌∷◌, Option, Some, None}
 use Rattle.std.specs.List.{list_any}
@@ -13,8 +14,8 @@ use Rattle.explaining.specs.Tells.{names_key, depends_on, put_by, is_sure, tells
 use Rattle.origins.specs.Writers.{is_undone}
 use Rattle.origins.specs.declared.missing.Missed.{Missed}
 
--- what a call left at its key, as its answer says: a value, or none in place of one; nothing where it has no answer, was not done, or may
--- not have been done
+-- what a call left at its key, as its answer says: a value, or none in place of one; nothing where
+-- it has no answer, was not done, or may not have been done
 abbrev pub left_by : Operation → Option (Option ℕ)
 left_by b = if is_sure b.call b.response && not (is_undone b.call b.response) then put_by b.call else None
 
@@ -28,7 +29,8 @@ says_found replies.Done = false
 says_found replies.Found = true
 says_found replies.Other = true
 
--- whether a call was answered as where a key has another value than what was left there, if anything was
+-- whether a call was answered as where a key has another value than what was left there, if
+-- anything was
 abbrev pub is_other : Call → Reply → ℕ → Option (Option ℕ) → Bool
 is_other call reply key None = false
 is_other call reply key (Some value) = says_found reply && not (depends_on call reply key value)
@@ -37,12 +39,13 @@ abbrev pub is_gainsaid : Call → Option Response → ℕ → Option (Option ℕ
 is_gainsaid call None key left = false
 is_gainsaid call (Some response) key left = is_other call response.reply key left
 
--- whether a call gainsays another: this one was answered before the first began, and left at one of its keys what the first, by its answer,
--- did not find there
+-- whether a call gainsays another: this one was answered before the first began, and left at one of
+-- its keys what the first, by its answer, did not find there
 abbrev pub gainsays : Operation → Operation → Bool
 gainsays r b = precedes b r && (names_key r.call (low_key b.call) && is_gainsaid r.call r.response (low_key b.call) (left_by b))
 
--- whether a third call may have put at the second one's key, behind it and before the first, what the first tells
+-- whether a third call may have put at the second one's key, behind it and before the first, what
+-- the first tells
 abbrev pub may_mend : Operation → Operation → Operation → Bool
 may_mend r b c =
     not (c.inv == r.inv) && (low_key c.call == low_key b.call && (tells_put r c && (not (precedes c b) && not (precedes r c))))
@@ -51,8 +54,8 @@ may_mend r b c =
 abbrev pub gainsays_later : Operation → Operation → List Operation → Bool
 gainsays_later r b later = list_any (λ c. low_key c.call == low_key b.call && gainsays r c) later
 
--- whether of some calls one misses another, behind which these began: it gainsays that one, and none of these of its key, and no call may
--- mend that
+-- whether of some calls one misses another, behind which these began: it gainsays that one, and
+-- none of these of its key, and no call may mend that
 abbrev pub is_missed : List Operation → Operation → Operation → List Operation → Bool
 is_missed calls r b later = gainsays r b && (not (gainsays_later r b later) && not (list_any (may_mend r b) calls))
 
@@ -61,7 +64,8 @@ abbrev pub missed_from : List Operation → Operation → List Operation → Lis
 missed_from calls r [] = []
 missed_from calls r (b ∷ later) = if is_missed calls r b later then b ∷ missed_from calls r later else missed_from calls r later
 
--- of calls, in the order in which they began, those that one misses: of each key the last that it gainsays, where no call may mend that
+-- of calls, in the order in which they began, those that one misses: of each key the last that it
+-- gainsays, where no call may mend that
 abbrev pub missed_by : Operation → List Operation → List Operation
 missed_by r calls = missed_from calls r calls
 

@@ -19,7 +19,8 @@ expects_other (Remove key) found = false
 expects_other (Scan low high) found = false
 expects_other (Replace key expected value) found = not (expected == found)
 
--- whether an answer says that the call was not done: it was refused, or a replace did not find the value that it expects
+-- whether an answer says that the call was not done: it was refused, or a replace did not find the
+-- value that it expects
 abbrev pub says_undone : Call → Reply → Bool
 says_undone call replies.None = is_replace call
 says_undone call (replies.Some found) = expects_other call found
@@ -33,7 +34,8 @@ abbrev pub is_undone : Call → Option Response → Bool
 is_undone call None = false
 is_undone call (Some response) = says_undone call response.reply
 
--- whether a call puts this value at this key, answered or not, unless its answer says that it was not done
+-- whether a call puts this value at this key, answered or not, unless its answer says that it was
+-- not done
 abbrev pub writes : ℕ × ℕ → Operation → Bool
 writes pair a = low_key a.call == pair.0 && (is_put (put_by a.call) pair.1 && not (is_undone a.call a.response))
 

@@ -10,9 +10,10 @@ use explaining::put_of;
 use map_object::SortedMap;
 use std::alloc::Global;
 
-/// The pairs of a key and a value that answers of the calls tell, and that come from outside: none of the calls may put them, and the
-/// map does not hold them at the start, or one of the calls may change their key. Each once, by rising key, and of one key by rising
-/// value. Each pair that is told is compared with each of the calls.
+/// The pairs of a key and a value that answers of the calls tell, and that come from outside: none
+/// of the calls may put them, and the map does not hold them at the start, or one of the calls may
+/// change their key. Each once, by rising key, and of one key by rising value. Each pair that is
+/// told is compared with each of the calls.
 pub fn external_pairs(
     alloc: Global,
     start: &SortedMap,
@@ -41,7 +42,8 @@ fn external_of(
     calls: &[Operation],
     told: &[(u64, u64)],
 ) -> Result<Vec<(u64, u64)>, Memory>
-    ensures { IfOk result (λ pairs. pairs.items ≡ filter (λ pair. not (is_internal start.now calls.now pair)) told.now) }
+    ensures { IfOk result (λ pairs. pairs.items ≡ filter
+        (λ pair. not (is_internal start.now calls.now pair)) told.now) }
 {
     let mut pairs = Vec::new(alloc);
     for pair in told {
@@ -52,7 +54,8 @@ fn external_of(
     Ok(pairs)
 }
 
-/// Whether one of the calls may put a pair, or the map holds it at the start and none of them may change its key.
+/// Whether one of the calls may put a pair, or the map holds it at the start and none of them may
+/// change its key.
 fn is_internal(start: &SortedMap, calls: &[Operation], pair: (u64, u64)) -> bool
     ensures { result ≡ is_internal start.now calls.now pair }
 {

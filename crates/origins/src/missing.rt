@@ -16,9 +16,10 @@ pub struct Missed {
     pub event: usize,
 }
 
-/// Of some calls, in the order in which they began, those that one of them misses: it was answered as where their keys have other values
-/// than those that they left there, though they were answered before it began, and no call may have put there again what it
-/// tells. Of each key it is one at most, the last. Each call is compared with all of them at worst.
+/// Of some calls, in the order in which they began, those that one of them misses: it was answered
+/// as where their keys have other values than those that they left there, though they were answered
+/// before it began, and no call may have put there again what it tells. Of each key it is one at
+/// most, the last. Each call is compared with all of them at worst.
 pub fn missed_by(
     alloc: Global,
     calls: &[Operation],
@@ -76,7 +77,8 @@ fn is_mended(calls: &[Operation], call: &Operation, other: &Operation) -> bool
     false
 }
 
-/// Whether a third call may have put at the second one's key, behind it and before the first, what the first tells.
+/// Whether a third call may have put at the second one's key, behind it and before the first, what
+/// the first tells.
 fn may_mend(call: &Operation, other: &Operation, third: &Operation) -> bool
     ensures { result ≡ may_mend call.now other.now third.now }
 {
@@ -87,7 +89,8 @@ fn may_mend(call: &Operation, other: &Operation, third: &Operation) -> bool
         && !precedes(call, third)
 }
 
-/// Whether a call was answered as where one of its keys has another value than what another call left there before it began.
+/// Whether a call was answered as where one of its keys has another value than what another call
+/// left there before it began.
 fn gainsays(call: &Operation, other: &Operation) -> bool
     ensures { result ≡ gainsays call.now other.now }
 {
@@ -97,7 +100,8 @@ fn gainsays(call: &Operation, other: &Operation) -> bool
         && is_gainsaid(&call.call, &call.response, key, left_by(other))
 }
 
-/// Whether a call was answered as where a key has another value than what was left there, if anything was.
+/// Whether a call was answered as where a key has another value than what was left there, if
+/// anything was.
 fn is_gainsaid(
     call: &Call,
     response: &Option<Response>,

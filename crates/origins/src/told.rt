@@ -18,7 +18,8 @@ pub(crate) fn all_told(alloc: Global, calls: &[Operation]) -> Result<Vec<(u64, u
 
 /// Notes the pairs that a call tells: none where it has no answer.
 fn note_call(pairs: &mut Vec<(u64, u64)>, call: &Operation) -> Result<(), Memory>
-    ensures { OnOk result (pairs.new.items ≡ pairs.old.items ++ told_by call.now.call call.now.response) }
+    ensures { OnOk result (pairs.new.items ≡ pairs.old.items ++ told_by call.now.call
+        call.now.response) }
 {
     match &call.response {
         Some(response) => note_reply(pairs, &call.call, &response.reply),

@@ -9,8 +9,9 @@ use explaining::put_by;
 use map_object::SortedMap;
 use std::alloc::Global;
 
-/// The events at which calls were invoked that put this value at this key, by rising event where the calls stand so: those without an
-/// answer too, and those that found the same value there, but not those whose answers say that they were not done.
+/// The events at which calls were invoked that put this value at this key, by rising event where
+/// the calls stand so: those without an answer too, and those that found the same value there, but
+/// not those whose answers say that they were not done.
 pub fn writers_of(
     alloc: Global,
     calls: &[Operation],
@@ -66,7 +67,8 @@ pub(crate) fn is_undone(call: &Call, response: &Option<Response>) -> bool
     }
 }
 
-/// Whether a reply says that the call was not done: it was refused, or a replace did not find the value that it expects.
+/// Whether a reply says that the call was not done: it was refused, or a replace did not find the
+/// value that it expects.
 fn says_undone(call: &Call, reply: &Reply) -> bool
     ensures { result ≡ says_undone call.now reply.now }
 {

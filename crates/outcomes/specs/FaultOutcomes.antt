@@ -3,12 +3,12 @@ use Rattle.std.specs.Prelude.{◌≡◌, ◌≢◌, ⊤, string_bytes}
 use Rattle.certificate.specs.declared.fault.OrderFault.{OrderFault}
 use Rattle.certificate.specs.declared.fault.OrderFault.TheVariants as orders
 use Rattle.outcomes.specs.declared.outcome.Answer.TheVariants.{No}
-use Rattle.outcomes.specs.declared.outcome.Outcome.{Outcome}
-use Rattle.outcomes.specs.declared.outcome.Outcome.TheVariants.{Answered, Memory}
+use Rattle.outcomes.specs.declared.outcome.RunOutcome.{RunOutcome}
+use Rattle.outcomes.specs.declared.outcome.RunOutcome.TheVariants.{Answered, Memory}
 use Rattle.outcomes.specs.Lines.{order_fault_line}
 
 -- the outcome of a check with this fault
-abbrev pub IsOrderFaultOutcome : OrderFault → Outcome → Type 0
+abbrev pub IsOrderFaultOutcome : OrderFault → RunOutcome → Type 0
 IsOrderFaultOutcome fault (Answered answer bytes) = (fault ≢ orders.Memory) × (answer ≡ No) × (string_bytes bytes ≡ order_fault_line fault)
 IsOrderFaultOutcome fault Memory = ⊤
 IsOrderFaultOutcome fault outcome = ⊥

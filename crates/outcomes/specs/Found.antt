@@ -1,4 +1,5 @@
--- What is said of a text in the place of a fault: what stands there, as far as there is place, and what was wanted.
+-- What is said of a text in the place of a fault: what stands there, as far as there is place, and
+-- what was wanted.
 use Rattle.std.specs.Prelude.{ℕ, ◌&&◌, nat_le, if◌then◌else◌, List, ◌++◌, length, map, take, codes}
 use Rattle.outcomes.specs.Lines.{line}
 

@@ -5,7 +5,8 @@ use Rattle.streams.specs.Progress.{ConsumesAtMost}
 use Rattle.outcomes.specs.Ends.{Change}
 use Rattle.outcomes.specs.Statuses.{memory_status, failed_status}
 
--- where the bytes to come are told: the first of them were read, so many, or all where there are no more
+-- where the bytes to come are told: the first of them were read, so many, or all where there are no
+-- more
 abbrev pub ReadsFirst : ℕ → Change → Type 0
 ReadsFirst count source = IfSome source.old.bytes (λ text. Consumes source.old.bytes source.new.bytes (take count text))
 
@@ -13,8 +14,8 @@ ReadsFirst count source = IfSome source.old.bytes (λ text. Consumes source.old.
 abbrev pub ReadsAtMost : ℕ → Change → Type 0
 ReadsAtMost count source = ConsumesAtMost count source.old.bytes source.new.bytes
 
--- a run that ends with this status read its text to the end, or one byte past the limit; and no more where memory was wanting or a
--- read or a write failed
+-- a run that ends with this status read its text to the end, or one byte past the limit; and no
+-- more where memory was wanting or a read or a write failed
 pub record IsTextRead (limit : ℕ) (source : Change) (status : ℕ) : Type 0 where
   pub whole : status ≢ memory_status → status ≢ failed_status → ReadsFirst (limit + 1) source
   pub most : ReadsAtMost (limit + 1) source

@@ -1,14 +1,16 @@
 -- What a run leaves at its three ends, for the outcome that it has.
-use Rattle.std.specs.Prelude.{◌≡◌, ◌⊎◌, ℕ, string_bytes}
-use Rattle.outcomes.specs.declared.outcome.Outcome.{Outcome}
-use Rattle.outcomes.specs.declared.outcome.Outcome.TheVariants.{Answered, Noted, Refused, Memory, Words, Failed}
-use Rattle.outcomes.specs.Ends.{Change, IsSilent, Says, BreaksOff, Tries}
+use Rattle.std.specs.Prelude.{◌≡◌, ◌⊎◌, ℕ, ◌+◌, List, IfSome, take, string_bytes}
+use Rattle.outcomes.specs.declared.outcome.RunOutcome.{RunOutcome}
+use Rattle.outcomes.specs.declared.outcome.RunOutcome.TheVariants.{Answered, Noted, Refused, Memory, Words, Failed}
+use Rattle.outcomes.specs.Ends.{Change, IsSound, IsSilent, Says, BreaksOff, Tries}
 use Rattle.outcomes.specs.Lines.{memory_line, io_line}
+use Rattle.outcomes.specs.Outcomes.{IsUnread}
 use Rattle.outcomes.specs.Statuses.{answer_status, refused_status, memory_status, words_status, failed_status}
 
--- an answer is written to the output, all of it or a beginning until a call fails, and its note is told to the hints behind it; anything
--- else is told to the faults, with its hint to the hints behind it, and the output is left alone; and this is the exit status
-abbrev pub Leaves : Outcome → Change → Change → Change → ℕ → Type 0
+-- an answer is written to the output, all of it or a beginning until a call fails, and its note is
+-- told to the hints behind it; anything else is told to the faults, with its hint to the hints
+-- behind it, and the output is left alone; and this is the exit status
+abbrev pub Leaves : RunOutcome → Change → Change → Change → ℕ → Type 0
 Leaves (Answered answer bytes) output faults hints status =
     (Says output (string_bytes bytes) × IsSilent faults × IsSilent hints × (status ≡ answer_status answer))
     ⊎ (BreaksOff output (string_bytes bytes) × Tries faults io_line × IsSilent hints × (status ≡ failed_status))
@@ -23,7 +25,20 @@ Leaves (Words bytes) output faults hints status =
 Leaves Failed output faults hints status = IsSilent output × Tries faults io_line × IsSilent hints × (status ≡ failed_status)
 
 -- a run has one of these outcomes, and leaves at its sinks what that outcome leaves
-pub record IsRun (IsOutcome : Outcome → Type 0) (output faults hints : Change) (status : ℕ) : Type 0 where
-  pub outcome : Outcome
+pub record IsRun (IsOutcome : RunOutcome → Type 0) (output faults hints : Change) (status : ℕ) : Type 0 where
+  pub outcome : RunOutcome
   pub comes : IsOutcome outcome
+  pub leaves : Leaves outcome output faults hints status
+
+-- what was read of a source until it ended or a text was too long: its first bytes, one more than a
+-- limit, where they are told
+pub record WasRead (limit : ℕ) (source : Change) (text : List ℕ) : Type 0 where
+  pub first : IfSome source.old.bytes (λ whole. text ≡ take (limit + 1) whole)
+  pub sound : IsSound source
+
+-- a run that reads a text has an outcome that is made of it, or none could be read; and it leaves
+-- at its sinks what its outcome leaves
+pub record IsTextRun (Makes : List ℕ → RunOutcome → Type 0) (limit : ℕ) (source output faults hints : Change) (status : ℕ) : Type 0 where
+  pub outcome : RunOutcome
+  pub comes : IsUnread source outcome ⊎ ((text : List ℕ) × WasRead limit source text × Makes text outcome)
   pub leaves : Leaves outcome output faults hints status

@@ -1,22 +1,28 @@
 // Where a run reads its text, and where it writes its outcome.
 ghost use Rattle.std.specs.Prelude.{◌≡◌, ◌<◌, ◌+◌, IfErr, IfOk, IfSome, OnOk, take};
+ghost use Rattle.std.specs.Fn.{FnReturnsAt};
 ghost use Rattle.outcomes.specs.Ends.{IsSound, Tries, change};
 ghost use Rattle.outcomes.specs.Outcomes.{IsUnread};
-ghost use Rattle.outcomes.specs.Reads.{ReadsFirst, ReadsAtMost};
-ghost use Rattle.outcomes.specs.Runs.{Leaves};
+ghost use Rattle.outcomes.specs.Reads.{ReadsFirst, ReadsAtMost, IsTextRead};
+ghost use Rattle.outcomes.specs.Runs.{IsTextRun, Leaves};
 
-use crate::outcome::{FAILED, MEMORY, Outcome, REFUSED, WORDS};
+use crate::outcome::{FAILED, MEMORY, REFUSED, RunOutcome, WORDS};
 use std::alloc::Global;
 use streams::{ReadFault, Sink, Source, read_up_to, write_whole};
 
-/// Reads to the end of the source, or until a text is too long: one byte more than `limit`. Where that cannot
-/// be done, the run comes out so.
-pub fn text_from<S: Source>(alloc: Global, source: &mut S, limit: usize) -> Result<Vec<u8>, Outcome>
+/// Reads to the end of the source, or until a text is too long: one byte more than `limit`. Where
+/// that cannot be done, the run comes out so.
+pub fn text_from<S: Source>(
+    alloc: Global,
+    source: &mut S,
+    limit: usize,
+) -> Result<Vec<u8>, RunOutcome>
     requires source { S.failures source.old < u64.MAX }
     requires limit { limit < usize.MAX }
     ensures text { IfOk result (λ bytes. IfSome (S.remaining source.old)
         (λ text. bytes.items ≡ take (limit + 1) text)) }
-    ensures read { OnOk result (ReadsFirst (limit + 1) (change S.remaining S.failures source.old source.new)) }
+    ensures read { OnOk result (ReadsFirst (limit + 1)
+        (change S.remaining S.failures source.old source.new)) }
     ensures most { ReadsAtMost (limit + 1) (change S.remaining S.failures source.old source.new) }
     ensures sound { OnOk result (IsSound (change S.remaining S.failures source.old source.new)) }
     ensures unread { IfErr result
@@ -24,18 +30,49 @@ pub fn text_from<S: Source>(alloc: Global, source: &mut S, limit: usize) -> Resu
 {
     match read_up_to(alloc, source, limit + 1) {
         Ok(text) => Ok(text),
-        Err(ReadFault::Memory) => Err(Outcome::Memory),
-        Err(ReadFault::Failed) => Err(Outcome::Failed),
+        Err(ReadFault::Memory) => Err(RunOutcome::Memory),
+        Err(ReadFault::Failed) => Err(RunOutcome::Failed),
     }
 }
 
-/// Writes an outcome to the output or to the faults, and answers the exit status; the hint on a refusal goes to the hints behind its
-/// line, and a note behind its answer. A failed write to the faults or to the hints changes nothing else.
+/// Reads to the end of the source, or until a text is too long, has an outcome made of what was
+/// read, and writes it. Answers the exit status.
+pub fn run_text<S: Source, O: Sink, F: Sink, H: Sink, M: Fn(&[u8]) -> RunOutcome>(
+    alloc: Global,
+    source: &mut S,
+    output: &mut O,
+    faults: &mut F,
+    hints: &mut H,
+    limit: usize,
+    make: M,
+) -> u8
+    requires callable { M.IsAlwaysCallable make }
+    requires source { S.failures source.old < u64.MAX }
+    requires output { O.failures output.old < u64.MAX }
+    requires faults { F.failures faults.old < u64.MAX }
+    requires hints { H.failures hints.old < u64.MAX }
+    requires limit { limit < usize.MAX }
+    ensures run { IsTextRun (FnReturnsAt M.Fn make) limit
+        (change S.remaining S.failures source.old source.new)
+        (change O.written O.failures output.old output.new)
+        (change F.written F.failures faults.old faults.new)
+        (change H.written H.failures hints.old hints.new) result }
+    ensures read { IsTextRead limit (change S.remaining S.failures source.old source.new) result }
+{
+    match text_from(alloc, source, limit) {
+        Ok(text) => write_outcome(output, faults, hints, &make(&text)),
+        Err(outcome) => write_outcome(output, faults, hints, &outcome),
+    }
+}
+
+/// Writes an outcome to the output or to the faults, and answers the exit status; the hint on a
+/// refusal goes to the hints behind its line, and a note behind its answer. A failed write to the
+/// faults or to the hints changes nothing else.
 pub fn write_outcome<O: Sink, F: Sink, H: Sink>(
     output: &mut O,
     faults: &mut F,
     hints: &mut H,
-    outcome: &Outcome,
+    outcome: &RunOutcome,
 ) -> u8
     requires output { O.failures output.old < u64.MAX }
     requires faults { F.failures faults.old < u64.MAX }
@@ -45,23 +82,23 @@ pub fn write_outcome<O: Sink, F: Sink, H: Sink>(
         (change H.written H.failures hints.old hints.new) result }
 {
     match outcome {
-        Outcome::Answered { answer, line } => match write_whole(output, line.as_bytes()) {
+        RunOutcome::Answered { answer, line } => match write_whole(output, line.as_bytes()) {
             Ok(()) => answer.status(),
             Err(_) => tell(faults, b"io\n", FAILED),
         },
-        Outcome::Noted { answer, line, note } => {
+        RunOutcome::Noted { answer, line, note } => {
             if write_whole(output, line.as_bytes()).is_err() {
                 return tell(faults, b"io\n", FAILED);
             }
             tell(hints, note.as_bytes(), answer.status())
         }
-        Outcome::Refused { line, hint } => {
+        RunOutcome::Refused { line, hint } => {
             tell(faults, line.as_bytes(), REFUSED);
             tell(hints, hint.as_bytes(), REFUSED)
         }
-        Outcome::Memory => tell(faults, b"memory\n", MEMORY),
-        Outcome::Words(text) => tell(faults, text.as_bytes(), WORDS),
-        Outcome::Failed => tell(faults, b"io\n", FAILED),
+        RunOutcome::Memory => tell(faults, b"memory\n", MEMORY),
+        RunOutcome::Words(text) => tell(faults, text.as_bytes(), WORDS),
+        RunOutcome::Failed => tell(faults, b"io\n", FAILED),
     }
 }
 

@@ -1,5 +1,5 @@
-//! How a run of the program comes out before anything is written: an answer, or a fault as a line, and the exit status;
-//! from where a run reads its text, and where it writes its outcome.
+//! How a run of the program comes out before anything is written: an answer, or a fault as a line,
+//! and the exit status; from where a run reads its text, and where it writes its outcome.
 #![tactic(auto)]
 
 mod ends;
@@ -8,10 +8,10 @@ mod lines;
 mod outcome;
 mod wanted;
 
-pub use ends::{text_from, write_outcome};
+pub use ends::{run_text, text_from, write_outcome};
 pub use found::found_hint;
 pub use lines::{history_fault_line, line_of};
-pub use outcome::{Answer, FAILED, MEMORY, NO, Outcome, REFUSED, UNDECIDED, WORDS, YES};
+pub use outcome::{Answer, FAILED, MEMORY, NO, REFUSED, RunOutcome, UNDECIDED, WORDS, YES};
 pub use wanted::{
     event_wanted, history_wanted, json_wanted, length_wanted, pair_wanted, turn_wanted, wanted_hint,
 };

@@ -31,9 +31,9 @@ pub const FAILED: u8 = 6;
 /// What is answered to an input.
 #[derive(Clone, Copy, Debug)]
 pub enum Answer {
-    /// Yes, `ok`, or a text.
+    /// It is yes, `ok`, or a text.
     Yes,
-    /// No, or the fault of an order.
+    /// It is no, or the fault of an order.
     No,
     /// The budget was spent without an answer.
     Undecided,
@@ -54,85 +54,91 @@ impl Answer {
 
 /// How a run comes out. Each text ends with a line feed.
 #[derive(Debug, Drop)]
-pub enum Outcome {
+pub enum RunOutcome {
     /// The input is answered, with this line for standard output.
     Answered {
         answer: Answer,
         line: String,
     },
-    /// The same, with a note on the answer for who reads along.
+    /// The input is answered so, with a note on the answer for who reads along.
     Noted {
         answer: Answer,
         line: String,
         note: String,
     },
-    /// The input is refused, with this line for standard error, and a hint on it for who reads along: what was found and wanted.
+    /// The input is refused, with this line for standard error, and a hint on it for who reads
+    /// along: what was found and wanted.
     Refused {
         line: String,
         hint: String,
     },
-    /// Want of memory.
+    /// Memory was wanting.
     Memory,
-    /// The words of the command line ask for nothing that can be done, or for help. The text is what the user is
-    /// shown on standard error.
+    /// The words of the command line ask for nothing that can be done, or for help. The text is
+    /// what the user is shown on standard error.
     Words(String),
     /// The input could not be read.
     Failed,
 }
 
-impl Outcome {
+impl RunOutcome {
     /// An answer with this line, if there was memory for the line.
-    pub fn answered(answer: Answer, line: Result<String, AllocError>) -> Outcome
-        ensures { MatchResult line (λ text. result ≡ Outcome.Answered answer text)
-            (λ _. result ≡ Outcome.Memory) }
+    pub fn from_answer(answer: Answer, line: Result<String, AllocError>) -> RunOutcome
+        ensures { MatchResult line (λ text. result ≡ RunOutcome.Answered answer text)
+            (λ _. result ≡ RunOutcome.Memory) }
     {
         match line {
-            Ok(line) => Outcome::Answered { answer, line },
-            Err(_) => Outcome::Memory,
+            Ok(line) => RunOutcome::Answered { answer, line },
+            Err(_) => RunOutcome::Memory,
         }
     }
 
     /// An answer with this line and this note, if there was memory for both.
-    pub fn noted(
+    pub fn with_note(
         answer: Answer,
         line: Result<String, AllocError>,
         note: Result<String, AllocError>,
-    ) -> Outcome
+    ) -> RunOutcome
         ensures { MatchResult line
-            (λ text. MatchResult note (λ told. result ≡ Outcome.Noted answer text told) (λ _. result ≡ Outcome.Memory))
-            (λ _. result ≡ Outcome.Memory) }
+            (λ text. MatchResult note (λ told. result ≡ RunOutcome.Noted answer text told)
+            (λ _. result ≡ RunOutcome.Memory))
+            (λ _. result ≡ RunOutcome.Memory) }
     {
         let Ok(line) = line else {
-            return Outcome::Memory;
+            return RunOutcome::Memory;
         };
         match note {
-            Ok(note) => Outcome::Noted { answer, line, note },
-            Err(_) => Outcome::Memory,
+            Ok(note) => RunOutcome::Noted { answer, line, note },
+            Err(_) => RunOutcome::Memory,
         }
     }
 
     /// A refusal with this line and this hint, if there was memory for both.
-    pub fn refused(line: Result<String, AllocError>, hint: Result<String, AllocError>) -> Outcome
+    pub fn from_refusal(
+        line: Result<String, AllocError>,
+        hint: Result<String, AllocError>,
+    ) -> RunOutcome
         ensures { MatchResult line
-            (λ text. MatchResult hint (λ told. result ≡ Outcome.Refused text told) (λ _. result ≡ Outcome.Memory))
-            (λ _. result ≡ Outcome.Memory) }
+            (λ text. MatchResult hint (λ told. result ≡ RunOutcome.Refused text told)
+            (λ _. result ≡ RunOutcome.Memory))
+            (λ _. result ≡ RunOutcome.Memory) }
     {
         let Ok(line) = line else {
-            return Outcome::Memory;
+            return RunOutcome::Memory;
         };
         match hint {
-            Ok(hint) => Outcome::Refused { line, hint },
-            Err(_) => Outcome::Memory,
+            Ok(hint) => RunOutcome::Refused { line, hint },
+            Err(_) => RunOutcome::Memory,
         }
     }
 
     /// The answer that numbers are no order, or want of memory.
-    pub fn of_order_fault(alloc: Global, fault: &OrderFault) -> Outcome
+    pub fn of_order_fault(alloc: Global, fault: &OrderFault) -> RunOutcome
         ensures { IsOrderFaultOutcome fault.now result }
     {
         match fault {
-            OrderFault::Memory => Outcome::Memory,
-            _ => Outcome::answered(Answer::No, order_fault_line(alloc, fault)),
+            OrderFault::Memory => RunOutcome::Memory,
+            _ => RunOutcome::from_answer(Answer::No, order_fault_line(alloc, fault)),
         }
     }
 }

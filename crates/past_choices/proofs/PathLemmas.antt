@@ -11,7 +11,7 @@ use Rattle.past_choices.specs.declared.mark.Mark.{Mark}
 use Rattle.past_choices.specs.declared.mark.Mark.TheVariants.{Left, Taken}
 use Rattle.past_choices.specs.Equality.{same_position}
 use Rattle.past_choices.specs.Positions.{Position}
-use Rattle.past_choices.specs.Reads.{IsRead}
+use Rattle.quiet_cuts.specs.Replies.{IsRead}
 use Rattle.past_choices.specs.Steps.{mark_of, next_position, MayCome, AreEnough, EndedAreDone}
 use Rattle.past_choices.specs.Values.{IsCallOf}
 use Rattle.past_choices.proofs.MarkLemmas.{taken_is_not_left}

@@ -6,7 +6,7 @@ use Rattle.std.proofs.lemmas.Option.{same_Some}
 use Rattle.events.specs.declared.operation.Operation.{Operation}
 use Rattle.list_laws.proofs.Lists.{Contains-cases, Contains-nil}
 use Rattle.past_choices.specs.Positions.{Position}
-use Rattle.past_choices.specs.Reads.{IsRead}
+use Rattle.quiet_cuts.specs.Replies.{IsRead}
 use Rattle.past_choices.specs.Steps.{next_position, MayCome, IsNextOf, IsReadAt, AreSteps}
 
 pub read_at : (calls : List Operation) (ended : List Bool) (p : Position) (n : ℕ) (a : Operation) → slice_get calls n ≡ Some a

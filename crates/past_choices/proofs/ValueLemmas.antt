@@ -11,11 +11,11 @@ use Rattle.events.specs.declared.operation.Response.{Response}
 use Rattle.map_object.specs.MapObject.{Contents, value_at, value_reply, is_just, below, above, put, reply_to, after, after_reply, TellsOf}
 use Rattle.orders.specs.Orders.{after_call, IsLegalCall}
 use Rattle.following.specs.keys.KeyStates.{one_key}
-use Rattle.call_search.specs.Replies.{says_unchanged}
-use Rattle.call_search.proofs.ReplyLemmas.{unchanged}
+use Rattle.quiet_cuts.specs.Replies.{says_unchanged}
+use Rattle.quiet_cuts.proofs.ReplyLemmas.{unchanged}
 use Rattle.following.proofs.keys.BeginLemmas.{one_rises}
 use Rattle.past_choices.specs.declared.mark.Mark.TheVariants.{Taken}
-use Rattle.past_choices.specs.Reads.{IsRead}
+use Rattle.quiet_cuts.specs.Replies.{IsRead}
 use Rattle.past_choices.specs.Steps.{mark_of}
 use Rattle.past_choices.specs.Values.{IsCallOf, value_behind, value_behind_reply, value_behind_call, MayBeAnswered}
 

@@ -7,7 +7,8 @@ use Rattle.past_choices.specs.Starts.{Start}
 use Rattle.past_choices.specs.declared.answer.Answer.{Answer}
 use Rattle.past_choices.specs.declared.answer.Answer.TheVariants.{All, Spent}
 
--- what each answer says: all choices, each once, or that more positions are reachable than the budget
+-- what each answer says: all choices, each once, or that more positions are reachable than the
+-- budget
 abbrev pub IsAnswer : ℕ → List Start → List Operation → List Bool → ℕ → Answer → Type 0
 IsAnswer key starts calls ended budget (All choices) =
     ((c : PastChoice) → Contains choices.items c ↔ IsPastChoiceFrom key starts calls ended c) × AllPairs (λ c d. c ≢ d) choices.items

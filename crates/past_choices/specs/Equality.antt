@@ -1,4 +1,5 @@
--- When two marks, or two positions, are the same, as a test, with the proof that the test tells exactly this.
+-- When two marks, or two positions, are the same, as a test, with the proof that the test tells
+-- exactly this.
 use Rattle.std.specs.Prelude.{◌≡◌, ℕ, zero, suc, Bool, true, ◌==◌, ◌&&◌, List, Option, Some, None}
 use Rattle.std.proofs.Common.{refl, sym, ap, ap₂, ◌∙◌}
 use Rattle.std.specs.Bool.{Decides}

@@ -3,7 +3,6 @@ pub mod Equality
 pub mod Marks
 pub mod PastChoices
 pub mod Positions
-pub mod Reads
 pub mod Starts
 pub mod Steps
 pub mod Values

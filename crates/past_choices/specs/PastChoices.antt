@@ -1,4 +1,5 @@
--- What calls of one key may leave that were done by a past moment: those that ended before it and some of those that were open then.
+-- What calls of one key may leave that were done by a past moment: those that ended before it and
+-- some of those that were open then.
 use Rattle.std.specs.Prelude.{◌≡◌, ◌↔◌, ℕ, ◌<◌, Bool, true, false, ◌||◌, ◌&&◌, not, List, length, filter, Option, Some, slice_get, slice_index_or}
 use Rattle.std.specs.Prelude.{All, Any, AllPairs, Contains}
 use Rattle.std.specs.List.{range_with_len}
@@ -13,14 +14,16 @@ use Rattle.past_choices.specs.Positions.{FindsAt}
 use Rattle.past_choices.specs.Starts.{Start}
 use Rattle.past_choices.specs.Values.{IsCallOf}
 
--- the numbers of the calls that had not ended and were done, the value behind all that were done, and what those found that have no answer
+-- the numbers of the calls that had not ended and were done, the value behind all that were done,
+-- and what those found that have no answer
 pub record PastChoice : Type 0 where
   pub chosen : List ℕ
   pub value : Option ℕ
   pub found : List (ℕ × Option ℕ)
 
--- Calls of one key that began before a moment, by rising invocation, and for each whether it ended before the moment: then it may precede
--- others, and else none of them, since all began before the moment.
+-- Calls of one key that began before a moment, by rising invocation, and for each whether it ended
+-- before the moment: then it may precede others, and else none of them, since all began before the
+-- moment.
 pub record ArePast (key : ℕ) (calls : List Operation) (ended : List Bool) : Type 0 where
   pub of_key : All (λ a. IsCallOf key a.call) calls
   pub rising : AllPairs (λ a b. a.inv < b.inv) calls
@@ -34,8 +37,9 @@ calls_done calls ended taken chosen =
     calls_at calls (filter (λ n. (slice_index_or ended n false || has_number chosen n) && not (slice_index_or taken n false))
     (range_with_len 0 (length calls)))
 
--- A choice from a start: some order of the calls that ended and of the chosen ones, but for those that are taken, each after those of them that
--- precede it, leaves this value, and in it the calls without an answer find what is noted. Those that are taken and had not ended are chosen.
+-- A choice from a start: some order of the calls that ended and of the chosen ones, but for those
+-- that are taken, each after those of them that precede it, leaves this value, and in it the calls
+-- without an answer find what is noted. Those that are taken and had not ended are chosen.
 pub record IsPastChoice (key : ℕ) (calls : List Operation) (ended : List Bool) (c : PastChoice) (first : Start) : Type 0 where
   pub rising : AllPairs (λ m n. m < n) c.chosen
   pub were_open : (n : ℕ) → Contains c.chosen n → slice_get ended n ≡ Some false

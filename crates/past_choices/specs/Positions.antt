@@ -1,4 +1,5 @@
--- Positions: which calls of one key are done, what it holds behind them, and what those found that are not answered.
+-- Positions: which calls of one key are done, what it holds behind them, and what those found that
+-- are not answered.
 use Rattle.std.specs.Prelude.{◌≡◌, ◌≢◌, ◌↔◌, ℕ, ◌<◌, List, length, Option, Some, slice_get, All, Any, AllPairs, Contains}
 use Rattle.events.specs.declared.operation.Operation.{Operation}
 use Rattle.orders.specs.Orders.{after_calls, calls_at}
@@ -27,7 +28,8 @@ pub record IsAt (key : ℕ) (first : Start) (calls : List Operation) (path : Lis
       ↔ FindsAt key first.value calls (calls_at calls path) n value
   pub value : one_key key p.value ≡ after_calls (one_key key first.value) (calls_at calls path)
 
--- a front of the calls that a start has not taken: distinct calls, each after all of them that precede it, that may be done in turn from its value
+-- a front of the calls that a start has not taken: distinct calls, each after all of them that
+-- precede it, that may be done in turn from its value
 pub record IsFrontFrom (key : ℕ) (first : Start) (calls : List Operation) (path : List ℕ) : Type 0 where
   pub front : IsFront (one_key key first.value) (with_taken first.taken calls) path
   pub free : (n : ℕ) → Contains path n → IsFree first.taken n

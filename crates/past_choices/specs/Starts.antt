@@ -1,4 +1,5 @@
--- Where calls of one key go on from: some are taken, whatever they found, and the others begin at a value, or at none.
+-- Where calls of one key go on from: some are taken, whatever they found, and the others begin at a
+-- value, or at none.
 use Rattle.std.specs.Prelude.{◌≡◌, ℕ, Bool, true, false, List, [], ◌∷◌, Option, None, slice_index_or}
 use Rattle.events.specs.declared.operation.Operation.{Operation}
 

@@ -8,7 +8,7 @@ use Rattle.past_choices.specs.declared.mark.Mark.{Mark}
 use Rattle.past_choices.specs.declared.mark.Mark.TheVariants.{Left, Taken, Found}
 use Rattle.past_choices.specs.PastChoices.{PastChoice}
 use Rattle.past_choices.specs.Positions.{Position, IsAt, IsFrontFrom, IsReachedFrom}
-use Rattle.past_choices.specs.Reads.{IsRead}
+use Rattle.quiet_cuts.specs.Replies.{IsRead}
 use Rattle.past_choices.specs.Starts.{Start, IsFree}
 use Rattle.past_choices.specs.Values.{value_behind_call, MayBeAnswered}
 
@@ -57,8 +57,9 @@ pub record IsReadAt (calls : List Operation) (ended : List Bool) (p : Position) 
   pub had_ended : slice_get ended n ≡ Some true
   pub read : IsRead may_come.call
 
--- Some positions are enough to go on to from one: all that follow it, or the one after a read that ended before the moment. Such a read stands in
--- each order of all calls that ended, and changes nothing in it, so it may as well come at once.
+-- Some positions are enough to go on to from one: all that follow it, or the one after a read that
+-- ended before the moment. Such a read stands in each order of all calls that ended, and changes
+-- nothing in it, so it may as well come at once.
 abbrev pub AreEnough : List Operation → List Bool → Position → List Position → Type 0
 AreEnough calls ended p positions =
     ((q : Position) → IsNextOf calls p q → Contains positions q)

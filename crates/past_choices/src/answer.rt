@@ -3,7 +3,8 @@ ghost use Rattle.std.specs.Prelude.{◌≡◌};
 
 use std::marker::Model;
 
-/// What calls of a key may leave that were done by a past moment. Calls are named by their places in the list, by rising place.
+/// What calls of a key may leave that were done by a past moment. Calls are named by their places
+/// in the list, by rising place.
 #[derive(Debug, Drop)]
 pub struct PastChoice {
     chosen: Vec<usize>,
@@ -38,7 +39,7 @@ impl PastChoice {
     }
 
     /// The calls that had not ended and were done.
-    pub fn chosen(&self) -> &[usize]
+    pub fn chosen_calls(&self) -> &[usize]
         ensures { result.now ≡ self.now.chosen }
     {
         &self.chosen
@@ -52,7 +53,7 @@ impl PastChoice {
     }
 
     /// What calls found that were done and have no answer: a value, or none.
-    pub fn found(&self) -> &[(usize, Option<u64>)]
+    pub fn found_values(&self) -> &[(usize, Option<u64>)]
         ensures { result.now ≡ self.now.found }
     {
         &self.found
@@ -62,7 +63,7 @@ impl PastChoice {
 /// What was found of calls that were done by a past moment.
 #[derive(Debug, Drop)]
 pub enum Answer {
-    /// All choices, each once.
+    /// These are all choices, each once.
     All(Vec<PastChoice>),
     /// More positions are reachable than the budget.
     Spent,

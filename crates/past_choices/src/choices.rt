@@ -35,7 +35,8 @@ fn choice_of(
     ended: &[bool],
 ) -> Result<Option<PastChoice>, Memory>
     requires { length position.now.marks ≡ length ended.now }
-    ensures { IfOk result (λ found. MatchOption found (EndedAreDone ended.now position.now.marks → ⊥)
+    ensures { IfOk result (λ found. MatchOption found
+        (EndedAreDone ended.now position.now.marks → ⊥)
         (IsChoiceOf ended.now position.now)) }
 {
     if !ended_are_done(position.marks(), ended) {

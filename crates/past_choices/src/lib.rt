@@ -1,17 +1,17 @@
-//! What calls of one key may leave that were done by a past moment: all calls that ended before it, and some of those that were
-//! open then, in any order that keeps precedence and is legal. A follower that keeps a key by itself takes these choices in place
-//! of the calls.
+//! What calls of one key may leave that were done by a past moment: all calls that ended before it,
+//! and some of those that were open then, in any order that keeps precedence and is legal. A
+//! follower that keeps a key by itself takes these choices in place of the calls.
 //!
-//! The worklist goes from position to position, each once, from all starts at once: which calls are done, the value behind them, and what those
-//! found that are not answered (Lowe 2017, whose memo it is, here for all that is left and not for one order). Where a call may come next that
-//! ended before the moment and says that it changed nothing, it goes on with this call alone.
+//! The worklist goes from position to position, each once, from all starts at once: which calls are
+//! done, the value behind them, and what those found that are not answered (Lowe 2017, whose memo
+//! it is, here for all that is left and not for one order). Where a call may come next that ended
+//! before the moment and says that it changed nothing, it goes on with this call alone.
 #![tactic(auto)]
 
 mod answer;
 mod choices;
 mod mark;
 mod position;
-mod reads;
 mod start;
 mod steps;
 mod values;
@@ -19,7 +19,6 @@ mod visited;
 mod worklist;
 
 pub use answer::{Answer, PastChoice};
-pub use reads::is_read;
 pub use start::Start;
 pub use values::{may_be_answered, value_behind};
 pub use worklist::past_choices;

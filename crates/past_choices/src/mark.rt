@@ -27,7 +27,7 @@ impl PartialEq for Mark {
     ghost laws = { partial_equiv_from_equiv is_same_mark-equivalence };
 
     fn eq(&self, other: &Mark) -> bool {
-        self.kind() == other.kind() && self.told() == other.told()
+        self.kind() == other.kind() && self.value_or_zero() == other.value_or_zero()
     }
 }
 
@@ -51,7 +51,7 @@ impl Mark {
     }
 
     /// The value in it, or 0.
-    fn told(&self) -> u64
+    fn value_or_zero(&self) -> u64
         ensures { result ≡ told_of self.now }
     {
         match self {
@@ -94,6 +94,6 @@ pub(crate) fn with_mark(digest: u64, mark: Mark) -> u64
 {
     digest
         .wrapping_mul(MULTIPLIER)
-        .wrapping_add(mark.told())
+        .wrapping_add(mark.value_or_zero())
         .wrapping_add(mark.kind())
 }

@@ -1,7 +1,8 @@
 // Where the worklist begins.
 use std::marker::Model;
 
-/// Where calls of a key go on from: which of them are taken already, whatever they found, and the value behind those, if there is one.
+/// Where calls of a key go on from: which of them are taken already, whatever they found, and the
+/// value behind those, if there is one.
 #[derive(Debug, Drop)]
 pub struct Start {
     pub taken: Vec<bool>,

@@ -6,13 +6,13 @@ ghost use Rattle.past_choices.specs.Steps.{earlier_of, AreSteps, IsEnd, IsNextOf
 
 use crate::mark::Mark;
 use crate::position::Position;
-use crate::reads::is_read;
 use crate::values::may_be_answered;
 use events::{Memory, Operation, Response};
+use quiet_cuts::is_read;
 use std::alloc::Global;
 
-/// The positions to go on to: the one after a read that ended before the moment, where such a read may come next, and else those
-/// after each call that may.
+/// The positions to go on to: the one after a read that ended before the moment, where such a read
+/// may come next, and else those after each call that may.
 pub(crate) fn next_positions(
     alloc: Global,
     calls: &[Operation],
@@ -80,7 +80,8 @@ fn after_each(
 ) -> Result<Vec<Position>, Memory>
     requires each { length position.now.marks ≡ length calls.now }
     requires end { IsEnd calls.now position.now end }
-    ensures { IfOk result (λ v. (q : Standing) → Contains v.items q ↔ IsNextOf calls.now position.now q) }
+    ensures { IfOk result (λ v. (q : Standing) → Contains v.items q
+        ↔ IsNextOf calls.now position.now q) }
 {
     let mut next = Vec::new(alloc);
     for place in 0..end {

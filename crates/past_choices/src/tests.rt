@@ -10,7 +10,7 @@ use std::alloc::Global;
 use std::test::Fail;
 
 /// A call that is answered at a place.
-fn answered(call: Call, inv: usize, res: usize, reply: Reply) -> Operation
+fn answered_call(call: Call, inv: usize, res: usize, reply: Reply) -> Operation
     ensures { result ≡ record { call = call; inv = inv; response = Some (record { res = res; reply = reply }) } }
 {
     Operation {
@@ -21,7 +21,7 @@ fn answered(call: Call, inv: usize, res: usize, reply: Reply) -> Operation
 }
 
 /// A call that is not answered.
-fn open(call: Call, inv: usize) -> Operation
+fn open_call(call: Call, inv: usize) -> Operation
     ensures { result ≡ record { call = call; inv = inv; response = None } }
 {
     Operation {
@@ -31,16 +31,17 @@ fn open(call: Call, inv: usize) -> Operation
     }
 }
 
-/// Whether one of the choices is of these calls, with this value behind them, and these values found.
+/// Whether one of the choices is of these calls, with this value behind them, and these values
+/// found.
 fn has_choice(
     choices: &[PastChoice],
     chosen: &[usize],
     value: Option<u64>,
     found: &[(usize, Option<u64>)],
 ) -> bool {
-    choices.iter().any(|choice| choice.chosen() == chosen
+    choices.iter().any(|choice| choice.chosen_calls() == chosen
         && choice.value() == value
-        && choice.found() == found)
+        && choice.found_values() == found)
 }
 
 /// No call of some is taken.
@@ -51,13 +52,14 @@ fn from_value(alloc: Global, count: usize, value: Option<u64>) -> Result<Vec<Sta
     Ok(vec![in alloc; Start { taken, value }]?)
 }
 
-// An insert of 1 had ended; a get and a replace of 1 by 2 are open. Each may have come before the insert, or behind it.
+// An insert of 1 had ended; a get and a replace of 1 by 2 are open. Each may have come before the
+// insert, or behind it.
 #[test]
 fn open_calls_come_at_each_place_or_not_at_all(rt: HostRuntime) -> Result<(), Fail> {
     let alloc = rt.alloc();
-    let insert = answered(Call::Insert(7, 1), 0, 3, Reply::Done);
-    let get = open(Call::Get(7), 1);
-    let replace = open(Call::Replace(7, 1, 2), 2);
+    let insert = answered_call(Call::Insert(7, 1), 0, 3, Reply::Done);
+    let get = open_call(Call::Get(7), 1);
+    let replace = open_call(Call::Replace(7, 1, 2), 2);
     let calls = vec![in alloc; insert, get, replace]?;
     let ended = vec![in alloc; true, false, false]?;
     let starts = from_value(alloc, 3, None)?;
@@ -80,14 +82,14 @@ fn open_calls_come_at_each_place_or_not_at_all(rt: HostRuntime) -> Result<(), Fa
     Ok(())
 }
 
-// An insert of 1 had ended before a remove began that is open, and a get that is answered 1 behind the moment: so the get did not come
-// behind the remove, and what it found is not noted.
+// An insert of 1 had ended before a remove began that is open, and a get that is answered 1 behind
+// the moment: so the get did not come behind the remove, and what it found is not noted.
 #[test]
 fn answers_and_precedence_are_kept(rt: HostRuntime) -> Result<(), Fail> {
     let alloc = rt.alloc();
-    let insert = answered(Call::Insert(7, 1), 0, 1, Reply::Done);
-    let remove = open(Call::Remove(7), 2);
-    let get = answered(Call::Get(7), 3, 9, Reply::Some(1));
+    let insert = answered_call(Call::Insert(7, 1), 0, 1, Reply::Done);
+    let remove = open_call(Call::Remove(7), 2);
+    let get = answered_call(Call::Get(7), 3, 9, Reply::Some(1));
     let calls = vec![in alloc; insert, remove, get]?;
     let ended = vec![in alloc; true, false, false]?;
     let starts = from_value(alloc, 3, Some(4))?;
@@ -99,7 +101,8 @@ fn answers_and_precedence_are_kept(rt: HostRuntime) -> Result<(), Fail> {
     assert!(rt; has_choice(&choices, &[1], None, &[(1, Some(1))]));
     assert!(rt; has_choice(&choices, &[2], Some(1), &[]));
     assert!(rt; has_choice(&choices, &[1, 2], None, &[(1, Some(1))]));
-    // No call, the insert, the remove behind it, and the get behind the insert with the remove or not.
+    // No call, the insert, the remove behind it, and the get behind the insert with the remove or
+    // not.
     assert!(rt;
         matches!(
             past_choices(alloc, 7, &starts, &calls, &ended, 4)?,
@@ -115,15 +118,16 @@ fn answers_and_precedence_are_kept(rt: HostRuntime) -> Result<(), Fail> {
     Ok(())
 }
 
-// Two gets of 1 had ended behind an insert of it, and a remove is open. The gets come at once, one behind the other, and the remove
-// behind them: no call, the insert, the first get, the second, the remove. In all nine positions are reachable.
+// Two gets of 1 had ended behind an insert of it, and a remove is open. The gets come at once, one
+// behind the other, and the remove behind them: no call, the insert, the first get, the second, the
+// remove. In all nine positions are reachable.
 #[test]
 fn reads_that_ended_go_first(rt: HostRuntime) -> Result<(), Fail> {
     let alloc = rt.alloc();
-    let insert = answered(Call::Insert(7, 1), 0, 1, Reply::Done);
-    let first = answered(Call::Get(7), 2, 5, Reply::Some(1));
-    let second = answered(Call::Get(7), 3, 6, Reply::Some(1));
-    let remove = open(Call::Remove(7), 4);
+    let insert = answered_call(Call::Insert(7, 1), 0, 1, Reply::Done);
+    let first = answered_call(Call::Get(7), 2, 5, Reply::Some(1));
+    let second = answered_call(Call::Get(7), 3, 6, Reply::Some(1));
+    let remove = open_call(Call::Remove(7), 4);
     let calls = vec![in alloc; insert, first, second, remove]?;
     let ended = vec![in alloc; true, true, true, false]?;
     let starts = from_value(alloc, 4, None)?;
@@ -142,14 +146,16 @@ fn reads_that_ended_go_first(rt: HostRuntime) -> Result<(), Fail> {
     Ok(())
 }
 
-// An insert of 1 had ended, and a get is open. From none and from 4 each finds its own, or 1 behind the insert, where both come to the same
-// positions; where the get is taken at 4, it is chosen, and what it found is noted elsewhere. In all ten positions are reachable: the three
-// starts, the insert with the get left, which two come to, or taken, the get of none, of 4, each before the insert too, and of 1.
+// An insert of 1 had ended, and a get is open. From none and from 4 each finds its own, or 1 behind
+// the insert, where both come to the same positions; where the get is taken at 4, it is chosen, and
+// what it found is noted elsewhere. In all ten positions are reachable: the three starts, the
+// insert with the get left, which two come to, or taken, the get of none, of 4, each before the
+// insert too, and of 1.
 #[test]
 fn positions_of_several_starts_are_met_once(rt: HostRuntime) -> Result<(), Fail> {
     let alloc = rt.alloc();
-    let insert = answered(Call::Insert(7, 1), 0, 3, Reply::Done);
-    let get = open(Call::Get(7), 1);
+    let insert = answered_call(Call::Insert(7, 1), 0, 3, Reply::Done);
+    let get = open_call(Call::Get(7), 1);
     let calls = vec![in alloc; insert, get]?;
     let ended = vec![in alloc; true, false]?;
     let mut starts = from_value(alloc, 2, None)?;

@@ -36,12 +36,12 @@ fn value_behind_done(value: Option<u64>, call: &Call) -> Option<u64>
         Call::Get(_) | Call::Scan(_, _) => value,
         Call::Insert(_, new) => Some(*new),
         Call::Remove(_) => None,
-        Call::Replace(_, expected, new) => replaced(value, *expected, *new),
+        Call::Replace(_, expected, new) => value_behind_replace(value, *expected, *new),
     }
 }
 
 /// The value behind a replace.
-fn replaced(value: Option<u64>, expected: u64, new: u64) -> Option<u64>
+fn value_behind_replace(value: Option<u64>, expected: u64, new: u64) -> Option<u64>
     ensures { result ≡ (if is_just value expected then Some new else value) }
 {
     match value {
@@ -62,7 +62,8 @@ pub fn may_be_answered(value: Option<u64>, call: &Operation) -> bool
 
 /// Whether a reply is a refusal, or tells of a value, or none, that a call finds.
 fn may_be_answered_so(value: Option<u64>, call: &Call, reply: &Reply) -> bool
-    ensures { IsTrue result ↔ ((reply.now ≡ replies.Refused) ⊎ TellsOf call.now (value_reply value) reply.now) }
+    ensures { IsTrue result ↔ ((reply.now ≡ replies.Refused)
+        ⊎ TellsOf call.now (value_reply value) reply.now) }
 {
     match reply {
         Reply::Refused | Reply::Done => true,

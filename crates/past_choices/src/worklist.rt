@@ -15,12 +15,14 @@ use crate::visited::Visited;
 use events::{Memory, Operation};
 use std::alloc::Global;
 
-/// What calls of a key may leave that were done by a past moment, from any of some starts: each choice of calls that had not ended, of the
-/// value behind all that were done, and of what calls found that have no answer, once. `Spent` where more than `budget` positions were met,
-/// `Memory` where a growth was refused. A position is met once, from however many starts it is reached.
-/// The calls are those of the key that began before the moment, by rising invocation, and `ended` says of each whether it ended
-/// before the moment. From a position at which a read may come next that ended before the moment it goes on with this read alone,
-/// so it meets fewer positions than are reachable. Each of the calls that may come next at a position costs as much as all calls.
+/// What calls of a key may leave that were done by a past moment, from any of some starts: each
+/// choice of calls that had not ended, of the value behind all that were done, and of what calls
+/// found that have no answer, once. `Spent` where more than `budget` positions were met, `Memory`
+/// where a growth was refused. A position is met once, from however many starts it is reached. The
+/// calls are those of the key that began before the moment, by rising invocation, and `ended` says
+/// of each whether it ended before the moment. From a position at which a read may come next that
+/// ended before the moment it goes on with this read alone, so it meets fewer positions than are
+/// reachable. Each of the calls that may come next at a position costs as much as all calls.
 pub fn past_choices(
     alloc: Global,
     key: u64,
@@ -39,7 +41,8 @@ pub fn past_choices(
     }
 }
 
-/// Positions that are reachable, with all at which the calls that ended are done, or none where they are more than the budget.
+/// Positions that are reachable, with all at which the calls that ended are done, or none where
+/// they are more than the budget.
 fn positions_of(
     alloc: Global,
     key: u64,
@@ -53,7 +56,8 @@ fn positions_of(
     requires apart { NonePrecedesItself calls.now }
     requires each { length ended.now ≡ length calls.now }
     requires sized { All (λ s. length s.taken ≡ length calls.now) starts.now }
-    ensures { IfOk result (λ found. MatchOption found (ReachesMoreThan key starts.now calls.now budget)
+    ensures { IfOk result (λ found. MatchOption found
+        (ReachesMoreThan key starts.now calls.now budget)
         (AreReached key starts.now calls.now ended.now)) }
 {
     let mut visited = Visited::at_start(alloc, starts)?;

@@ -3,8 +3,8 @@ use Rattle.std.proofs.Common.{ℕ, ◌+◌, List, take, ◌≡◌, Some, Result,
 use Rattle.events.specs.HistoryView.{HistoryView}
 use Rattle.history_text.specs.Limits.{text_limit}
 use Rattle.outcomes.specs.declared.outcome.Answer.{Answer}
-use Rattle.outcomes.specs.declared.outcome.Outcome.{Outcome}
-use Rattle.outcomes.specs.declared.outcome.Outcome.TheVariants.{Answered, Memory}
+use Rattle.outcomes.specs.declared.outcome.RunOutcome.{RunOutcome}
+use Rattle.outcomes.specs.declared.outcome.RunOutcome.TheVariants.{Answered, Memory}
 use Rattle.outcomes.specs.Lines.{line}
 use Rattle.outcomes.specs.Outcomes.{IsTextOutcome}
 use Rattle.history_engines.specs.Answers.{IsHistoryRefusal, IsTextOf}
@@ -14,7 +14,7 @@ use Rattle.picture_engines.specs.Drawings.{IsViewAnswer, IsDrawing}
 
 -- a drawing that is answered with a line feed behind it is an outcome of the text
 pub IsTextOutcome-drawn : {E : Type 0} (budget : ℕ) (view : View) (text : List ℕ) (history : HistoryView) (answer : Answer)
-    (drawing : List ℕ) (full : Result (String Global) E) (outcome : Outcome) → IsTextOf text history
+    (drawing : List ℕ) (full : Result (String Global) E) (outcome : RunOutcome) → IsTextOf text history
     → IsDrawing budget view history answer drawing → IfOk full (λ f. string_bytes f ≡ line drawing)
     → MatchResult full (λ f. outcome ≡ Answered answer f) (λ _. outcome ≡ Memory)
     → IsTextOutcome (IsViewAnswer budget view) IsHistoryRefusal (Some text) outcome

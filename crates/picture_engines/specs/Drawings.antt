@@ -3,7 +3,6 @@ use Rattle.std.specs.Prelude.{◌≡◌, ℕ, List, Option, Some, None, length}
 use Rattle.events.specs.HistoryView.{HistoryView}
 use Rattle.events.specs.Operations.{operations}
 use Rattle.judge.specs.declared.verdict.Verdict.{Verdict}
-use Rattle.judge.specs.declared.verdict.Verdict.TheVariants as verdicts
 use Rattle.judge.specs.Shown.{IsShown}
 use Rattle.judge.specs.Exact.{IsExactVerdict}
 use Rattle.locating.specs.declared.location.Location.{Location}
@@ -27,13 +26,6 @@ event_of locations.Yes = None
 event_of (locations.No loss) = Some loss.event
 event_of (locations.Undecided event number doubt) = None
 
--- the event that a picture of the verdict marks as wrong: for a no that of a location that is so of the history, and else none
-abbrev pub IsWrongEvent : ℕ → HistoryView → Verdict → Option ℕ → Type 0
-IsWrongEvent budget history (verdicts.Yes order) wrong = wrong ≡ None
-IsWrongEvent budget history (verdicts.No segment) wrong =
-    (location : Location) × IsLocated budget history location × (wrong ≡ event_of location)
-IsWrongEvent budget history (verdicts.Undecided segment) wrong = wrong ≡ None
-
 -- the view that shows a whole picture
 abbrev pub whole : View
 whole = record { around = 0; calls = 0 }
@@ -56,25 +48,27 @@ pub record IsDrawnText (choice : Choice) (view : View) (history : HistoryView) (
   pub shown : IsPartShown choice view history verdict wrong front part
   pub text_is : IsSvgOf STYLE.now part text
 
--- the text is one of what is shown of a picture of the exact verdict on the history, which is this answer
+-- the text is one of what is shown of a picture of the exact verdict on the history, which is this
+-- answer; the event marked as wrong is that of a location that is so of the history
 pub record IsDrawing (budget : ℕ) (view : View) (history : HistoryView) (answer : Answer) (text : List ℕ) : Type 0 where
   pub verdict : Verdict
-  pub wrong : Option ℕ
+  pub location : Location
   pub front : List ℕ
   pub choice : Choice
   pub picture : Picture
   pub part : Picture
   pub shown : IsShown history.start budget (operations history.events) verdict
   pub exact : IsExactVerdict history.start budget (operations history.events) verdict
-  pub goes_wrong : IsWrongEvent budget history verdict wrong
+  pub located : IsLocated budget history location
   pub fronted : IsFrontShown budget verdict front
-  pub pictured : IsPictureOf history verdict wrong front picture
-  pub chosen : IsChoiceOf budget view history verdict choice
-  pub viewed : IsShownAs choice (length history.events) wrong view picture part
+  pub pictured : IsPictureOf history verdict (event_of location) front picture
+  pub chosen : IsChoiceOf budget view history verdict location choice
+  pub viewed : IsShownAs choice (length history.events) (event_of location) view picture part
   pub text_is : IsSvgOf STYLE.now part text
   pub answer_is : answer ≡ answer_of verdict
 
--- `draw` answers the text at the budget so: with what is shown of a picture of the verdict on the history where this view is asked for
+-- `draw` answers the text at the budget so: with what is shown of a picture of the verdict on the
+-- history where this view is asked for
 pub record IsViewAnswer (budget : ℕ) (view : View) (text : List ℕ) (answer : Answer) (bytes : List ℕ) : Type 0 where
   pub history : HistoryView
   pub drawing : List ℕ

@@ -1,6 +1,6 @@
 -- How a run that draws the verdict on a history comes out.
 use Rattle.std.specs.Prelude.{ℕ}
-use Rattle.outcomes.specs.declared.outcome.Outcome.{Outcome}
+use Rattle.outcomes.specs.declared.outcome.RunOutcome.{RunOutcome}
 use Rattle.outcomes.specs.Ends.{Change}
 use Rattle.outcomes.specs.Outcomes.{IsReadOutcome}
 use Rattle.history_engines.specs.Answers.{IsHistoryRefusal}
@@ -8,5 +8,5 @@ use Rattle.pictures.specs.declared.windows.View.{View}
 use Rattle.picture_engines.specs.Drawings.{IsViewAnswer}
 
 -- the outcome of `draw` at this budget, where this view is asked for
-abbrev pub IsDrawOutcome : ℕ → View → Change → Outcome → Type 0
+abbrev pub IsDrawOutcome : ℕ → View → Change → RunOutcome → Type 0
 IsDrawOutcome budget view source outcome = IsReadOutcome (IsViewAnswer budget view) IsHistoryRefusal source outcome

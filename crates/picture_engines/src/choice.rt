@@ -1,23 +1,27 @@
 // Which calls a picture shows.
-ghost use Rattle.std.specs.Prelude.{◌≡◌, ℕ, ◌++◌, List, length, map, IfOk, MatchBool, OnOk};
+ghost use Rattle.std.specs.Prelude.{◌≡◌, ℕ, ◌++◌, List, length, map, IfOk, OnOk};
 ghost use Rattle.events.specs.Operations.{operations};
 ghost use Rattle.judge.specs.Shown.{IsShown};
-ghost use Rattle.search.specs.Limits.{budget_limit};
+ghost use Rattle.map_object.specs.MapObject.{IsRising};
 ghost use Rattle.segments.specs.SegmentOrders.{HasNoOrder};
-ghost use Rattle.explaining.specs.Explained.{IsExplanation};
+ghost use Rattle.located_calls.specs.Evidences.{Refutes};
+ghost use Rattle.locating.specs.Locations.{IsLocated};
 ghost use Rattle.origins.specs.External.{AreExternal};
 ghost use Rattle.origins.specs.declared.missing.Missed.{Missed};
 ghost use Rattle.origins.specs.Missed.{missed_by};
 ghost use Rattle.origins.specs.Writers.{writers_of};
-ghost use Rattle.picture_engines.specs.declared.choice.Choice.TheVariants.{Part};
-ghost use Rattle.picture_engines.specs.Choices.{asks_for_nothing, places_of, places_put, places_missed};
-ghost use Rattle.picture_engines.specs.Choices.{IsChoiceOf, IsFewChoice};
+ghost use Rattle.picture_engines.specs.Choices.{asks_for_nothing, places_before, places_of, places_put, places_missed};
+ghost use Rattle.picture_engines.specs.Choices.{IsChoiceOf, IsUnaskedChoice, IsChoiceAt, IsChoiceFor, IsFewChoice, IsPartChoice};
+ghost use Rattle.picture_engines.specs.Choices.{IsShownFew};
 
 use events::{History, MAX_CALLS, Memory, Operation};
-use explaining::{Explained, Explanation, explain};
+use explaining::{Explanation, explain_calls};
 use judge::Verdict;
+use located_calls::{Evidence, evidence_of, told_calls};
+use locating::Location;
 use map_object::SortedMap;
 use origins::{Missed, external_pairs, missed_by, writers_of};
+use own_parts::OwnPart;
 use pictures::View;
 use segments::Segment;
 use std::alloc::Global;
@@ -25,47 +29,122 @@ use std::alloc::Global;
 /// What a picture shows of a history.
 #[derive(Debug, Drop)]
 pub(crate) enum Choice {
-    /// The calls that were invoked at these events alone.
+    /// The calls are shown that were invoked at these events alone.
     Few(Vec<usize>),
-    /// The part that a view asks for.
+    /// The part is shown that a view asks for.
     Part,
 }
 
-/// What is shown of a verdict: of a no, where nothing is asked for, few calls that show it with those that put what these read from
-/// outside and those that these miss; but for that where their search meets more configurations than the budget, and else, the part that is asked for.
+/// What is shown of a verdict and of where the history goes wrong. Where nothing is asked for: of a
+/// no few calls that show it, with those that put what these read from outside and those that these
+/// miss; of an undecided the same of the events up to where the history goes wrong, if that was
+/// found. Else the part that is asked for.
 pub(crate) fn choice_of(
     alloc: Global,
     history: &History,
     verdict: &Verdict,
+    location: &Location,
     budget: u32,
     view: View,
 ) -> Result<Choice, Memory>
-    requires { IsShown history.now.start budget (operations history.now.events) verdict.now }
-    ensures { IfOk result (IsChoiceOf budget view history.now verdict.now) }
+    requires shown { IsShown history.now.start budget (operations history.now.events) verdict.now }
+    requires located { IsLocated budget history.now location.now }
+    ensures { IfOk result (IsChoiceOf budget view history.now verdict.now location.now) }
 {
-    match verdict {
-        Verdict::No(segment) => choice_of_no(alloc, history, segment, budget, view),
-        Verdict::Yes(_) | Verdict::Undecided(_) => Ok(Choice::Part),
+    if asks_for_nothing(history.events().len(), view) {
+        unasked_choice(alloc, history, verdict, location, budget)
+    } else {
+        Ok(Choice::Part)
     }
 }
 
-/// What is shown of a no that names a segment.
-fn choice_of_no(
+/// What is shown where nothing is asked for.
+fn unasked_choice(
+    alloc: Global,
+    history: &History,
+    verdict: &Verdict,
+    location: &Location,
+    budget: u32,
+) -> Result<Choice, Memory>
+    requires shown { IsShown history.now.start budget (operations history.now.events) verdict.now }
+    requires located { IsLocated budget history.now location.now }
+    ensures { IfOk result (IsUnaskedChoice budget history.now verdict.now location.now) }
+{
+    match verdict {
+        Verdict::Yes(_) => Ok(Choice::Part),
+        Verdict::No(segment) => segment_choice(alloc, history, segment, budget),
+        Verdict::Undecided(_) => located_choice(alloc, history, location, budget),
+    }
+}
+
+/// The few calls of a segment that are shown.
+fn segment_choice(
     alloc: Global,
     history: &History,
     segment: &Segment,
     budget: u32,
-    view: View,
 ) -> Result<Choice, Memory>
     requires { HasNoOrder segment.now }
-    ensures { IfOk result (λ choice. MatchBool (asks_for_nothing (length history.now.events) view)
-        (IsFewChoice budget history.now segment.now choice) (choice ≡ Part)) }
+    ensures { IfOk result (IsFewChoice budget history.now segment.now.start segment.now.calls) }
 {
-    if asks_for_nothing(history.events().len(), view) {
-        few_choice(alloc, history, segment, budget)
-    } else {
-        Ok(Choice::Part)
+    let start = SortedMap::of(alloc, segment.start())?;
+    let few = explain_calls(alloc, &start, segment.calls(), budget)?;
+    let choice = few_shown(alloc, history, segment.start(), &few)?;
+    Ok(choice)
+}
+
+/// The few calls that are shown of a location.
+fn located_choice(
+    alloc: Global,
+    history: &History,
+    location: &Location,
+    budget: u32,
+) -> Result<Choice, Memory>
+    requires located { IsLocated budget history.now location.now }
+    ensures { IfOk result (IsChoiceAt budget history.now location.now) }
+{
+    let evidence = evidence_of(alloc, history, location, budget)?;
+    let choice = evidence_choice(alloc, history, &evidence)?;
+    Ok(choice)
+}
+
+/// The few calls that are shown of what shows a location.
+fn evidence_choice(alloc: Global, history: &History, evidence: &Evidence) -> Result<Choice, Memory>
+    requires refutes { Refutes history.now evidence.now }
+    ensures { IfOk result (IsChoiceFor history.now evidence.now) }
+{
+    match evidence {
+        Evidence::OfEvents(few) => few_shown(alloc, history, history.start(), few),
+        Evidence::OfKey(part, few) => part_choice(alloc, history, part, few),
+        Evidence::Missing => Ok(Choice::Part),
     }
+}
+
+/// The calls of the history that few calls of a key are, with those that put what these read from
+/// outside, those that these miss, and the one that put the value from which they begin.
+fn part_choice(
+    alloc: Global,
+    history: &History,
+    part: &OwnPart,
+    few: &Explanation,
+) -> Result<Choice, Memory>
+    requires { IsRising part.now.start }
+    ensures { IfOk result (IsPartChoice history.now part.now few.now) }
+{
+    let told = told_calls(alloc, history.calls(), &part.events, &few.calls)?;
+    let mut places = places_of_few(alloc, history, &part.start, &told, &few.calls)?;
+    push_place(&mut places, part.put)?;
+    Ok(Choice::Few(places))
+}
+
+/// Adds the event at which a call is invoked, if there is one.
+fn push_place(places: &mut Vec<usize>, place: Option<usize>) -> Result<(), Memory>
+    ensures { OnOk result (places.new.items ≡ places.old.items ++ places_before place) }
+{
+    if let Some(place) = place {
+        places.push(place)?;
+    }
+    Ok(())
 }
 
 /// Whether a view of a history with so many events asks for no event and for no number of calls.
@@ -75,69 +154,56 @@ fn asks_for_nothing(events: usize, view: View) -> bool
     view.around as usize >= events && view.calls as usize > MAX_CALLS
 }
 
-/// The few calls of a segment that are shown.
-fn few_choice(
-    alloc: Global,
-    history: &History,
-    segment: &Segment,
-    budget: u32,
-) -> Result<Choice, Memory>
-    requires { HasNoOrder segment.now }
-    ensures { IfOk result (IsFewChoice budget history.now segment.now) }
-{
-    let start = SortedMap::of(alloc, segment.start())?;
-    match explain(alloc, &start, segment.calls(), budget)? {
-        Explained::Few(few) => few_shown(alloc, history, segment, few, budget),
-        Explained::Order(_) | Explained::Spent => Ok(Choice::Part),
-    }
-}
-
 /// These few calls, with those that put what they read from outside, and those that they miss.
 fn few_shown(
     alloc: Global,
     history: &History,
-    segment: &Segment,
-    few: Explanation,
-    budget: u32,
+    start: &[(u64, u64)],
+    few: &Explanation,
 ) -> Result<Choice, Memory>
-    ensures { IsExplanation segment.now.start segment.now.calls budget few
-        → IfOk result (IsFewChoice budget history.now segment.now) }
+    requires { IsRising start.now }
+    ensures { IfOk result (IsShownFew history.now start.now few.now.calls.items) }
 {
-    let places = places_of_few(alloc, history, segment, &few.calls)?;
+    let places = places_of_few(alloc, history, start, &few.calls, &few.calls)?;
     Ok(Choice::Few(places))
 }
 
-/// The events at which few calls of a segment are invoked, and those of the history that put what these read from outside, or that these
+/// The events at which the calls of the history are invoked that few calls are which have no order
+/// from these pairs, and those of the history that put what these read from outside, or that these
 /// miss.
 fn places_of_few(
     alloc: Global,
     history: &History,
-    segment: &Segment,
+    start: &[(u64, u64)],
+    told: &[Operation],
     few: &[Operation],
 ) -> Result<Vec<usize>, Memory>
-    ensures { IfOk result (λ places. (pairs : List (ℕ × ℕ)) × AreExternal segment.now.start few.now pairs
-        × (places.items ≡ (places_of few.now ++ places_put (operations history.now.events) pairs)
-        ++ places_missed (operations history.now.events) few.now)) }
+    requires { IsRising start.now }
+    ensures { IfOk result (λ places. (pairs : List (ℕ × ℕ)) × AreExternal start.now few.now pairs
+        × (places.items ≡ (places_of told.now ++ places_put (operations history.now.events) pairs)
+        ++ places_missed (operations history.now.events) told.now)) }
 {
-    let start = SortedMap::of(alloc, segment.start())?;
-    let mut places = few_places(alloc, history, &start, few)?;
-    push_missed(alloc, &mut places, history.calls(), few)?;
+    let start = SortedMap::of(alloc, start)?;
+    let mut places = few_places(alloc, history, &start, told, few)?;
+    push_missed(alloc, &mut places, history.calls(), told)?;
     Ok(places)
 }
 
-/// The events at which few calls are invoked, and those of the history that put what these read from outside, where the map holds these pairs at
-/// the start.
+/// The events at which the calls of the history are invoked that few calls are, and those of the
+/// history that put what these read from outside, where the map holds these pairs at the start.
 fn few_places(
     alloc: Global,
     history: &History,
     start: &SortedMap,
+    told: &[Operation],
     few: &[Operation],
 ) -> Result<Vec<usize>, Memory>
     ensures { IfOk result (λ places. (pairs : List (ℕ × ℕ)) × AreExternal start.now few.now pairs
-        × (places.items ≡ places_of few.now ++ places_put (operations history.now.events) pairs)) }
+        × (places.items ≡ places_of told.now
+        ++ places_put (operations history.now.events) pairs)) }
 {
     let pairs = external_pairs(alloc, start, few)?;
-    let mut places = places_of(alloc, few)?;
+    let mut places = places_of(alloc, told)?;
     push_puts(alloc, &mut places, history.calls(), &pairs)?;
     Ok(places)
 }

@@ -7,12 +7,13 @@ ghost use Rattle.history_text.specs.Limits.{text_limit};
 ghost use Rattle.judge.specs.Exact.{IsExactVerdict};
 ghost use Rattle.judge.specs.Gates.{HoldsForText};
 ghost use Rattle.judge.specs.Shown.{IsShown};
+ghost use Rattle.locating.specs.Locations.{IsLocated};
 ghost use Rattle.outcomes.specs.Ends.{change};
 ghost use Rattle.outcomes.specs.Outcomes.{IsTextOutcome, OnAnswered};
 ghost use Rattle.outcomes.specs.Reads.{IsTextRead};
 ghost use Rattle.outcomes.specs.Runs.{IsRun};
 ghost use Rattle.outcomes.specs.Statuses.{OnAnswerStatus};
-ghost use Rattle.picture_engines.specs.Drawings.{event_of, IsViewAnswer, IsDrawing, IsDrawnText, IsPartShown, IsWrongEvent};
+ghost use Rattle.picture_engines.specs.Drawings.{event_of, IsViewAnswer, IsDrawing, IsDrawnText, IsPartShown};
 ghost use Rattle.picture_engines.specs.Choices.{IsShownAs};
 ghost use Rattle.picture_engines.specs.Outcomes.{IsDrawOutcome};
 ghost use Rattle.pictures.specs.Marks.{IsMarkable};
@@ -26,17 +27,18 @@ use history_engines::{answer_of, refused_text};
 use history_text::{MAX_TEXT, read_history};
 use judge::{Judge, Verdict};
 use locating::{Location, locate};
-use outcomes::{Answer, Outcome, line_of, text_from, write_outcome};
+use outcomes::{Answer, RunOutcome, line_of, run_text};
 use picture_text::svg;
 use pictures::{Picture, View, few_of, front_of, part_of, picture_of};
 use std::alloc::Global;
 use streams::{Sink, Source};
 
-/// Reads a history text to the end of the source, or until it is too long, has it judged, and draws the verdict; for a no the
-/// event at which the history goes wrong is marked, where the judge's budget suffices to
-/// locate it, and for a no or an undecided the longest front that a search of the named segment meets. Of the picture the part
-/// that the view asks for is drawn; where it asks for nothing, of a no few calls that show it, with those that put what they read and
-/// those that they miss, unless their search meets more configurations than the budget. Answers the exit status, that of the verdict.
+/// Reads a history text to the end of the source, or until it is too long, has it judged, and draws
+/// the verdict; for a no or an undecided the event at which the history goes wrong is marked, where
+/// the judge's budget suffices to locate it, and the longest front that a search of the named
+/// segment meets. Of the picture the part that the view asks for is drawn; where it asks for
+/// nothing, of a no, or of what was located behind an undecided, few calls that show it, with those
+/// that put what they read and those that they miss. Answers the exit status, that of the verdict.
 pub fn run_draw<S: Source, O: Sink, F: Sink, H: Sink, J: Judge>(
     alloc: Global,
     source: &mut S,
@@ -52,26 +54,27 @@ pub fn run_draw<S: Source, O: Sink, F: Sink, H: Sink, J: Judge>(
     requires faults { F.failures faults.old < u64.MAX }
     requires hints { H.failures hints.old < u64.MAX }
     ensures run { IsRun
-        (IsDrawOutcome (J.budget judge.now) view (change S.remaining S.failures source.old source.new))
+        (IsDrawOutcome (J.budget judge.now) view
+        (change S.remaining S.failures source.old source.new))
         (change O.written O.failures output.old output.new)
         (change F.written F.failures faults.old faults.new)
         (change H.written H.failures hints.old hints.new) result }
-    ensures read { IsTextRead text_limit (change S.remaining S.failures source.old source.new) result }
-    ensures asked { OnAnswerStatus result (IfSome (S.remaining source.old) (HoldsForText (J.was_asked judge.now))) }
+    ensures read { IsTextRead text_limit (change S.remaining S.failures source.old source.new)
+        result }
+    ensures asked { OnAnswerStatus result
+        (IfSome (S.remaining source.old) (HoldsForText (J.was_asked judge.now))) }
 {
-    match text_from(alloc, source, MAX_TEXT) {
-        Ok(text) => {
-            let outcome = draw_outcome(alloc, &text, judge, view);
-            write_outcome(output, faults, hints, &outcome)
-        }
-        Err(outcome) => write_outcome(output, faults, hints, &outcome),
-    }
+    let answer = |text: &[u8]|
+        requires { J.ready judge.now }
+    { draw_outcome(alloc, text, judge, view) };
+    run_text(alloc, source, output, faults, hints, MAX_TEXT, answer)
 }
 
 /// The part that the view asks for of a picture of the verdict on the history that the text spells.
-pub fn draw_outcome<J: Judge>(alloc: Global, text: &[u8], judge: &J, view: View) -> Outcome
+pub fn draw_outcome<J: Judge>(alloc: Global, text: &[u8], judge: &J, view: View) -> RunOutcome
     requires { J.ready judge.now }
-    ensures outcome { IsTextOutcome (IsViewAnswer (J.budget judge.now) view) IsHistoryRefusal (Some text.now) result }
+    ensures outcome { IsTextOutcome (IsViewAnswer (J.budget judge.now) view) IsHistoryRefusal
+        (Some text.now) result }
     ensures asked { OnAnswered result (HoldsForText (J.was_asked judge.now) text.now) }
 {
     match read_history(alloc, text) {
@@ -81,15 +84,16 @@ pub fn draw_outcome<J: Judge>(alloc: Global, text: &[u8], judge: &J, view: View)
 }
 
 /// How a drawing comes out, or want of memory for it.
-fn outcome_of(drawn: Result<(Answer, String), Memory>) -> Outcome
-    ensures outcome { (budget : ℕ) (view : View) (text : List ℕ) (history : HistoryView) → IsTextOf text history
+fn outcome_of(drawn: Result<(Answer, String), Memory>) -> RunOutcome
+    ensures outcome { (budget : ℕ) (view : View) (text : List ℕ) (history : HistoryView)
+        → IsTextOf text history
         → IfOk drawn (λ drawn. IsDrawing budget view history drawn.0 (string_bytes drawn.1))
         → IsTextOutcome (IsViewAnswer budget view) IsHistoryRefusal (Some text) result }
     ensures answered { OnAnswered result (IsOk drawn) }
 {
     match drawn {
-        Ok((answer, drawing)) => Outcome::answered(answer, line_of(drawing)),
-        Err(_) => Outcome::Memory,
+        Ok((answer, drawing)) => RunOutcome::from_answer(answer, line_of(drawing)),
+        Err(_) => RunOutcome::Memory,
     }
 }
 
@@ -101,33 +105,37 @@ fn drawing_of<J: Judge>(
     view: View,
 ) -> Result<(Answer, String), Memory>
     requires { J.ready judge.now }
-    ensures drawing { IfOk result (λ drawn. IsDrawing (J.budget judge.now) view history.now drawn.0 (string_bytes drawn.1)) }
+    ensures drawing { IfOk result (λ drawn. IsDrawing (J.budget judge.now) view history.now drawn.0
+        (string_bytes drawn.1)) }
     ensures asked { OnOk result (J.was_asked judge.now history.now) }
 {
     let verdict = judge.verdict_on(history)?;
     let budget = judge.budget();
-    let wrong = wrong_event(alloc, history, &verdict, budget)?;
-    drawing_with(alloc, history, budget, &verdict, wrong, view)
+    let location = location_of(alloc, history, &verdict, budget)?;
+    drawing_with(alloc, history, budget, &verdict, &location, view)
 }
 
-/// The text of what a view shows of a picture of this verdict on a history, with this event marked as wrong, and the answer that
-/// it is.
+/// The text of what a view shows of a picture of this verdict on a history, with the event of this
+/// location marked as wrong, and the answer that it is.
 fn drawing_with(
     alloc: Global,
     history: &History,
     budget: u32,
     verdict: &Verdict,
-    wrong: Option<usize>,
+    location: &Location,
     view: View,
 ) -> Result<(Answer, String), Memory>
     requires budget { (1 ≤ budget) × (budget ≤ budget_limit) }
     requires shown { IsShown history.now.start budget (operations history.now.events) verdict.now }
-    requires exact { IsExactVerdict history.now.start budget (operations history.now.events) verdict.now }
-    requires wrong { IsWrongEvent budget history.now verdict.now wrong }
-    ensures { IfOk result (λ drawn. IsDrawing budget view history.now drawn.0 (string_bytes drawn.1)) }
+    requires exact { IsExactVerdict history.now.start budget (operations history.now.events)
+        verdict.now }
+    requires located { IsLocated budget history.now location.now }
+    ensures { IfOk result (λ drawn. IsDrawing budget view history.now drawn.0
+        (string_bytes drawn.1)) }
 {
     let front = front_of(alloc, history, verdict, budget)?;
-    let choice = choice_of(alloc, history, verdict, budget, view)?;
+    let choice = choice_of(alloc, history, verdict, location, budget, view)?;
+    let wrong = event_of(location);
     let drawing = drawn_text(alloc, history, verdict, wrong, &front, &choice, view)?;
     Ok((answer_of(verdict), drawing))
 }
@@ -143,7 +151,8 @@ fn drawn_text(
     view: View,
 ) -> Result<String, Memory>
     requires { IsMarkable (operations history.now.events) (marked verdict.now front.now) }
-    ensures { IfOk result (λ text. IsDrawnText choice.now view history.now verdict.now wrong front.now (string_bytes text)) }
+    ensures { IfOk result (λ text. IsDrawnText choice.now view history.now verdict.now wrong
+        front.now (string_bytes text)) }
 {
     let part = part_shown(alloc, history, verdict, wrong, front, choice, view)?;
     let text = svg(alloc, &part)?;
@@ -185,18 +194,19 @@ fn shown_as(
     }
 }
 
-/// The event at which a history that the verdict refutes goes wrong, where the budget suffices to locate it.
-fn wrong_event(
+/// Where a history goes wrong, as far as the budget tells: nowhere after a yes.
+fn location_of(
     alloc: Global,
     history: &History,
     verdict: &Verdict,
     budget: u32,
-) -> Result<Option<usize>, Memory>
-    ensures { IfOk result (IsWrongEvent budget history.now verdict.now) }
+) -> Result<Location, Memory>
+    requires { IsShown history.now.start budget (operations history.now.events) verdict.now }
+    ensures { IfOk result (IsLocated budget history.now) }
 {
     match verdict {
-        Verdict::No(_) => Ok(event_of(&locate(alloc, history, budget)?)),
-        Verdict::Yes(_) | Verdict::Undecided(_) => Ok(None),
+        Verdict::Yes(_) => Ok(Location::Yes),
+        Verdict::No(_) | Verdict::Undecided(_) => locate(alloc, history, budget),
     }
 }
 

@@ -1,4 +1,5 @@
-//! The engine that draws: from the text of a history, over any source and sinks, to the text of a picture of its verdict.
+//! The engine that draws: from the text of a history, over any source and sinks, to the text of a
+//! picture of its verdict.
 #![tactic(auto)]
 
 mod choice;
@@ -7,4 +8,4 @@ mod views;
 
 pub use drawing::{draw_outcome, run_draw};
 pub use pictures::View;
-pub use views::{unasked, whole};
+pub use views::{unasked_view, whole_view};

@@ -1,12 +1,12 @@
 -- What stands in a text, worked out step by step.
 use Rattle.std.proofs.Common.{◌≡◌, ℕ, ◌+◌, ◌-◌, [], ◌∷◌, ◌++◌, Bool, List, Some, length, codes, refl}
 use Rattle.pictures.specs.declared.bars.Bar.{Bar}
-use Rattle.pictures.specs.declared.pictures_of.Part.{Part}
+use Rattle.pictures.specs.declared.pictures_of.PicturePart.{PicturePart}
 use Rattle.pictures.specs.declared.pictures_of.Picture.{Picture}
 use Rattle.picture_text.specs.Bars.{number_text, opening_text, with_shape, with_stripes, with_title, with_words}
 use Rattle.picture_text.specs.Frame.{has_wrong, with_legend}
 use Rattle.picture_text.specs.Layout.{x_of, y_of, column_width, screens_before, width_of}
-use Rattle.picture_text.specs.Parts.{with_before, with_behind, with_counts, with_part, with_part_of, with_screens}
+use Rattle.picture_text.specs.Parts.{with_before, with_behind, with_note, with_part, with_part_of, with_screens}
 use Rattle.picture_text.specs.Svg.{top_text, with_bars, with_lanes, with_legend_of, with_marks, IsSvgOf}
 
 -- a bar
@@ -19,10 +19,10 @@ pub bar-whole : (text opened titled shaped striped numbered worded whole : List 
 bar-whole text opened titled shaped striped numbered worded whole width columns bar o t s r n w is = rw (is, w, n, r, s, t, o) refl
 
 -- what is said of a part
-pub part-whole : (text before behind counts : List ℕ) (width bottom end many : ℕ) (picture : Picture) (part : Part)
+pub part-whole : (text before behind counts : List ℕ) (width bottom end many : ℕ) (picture : Picture) (part : PicturePart)
     → picture.part ≡ Some part → many ≡ length picture.lanes.items → bottom ≡ y_of many → end ≡ x_of width picture.columns
     → before ≡ with_before text part.before bottom → behind ≡ with_behind before (end + 8) part.behind bottom
-    → counts ≡ with_counts behind (bottom + 36) picture.columns part picture.is_few picture.heading
+    → counts ≡ with_note behind (bottom + 52) picture.columns part picture.is_few picture.heading
     → counts ≡ with_part_of text width picture picture.part
 part-whole text before behind counts width bottom end many picture part is m b e first second third =
     rw (third, second, first, b, e, m, is) refl

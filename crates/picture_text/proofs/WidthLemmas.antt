@@ -1,5 +1,5 @@
 -- Few columns stand on 1,200 units.
-use Rattle.std.proofs.Common.{◌≡◌, ℕ, zero, suc, ◌-◌, ◌*◌, ◌/◌, ◌≤◌, arith}
+use Rattle.std.proofs.Common.{◌≡◌, ℕ, zero, suc, ◌*◌, ◌/◌, ◌≤◌, arith}
 use Rattle.std.specs.Prelude.{max, min}
 use Rattle.std.proofs.Math.Nat.{div-eq_of_lt, div-mul-le_self, mul-le-mul}
 use Rattle.std.proofs.lemmas.Bool.{le-leb}

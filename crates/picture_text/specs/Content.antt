@@ -2,7 +2,8 @@
 use Rattle.std.specs.Prelude.{◌≢◌, ℕ, ◌-◌, ◌==◌, ◌&&◌, nat_le, if◌then◌else◌, List, [], ◌∷◌, ◌++◌, length, map, take, codes, All}
 use Rattle.std.specs.List.{concat}
 
--- a byte of a content: `<`, `>`, `&` and both quotes by their references, other printable ASCII as it is, anything else as `?`
+-- a byte of a content: `<`, `>`, `&` and both quotes by their references, other printable ASCII as
+-- it is, anything else as `?`
 abbrev pub escaped_byte : ℕ → List ℕ
 escaped_byte byte =
     if byte == 60 then codes "&lt;"

@@ -1,9 +1,10 @@
 -- What stands around the bars of a text.
-use Rattle.std.specs.Prelude.{ℕ, ◌+◌, ◌==◌, nat_le, Bool, true, false, if◌then◌else◌, List, [], ◌∷◌, ◌++◌, length, codes, decimal}
+use Rattle.std.specs.Prelude.{ℕ, ◌+◌, ◌==◌, nat_le, Bool, true, false, if◌then◌else◌, List, [], ◌∷◌, ◌++◌, length, Option, Some, None, codes, decimal}
 use Rattle.std.specs.List.{list_any}
 use Rattle.pictures.specs.declared.bars.Bar.{Bar}
 use Rattle.pictures.specs.declared.pictures_of.Heading.{Heading}
 use Rattle.pictures.specs.declared.pictures_of.Heading.TheVariants.{Order, NoOrder, Undecided}
+use Rattle.pictures.specs.declared.pictures_of.PicturePart.{PicturePart}
 use Rattle.pictures.specs.Words.{pairs_words}
 use Rattle.picture_text.specs.Content.{escaped, shown}
 use Rattle.picture_text.specs.Layout.{y_of}
@@ -32,14 +33,19 @@ with_heading text heading = text ++ codes "<text class='title' x='16' y='28'>" +
 abbrev pub whole_text : ℕ → List ℕ → List ℕ
 whole_text room words = if nat_le (length words) room then [] else codes "<title>" ++ escaped words ++ codes "</title>"
 
+-- what stands before the pairs at the start: of a part they are those at keys of its calls
+abbrev pub start_text : Option PicturePart → List ℕ
+start_text None = codes "starts with "
+start_text (Some part) = codes "starts at these calls' keys with "
+
 -- the pairs at the start, in words; whole in a title where they are cut
-abbrev pub with_start_words : List ℕ → List ℕ → ℕ → List ℕ
-with_start_words text words room =
-    text ++ codes "<g class='start'>" ++ whole_text room words ++ codes "<text x='16' y='50'>starts with " ++ shown room words
+abbrev pub with_start_words : List ℕ → Option PicturePart → List ℕ → ℕ → List ℕ
+with_start_words text part words room =
+    text ++ codes "<g class='start'>" ++ whole_text room words ++ codes "<text x='16' y='50'>" ++ start_text part ++ shown room words
     ++ (codes "</text></g>" ++ 10 ∷ [])
 
-abbrev pub with_start : List ℕ → List (ℕ × ℕ) → ℕ → List ℕ
-with_start text start room = with_start_words text (pairs_words start) room
+abbrev pub with_start : List ℕ → Option PicturePart → List (ℕ × ℕ) → ℕ → List ℕ
+with_start text part start room = with_start_words text part (pairs_words start) room
 
 -- the ground of a lane
 abbrev pub ground_text : ℕ → ℕ → List ℕ
@@ -59,15 +65,26 @@ with_lane text end lane process = text ++ ground_text end (y_of lane + 1) ++ nam
 abbrev pub has_wrong : List Bar → Bool
 has_wrong bars = list_any (λ bar. bar.is_wrong) bars
 
+-- what a bar means
+abbrev pub bars_text : ℕ → List ℕ
+bars_text y =
+    codes "<text class='note' x='16' y='" ++ (decimal y
+    ++ (codes "'>A bar is a call, from its invocation to its answer; the number in it is the call's.</text>" ++ 10 ∷ []))
+
 -- what a circle means, and a red and striped bar where there is one
 abbrev pub marks_text : Heading → Bool → List ℕ
-marks_text Order red = codes "in a circle stands its place in the order."
-marks_text (NoOrder lo hi) true = codes "circles show how far an order gets, red stripes where it goes wrong."
-marks_text (NoOrder lo hi) false = codes "circles show how far an order gets."
-marks_text (Undecided lo hi) red = codes "circles show how far an order got within the budget."
+marks_text Order red = codes "A circle has the call's place in the order."
+marks_text (NoOrder lo hi) true = codes "A circle has the call's place in an order, as far as one gets; red stripes show where it goes wrong."
+marks_text (NoOrder lo hi) false = codes "A circle has the call's place in an order, as far as one gets."
+marks_text (Undecided lo hi) true =
+    codes "A circle has the call's place in an order, as far as one got within the budget; red stripes show where it goes wrong."
+marks_text (Undecided lo hi) false = codes "A circle has the call's place in an order, as far as one got within the budget."
+
+-- the line of these
+abbrev pub with_marks_text : List ℕ → ℕ → Heading → Bool → List ℕ
+with_marks_text text y heading red =
+    text ++ (codes "<text class='note' x='16' y='" ++ (decimal y ++ codes "'>")) ++ marks_text heading red ++ (codes "</text>" ++ 10 ∷ [])
 
 -- what the shapes mean, below the lanes
 abbrev pub with_legend : List ℕ → ℕ → Heading → Bool → List ℕ
-with_legend text y heading red =
-    text ++ (codes "<text class='note' x='16' y='" ++ (decimal y ++ codes "'>A bar is a call, from its invocation to its answer; "))
-    ++ marks_text heading red ++ (codes "</text>" ++ 10 ∷ [])
+with_legend text y heading red = with_marks_text (text ++ bars_text y) (y + 16) heading red

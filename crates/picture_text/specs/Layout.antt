@@ -2,7 +2,7 @@
 use Rattle.std.specs.Prelude.{ℕ, ◌+◌, ◌-◌, ◌*◌, ◌/◌, ◌≤◌, nat_le, if◌then◌else◌, max, min, List, length, map, Option, Some, None, option_map, string_bytes}
 use Rattle.list_laws.specs.Lists.{greatest}
 use Rattle.pictures.specs.declared.bars.Bar.{Bar}
-use Rattle.pictures.specs.declared.pictures_of.Part.{Part}
+use Rattle.pictures.specs.declared.pictures_of.PicturePart.{PicturePart}
 
 -- how many columns stand between two columns of names: as many as fill 1,200 units with one
 abbrev pub per_screen : ℕ → ℕ
@@ -56,7 +56,8 @@ width_for columns bar = (letters_of bar * 6 + 6) / (end_of columns bar - bar.fro
 abbrev pub asked_width : ℕ → List Bar → ℕ
 asked_width columns bars = min 72 (max 28 (greatest (map (width_for columns) bars)))
 
--- the greatest width of a column: 72, or where so many columns can stand on 1,200 units at 28, one at which they do
+-- the greatest width of a column: 72, or where so many columns can stand on 1,200 units at 28, one
+-- at which they do
 abbrev pub widest : ℕ → ℕ
 widest columns = if nat_le columns 38 then min 72 (1072 / max columns 1) else 72
 
@@ -65,16 +66,21 @@ abbrev pub column_width : ℕ → List Bar → ℕ
 column_width columns bars = min (widest columns) (asked_width columns bars)
 
 -- what is said of a part has room below
-abbrev pub part_height : Option Part → ℕ
+abbrev pub part_height : Option PicturePart → ℕ
 part_height None = 0
 part_height (Some part) = 16
+
+-- how wide the words are before the pairs at the start
+abbrev pub start_width : Option PicturePart → ℕ
+start_width None = 72
+start_width (Some part) = 198
 
 -- how wide and how high a picture is: the words above and below its lanes have room
 abbrev pub width_of : ℕ → ℕ → ℕ
 width_of width columns = max (x_of width columns + 32) 680
 
-abbrev pub height_of : ℕ → Option Part → ℕ
-height_of lanes part = y_of lanes + 34 + part_height part
+abbrev pub height_of : ℕ → Option PicturePart → ℕ
+height_of lanes part = y_of lanes + 50 + part_height part
 
 -- ---- laws
 

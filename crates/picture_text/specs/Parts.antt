@@ -2,7 +2,7 @@
 use Rattle.std.specs.Prelude.{ℕ, zero, suc, ◌+◌, ◌==◌, if◌then◌else◌, Bool, true, false, List, [], ◌∷◌, ◌++◌, length, Option, Some, None, codes, decimal}
 use Rattle.pictures.specs.declared.pictures_of.Heading.{Heading}
 use Rattle.pictures.specs.declared.pictures_of.Heading.TheVariants.{Order, NoOrder, Undecided}
-use Rattle.pictures.specs.declared.pictures_of.Part.{Part}
+use Rattle.pictures.specs.declared.pictures_of.PicturePart.{PicturePart}
 use Rattle.pictures.specs.declared.pictures_of.Picture.{Picture}
 use Rattle.picture_text.specs.Layout.{x_of, y_of, names_at}
 
@@ -49,29 +49,38 @@ abbrev pub with_behind : List ℕ → ℕ → ℕ → ℕ → List ℕ
 with_behind text x count bottom = if count == 0 then text else text ++ line_text x bottom ++ behind_text x count
 
 -- how many columns are shown, of how many, and around which event
-abbrev pub counts_text : ℕ → ℕ → Part → List ℕ
-counts_text y columns part =
-    codes "<text class='note' x='16' y='" ++ (decimal y ++ (codes "'>" ++ (decimal columns ++ (codes " of "
-    ++ (decimal (part.before + columns + part.behind) ++ (codes " columns, around event " ++ (decimal part.event ++ codes ".")))))))
+abbrev pub counts_text : ℕ → PicturePart → List ℕ
+counts_text columns part =
+    decimal columns ++ (codes " of " ++ (decimal (part.before + columns + part.behind) ++ (codes " columns, around event "
+    ++ (decimal part.event ++ codes ". "))))
+
+-- it is said where not all are shown
+abbrev pub with_counts : List ℕ → ℕ → PicturePart → List ℕ
+with_counts text columns part = if part.before + part.behind == 0 then text else text ++ counts_text columns part
 
 -- that a part of a no or an undecided shows the named segment alone, or a few calls of it
 abbrev pub alone_text : Bool → Heading → List ℕ
-alone_text true heading = codes " Calls that have no order by themselves, and those that put what they read."
+alone_text true heading = codes "Calls that show where it goes wrong, with those that put what they read and those that they miss."
 alone_text false Order = codes ""
-alone_text false (NoOrder lo hi) = codes " Calls outside of the named segment are left out."
-alone_text false (Undecided lo hi) = codes " Calls outside of the named segment are left out."
+alone_text false (NoOrder lo hi) = codes "Calls outside of the named segment are left out."
+alone_text false (Undecided lo hi) = codes "Calls outside of the named segment are left out."
 
-abbrev pub with_counts : List ℕ → ℕ → ℕ → Part → Bool → Heading → List ℕ
-with_counts text y columns part few heading =
-    text ++ counts_text y columns part ++ alone_text few heading ++ (codes "</text>" ++ 10 ∷ [])
+-- where a line of words begins
+abbrev pub note_text : ℕ → List ℕ
+note_text y = codes "<text class='note' x='16' y='" ++ (decimal y ++ codes "'>")
+
+-- what is shown
+abbrev pub with_note : List ℕ → ℕ → ℕ → PicturePart → Bool → Heading → List ℕ
+with_note text y columns part few heading =
+    with_counts (text ++ note_text y) columns part ++ alone_text few heading ++ (codes "</text>" ++ 10 ∷ [])
 
 -- what is said of a part
-abbrev pub with_part_of : List ℕ → ℕ → Picture → Option Part → List ℕ
+abbrev pub with_part_of : List ℕ → ℕ → Picture → Option PicturePart → List ℕ
 with_part_of text width picture None = text
 with_part_of text width picture (Some part) =
     let bottom = y_of (length picture.lanes.items) in
-    with_counts (with_behind (with_before text part.before bottom) (x_of width picture.columns + 8) part.behind bottom)
-    (bottom + 36) picture.columns part picture.is_few picture.heading
+    with_note (with_behind (with_before text part.before bottom) (x_of width picture.columns + 8) part.behind bottom)
+    (bottom + 52) picture.columns part picture.is_few picture.heading
 
 unfoldable pub with_part : List ℕ → ℕ → Picture → List ℕ
 with_part text width picture = with_part_of text width picture picture.part

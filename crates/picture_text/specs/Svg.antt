@@ -6,7 +6,7 @@ use Rattle.pictures.specs.declared.pictures_of.Picture.{Picture}
 use Rattle.picture_text.specs.Bars.{with_bar}
 use Rattle.picture_text.specs.Marks.{with_mark}
 use Rattle.picture_text.specs.Frame.{head_text, with_heading, with_start, with_lane, has_wrong, with_legend}
-use Rattle.picture_text.specs.Layout.{y_of, width_of, height_of, screens_before, column_width}
+use Rattle.picture_text.specs.Layout.{y_of, width_of, height_of, start_width, screens_before, column_width}
 use Rattle.picture_text.specs.Parts.{with_screens, with_part}
 
 -- the lanes, from one on
@@ -27,7 +27,7 @@ with_marks text width bars (mark ∷ marks) = with_marks (with_mark text width b
 unfoldable pub top_text : List ℕ → ℕ → Picture → List ℕ
 top_text style all picture =
     with_start (with_heading (head_text all (height_of (length picture.lanes.items) picture.part) ++ style) picture.heading)
-    picture.start.items ((all - 104) / 6)
+    picture.part picture.start.items ((all - 32 - start_width picture.part) / 6)
 
 -- what the shapes of a picture mean
 abbrev pub with_legend_of : List ℕ → Picture → List ℕ

@@ -9,10 +9,11 @@ use crate::layout::{end_of, room_of, x_of, y_of};
 use events::Memory;
 use pictures::Bar;
 
-/// Adds a bar: its shape, the number of its call, and the call and its reply in words, cut to the room that they
-/// have; whole they stand in its title.
+/// Adds a bar: its shape, the number of its call, and the call and its reply in words, cut to the
+/// room that they have; whole they stand in its title.
 pub fn push_bar(out: &mut String, width: u8, columns: usize, bar: &Bar) -> Result<(), Memory>
-    ensures { OnOk result (string_bytes out.new ≡ with_bar (string_bytes out.old) width columns bar.now) }
+    ensures { OnOk result (string_bytes out.new ≡ with_bar (string_bytes out.old) width columns
+        bar.now) }
 {
     push_opening(out, bar)?;
     push_title(out, bar)?;
@@ -33,7 +34,8 @@ fn push_opening(out: &mut String, bar: &Bar) -> Result<(), Memory>
     Ok(())
 }
 
-/// How a bar is drawn: as the one at which the history goes wrong, as one of which the verdict speaks, or pale.
+/// How a bar is drawn: as the one at which the history goes wrong, as one of which the verdict
+/// speaks, or pale.
 fn class_of(bar: &Bar) -> &'static str
     ensures { result.now ≡ class_of bar.now }
 {
@@ -79,7 +81,8 @@ fn push_called(out: &mut String, bar: &Bar) -> Result<(), Memory>
 
 /// Adds the event at which a call is answered.
 fn push_answered(out: &mut String, bar: &Bar) -> Result<(), Memory>
-    ensures { OnOk result (string_bytes out.new ≡ string_bytes out.old ++ answered_text bar.now.res) }
+    ensures { OnOk result (string_bytes out.new ≡ string_bytes out.old ++ answered_text
+        bar.now.res) }
 {
     match bar.res {
         Some(res) => write!(out, " to event {res}")?,
@@ -90,7 +93,8 @@ fn push_answered(out: &mut String, bar: &Bar) -> Result<(), Memory>
 
 /// Adds the reply of a call.
 fn push_replied(out: &mut String, bar: &Bar) -> Result<(), Memory>
-    ensures { OnOk result (string_bytes out.new ≡ with_reply (string_bytes out.old) (option_map string_bytes bar.now.reply)) }
+    ensures { OnOk result (string_bytes out.new ≡ with_reply (string_bytes out.old)
+        (option_map string_bytes bar.now.reply)) }
 {
     if let Some(reply) = &bar.reply {
         out.push_str(": ")?;
@@ -99,10 +103,11 @@ fn push_replied(out: &mut String, bar: &Bar) -> Result<(), Memory>
     Ok(())
 }
 
-/// Adds the shape of a bar: a rectangle from the invocation to the response, or one that is open at the right, or at the left
-/// where the bar begins before what is shown, or at both.
+/// Adds the shape of a bar: a rectangle from the invocation to the response, or one that is open at
+/// the right, or at the left where the bar begins before what is shown, or at both.
 fn push_shape(out: &mut String, width: u8, columns: usize, bar: &Bar) -> Result<(), Memory>
-    ensures { OnOk result (string_bytes out.new ≡ with_shape (string_bytes out.old) width columns bar.now) }
+    ensures { OnOk result (string_bytes out.new ≡ with_shape (string_bytes out.old) width columns
+        bar.now) }
 {
     let x = x_of(width, bar.from);
     let y = y_of(bar.lane) + 19;
@@ -125,7 +130,8 @@ fn push_rectangle(out: &mut String, x: u128, y: u128, span: u128) -> Result<(), 
     Ok(())
 }
 
-/// Adds a rectangle that is open at the right: its line is that of one which is open at the left, from the other end.
+/// Adds a rectangle that is open at the right: its line is that of one which is open at the left,
+/// from the other end.
 fn push_open(out: &mut String, x: u128, y: u128, end: u128) -> Result<(), Memory>
     ensures { OnOk result (string_bytes out.new ≡ with_open (string_bytes out.old) x y end) }
 {
@@ -148,7 +154,8 @@ fn push_both_open(out: &mut String, x: u128, y: u128, end: u128) -> Result<(), M
     push_turn(out, x, end)
 }
 
-/// Adds the beginning of a line of which what is behind so much and before its last so much is left out.
+/// Adds the beginning of a line of which what is behind so much and before its last so much is left
+/// out.
 fn push_dashes(out: &mut String, x: u128, y: u128, span: u128) -> Result<(), Memory>
     ensures { OnOk result (string_bytes out.new ≡ string_bytes out.old ++ dashes_text x y span) }
 {
@@ -169,7 +176,8 @@ fn push_turn(out: &mut String, x: u128, end: u128) -> Result<(), Memory>
 
 /// Adds stripes across the bar of the call whose answer is where the history goes wrong.
 fn push_stripes(out: &mut String, width: u8, columns: usize, bar: &Bar) -> Result<(), Memory>
-    ensures { OnOk result (string_bytes out.new ≡ with_stripes (string_bytes out.old) width columns bar.now) }
+    ensures { OnOk result (string_bytes out.new ≡ with_stripes (string_bytes out.old) width columns
+        bar.now) }
 {
     if !bar.is_wrong {
         return Ok(());
@@ -187,7 +195,8 @@ fn push_dashed(out: &mut String, x: u128, y: u128, end: u128) -> Result<(), Memo
     Ok(())
 }
 
-/// How the number of a call is drawn: one of more than three digits smaller, so that it ends before the circle in the next column.
+/// How the number of a call is drawn: one of more than three digits smaller, so that it ends before
+/// the circle in the next column.
 fn number_class(number: usize) -> &'static str
     ensures { result.now ≡ number_class number }
 {
@@ -200,7 +209,8 @@ fn number_class(number: usize) -> &'static str
 
 /// Adds the number of a bar's call.
 fn push_number(out: &mut String, width: u8, bar: &Bar) -> Result<(), Memory>
-    ensures { OnOk result (string_bytes out.new ≡ string_bytes out.old ++ number_text width bar.now) }
+    ensures { OnOk result (string_bytes out.new ≡ string_bytes out.old ++ number_text width
+        bar.now) }
 {
     let x = x_of(width, bar.from) + 3;
     let y = y_of(bar.lane) + 32;
@@ -212,7 +222,8 @@ fn push_number(out: &mut String, width: u8, bar: &Bar) -> Result<(), Memory>
 
 /// Adds the words of a bar: the call above it, the reply below.
 fn push_words(out: &mut String, width: u8, columns: usize, bar: &Bar) -> Result<(), Memory>
-    ensures { OnOk result (string_bytes out.new ≡ with_words (string_bytes out.old) width columns bar.now) }
+    ensures { OnOk result (string_bytes out.new ≡ with_words (string_bytes out.old) width columns
+        bar.now) }
 {
     let room = room_of(width, columns, bar);
     let x = x_of(width, bar.from) + 1;
@@ -235,7 +246,8 @@ fn reply_label(bar: &Bar) -> &[u8]
 
 /// Adds words at a place.
 fn push_label(out: &mut String, x: u128, y: u128, words: &[u8], room: u128) -> Result<(), Memory>
-    ensures { OnOk result (string_bytes out.new ≡ with_label (string_bytes out.old) x y words.now room) }
+    ensures { OnOk result (string_bytes out.new ≡ with_label (string_bytes out.old) x y words.now
+        room) }
 {
     write!(out, "<text x='{x}' y='{y}'>")?;
     push_shown(out, words, room)?;

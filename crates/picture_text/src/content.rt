@@ -4,8 +4,8 @@ ghost use Rattle.picture_text.specs.Content.{escaped_byte, escaped, shown};
 
 use events::Memory;
 
-/// Adds a content to a text, escaped as XML asks: `<`, `>`, `&` and both quotes by their references. A byte that is
-/// no printable ASCII is written as `?`.
+/// Adds a content to a text, escaped as XML asks: `<`, `>`, `&` and both quotes by their
+/// references. A byte that is no printable ASCII is written as `?`.
 pub fn push_content(out: &mut String, content: &[u8]) -> Result<(), Memory>
     ensures { OnOk result (string_bytes out.new ≡ string_bytes out.old ++ escaped content.now) }
 {

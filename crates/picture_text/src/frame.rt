@@ -1,13 +1,13 @@
 // What stands around the bars of a text: its head, the words at its top, and its lanes.
-ghost use Rattle.std.specs.Prelude.{◌≡◌, ◌++◌, OnOk, string_bytes};
+ghost use Rattle.std.specs.Prelude.{◌≡◌, ◌<◌, ◌^◌, ◌++◌, OnOk, string_bytes};
 ghost use Rattle.pictures.specs.declared.pictures_of.Heading.TheVariants.{NoOrder, Undecided};
 ghost use Rattle.picture_text.specs.Frame.{head_text, keys_text, verdict_text, with_heading, whole_text, with_start, with_start_words, ground_text, name_text, with_lane, has_wrong, marks_text};
-ghost use Rattle.picture_text.specs.Frame.{with_legend};
+ghost use Rattle.picture_text.specs.Frame.{bars_text, start_text, with_legend, with_marks_text};
 
 use crate::content::{push_content, push_shown};
 use crate::layout::y_of;
 use events::Memory;
-use pictures::{Bar, Heading, pairs_words};
+use pictures::{Bar, Heading, PicturePart, pairs_words};
 use std::alloc::Global;
 
 /// Adds the head of a text of this size.
@@ -33,7 +33,8 @@ pub fn push_heading(out: &mut String, heading: &Heading) -> Result<(), Memory>
 
 /// Adds the verdict in words.
 fn push_verdict(out: &mut String, heading: &Heading) -> Result<(), Memory>
-    ensures { OnOk result (string_bytes out.new ≡ string_bytes out.old ++ verdict_text heading.now) }
+    ensures { OnOk result (string_bytes out.new ≡ string_bytes out.old ++ verdict_text
+        heading.now) }
 {
     match heading {
         Heading::Order => Ok(out.push_str("Linearizable")?),
@@ -43,7 +44,8 @@ fn push_verdict(out: &mut String, heading: &Heading) -> Result<(), Memory>
 }
 
 fn push_refuted(out: &mut String, lo: u64, hi: u64) -> Result<(), Memory>
-    ensures { OnOk result (string_bytes out.new ≡ string_bytes out.old ++ verdict_text (NoOrder lo hi)) }
+    ensures { OnOk result (string_bytes out.new ≡ string_bytes out.old ++ verdict_text
+        (NoOrder lo hi)) }
 {
     out.push_str("Not linearizable: ")?;
     push_keys(out, lo, hi)?;
@@ -51,7 +53,8 @@ fn push_refuted(out: &mut String, lo: u64, hi: u64) -> Result<(), Memory>
 }
 
 fn push_undecided(out: &mut String, lo: u64, hi: u64) -> Result<(), Memory>
-    ensures { OnOk result (string_bytes out.new ≡ string_bytes out.old ++ verdict_text (Undecided lo hi)) }
+    ensures { OnOk result (string_bytes out.new ≡ string_bytes out.old ++ verdict_text
+        (Undecided lo hi)) }
 {
     out.push_str("Undecided: ")?;
     push_keys(out, lo, hi)?;
@@ -70,34 +73,55 @@ fn push_keys(out: &mut String, lo: u64, hi: u64) -> Result<(), Memory>
     Ok(())
 }
 
-/// Adds the pairs that the map holds at the start, cut to the room that they have; then they stand whole in a title.
+/// Adds the pairs that the map holds at the start, cut to the room that they have; then they stand
+/// whole in a title.
 pub fn push_start(
     out: &mut String,
     alloc: Global,
+    part: &Option<PicturePart>,
     start: &[(u64, u64)],
     room: u128,
 ) -> Result<(), Memory>
-    ensures { OnOk result (string_bytes out.new ≡ with_start (string_bytes out.old) start.now room) }
+    ensures { OnOk result (string_bytes out.new ≡ with_start (string_bytes out.old) part.now
+        start.now room) }
 {
     let words = pairs_words(alloc, start)?;
-    push_start_words(out, words.as_bytes(), room)
+    push_start_words(out, part, words.as_bytes(), room)
 }
 
 /// Adds these pairs in words.
-fn push_start_words(out: &mut String, words: &[u8], room: u128) -> Result<(), Memory>
-    ensures { OnOk result (string_bytes out.new ≡ with_start_words (string_bytes out.old) words.now room) }
+fn push_start_words(
+    out: &mut String,
+    part: &Option<PicturePart>,
+    words: &[u8],
+    room: u128,
+) -> Result<(), Memory>
+    ensures { OnOk result (string_bytes out.new ≡ with_start_words (string_bytes out.old) part.now
+        words.now room) }
 {
     out.push_str("<g class='start'>")?;
     push_whole(out, words, room)?;
-    out.push_str("<text x='16' y='50'>starts with ")?;
+    out.push_str("<text x='16' y='50'>")?;
+    out.push_str(start_text(part))?;
     push_shown(out, words, room)?;
     out.push_str("</text></g>\n")?;
     Ok(())
 }
 
+/// What stands before the pairs at the start.
+fn start_text(part: &Option<PicturePart>) -> &'static str
+    ensures { result.now ≡ start_text part.now }
+{
+    match part {
+        Some(_) => "starts at these calls' keys with ",
+        None => "starts with ",
+    }
+}
+
 /// Adds words whole in a title, where they have more letters than there is room for.
 fn push_whole(out: &mut String, words: &[u8], room: u128) -> Result<(), Memory>
-    ensures { OnOk result (string_bytes out.new ≡ string_bytes out.old ++ whole_text room words.now) }
+    ensures { OnOk result (string_bytes out.new ≡ string_bytes out.old ++ whole_text room
+        words.now) }
 {
     if words.len() as u128 <= room {
         return Ok(());
@@ -111,7 +135,8 @@ fn push_whole(out: &mut String, words: &[u8], room: u128) -> Result<(), Memory>
 /// Adds the lane of a process.
 #[tactic(auto, unfolding(crate::specs::Frame::with_lane))]
 pub fn push_lane(out: &mut String, end: u128, lane: usize, process: u8) -> Result<(), Memory>
-    ensures { OnOk result (string_bytes out.new ≡ with_lane (string_bytes out.old) end lane process) }
+    ensures { OnOk result (string_bytes out.new ≡ with_lane (string_bytes out.old) end lane
+        process) }
 {
     let y = y_of(lane) + 1;
     let middle = y_of(lane) + 32;
@@ -148,12 +173,31 @@ pub fn has_wrong(bars: &[Bar]) -> bool
 
 /// Adds what the shapes of a text mean, where a bar is red or none is.
 pub fn push_legend(out: &mut String, y: u128, heading: &Heading, red: bool) -> Result<(), Memory>
-    ensures { OnOk result (string_bytes out.new ≡ with_legend (string_bytes out.old) y heading.now red) }
+    requires { y < 2 ^ 81 }
+    ensures { OnOk result (string_bytes out.new ≡ with_legend (string_bytes out.old) y heading.now
+        red) }
+{
+    push_bars_text(out, y)?;
+    push_marks_text(out, y + 16, heading, red)
+}
+
+/// Adds what a bar means.
+fn push_bars_text(out: &mut String, y: u128) -> Result<(), Memory>
+    ensures { OnOk result (string_bytes out.new ≡ string_bytes out.old ++ bars_text y) }
 {
     write!(
         out,
-        "<text class='note' x='16' y='{y}'>A bar is a call, from its invocation to its answer; "
+        "<text class='note' x='16' y='{y}'>A bar is a call, from its invocation to its answer; the number in it is the call's.</text>\n"
     )?;
+    Ok(())
+}
+
+/// Adds what a circle means, and a red and striped bar where there is one.
+fn push_marks_text(out: &mut String, y: u128, heading: &Heading, red: bool) -> Result<(), Memory>
+    ensures { OnOk result (string_bytes out.new ≡ with_marks_text (string_bytes out.old) y
+        heading.now red) }
+{
+    write!(out, "<text class='note' x='16' y='{y}'>")?;
     out.push_str(marks_text(heading, red))?;
     out.push_str("</text>\n")?;
     Ok(())
@@ -164,10 +208,18 @@ fn marks_text(heading: &Heading, red: bool) -> &'static str
     ensures { result.now ≡ marks_text heading.now red }
 {
     match (heading, red) {
-        (Heading::Order, _) => "in a circle stands its place in the order.",
-        (Heading::NoOrder { .. }, true) =>
-            "circles show how far an order gets, red stripes where it goes wrong.",
-        (Heading::NoOrder { .. }, false) => "circles show how far an order gets.",
-        (Heading::Undecided { .. }, _) => "circles show how far an order got within the budget.",
+        (Heading::Order, _) => "A circle has the call's place in the order.",
+        (Heading::NoOrder { .. }, true) => {
+            "A circle has the call's place in an order, as far as one gets; red stripes show where it goes wrong."
+        }
+        (Heading::NoOrder { .. }, false) => {
+            "A circle has the call's place in an order, as far as one gets."
+        }
+        (Heading::Undecided { .. }, true) => {
+            "A circle has the call's place in an order, as far as one got within the budget; red stripes show where it goes wrong."
+        }
+        (Heading::Undecided { .. }, false) => {
+            "A circle has the call's place in an order, as far as one got within the budget."
+        }
     }
 }

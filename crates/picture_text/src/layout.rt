@@ -1,9 +1,9 @@
 // Where things stand, in the units of the text.
 ghost use Rattle.std.specs.Prelude.{◌≡◌, ◌≤◌, ◌<◌, ◌^◌};
 ghost use Rattle.picture_text.specs.Layout.{x_of, y_of, end_of, room_of, height_of, width_of, letters_of, asked_width, widest, column_width};
-ghost use Rattle.picture_text.specs.Layout.{per_screen, screens_before, screen_width, names_at, part_height};
+ghost use Rattle.picture_text.specs.Layout.{per_screen, screens_before, screen_width, names_at, part_height, start_width};
 
-use pictures::{Bar, Part, Picture};
+use pictures::{Bar, Picture, PicturePart};
 
 /// How many columns stand between two columns of names, at this width of a column.
 fn per_screen(width: u8) -> u16
@@ -26,14 +26,16 @@ fn screen_width(width: u8) -> u32
     width as u32 * per_screen(width) as u32 + 96
 }
 
-/// Where the names of a column of names begin, from the left. That at the left has number 0, and stands elsewhere.
+/// Where the names of a column of names begin, from the left. That at the left has number 0, and
+/// stands elsewhere.
 pub fn names_at(width: u8, screen: usize) -> u128
     ensures { result ≡ names_at width screen }
 {
     16 + width as u128 + screen_width(width) as u128 * screen as u128
 }
 
-/// Where a column stands from the left, at this width of a column: behind the columns of names before it.
+/// Where a column stands from the left, at this width of a column: behind the columns of names
+/// before it.
 pub fn x_of(width: u8, column: usize) -> u128
     ensures value { result ≡ x_of width column }
     ensures small { result < 2 ^ 80 }
@@ -67,7 +69,8 @@ pub fn room_of(width: u8, columns: usize, bar: &Bar) -> u128
     (width as u128 * (span + 1)).saturating_sub(6) / 6
 }
 
-/// How wide a picture is: as its columns ask, and so that the words above and below its lanes have room.
+/// How wide a picture is: as its columns ask, and so that the words above and below its lanes have
+/// room.
 pub fn width_of(width: u8, columns: usize) -> u128
     ensures { result ≡ width_of width columns }
 {
@@ -75,14 +78,14 @@ pub fn width_of(width: u8, columns: usize) -> u128
 }
 
 /// How high it is.
-pub fn height_of(lanes: usize, part: &Option<Part>) -> u128
+pub fn height_of(lanes: usize, part: &Option<PicturePart>) -> u128
     ensures { result ≡ height_of lanes part.now }
 {
-    y_of(lanes) + 34 + part_height(part)
+    y_of(lanes) + 50 + part_height(part)
 }
 
 /// How much of it is for what is said of a part.
-fn part_height(part: &Option<Part>) -> u128
+fn part_height(part: &Option<PicturePart>) -> u128
     ensures value { result ≡ part_height part.now }
     ensures small { result ≤ 16 }
 {
@@ -92,16 +95,26 @@ fn part_height(part: &Option<Part>) -> u128
     }
 }
 
-/// The width of a column: that at which the words of all bars have room, where it is from 28 to 72; and less where up to 38
-/// columns then stand on 1,200 units.
+/// How wide the words are before the pairs at the start.
+pub fn start_width(part: &Option<PicturePart>) -> u128
+    ensures { result ≡ start_width part.now }
+{
+    match part {
+        Some(_) => 198,
+        None => 72,
+    }
+}
+
+/// The width of a column: that at which the words of all bars have room, where it is from 28 to 72;
+/// and less where up to 38 columns then stand on 1,200 units.
 pub fn column_width(picture: &Picture) -> u8
     ensures { result ≡ column_width picture.now.columns picture.now.bars.items }
 {
-    asked_width(picture).min(widest(picture.columns))
+    asked_width(picture).min(greatest_width(picture.columns))
 }
 
 /// The greatest width of so many columns.
-fn widest(columns: usize) -> u8
+fn greatest_width(columns: usize) -> u8
     ensures { result ≡ widest columns }
 {
     if columns > 38 {
@@ -117,7 +130,7 @@ fn asked_width(picture: &Picture) -> u8
     let mut width: u8 = 28;
     for bar in &picture.bars {
         let span = end_of(picture.columns, bar).saturating_sub(bar.from) as u128 + 1;
-        let need = (longest(bar) as u128 * 6 + 6) / span + 1;
+        let need = (longest_words(bar) as u128 * 6 + 6) / span + 1;
         width = if need >= 72 {
             72
         } else {
@@ -128,7 +141,7 @@ fn asked_width(picture: &Picture) -> u8
 }
 
 /// The length of the longer one of a bar's words.
-fn longest(bar: &Bar) -> usize
+fn longest_words(bar: &Bar) -> usize
     ensures { result ≡ letters_of bar.now }
 {
     match &bar.reply {

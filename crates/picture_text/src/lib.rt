@@ -1,7 +1,7 @@
 //! The text of a picture: one SVG that names nothing outside of itself, without a script.
 //!
-//! What stands in it is a function of the picture: its columns are as wide as its words ask, from 28 to 72,
-//! and up to 38 of them stand on 1,200 units.
+//! What stands in it is a function of the picture: its columns are as wide as its words ask, from
+//! 28 to 72, and up to 38 of them stand on 1,200 units.
 #![tactic(auto)]
 
 mod bar_text;

@@ -7,11 +7,12 @@ use crate::layout::{x_of, y_of};
 use events::Memory;
 use pictures::{Bar, Mark};
 
-/// Adds a mark of a picture with these bars: a circle at its column and in its lane, with its place. Its call stands in full in its
-/// title.
+/// Adds a mark of a picture with these bars: a circle at its column and in its lane, with its
+/// place. Its call stands in full in its title.
 #[tactic(auto, unfolding(crate::specs::Marks::with_mark))]
 pub fn push_mark(out: &mut String, width: u8, bars: &[Bar], mark: &Mark) -> Result<(), Memory>
-    ensures { OnOk result (string_bytes out.new ≡ with_mark (string_bytes out.old) width bars.now mark.now) }
+    ensures { OnOk result (string_bytes out.new ≡ with_mark (string_bytes out.old) width bars.now
+        mark.now) }
 {
     let x = x_of(width, mark.column);
     let y = y_of(mark.lane) + 28;
@@ -24,7 +25,8 @@ pub fn push_mark(out: &mut String, width: u8, bars: &[Bar], mark: &Mark) -> Resu
 
 /// Adds the title of a mark: its place, and its call in full.
 fn push_title(out: &mut String, bars: &[Bar], mark: &Mark) -> Result<(), Memory>
-    ensures { OnOk result (string_bytes out.new ≡ with_mark_title (string_bytes out.old) bars.now mark.now) }
+    ensures { OnOk result (string_bytes out.new ≡ with_mark_title (string_bytes out.old) bars.now
+        mark.now) }
 {
     push_opening(out, mark.place)?;
     push_call_of(out, mark.number, bar_of(bars, mark.number))?;
@@ -49,7 +51,8 @@ fn bar_of(bars: &[Bar], number: u32) -> Option<&Bar>
 
 /// Adds a call in full, where its bar is there, and else its number.
 fn push_call_of(out: &mut String, number: u32, bar: Option<&Bar>) -> Result<(), Memory>
-    ensures { OnOk result (string_bytes out.new ≡ with_call_of (string_bytes out.old) number (option_copied bar.entry)) }
+    ensures { OnOk result (string_bytes out.new ≡ with_call_of (string_bytes out.old) number
+        (option_copied bar.entry)) }
 {
     match bar {
         Some(bar) => push_call(out, bar),

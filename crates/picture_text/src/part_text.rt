@@ -1,15 +1,16 @@
 // What stands in a text where it is long, or shows a part of a picture.
 ghost use Rattle.std.specs.Prelude.{◌≡◌, ◌++◌, OnOk, string_bytes};
 ghost use Rattle.picture_text.specs.Parts.{again_text, with_names, with_screens, line_text, before_text, behind_text};
-ghost use Rattle.picture_text.specs.Parts.{with_before, with_behind, counts_text, alone_text, with_counts, with_part};
+ghost use Rattle.picture_text.specs.Parts.{with_before, with_behind, counts_text, alone_text, note_text, with_counts, with_note, with_part};
 
 use crate::layout::{names_at, x_of, y_of};
 use events::Memory;
-use pictures::{Heading, Part, Picture};
+use pictures::{Heading, Picture, PicturePart};
 
 /// Adds so many columns of names behind that at the left.
 pub fn push_screens(out: &mut String, width: u8, screens: usize, lanes: &[u8]) -> Result<(), Memory>
-    ensures { OnOk result (string_bytes out.new ≡ with_screens (string_bytes out.old) width lanes.now 0 screens) }
+    ensures { OnOk result (string_bytes out.new ≡ with_screens (string_bytes out.old) width
+        lanes.now 0 screens) }
 {
     for screen in 0..screens {
         push_names(out, names_at(width, screen + 1), lanes)?;
@@ -38,11 +39,12 @@ fn push_again(out: &mut String, x: u128, y: u128, process: u8) -> Result<(), Mem
     Ok(())
 }
 
-/// Adds what is said of a part, where the picture is one: a dashed line at each end at which there is more, with how many
-/// columns that is, and below the legend how many are shown.
+/// Adds what is said of a part, where the picture is one: a dashed line at each end at which there
+/// is more, with how many columns that is, and below the legend what is shown.
 #[tactic(auto, unfolding(crate::specs::Parts::with_part))]
 pub fn push_part(out: &mut String, width: u8, picture: &Picture) -> Result<(), Memory>
-    ensures { OnOk result (string_bytes out.new ≡ with_part (string_bytes out.old) width picture.now) }
+    ensures { OnOk result (string_bytes out.new ≡ with_part (string_bytes out.old) width
+        picture.now) }
 {
     let Some(part) = picture.part else {
         return Ok(());
@@ -51,7 +53,7 @@ pub fn push_part(out: &mut String, width: u8, picture: &Picture) -> Result<(), M
     let end = x_of(width, picture.columns) + 8;
     push_before(out, part.before, bottom)?;
     push_behind(out, end, part.behind, bottom)?;
-    push_counts(out, bottom + 36, part, picture)?;
+    push_note(out, bottom + 52, part, picture)?;
     Ok(())
 }
 
@@ -72,7 +74,8 @@ fn push_before(out: &mut String, count: usize, bottom: u128) -> Result<(), Memor
 
 /// Adds that there is more behind it, where there is.
 fn push_behind(out: &mut String, x: u128, count: usize, bottom: u128) -> Result<(), Memory>
-    ensures { OnOk result (string_bytes out.new ≡ with_behind (string_bytes out.old) x count bottom) }
+    ensures { OnOk result (string_bytes out.new ≡ with_behind (string_bytes out.old) x count
+        bottom) }
 {
     if count == 0 {
         return Ok(());
@@ -96,20 +99,47 @@ fn push_line(out: &mut String, x: u128, bottom: u128) -> Result<(), Memory>
     Ok(())
 }
 
-/// Adds how many columns are shown, of how many, and around which event.
-fn push_counts(out: &mut String, y: u128, part: Part, picture: &Picture) -> Result<(), Memory>
+/// Adds what is shown.
+fn push_note(out: &mut String, y: u128, part: PicturePart, picture: &Picture) -> Result<(), Memory>
     ensures { OnOk result (string_bytes out.new
-        ≡ with_counts (string_bytes out.old) y picture.now.columns part picture.now.is_few picture.now.heading) }
+        ≡ with_note (string_bytes out.old) y picture.now.columns part picture.now.is_few
+        picture.now.heading) }
 {
-    let columns = picture.columns;
-    let all = part.before as u128 + columns as u128 + part.behind as u128;
-    let event = part.event;
-    write!(
-        out,
-        "<text class='note' x='16' y='{y}'>{columns} of {all} columns, around event {event}."
-    )?;
+    push_opening(out, y)?;
+    push_counts(out, picture.columns, part)?;
     out.push_str(alone_text(picture.is_few, &picture.heading))?;
     out.push_str("</text>\n")?;
+    Ok(())
+}
+
+/// Adds the beginning of a line of words.
+fn push_opening(out: &mut String, y: u128) -> Result<(), Memory>
+    ensures { OnOk result (string_bytes out.new ≡ string_bytes out.old ++ note_text y) }
+{
+    write!(out, "<text class='note' x='16' y='{y}'>")?;
+    Ok(())
+}
+
+/// Adds how many columns are shown, of how many, and around which event, where not all are.
+fn push_counts(out: &mut String, columns: usize, part: PicturePart) -> Result<(), Memory>
+    ensures { OnOk result (string_bytes out.new ≡ with_counts (string_bytes out.old) columns
+        part) }
+{
+    let left_out = part.before as u128 + part.behind as u128;
+    if left_out == 0 {
+        return Ok(());
+    }
+    push_counted(out, columns, part)
+}
+
+/// Adds how many columns are shown, of how many, and around which event.
+fn push_counted(out: &mut String, columns: usize, part: PicturePart) -> Result<(), Memory>
+    ensures { OnOk result (string_bytes out.new ≡ string_bytes out.old ++ counts_text columns
+        part) }
+{
+    let all = part.before as u128 + columns as u128 + part.behind as u128;
+    let event = part.event;
+    write!(out, "{columns} of {all} columns, around event {event}. ")?;
     Ok(())
 }
 
@@ -118,10 +148,12 @@ fn alone_text(is_few: bool, heading: &Heading) -> &'static str
     ensures { result.now ≡ alone_text is_few heading.now }
 {
     match (is_few, heading) {
-        (true, _) => " Calls that have no order by themselves, and those that put what they read.",
+        (true, _) => {
+            "Calls that show where it goes wrong, with those that put what they read and those that they miss."
+        }
         (false, Heading::Order) => "",
         (false, Heading::NoOrder { .. } | Heading::Undecided { .. }) => {
-            " Calls outside of the named segment are left out."
+            "Calls outside of the named segment are left out."
         }
     }
 }

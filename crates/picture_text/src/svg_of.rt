@@ -6,7 +6,7 @@ ghost use Rattle.picture_text.specs.Svg.{top_text, with_bars, with_marks, with_l
 
 use crate::bar_text::push_bar;
 use crate::frame::{has_wrong, push_head, push_heading, push_lane, push_legend, push_start};
-use crate::layout::{column_width, height_of, screens_before, width_of, y_of};
+use crate::layout::{column_width, height_of, screens_before, start_width, width_of, y_of};
 use crate::mark_text::push_mark;
 use crate::part_text::{push_part, push_screens};
 use events::Memory;
@@ -56,7 +56,11 @@ fn push_top(out: &mut String, alloc: Global, all: u128, picture: &Picture) -> Re
     push_head(out, all, height_of(picture.lanes.len(), &picture.part))?;
     out.push_str(STYLE)?;
     push_heading(out, &picture.heading)?;
-    push_start(out, alloc, &picture.start, all.saturating_sub(104) / 6)
+    let room = all
+        .saturating_sub(32)
+        .saturating_sub(start_width(&picture.part))
+        / 6;
+    push_start(out, alloc, &picture.part, &picture.start, room)
 }
 
 /// Adds the lanes, and what stands in them and below.
@@ -85,7 +89,8 @@ fn push_calls(out: &mut String, width: u8, all: u128, picture: &Picture) -> Resu
 /// Adds the columns of names, and the marks.
 fn push_order(out: &mut String, width: u8, picture: &Picture) -> Result<(), Memory>
     ensures { OnOk result (string_bytes out.new
-        ≡ with_marks (with_screens (string_bytes out.old) width picture.now.lanes.items 0 (screens_before width picture.now.columns))
+        ≡ with_marks (with_screens (string_bytes out.old) width picture.now.lanes.items 0
+        (screens_before width picture.now.columns))
         width picture.now.bars.items picture.now.marks.items) }
 {
     let screens = screens_before(width, picture.columns);
@@ -96,7 +101,8 @@ fn push_order(out: &mut String, width: u8, picture: &Picture) -> Result<(), Memo
 /// Adds what stands below the lanes, and what is said of a part.
 fn push_foot(out: &mut String, width: u8, picture: &Picture) -> Result<(), Memory>
     ensures { OnOk result (string_bytes out.new
-        ≡ with_part (with_legend_of (string_bytes out.old) picture.now) width picture.now ++ codes "</svg>") }
+        ≡ with_part (with_legend_of (string_bytes out.old) picture.now) width picture.now ++ codes
+        "</svg>") }
 {
     push_legend_of(out, picture)?;
     push_part(out, width, picture)?;
@@ -106,7 +112,8 @@ fn push_foot(out: &mut String, width: u8, picture: &Picture) -> Result<(), Memor
 
 /// Adds what the shapes mean.
 fn push_legend_of(out: &mut String, picture: &Picture) -> Result<(), Memory>
-    ensures { OnOk result (string_bytes out.new ≡ with_legend_of (string_bytes out.old) picture.now) }
+    ensures { OnOk result (string_bytes out.new ≡ with_legend_of (string_bytes out.old)
+        picture.now) }
 {
     let bottom = y_of(picture.lanes.len());
     let red = has_wrong(&picture.bars);
@@ -116,7 +123,8 @@ fn push_legend_of(out: &mut String, picture: &Picture) -> Result<(), Memory>
 
 /// Adds the lanes.
 fn push_lanes(out: &mut String, end: u128, lanes: &[u8]) -> Result<(), Memory>
-    ensures { OnOk result (string_bytes out.new ≡ with_lanes (string_bytes out.old) end 0 lanes.now) }
+    ensures { OnOk result (string_bytes out.new ≡ with_lanes (string_bytes out.old) end 0
+        lanes.now) }
 {
     for (lane, process) in lanes.iter().enumerate() {
         push_lane(out, end, lane, *process)?;
@@ -126,7 +134,8 @@ fn push_lanes(out: &mut String, end: u128, lanes: &[u8]) -> Result<(), Memory>
 
 /// Adds the bars.
 fn push_bars(out: &mut String, width: u8, columns: usize, bars: &[Bar]) -> Result<(), Memory>
-    ensures { OnOk result (string_bytes out.new ≡ with_bars (string_bytes out.old) width columns bars.now) }
+    ensures { OnOk result (string_bytes out.new ≡ with_bars (string_bytes out.old) width columns
+        bars.now) }
 {
     for bar in bars {
         push_bar(out, width, columns, bar)?;
@@ -136,7 +145,8 @@ fn push_bars(out: &mut String, width: u8, columns: usize, bars: &[Bar]) -> Resul
 
 /// Adds the marks of a picture with these bars.
 fn push_marks(out: &mut String, width: u8, bars: &[Bar], marks: &[Mark]) -> Result<(), Memory>
-    ensures { OnOk result (string_bytes out.new ≡ with_marks (string_bytes out.old) width bars.now marks.now) }
+    ensures { OnOk result (string_bytes out.new ≡ with_marks (string_bytes out.old) width bars.now
+        marks.now) }
 {
     for mark in marks {
         push_mark(out, width, bars, mark)?;

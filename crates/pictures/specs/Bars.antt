@@ -4,6 +4,7 @@ use Rattle.events.specs.declared.event.Event.{Event}
 use Rattle.events.specs.declared.event.Event.TheVariants.{Invoke}
 use Rattle.events.specs.declared.operation.Operation.{Operation}
 use Rattle.events.specs.declared.operation.Response.{Response}
+use Rattle.events.specs.Keys.{low_key, high_key}
 use Rattle.events.specs.Operations.{operations}
 use Rattle.list_laws.specs.Lists.{has_number}
 use Rattle.judge.specs.declared.verdict.Verdict.{Verdict}
@@ -13,7 +14,8 @@ use Rattle.pictures.specs.Columns.{event_column}
 use Rattle.pictures.specs.Lanes.{lanes}
 use Rattle.pictures.specs.Words.{call_words, reply_words}
 
--- whether a verdict speaks of a call: a yes of all, a no and an undecided of those of the segment that they name
+-- whether a verdict speaks of a call: a yes of all, a no and an undecided of those of the segment
+-- that they name
 abbrev pub speaks_of : Verdict → ℕ → Bool
 speaks_of (Yes order) n = true
 speaks_of (No segment) n = has_number segment.numbers n
@@ -25,7 +27,8 @@ is_response None response = false
 is_response (Some event) None = false
 is_response (Some event) (Some response) = response.res == event
 
--- a bar goes from the column of a call's invocation to that of its response, or is open where the call is pending
+-- a bar goes from the column of a call's invocation to that of its response, or is open where the
+-- call is pending
 pub record IsSpanOf (points : List ℕ) (a : Operation) (bar : Bar) : Type 0 where
   pub from : bar.from ≡ event_column points a.inv
   pub to : bar.to ≡ option_map (λ r. event_column points r.res) a.response
@@ -35,7 +38,8 @@ pub record AreSpansOf (calls : List Operation) (points : List ℕ) (bars : List 
   pub one_each : length bars ≡ length calls
   pub each : (n : ℕ) (a : Operation) (bar : Bar) → slice_get calls n ≡ Some a → slice_get bars n ≡ Some bar → IsSpanOf points a bar
 
--- the bar of a call: in the lane of the process that invokes it, from its invocation to its response; with both in words
+-- the bar of a call: in the lane of the process that invokes it, from its invocation to its
+-- response; with its keys, and with both in words
 pub record IsBarOf (events : List Event) (points : List ℕ) (verdict : Verdict) (wrong : Option ℕ) (n : ℕ) (a : Operation)
     (bar : Bar) : Type 0 where
   pub number : bar.number ≡ n
@@ -44,6 +48,8 @@ pub record IsBarOf (events : List Event) (points : List ℕ) (verdict : Verdict)
   pub invoked : slice_get events a.inv ≡ Some (Invoke bar.process a.call)
   pub lane : slice_get (lanes events) bar.lane ≡ Some bar.process
   pub span : IsSpanOf points a bar
+  pub low : bar.low ≡ low_key a.call
+  pub high : bar.high ≡ high_key a.call
   pub call : string_bytes bar.call ≡ call_words a.call
   pub reply : option_map string_bytes bar.reply ≡ option_map (λ r. reply_words r.reply) a.response
   pub pale : bar.is_pale ≡ not (speaks_of verdict n)

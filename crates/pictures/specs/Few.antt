@@ -1,4 +1,5 @@
--- The picture of a few calls alone: some of a history's, told by the events at which they were invoked, in columns of their own events.
+-- The picture of a few calls alone: some of a history's, told by the events at which they were
+-- invoked, in columns of their own events.
 use Rattle.std.specs.Prelude.{◌≡◌, ◌≢◌, ℕ, ◌==◌, ◌*◌, ◌≤◌, ◌&&◌, Bool, true, not, List, map, filter, count_by, Option, AllPairs}
 use Rattle.std.specs.List.{list_any}
 use Rattle.events.specs.declared.operation.Operation.{Operation}
@@ -37,7 +38,8 @@ pub record IsNarrowedTo (places : List ℕ) (whole narrowed : Picture) : Type 0 
 abbrev pub few_room : ℕ
 few_room = 60
 
--- these calls alone, in columns of their own events and marks; where these have no room, those around the wrong event
+-- these calls alone, in columns of their own events and marks; where these have no room, those
+-- around the wrong event
 pub record IsFewOf (places : List ℕ) (wrong : Option ℕ) (whole part : Picture) : Type 0 where
   pub narrowed : Picture
   pub named : IsNarrowedTo places whole narrowed
@@ -46,7 +48,8 @@ pub record IsFewOf (places : List ℕ) (wrong : Option ℕ) (whole part : Pictur
 
 -- ---- a law
 
--- there are at most three columns of each call that stands out, where an order of distinct calls is marked
+-- there are at most three columns of each call that stands out, where an order of distinct calls is
+-- marked
 abbrev pub FewHaveFewColumns : Type 0
 FewHaveFewColumns =
     (calls : List Operation) (order places : List ℕ) (wrong : Option ℕ) (whole part : Picture) → AllPairs (λ m n. m ≢ n) order

@@ -4,8 +4,8 @@ use Rattle.search.specs.LongestFront.{IsLongestFront}
 use Rattle.judge.specs.declared.verdict.Verdict.{Verdict}
 use Rattle.judge.specs.declared.verdict.Verdict.TheVariants as verdicts
 
--- the front that is marked for a verdict: the longest one of the segment that it names which a search at the budget meets, and none for a
--- yes
+-- the front that is marked for a verdict: the longest one of the segment that it names which a
+-- search at the budget meets, and none for a yes
 abbrev pub IsFrontShown : ℕ → Verdict → List ℕ → Type 0
 IsFrontShown budget (verdicts.Yes order) front = front ≡ []
 IsFrontShown budget (verdicts.No segment) front = IsLongestFront budget segment front

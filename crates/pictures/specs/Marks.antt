@@ -7,13 +7,15 @@ use Rattle.pictures.specs.declared.bars.Bar.{Bar}
 use Rattle.pictures.specs.declared.marks.Mark.{Mark}
 use Rattle.pictures.specs.Columns.{order_points, mark_column}
 
--- calls that can be marked as an order would be: calls of the history, each once, and none before one that precedes it
+-- calls that can be marked as an order would be: calls of the history, each once, and none before
+-- one that precedes it
 pub record IsMarkable (calls : List Operation) (order : List ℕ) : Type 0 where
   pub known : All (λ n. n < length calls) order
   pub distinct : AllPairs (λ m n. m ≢ n) order
   pub precedence : KeepsPrecedence (calls_at calls order)
 
--- a mark is inside of a bar: in its lane, behind the invocation, and before the response where there is one
+-- a mark is inside of a bar: in its lane, behind the invocation, and before the response where
+-- there is one
 pub record IsInside (mark : Mark) (bar : Bar) : Type 0 where
   pub lane : mark.lane ≡ bar.lane
   pub behind : bar.from < mark.column

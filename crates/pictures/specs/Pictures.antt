@@ -24,7 +24,8 @@ heading_of (verdicts.Yes order) = Order
 heading_of (verdicts.No segment) = NoOrder segment.lo segment.hi
 heading_of (verdicts.Undecided segment) = Undecided segment.lo segment.hi
 
--- the picture of a verdict on a history, of the event at which it goes wrong where that is known, and of a front
+-- the picture of a verdict on a history, of the event at which it goes wrong where that is known,
+-- and of a front
 pub record IsPictureOf (history : HistoryView) (verdict : Verdict) (wrong : Option ℕ) (front : List ℕ) (picture : Picture) : Type 0 where
   pub heading : picture.heading ≡ heading_of verdict
   pub start : picture.start.items ≡ history.start

@@ -1,4 +1,5 @@
--- The part of a picture that a view shows: a window of the columns of the calls of which the verdict speaks.
+-- The part of a picture that a view shows: a window of the columns of the calls of which the
+-- verdict speaks.
 use Rattle.std.specs.Prelude.{◌≡◌, ℕ, ◌+◌, ◌-◌, ◌*◌, ◌/◌, ◌==◌, ◌<◌, ◌≤◌, Bool, true, not, ◌&&◌, ◌||◌, nat_lt, nat_le, if◌then◌else◌, min}
 use Rattle.std.specs.Prelude.{List, ◌++◌, length, map, filter, count_by, position, Option, Some, None, option_map, unwrap_or}
 use Rattle.std.specs.Prelude.{slice_get, MatchBool}
@@ -25,7 +26,8 @@ event_meant wrong marks = unwrap_or wrong (last_point marks)
 abbrev pub event_shown : ℕ → Option ℕ → ℕ → List Mark → ℕ
 event_shown events wrong around marks = if nat_lt around events then around else event_meant wrong marks
 
--- the column of an event in the whole picture: as many stand before it as there are earlier events, and marks whose points are before it
+-- the column of an event in the whole picture: as many stand before it as there are earlier events,
+-- and marks whose points are before it
 abbrev pub column_of : List Mark → ℕ → ℕ
 column_of marks event = event + count_by (λ m. nat_lt m.point event) marks
 
@@ -66,7 +68,8 @@ room_for calls = calls_shown calls * 3
 abbrev pub is_whole : ℕ → ℕ → Bool
 is_whole room columns = room == 0 || nat_le columns room
 
--- the first column of a window with so much room: half of it before the middle, where neither end of the columns is passed
+-- the first column of a window with so much room: half of it before the middle, where neither end
+-- of the columns is passed
 abbrev pub window_from : ℕ → ℕ → ℕ → ℕ
 window_from columns middle room = min (middle - room / 2) (columns - min room columns)
 
@@ -94,14 +97,24 @@ bars_in columns from to bars = filter (meets from to) (map (ranked_bar columns) 
 abbrev pub marks_in : List ℕ → ℕ → ℕ → List Mark → List Mark
 marks_in columns from to marks = filter (is_within from to) (map (ranked_mark columns) marks)
 
--- the lanes of the processes that have such a bar, and where the lane of a process stands among them
+-- the lanes of the processes that have such a bar, and where the lane of a process stands among
+-- them
 abbrev pub lanes_kept : List Bar → List ℕ → List ℕ
 lanes_kept bars lanes = filter (λ p. list_any (λ b. b.process == p) bars) lanes
 
 abbrev pub place_of : List ℕ → ℕ → ℕ
 place_of lanes process = unwrap_or (position (λ lane. lane == process) lanes) 0
 
--- a bar as it stands there: open at the left where it begins before the window, and at the right where it ends behind it
+-- a bar's call names a key
+abbrev pub has_key : ℕ → Bar → Bool
+has_key key bar = nat_le bar.low key && nat_le key bar.high
+
+-- the pairs at keys that the calls of some bars name
+abbrev pub start_kept : List Bar → List (ℕ × ℕ) → List (ℕ × ℕ)
+start_kept bars start = filter (λ pair. list_any (has_key pair.0) bars) start
+
+-- a bar as it stands there: open at the left where it begins before the window, and at the right
+-- where it ends behind it
 abbrev pub cut_end : ℕ → ℕ → Option ℕ → Option ℕ
 cut_end from to None = None
 cut_end from to (Some end) = if nat_lt end to then Some (end - from) else None
@@ -121,10 +134,11 @@ cut_mark all lanes from mark = record mark {
   column = mark.column - from;
 }
 
--- a picture is the window of another one from a column up to another one, among these columns, around an event
+-- a picture is the window of another one from a column up to another one, among these columns,
+-- around an event; the map's pairs at the start are those at keys of the calls that it shows
 pub record IsPartOf (among : List ℕ) (event from to : ℕ) (whole part : Picture) : Type 0 where
   pub heading : part.heading ≡ whole.heading
-  pub start : part.start.items ≡ whole.start.items
+  pub start : part.start.items ≡ start_kept (bars_in among from to whole.bars.items) whole.start.items
   pub lanes : part.lanes.items ≡ lanes_kept (bars_in among from to whole.bars.items) whole.lanes.items
   pub bars : part.bars.items ≡ map (cut_bar part.lanes.items from to) (bars_in among from to whole.bars.items)
   pub marks : part.marks.items ≡ map (cut_mark whole.lanes.items part.lanes.items from) (marks_in among from to whole.marks.items)
@@ -143,7 +157,8 @@ IsWindowAround room column event whole part =
 abbrev pub IsWindowOf : ℕ → ℕ → Picture → Picture → Type 0
 IsWindowOf room event whole part = IsWindowAround room (column_of whole.marks.items event) event whole part
 
--- what a view shows of a picture of a history with so many events: the picture itself where all its columns have room, else a window
+-- what a view shows of a picture of a history with so many events: the picture itself where all its
+-- columns have room, else a window
 abbrev pub IsShownOf : ℕ → Option ℕ → View → Picture → Picture → Type 0
 IsShownOf events wrong view whole part = MatchBool (is_whole (room_for view.calls) whole.columns) (part ≡ whole)
     (IsWindowOf (room_for view.calls) (event_shown events wrong view.around whole.marks.items) whole part)
@@ -161,13 +176,15 @@ abbrev pub RanksRise : Type 0
 RanksRise = (columns : List ℕ) (a b : ℕ) → (a ≤ b → rank columns a ≤ rank columns b)
     × (Contains columns a → a < b → rank columns a < rank columns b) × (Contains columns a → rank columns a < length columns)
 
--- a mark is inside of a bar of a window: in its lane, behind its beginning or at the end at which the bar is cut, and before its end
+-- a mark is inside of a bar of a window: in its lane, behind its beginning or at the end at which
+-- the bar is cut, and before its end
 pub record IsInsideCut (mark : Mark) (bar : Bar) : Type 0 where
   pub lane : mark.lane ≡ bar.lane
   pub behind : bar.from ≤ mark.column
   pub before : IfSome bar.to (λ to. mark.column < to)
 
--- a mark that is inside of a bar, and in the window, has the bar in the window, and is inside of it there
+-- a mark that is inside of a bar, and in the window, has the bar in the window, and is inside of it
+-- there
 abbrev pub MarksStayInside : Type 0
 MarksStayInside = (columns all lanes : List ℕ) (from to : ℕ) (bar : Bar) (mark : Mark) → IsInside mark bar → Contains columns bar.from
     → Contains columns mark.column → slice_get all bar.lane ≡ Some bar.process → is_within from to (ranked_mark columns mark) ≡ true

@@ -16,7 +16,8 @@ use events::{Event, History, Memory, Operation, Response};
 use judge::Verdict;
 use std::alloc::Global;
 
-/// The bar of a call, from its invocation to its response; a pending one is open, to the end of the picture.
+/// The bar of a call, from its invocation to its response; a pending one is open, to the end of the
+/// picture.
 #[derive(Debug, Drop)]
 pub struct Bar {
     /// The number of the call in the history.
@@ -33,6 +34,10 @@ pub struct Bar {
     pub from: usize,
     /// The column of the response.
     pub to: Option<usize>,
+    /// The least key that the call names.
+    pub low: u64,
+    /// The greatest key that it names.
+    pub high: u64,
     /// The call in words.
     pub call: String,
     /// Its reply in words.
@@ -55,8 +60,8 @@ pub struct Scene<'a> {
     pub points: &'a [usize],
 }
 
-/// One bar for each call, by number. For n calls it takes time in proportion to n times the calls of the order, and
-/// to the length of all replies.
+/// One bar for each call, by number. For n calls it takes time in proportion to n times the calls
+/// of the order, and to the length of all replies.
 pub fn bars_of(alloc: Global, scene: &Scene<'_>) -> Result<Vec<Bar>, Memory>
     requires lanes { scene.now.lanes.now ≡ lanes scene.now.history.now.events }
     requires history { IsHistory scene.now.history.now }
@@ -108,8 +113,10 @@ fn bar_with(
     requires history { IsHistory scene.now.history.now }
     requires call { slice_get (operations scene.now.history.now.events) number ≡ Some call.now }
     requires words { string_bytes words ≡ call_words call.now.call }
-    requires reply { option_map string_bytes reply ≡ option_map (λ r. reply_words r.reply) call.now.response }
-    ensures { IsBarOf scene.now.history.now.events scene.now.points.now scene.now.verdict.now scene.now.wrong number call.now result }
+    requires reply { option_map string_bytes reply ≡ option_map (λ r. reply_words r.reply)
+        call.now.response }
+    ensures { IsBarOf scene.now.history.now.events scene.now.points.now scene.now.verdict.now
+        scene.now.wrong number call.now result }
 {
     let events = scene.history.events();
     let process = process_at(events, call.inv);
@@ -121,6 +128,8 @@ fn bar_with(
         res: place_of(&call.response),
         from: event_column(events, scene.points, call.inv),
         to: column_of(events, scene.points, &call.response),
+        low: call.call.low_key(),
+        high: call.call.high_key(),
         call: words,
         reply,
         is_pale: !speaks_of(scene.verdict, number),
@@ -139,7 +148,8 @@ fn process_at(events: &[Event], place: usize) -> u8
 
 /// The reply of a response in words.
 fn words_of_response(alloc: Global, response: &Option<Response>) -> Result<Option<String>, Memory>
-    ensures { IfOk result (λ words. option_map string_bytes words ≡ option_map (λ r. reply_words r.reply) response.now) }
+    ensures { IfOk result (λ words. option_map string_bytes words ≡ option_map
+        (λ r. reply_words r.reply) response.now) }
 {
     match response {
         Some(response) => Ok(Some(reply_words(alloc, &response.reply)?)),
@@ -168,7 +178,8 @@ fn column_of(events: &[Event], points: &[usize], response: &Option<Response>) ->
     }
 }
 
-/// Whether a verdict speaks of a call: a yes of all, a no and an undecided of those of the segment that they name.
+/// Whether a verdict speaks of a call: a yes of all, a no and an undecided of those of the segment
+/// that they name.
 fn speaks_of(verdict: &Verdict, number: usize) -> bool
     ensures { result ≡ speaks_of verdict.now number }
 {

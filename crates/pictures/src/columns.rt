@@ -5,7 +5,8 @@ ghost use Rattle.pictures.specs.Columns.{order_points, event_column, mark_column
 use events::{Event, Memory, Operation};
 use std::alloc::Global;
 
-/// The points of the calls of an order: the greatest place of an invocation up to each call's place.
+/// The points of the calls of an order: the greatest place of an invocation up to each call's
+/// place.
 pub fn points_of(alloc: Global, calls: &[Operation], order: &[u32]) -> Result<Vec<usize>, Memory>
     requires known { All (λ n. n < length calls.now) order.now }
     requires distinct { AllPairs (λ m n. m ≢ n) order.now }

@@ -13,9 +13,10 @@ use std::alloc::Global;
 /// How many columns a picture of a few calls has at most.
 const FEW_ROOM: usize = 60;
 
-/// The calls of a picture that were invoked at these places alone, with their marks, in columns of their own events: all of them
-/// where there are at most 60, else those around the wrong event, and where there is none around the last mark of the picture. It
-/// takes time in proportion to the square of the columns, and to the bars times the places. `Err` is want of memory.
+/// The calls of a picture that were invoked at these places alone, with their marks, in columns of
+/// their own events: all of them where there are at most 60, else those around the wrong event, and
+/// where there is none around the last mark of the picture. It takes time in proportion to the
+/// square of the columns, and to the bars times the places. `Err` is want of memory.
 pub fn few_of(
     alloc: Global,
     picture: Picture,

@@ -12,8 +12,9 @@ use judge::Verdict;
 use search::longest_front;
 use std::alloc::Global;
 
-/// The front that the picture of a verdict marks as it would an order: the longest one of the named segment that a search
-/// meets, and none for a yes. It costs what the search of that segment costs. `Err` is want of memory.
+/// The front that the picture of a verdict marks as it would an order: the longest one of the named
+/// segment that a search meets, and none for a yes. It costs what the search of that segment costs.
+/// `Err` is want of memory.
 pub fn front_of(
     alloc: Global,
     history: &History,
@@ -23,7 +24,8 @@ pub fn front_of(
     requires budget { (1 ≤ budget) × (budget ≤ budget_limit) }
     requires shown { IsShown history.now.start budget (operations history.now.events) verdict.now }
     ensures front { IfOk result (λ v. IsFrontShown budget verdict.now v.items) }
-    ensures markable { IfOk result (λ v. IsMarkable (operations history.now.events) (marked verdict.now v.items)) }
+    ensures markable { IfOk result (λ v. IsMarkable (operations history.now.events)
+        (marked verdict.now v.items)) }
 {
     let front = front_shown(alloc, verdict, budget)?;
     Ok(front)

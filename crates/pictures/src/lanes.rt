@@ -6,8 +6,8 @@ ghost use Rattle.pictures.specs.Lanes.{has_events, lanes};
 use events::{Event, Memory, PROCESSES};
 use std::alloc::Global;
 
-/// A lane for each process that has a call, by rising number. It takes time in proportion to the events, for a
-/// fixed number of processes.
+/// A lane for each process that has a call, by rising number. It takes time in proportion to the
+/// events, for a fixed number of processes.
 pub fn lanes_of(alloc: Global, events: &[Event]) -> Result<Vec<u8>, Memory>
     ensures { IfOk result (λ v. v.items ≡ lanes events.now) }
 {

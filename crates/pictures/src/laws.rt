@@ -7,7 +7,8 @@ pub fn windows_hold_their_middle()
     ensures { WindowHoldsMiddle }
 {}
 
-/// Columns that are counted anew keep their order, each has a place of its own, and none is past their number.
+/// Columns that are counted anew keep their order, each has a place of its own, and none is past
+/// their number.
 pub fn ranks_rise()
     ensures { RanksRise }
 {}

@@ -1,9 +1,9 @@
-//! Pictures of verdicts: a picture is a value, which has a lane for each process, a bar for each call and a mark
-//! for each call of an order, at its linearization point.
+//! Pictures of verdicts: a picture is a value, which has a lane for each process, a bar for each
+//! call and a mark for each call of an order, at its linearization point.
 //!
-//! A picture goes from left to right by columns. Each event has a column, and each mark has one behind the event
-//! at which its point is, so no two of them stand in one column. Of a long picture a part is shown, a window of the
-//! columns of the calls of which the verdict speaks.
+//! A picture goes from left to right by columns. Each event has a column, and each mark has one
+//! behind the event at which its point is, so no two of them stand in one column. Of a long picture
+//! a part is shown, a window of the columns of the calls of which the verdict speaks.
 #![tactic(auto)]
 
 mod bars;
@@ -22,6 +22,6 @@ pub use few::few_of;
 pub use fronts::front_of;
 pub use laws::{few_have_few_columns, marks_stay_inside, ranks_rise, windows_hold_their_middle};
 pub use marks::Mark;
-pub use pictures_of::{Heading, Part, Picture, picture_of};
+pub use pictures_of::{Heading, Picture, PicturePart, picture_of};
 pub use windows::{View, part_of};
 pub use words::{call_words, pairs_words, reply_words};

@@ -17,7 +17,8 @@ pub struct Mark {
     pub number: u32,
     /// The place of the call in the order, from 0.
     pub place: usize,
-    /// The place of the event behind which its point is: the greatest of an invocation up to its place in the order.
+    /// The place of the event behind which its point is: the greatest of an invocation up to its
+    /// place in the order.
     pub point: usize,
     /// The place of its lane among the lanes.
     pub lane: usize,
@@ -33,9 +34,12 @@ pub fn marks_of(
     bars: &[Bar],
 ) -> Result<Vec<Mark>, Memory>
     requires order { IsMarkable (operations scene.now.history.now.events) order.now }
-    requires points { scene.now.points.now ≡ order_points (operations scene.now.history.now.events) order.now }
-    requires bars { AreSpansOf (operations scene.now.history.now.events) scene.now.points.now bars.now }
-    ensures { IfOk result (λ v. AreMarksOf (operations scene.now.history.now.events) order.now bars.now v.items) }
+    requires points { scene.now.points.now ≡ order_points (operations scene.now.history.now.events)
+        order.now }
+    requires bars { AreSpansOf (operations scene.now.history.now.events) scene.now.points.now
+        bars.now }
+    ensures { IfOk result (λ v. AreMarksOf (operations scene.now.history.now.events) order.now
+        bars.now v.items) }
 {
     let mut marks = Vec::with_capacity(alloc, order.len())?;
     for (place, number) in order.iter().enumerate() {

@@ -23,7 +23,8 @@ pub enum Heading {
     Order,
     /// The calls on the keys from the one to the other have no order.
     NoOrder { lo: u64, hi: u64 },
-    /// The search of the calls on the keys from the one to the other met more configurations than its budget.
+    /// The search of the calls on the keys from the one to the other met more configurations than
+    /// its budget.
     Undecided { lo: u64, hi: u64 },
 }
 
@@ -32,7 +33,7 @@ pub enum Heading {
 pub struct Picture {
     /// What it says at its top.
     pub heading: Heading,
-    /// The pairs that the map holds at the start.
+    /// The pairs that the map holds at the start; of a part those at keys that its calls name.
     pub start: Vec<(u64, u64)>,
     /// The processes that have a call, by rising number: a lane for each.
     pub lanes: Vec<u8>,
@@ -43,14 +44,14 @@ pub struct Picture {
     /// How many columns there are.
     pub columns: usize,
     /// Where it shows a part of the columns of a picture, what it leaves out.
-    pub part: Option<Part>,
+    pub part: Option<PicturePart>,
     /// Whether a few calls alone stand out.
     pub is_few: bool,
 }
 
 /// What a part of a picture leaves out.
 #[derive(Clone, Copy, Debug, PartialEq, Eq)]
-pub struct Part {
+pub struct PicturePart {
     /// How many columns stand before it.
     pub before: usize,
     /// How many columns stand behind it.
@@ -59,10 +60,10 @@ pub struct Part {
     pub event: usize,
 }
 
-/// The picture of a verdict on a history: with the event at which it goes wrong, where that is known, and in a no
-/// or an undecided with a front, whose calls are marked as an order would be. Where none is known the front is
-/// empty. `Err` is want of memory. For n calls it takes time in proportion to n times the calls marked, and to the
-/// length of all replies.
+/// The picture of a verdict on a history: with the event at which it goes wrong, where that is
+/// known, and in a no or an undecided with a front, whose calls are marked as an order would be.
+/// Where none is known the front is empty. `Err` is want of memory. For n calls it takes time in
+/// proportion to n times the calls marked, and to the length of all replies.
 pub fn picture_of(
     alloc: Global,
     history: &History,
@@ -73,7 +74,7 @@ pub fn picture_of(
     requires { IsMarkable (operations history.now.events) (marked verdict.now front.now) }
     ensures { IfOk result (IsPictureOf history.now verdict.now wrong front.now) }
 {
-    let points = points_of(alloc, history.calls(), marked(verdict, front))?;
+    let points = points_of(alloc, history.calls(), marked_calls(verdict, front))?;
     picture_at(alloc, history, verdict, wrong, front, &points)
 }
 
@@ -87,10 +88,11 @@ fn picture_at(
     points: &[usize],
 ) -> Result<Picture, Memory>
     requires markable { IsMarkable (operations history.now.events) (marked verdict.now front.now) }
-    requires points { points.now ≡ order_points (operations history.now.events) (marked verdict.now front.now) }
+    requires points { points.now ≡ order_points (operations history.now.events)
+        (marked verdict.now front.now) }
     ensures { IfOk result (IsPictureOf history.now verdict.now wrong front.now) }
 {
-    let order = marked(verdict, front);
+    let order = marked_calls(verdict, front);
     let start = Vec::from_slice(alloc, history.start())?;
     let lanes = lanes_of(alloc, history.events())?;
     let scene = Scene {
@@ -123,10 +125,12 @@ fn bars_and_marks(
     requires lanes { scene.now.lanes.now ≡ lanes scene.now.history.now.events }
     requires history { IsHistory scene.now.history.now }
     requires order { IsMarkable (operations scene.now.history.now.events) order.now }
-    requires points { scene.now.points.now ≡ order_points (operations scene.now.history.now.events) order.now }
+    requires points { scene.now.points.now ≡ order_points (operations scene.now.history.now.events)
+        order.now }
     ensures bars { IfOk result (λ drawn. AreBarsOf scene.now.history.now.events scene.now.points.now
         scene.now.verdict.now scene.now.wrong drawn.0.items) }
-    ensures marks { IfOk result (λ drawn. AreMarksOf (operations scene.now.history.now.events) order.now
+    ensures marks { IfOk result (λ drawn. AreMarksOf (operations scene.now.history.now.events)
+        order.now
         drawn.0.items drawn.1.items) }
 {
     let bars = bars_of(alloc, scene)?;
@@ -135,7 +139,7 @@ fn bars_and_marks(
 }
 
 /// The calls that are marked: those of the order of a yes, else those of the front.
-fn marked<'a>(verdict: &'a Verdict, front: &'a [u32]) -> &'a [u32]
+fn marked_calls<'a>(verdict: &'a Verdict, front: &'a [u32]) -> &'a [u32]
     ensures { result.now ≡ marked verdict.now front.now }
 {
     match verdict {

@@ -2,13 +2,13 @@
 ghost use Rattle.std.specs.Prelude.{◌≡◌, ◌==◌, ◌+◌, ◌++◌, ◌≤◌, length, map, min, option_map, position, slice_get, unwrap_or, IfOk, OnOk, Option};
 ghost use Rattle.std.specs.List.{filter_map, list_any};
 ghost use Rattle.pictures.specs.Windows.{ranked_bar, ranked_mark, meets, is_within, cut_bar, cut_mark, cut_end};
-ghost use Rattle.pictures.specs.Windows.{columns_of, start_of, end_of, rank, place_of, lanes_kept, bar_in, bars_in, marks_in};
+ghost use Rattle.pictures.specs.Windows.{columns_of, start_of, end_of, rank, place_of, has_key, start_kept, lanes_kept, bar_in, bars_in, marks_in};
 ghost use Rattle.pictures.specs.Windows.{window_from, event_meant, event_shown, last_point, column_of, is_whole, room_for};
 ghost use Rattle.pictures.specs.Windows.{IsPartOf, IsShownOf, IsWindowAround};
 
 use crate::bars::Bar;
 use crate::marks::Mark;
-use crate::pictures_of::{Part, Picture};
+use crate::pictures_of::{Picture, PicturePart};
 use events::{MAX_CALLS, Memory};
 use std::alloc::Global;
 
@@ -17,14 +17,14 @@ use std::alloc::Global;
 pub struct View {
     /// The event in its middle. One that the history has not names none.
     pub around: u32,
-    /// For how many calls it has room, three columns each. 0 asks for the whole picture, and more than a history can have for none,
-    /// which is for 20.
+    /// For how many calls it has room, three columns each. 0 asks for the whole picture, and more
+    /// than a history can have for none, which is for 20.
     pub calls: u32,
 }
 
-/// The part of a picture of a history with so many events that a view shows: the picture itself where all its columns have
-/// room, else a window of the columns of the calls of which the verdict speaks. It takes time in proportion to the square of
-/// the columns. `Err` is want of memory.
+/// The part of a picture of a history with so many events that a view shows: the picture itself
+/// where all its columns have room, else a window of the columns of the calls of which the verdict
+/// speaks. It takes time in proportion to the square of the columns. `Err` is want of memory.
 pub fn part_of(
     alloc: Global,
     picture: Picture,
@@ -43,8 +43,8 @@ pub fn part_of(
     window_around(alloc, picture, room, column, event)
 }
 
-/// For how many columns there is room, where this is asked for: three for each call, and 20 calls where more are named than a history
-/// can have.
+/// For how many columns there is room, where this is asked for: three for each call, and 20 calls
+/// where more are named than a history can have.
 fn room_for(calls: u32) -> usize
     ensures { result ≡ room_for calls }
 {
@@ -90,7 +90,8 @@ fn event_shown(events: usize, wrong: Option<usize>, around: usize, marks: &[Mark
     }
 }
 
-/// The event in the middle where none is asked for: the wrong one; else that behind which the last mark stands.
+/// The event in the middle where none is asked for: the wrong one; else that behind which the last
+/// mark stands.
 pub(crate) fn event_meant(wrong: Option<usize>, marks: &[Mark]) -> usize
     ensures { result ≡ event_meant wrong marks.now }
 {
@@ -117,7 +118,8 @@ pub(crate) fn column_of(marks: &[Mark], event: usize) -> u128
     event as u128 + marks.iter().filter(|mark| mark.point < event).count() as u128
 }
 
-/// The columns that the calls of which the verdict speaks, and the marks, have in the whole picture.
+/// The columns that the calls of which the verdict speaks, and the marks, have in the whole
+/// picture.
 fn columns_of(alloc: Global, bars: &[Bar], marks: &[Mark]) -> Result<Vec<usize>, Memory>
     ensures { IfOk result (λ v. v.items ≡ columns_of bars.now marks.now) }
 {
@@ -209,10 +211,11 @@ fn window_at(
 ) -> Result<Picture, Memory>
     ensures { IfOk result (IsPartOf columns.now event from to picture) }
 {
-    let (lanes, bars, marks) = kept_at(
+    let (start, lanes, bars, marks) = kept_at(
         alloc,
         picture.bars,
         &picture.marks,
+        &picture.start,
         &picture.lanes,
         columns,
         from,
@@ -220,12 +223,12 @@ fn window_at(
     )?;
     Ok(Picture {
         heading: picture.heading,
-        start: picture.start,
+        start,
         lanes,
         bars,
         marks,
         columns: to.saturating_sub(from),
-        part: Some(Part {
+        part: Some(PicturePart {
             before: from,
             behind: columns.len().saturating_sub(to),
             event,
@@ -234,26 +237,33 @@ fn window_at(
     })
 }
 
-/// The lanes, the bars and the marks of a window, where these are all lanes.
+/// The pairs at the start, the lanes, the bars and the marks of a window, where these are all pairs
+/// and all lanes.
 fn kept_at(
     alloc: Global,
     bars: Vec<Bar>,
     marks: &[Mark],
+    pairs: &[(u64, u64)],
     all: &[u8],
     columns: &[usize],
     from: usize,
     to: usize,
-) -> Result<(Vec<u8>, Vec<Bar>, Vec<Mark>), Memory>
-    ensures lanes { IfOk result (λ kept. kept.0.items ≡ lanes_kept (bars_in columns.now from to bars.items) all.now) }
-    ensures bars { IfOk result (λ kept. kept.1.items ≡ map (cut_bar kept.0.items from to) (bars_in columns.now from to bars.items)) }
-    ensures marks { IfOk result (λ kept. kept.2.items
-        ≡ map (cut_mark all.now kept.0.items from) (marks_in columns.now from to marks.now)) }
+) -> Result<(Vec<(u64, u64)>, Vec<u8>, Vec<Bar>, Vec<Mark>), Memory>
+    ensures start { IfOk result (λ kept. kept.0.items ≡ start_kept
+        (bars_in columns.now from to bars.items) pairs.now) }
+    ensures lanes { IfOk result (λ kept. kept.1.items ≡ lanes_kept
+        (bars_in columns.now from to bars.items) all.now) }
+    ensures bars { IfOk result (λ kept. kept.2.items ≡ map (cut_bar kept.1.items from to)
+        (bars_in columns.now from to bars.items)) }
+    ensures marks { IfOk result (λ kept. kept.3.items
+        ≡ map (cut_mark all.now kept.1.items from) (marks_in columns.now from to marks.now)) }
 {
     let bars = bars_in(alloc, bars, columns, from, to)?;
+    let start = start_kept(alloc, &bars, pairs)?;
     let lanes = lanes_kept(alloc, &bars, all)?;
     let marks = marks_at(alloc, marks, all, &lanes, columns, from, to)?;
     let bars = cut_bars(alloc, bars, &lanes, from, to)?;
-    Ok((lanes, bars, marks))
+    Ok((start, lanes, bars, marks))
 }
 
 /// The marks in a window, as they stand in it with these of all lanes.
@@ -266,13 +276,15 @@ fn marks_at(
     from: usize,
     to: usize,
 ) -> Result<Vec<Mark>, Memory>
-    ensures { IfOk result (λ v. v.items ≡ map (cut_mark all.now lanes.now from) (marks_in columns.now from to marks.now)) }
+    ensures { IfOk result (λ v. v.items ≡ map (cut_mark all.now lanes.now from)
+        (marks_in columns.now from to marks.now)) }
 {
     let marks = marks_in(alloc, marks, columns, from, to)?;
     cut_marks(alloc, &marks, all, lanes, from)
 }
 
-/// The bars of the calls of which the verdict speaks that meet a window, with their places among the columns.
+/// The bars of the calls of which the verdict speaks that meet a window, with their places among
+/// the columns.
 fn bars_in(
     alloc: Global,
     bars: Vec<Bar>,
@@ -303,7 +315,8 @@ fn bars_kept(
     )
 }
 
-/// A bar with its places among the columns, where the verdict speaks of the call and it meets a window.
+/// A bar with its places among the columns, where the verdict speaks of the call and it meets a
+/// window.
 fn bar_in(columns: &[usize], from: usize, to: usize, bar: Bar) -> Option<Bar>
     ensures { result ≡ bar_in columns.now from to bar }
 {
@@ -384,6 +397,26 @@ fn is_within(from: usize, to: usize, mark: &Mark) -> bool
     from <= mark.column && mark.column < to
 }
 
+/// The pairs at keys that the calls of these bars name.
+fn start_kept(alloc: Global, bars: &[Bar], start: &[(u64, u64)]) -> Result<Vec<(u64, u64)>, Memory>
+    ensures { IfOk result (λ v. v.items ≡ start_kept bars.now start.now) }
+{
+    Ok(
+        start
+            .iter()
+            .copied()
+            .filter(|pair| is_named(bars, pair.0))
+            .collect(alloc)?,
+    )
+}
+
+/// Whether the call of one of these bars names a key.
+fn is_named(bars: &[Bar], key: u64) -> bool
+    ensures { result ≡ list_any (has_key key) bars.now }
+{
+    bars.iter().any(|bar| bar.low <= key && key <= bar.high)
+}
+
 /// The lanes in which there is a bar.
 fn lanes_kept(alloc: Global, bars: &[Bar], lanes: &[u8]) -> Result<Vec<u8>, Memory>
     ensures { IfOk result (λ v. v.items ≡ lanes_kept bars.now lanes.now) }
@@ -438,7 +471,8 @@ fn cut_bars(
     )
 }
 
-/// A bar as it stands in a window: where it begins before the window, or ends behind it, it is open at that end.
+/// A bar as it stands in a window: where it begins before the window, or ends behind it, it is open
+/// at that end.
 fn cut_bar(lanes: &[u8], from: usize, to: usize, bar: Bar) -> Bar
     ensures { result ≡ cut_bar lanes.now from to bar }
 {

@@ -7,8 +7,8 @@ use Rattle.plans.specs.declared.fault.MachineFault.TheVariants as machines
 use Rattle.plans.specs.declared.fault.RunFault.{RunFault}
 use Rattle.replays.specs.declared.fault.ReplayFault.{ReplayFault}
 use Rattle.replays.specs.declared.fault.ReplayFault.TheVariants as replays
-use Rattle.outcomes.specs.declared.outcome.Outcome.{Outcome}
-use Rattle.outcomes.specs.declared.outcome.Outcome.TheVariants.{Refused, Memory}
+use Rattle.outcomes.specs.declared.outcome.RunOutcome.{RunOutcome}
+use Rattle.outcomes.specs.declared.outcome.RunOutcome.TheVariants.{Refused, Memory}
 use Rattle.outcomes.specs.Lines.{line, memory_line}
 use Rattle.outcomes.specs.Wanted.{wanted_hint}
 use Rattle.plan_engines.specs.Wanted.{plan_wanted, replay_wanted}
@@ -45,14 +45,14 @@ replay_fault_line (replays.Schedule stop) = stop_line stop
 replay_fault_line replays.Memory = memory_line
 
 -- the outcome where there is no plan, for this fault
-abbrev pub IsPlanFaultOutcome : PlanFault → Outcome → Type 0
+abbrev pub IsPlanFaultOutcome : PlanFault → RunOutcome → Type 0
 IsPlanFaultOutcome fault (Refused bytes hint) = (fault ≢ plans.Memory) × (string_bytes bytes ≡ plan_fault_line fault)
     × (string_bytes hint ≡ wanted_hint (plan_wanted fault))
 IsPlanFaultOutcome fault Memory = ⊤
 IsPlanFaultOutcome fault outcome = ⊥
 
 -- the outcome where a replay gives no history, for this fault
-abbrev pub IsReplayFaultOutcome : ReplayFault → Outcome → Type 0
+abbrev pub IsReplayFaultOutcome : ReplayFault → RunOutcome → Type 0
 IsReplayFaultOutcome fault (Refused bytes hint) = (fault ≢ replays.Memory) × (string_bytes bytes ≡ replay_fault_line fault)
     × (string_bytes hint ≡ wanted_hint (replay_wanted fault))
 IsReplayFaultOutcome fault Memory = ⊤

@@ -9,8 +9,8 @@ use Rattle.serde_json.specs.Written.{compact_text}
 use Rattle.art_rows.specs.declared.table.Shape.{Shape}
 use Rattle.art_steps.specs.declared.variant.Variant.{Variant}
 use Rattle.workload.specs.declared.mix.Mix.{Mix}
-use Rattle.outcomes.specs.declared.outcome.Outcome.{Outcome}
-use Rattle.outcomes.specs.declared.outcome.Outcome.TheVariants.{Answered, Refused, Memory}
+use Rattle.outcomes.specs.declared.outcome.RunOutcome.{RunOutcome}
+use Rattle.outcomes.specs.declared.outcome.RunOutcome.TheVariants.{Answered, Refused, Memory}
 use Rattle.outcomes.specs.declared.outcome.Answer.TheVariants.{Yes}
 use Rattle.outcomes.specs.Ends.{Change}
 use Rattle.outcomes.specs.Lines.{line}
@@ -19,7 +19,7 @@ use Rattle.plan_engines.specs.Answers.{IsGenerateAnswer, IsGenerateRefusal, IsRe
 use Rattle.plan_engines.specs.Drives.{IsDriveAnswer, IsTreeDriveAnswer, IsDriveRefusal}
 
 -- the outcome of `generate` from this seed, mix and numbers of processes and calls
-abbrev pub IsGenerateOutcome : ℕ → Mix → ℕ → ℕ → Outcome → Type 0
+abbrev pub IsGenerateOutcome : ℕ → Mix → ℕ → ℕ → RunOutcome → Type 0
 IsGenerateOutcome seed mix processes calls (Answered answer bytes) = IsGenerateAnswer seed mix processes calls answer (string_bytes bytes)
 IsGenerateOutcome seed mix processes calls (Refused bytes hint) =
     IsGenerateRefusal mix processes calls (string_bytes bytes) (string_bytes hint)
@@ -27,25 +27,25 @@ IsGenerateOutcome seed mix processes calls Memory = ⊤
 IsGenerateOutcome seed mix processes calls outcome = ⊥
 
 -- the outcome of `replay`
-abbrev pub IsReplayOutcome : Change → Outcome → Type 0
+abbrev pub IsReplayOutcome : Change → RunOutcome → Type 0
 IsReplayOutcome source outcome = IsReadOutcome IsReplayAnswer IsReplayRefusal source outcome
 
 -- the outcome of `drive`, at a subject that may answer so
-abbrev pub IsDriveOutcome : (Call → Reply → Type 0) → Change → Outcome → Type 0
+abbrev pub IsDriveOutcome : (Call → Reply → Type 0) → Change → RunOutcome → Type 0
 IsDriveOutcome may_answer source outcome = IsReadOutcome (IsDriveAnswer may_answer) IsDriveRefusal source outcome
 
 -- and on a tree
-abbrev pub IsTreeDriveOutcome : Shape → Variant → ℕ → Change → Outcome → Type 0
+abbrev pub IsTreeDriveOutcome : Shape → Variant → ℕ → Change → RunOutcome → Type 0
 IsTreeDriveOutcome shape variant limit source outcome = IsReadOutcome (IsTreeDriveAnswer shape variant limit) IsDriveRefusal source outcome
 
 -- how it comes out where a text spells no plan that can be driven
-abbrev pub IsUndrivenOutcome : List ℕ → Outcome → Type 0
+abbrev pub IsUndrivenOutcome : List ℕ → RunOutcome → Type 0
 IsUndrivenOutcome text (Refused bytes hint) = IsDriveRefusal text (string_bytes bytes) (string_bytes hint)
 IsUndrivenOutcome text Memory = ⊤
 IsUndrivenOutcome text outcome = ⊥
 
 -- how it comes out where there is a history
-abbrev pub IsHistoryOutcome : HistoryView → Outcome → Type 0
+abbrev pub IsHistoryOutcome : HistoryView → RunOutcome → Type 0
 IsHistoryOutcome history (Answered answer bytes) = (answer ≡ Yes) × (string_bytes bytes ≡ line (compact_text (history_data history)))
     × (length (string_bytes bytes) ≤ text_limit → Spells (string_bytes bytes) history)
 IsHistoryOutcome history Memory = ⊤

@@ -11,14 +11,14 @@ use crate::faults::plan_fault_outcome;
 use drives::is_drivable;
 use events::{History, Memory};
 use history_text::write_history;
-use outcomes::{Answer, Outcome, line_of};
+use outcomes::{Answer, RunOutcome, line_of};
 use plan_text::read_plan;
 use plans::{Plan, PlanFault};
 use std::alloc::Global;
 use white_space::spells_between_white_space;
 
 /// The plan that a text spells, where it can be driven, or how it comes out that there is none.
-pub(crate) fn drivable_plan(alloc: Global, text: &[u8]) -> Result<Plan, Outcome>
+pub(crate) fn drivable_plan(alloc: Global, text: &[u8]) -> Result<Plan, RunOutcome>
     ensures plan { IfOk result (SpellsDrivable text.now) }
     ensures refused { IfErr result (IsUndrivenOutcome text.now) }
 {
@@ -33,15 +33,15 @@ pub(crate) fn drivable_plan(alloc: Global, text: &[u8]) -> Result<Plan, Outcome>
 }
 
 /// The text of a history as an answer, or want of memory.
-pub(crate) fn history_outcome(alloc: Global, history: &History) -> Outcome
+pub(crate) fn history_outcome(alloc: Global, history: &History) -> RunOutcome
     ensures { IsHistoryOutcome history.now result }
 {
     match history_line(alloc, history) {
-        Ok(line) => Outcome::Answered {
+        Ok(line) => RunOutcome::Answered {
             answer: Answer::Yes,
             line,
         },
-        Err(_) => Outcome::Memory,
+        Err(_) => RunOutcome::Memory,
     }
 }
 

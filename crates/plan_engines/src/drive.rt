@@ -11,7 +11,7 @@ ghost use Rattle.plan_engines.specs.Outcomes.{IsDriveOutcome};
 use crate::drivable::{drivable_plan, history_outcome};
 use drives::drive_subject;
 use history_text::MAX_TEXT;
-use outcomes::{Outcome, text_from, write_outcome};
+use outcomes::{RunOutcome, run_text};
 use recorder::Subject;
 use std::alloc::Global;
 use std::thread::Threads;
@@ -39,13 +39,8 @@ pub fn run_drive<R: Threads + Sync, S: Source, O: Sink, F: Sink, H: Sink, J: Sub
         (change H.written H.failures hints.old hints.new) result }
     ensures read { IsTextRead text_limit (change S.remaining S.failures source.old source.new) result }
 {
-    match text_from(alloc, source, MAX_TEXT) {
-        Ok(text) => {
-            let outcome = drive_outcome(rt, alloc, &text, subject);
-            write_outcome(output, faults, hints, &outcome)
-        }
-        Err(outcome) => write_outcome(output, faults, hints, &outcome),
-    }
+    let answer = |text: &[u8]| drive_outcome(rt, alloc, text, subject);
+    run_text(alloc, source, output, faults, hints, MAX_TEXT, answer)
 }
 
 /// The text of the history that is recorded while the plan that the text spells is done at the subject, or why there is none.
@@ -54,7 +49,7 @@ pub fn drive_outcome<R: Threads + Sync, J: Subject + Sync>(
     alloc: Global,
     text: &[u8],
     subject: &J,
-) -> Outcome
+) -> RunOutcome
     ensures { IsTextOutcome (IsDriveAnswer (J.may_answer subject.now)) IsDriveRefusal (Some text.now) result }
 {
     let plan = match drivable_plan(alloc, text) {
@@ -63,6 +58,6 @@ pub fn drive_outcome<R: Threads + Sync, J: Subject + Sync>(
     };
     match drive_subject(rt, alloc, &plan, subject) {
         Ok(history) => history_outcome(alloc, &history),
-        Err(_) => Outcome::Memory,
+        Err(_) => RunOutcome::Memory,
     }
 }

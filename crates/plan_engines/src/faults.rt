@@ -4,18 +4,18 @@ ghost use Rattle.plan_engines.specs.Faults.{plan_fault_line, machine_fault_name,
 ghost use Rattle.plan_engines.specs.Faults.{IsPlanFaultOutcome, IsReplayFaultOutcome};
 
 use crate::wanted::{plan_wanted, replay_wanted};
-use outcomes::{Outcome, wanted_hint};
+use outcomes::{RunOutcome, wanted_hint};
 use plans::{MachineFault, PlanFault, RunFault};
 use replays::ReplayFault;
 use std::alloc::{AllocError, Global};
 
 /// The refusal where there is no plan, or want of memory.
-pub(crate) fn plan_fault_outcome(alloc: Global, fault: PlanFault) -> Outcome
+pub(crate) fn plan_fault_outcome(alloc: Global, fault: PlanFault) -> RunOutcome
     ensures { IsPlanFaultOutcome fault result }
 {
     match fault {
-        PlanFault::Memory => Outcome::Memory,
-        _ => Outcome::refused(
+        PlanFault::Memory => RunOutcome::Memory,
+        _ => RunOutcome::from_refusal(
             plan_fault_line(alloc, fault),
             wanted_hint(alloc, plan_wanted(fault)),
         ),
@@ -23,12 +23,12 @@ pub(crate) fn plan_fault_outcome(alloc: Global, fault: PlanFault) -> Outcome
 }
 
 /// The refusal of a text that gives no history of a replay, or want of memory.
-pub(crate) fn replay_fault_outcome(alloc: Global, fault: &ReplayFault) -> Outcome
+pub(crate) fn replay_fault_outcome(alloc: Global, fault: &ReplayFault) -> RunOutcome
     ensures { IsReplayFaultOutcome fault.now result }
 {
     match fault {
-        ReplayFault::Memory => Outcome::Memory,
-        _ => Outcome::refused(
+        ReplayFault::Memory => RunOutcome::Memory,
+        _ => RunOutcome::from_refusal(
             replay_fault_line(alloc, fault),
             wanted_hint(alloc, replay_wanted(fault)),
         ),

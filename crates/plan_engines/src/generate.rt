@@ -5,7 +5,7 @@ ghost use Rattle.plan_engines.specs.Outcomes.{IsGenerateOutcome};
 ghost use Rattle.outcomes.specs.Runs.{IsRun};
 
 use crate::faults::plan_fault_outcome;
-use outcomes::{Answer, Outcome, line_of, write_outcome};
+use outcomes::{Answer, RunOutcome, line_of, write_outcome};
 use plan_text::write_plan;
 use std::alloc::Global;
 use streams::Sink;
@@ -36,7 +36,13 @@ pub fn run_generate<O: Sink, F: Sink, H: Sink>(
 }
 
 /// The text of the plan that is drawn, or why none is.
-pub fn generate_outcome(alloc: Global, seed: u64, mix: &Mix, processes: u32, calls: u32) -> Outcome
+pub fn generate_outcome(
+    alloc: Global,
+    seed: u64,
+    mix: &Mix,
+    processes: u32,
+    calls: u32,
+) -> RunOutcome
     ensures { IsGenerateOutcome seed mix.now processes calls result }
 {
     let plan = match plan(alloc, seed, mix, processes, calls) {
@@ -44,7 +50,7 @@ pub fn generate_outcome(alloc: Global, seed: u64, mix: &Mix, processes: u32, cal
         Err(fault) => return plan_fault_outcome(alloc, fault),
     };
     match write_plan(alloc, &plan) {
-        Ok(text) => Outcome::answered(Answer::Yes, line_of(text)),
-        Err(_) => Outcome::Memory,
+        Ok(text) => RunOutcome::from_answer(Answer::Yes, line_of(text)),
+        Err(_) => RunOutcome::Memory,
     }
 }

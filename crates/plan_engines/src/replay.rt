@@ -11,7 +11,7 @@ ghost use Rattle.outcomes.specs.Runs.{IsRun};
 use crate::drivable::history_outcome;
 use crate::faults::replay_fault_outcome;
 use history_text::MAX_TEXT;
-use outcomes::{Outcome, text_from, write_outcome};
+use outcomes::{RunOutcome, run_text};
 use replays::replay_history;
 use std::alloc::Global;
 use streams::{Sink, Source};
@@ -36,14 +36,12 @@ pub fn run_replay<S: Source, O: Sink, F: Sink, H: Sink>(
         (change H.written H.failures hints.old hints.new) result }
     ensures read { IsTextRead text_limit (change S.remaining S.failures source.old source.new) result }
 {
-    match text_from(alloc, source, MAX_TEXT) {
-        Ok(text) => write_outcome(output, faults, hints, &replay_outcome(alloc, &text)),
-        Err(outcome) => write_outcome(output, faults, hints, &outcome),
-    }
+    let answer = |text: &[u8]| replay_outcome(alloc, text);
+    run_text(alloc, source, output, faults, hints, MAX_TEXT, answer)
 }
 
 /// The text of the history that the run of the replay records, or why there is none.
-pub fn replay_outcome(alloc: Global, text: &[u8]) -> Outcome
+pub fn replay_outcome(alloc: Global, text: &[u8]) -> RunOutcome
     ensures { IsTextOutcome IsReplayAnswer IsReplayRefusal (Some text.now) result }
 {
     match replay_history(alloc, text) {

@@ -14,7 +14,7 @@ use crate::drivable::{drivable_plan, history_outcome};
 use arena_drives::drive_arena;
 use art::{Shape, Variant};
 use history_text::MAX_TEXT;
-use outcomes::{Outcome, text_from, write_outcome};
+use outcomes::{RunOutcome, run_text};
 use pool::Gate;
 use std::alloc::Global;
 use std::thread::Threads;
@@ -48,13 +48,10 @@ pub fn run_tree_drive<R: Threads + Sync, S: Source, O: Sink, F: Sink, H: Sink, G
     ensures read { IsTextRead text_limit (change S.remaining S.failures source.old source.new) result }
     ensures passed { OnAnswerStatus result (IfSome (S.remaining source.old) (WasPassedForPlan (G.was_passed gate.now))) }
 {
-    match text_from(alloc, source, MAX_TEXT) {
-        Ok(text) => {
-            let outcome = tree_drive_outcome(rt, alloc, &text, shape, variant, limit, gate);
-            write_outcome(output, faults, hints, &outcome)
-        }
-        Err(outcome) => write_outcome(output, faults, hints, &outcome),
-    }
+    let answer = |text: &[u8]|
+        requires { IsWithinLimits shape }
+    { tree_drive_outcome(rt, alloc, text, shape, variant, limit, gate) };
+    run_text(alloc, source, output, faults, hints, MAX_TEXT, answer)
 }
 
 /// The text of the history of what happens while the plan that the text spells is done on the tree, or why there is none.
@@ -66,7 +63,7 @@ pub fn tree_drive_outcome<R: Threads + Sync, G: Gate + Sync>(
     variant: Variant,
     limit: u32,
     gate: &G,
-) -> Outcome
+) -> RunOutcome
     requires { IsWithinLimits shape }
     ensures outcome { IsTextOutcome (IsTreeDriveAnswer shape variant limit) IsDriveRefusal (Some text.now) result }
     ensures passed { OnAnswered result (WasPassedForPlan (G.was_passed gate.now) text.now) }
@@ -77,6 +74,6 @@ pub fn tree_drive_outcome<R: Threads + Sync, G: Gate + Sync>(
     };
     match drive_arena(rt, alloc, &plan, shape, variant, limit, gate) {
         Ok(history) => history_outcome(alloc, &history),
-        Err(_) => Outcome::Memory,
+        Err(_) => RunOutcome::Memory,
     }
 }

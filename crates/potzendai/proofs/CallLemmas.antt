@@ -7,8 +7,8 @@ use Rattle.judge.specs.declared.verdict.Verdict.{Verdict}
 use Rattle.judge.specs.declared.verdict.Verdict.TheVariants as verdicts
 use Rattle.judge.specs.Shown.{IsShown}
 use Rattle.outcomes.specs.declared.outcome.Answer.TheVariants.{Yes, No, Undecided}
-use Rattle.outcomes.specs.declared.outcome.Outcome.{Outcome}
-use Rattle.outcomes.specs.declared.outcome.Outcome.TheVariants.{Answered, Noted, Refused, Memory, Words, Failed}
+use Rattle.outcomes.specs.declared.outcome.RunOutcome.{RunOutcome}
+use Rattle.outcomes.specs.declared.outcome.RunOutcome.TheVariants.{Answered, Noted, Refused, Memory, Words, Failed}
 use Rattle.outcomes.specs.Outcomes.{IsTextOutcome}
 use Rattle.answer_hints.specs.Outcomes.{IsHintedOutcome}
 use Rattle.history_engines.specs.Answers.{answer_of, IsHistoryRefusal, IsHintedJudgeAnswer, IsJudgeAnswer}
@@ -17,7 +17,7 @@ use Rattle.potzendai.specs.Calls.{IsBudget, IsCall, status_of, text_of, written}
 use Rattle.potzendai.specs.Verdicts.{SpellsLinearizable, SpellsUnlinearizable}
 
 -- an outcome is told
-pub IsCall-outcome : (IsOutcome : Outcome → Type 0) (budget : ℕ) (before after : List ℕ) (size status : ℕ) (outcome : Outcome)
+pub IsCall-outcome : (IsOutcome : RunOutcome → Type 0) (budget : ℕ) (before after : List ℕ) (size status : ℕ) (outcome : RunOutcome)
     → IsBudget budget → IsOutcome outcome → status ≡ status_of outcome → size ≡ length (text_of outcome)
     → after ≡ written (text_of outcome) before
     → IsCall IsOutcome budget before after size status
@@ -29,13 +29,13 @@ IsCall-outcome IsOutcome budget before after size status outcome within comes st
 }
 
 -- what is told of a verdict with its hint is told of one without
-pub record IsToldAs (budget : ℕ) (text : List ℕ) (outcome : Outcome) : Type 0 where
-  pub plain : Outcome
+pub record IsToldAs (budget : ℕ) (text : List ℕ) (outcome : RunOutcome) : Type 0 where
+  pub plain : RunOutcome
   pub comes : IsTextOutcome (IsJudgeAnswer budget) IsHistoryRefusal (Some text) plain
   pub status_is : status_of outcome ≡ status_of plain
   pub text_is : text_of outcome ≡ text_of plain
 
-pub without_note : (budget : ℕ) (text : List ℕ) (outcome : Outcome)
+pub without_note : (budget : ℕ) (text : List ℕ) (outcome : RunOutcome)
     → IsHintedOutcome (IsHintedJudgeAnswer budget) IsHistoryRefusal (Some text) outcome → IsToldAs budget text outcome
 without_note budget text (Answered answer bytes) h =
     record { plain = Answered answer bytes; comes = h.answered; status_is = refl; text_is = refl }
@@ -59,7 +59,7 @@ none_of_no budget history (verdicts.No segment) is shown = shown.no_order
 none_of_no budget history (verdicts.Undecided segment) is shown = cc
 
 -- the status of yes is that of a history with an order
-pub yes_is_linearizable : (budget : ℕ) (text : List ℕ) (outcome : Outcome)
+pub yes_is_linearizable : (budget : ℕ) (text : List ℕ) (outcome : RunOutcome)
     → IsTextOutcome (IsJudgeAnswer budget) IsHistoryRefusal (Some text) outcome
     → status_of outcome ≡ 0 → SpellsLinearizable text
 yes_is_linearizable budget text (Answered Yes bytes) comes is =
@@ -78,7 +78,7 @@ yes_is_linearizable budget text (Words bytes) comes is = cc
 yes_is_linearizable budget text Failed comes is = cc
 
 -- the status of no is that of a history without
-pub no_is_unlinearizable : (budget : ℕ) (text : List ℕ) (outcome : Outcome)
+pub no_is_unlinearizable : (budget : ℕ) (text : List ℕ) (outcome : RunOutcome)
     → IsTextOutcome (IsJudgeAnswer budget) IsHistoryRefusal (Some text) outcome
     → status_of outcome ≡ 1 → SpellsUnlinearizable text
 no_is_unlinearizable budget text (Answered Yes bytes) comes is = cc
@@ -97,7 +97,7 @@ no_is_unlinearizable budget text (Words bytes) comes is = cc
 no_is_unlinearizable budget text Failed comes is = cc
 
 -- the same of one that is explained
-pub explained_yes_is_linearizable : (budget : ℕ) (text : List ℕ) (outcome : Outcome)
+pub explained_yes_is_linearizable : (budget : ℕ) (text : List ℕ) (outcome : RunOutcome)
     → IsTextOutcome (IsExplainAnswer budget) IsHistoryRefusal (Some text) outcome
     → status_of outcome ≡ 0 → SpellsLinearizable text
 explained_yes_is_linearizable budget text (Answered Yes bytes) comes is =
@@ -114,7 +114,7 @@ explained_yes_is_linearizable budget text Memory comes is = cc
 explained_yes_is_linearizable budget text (Words bytes) comes is = cc
 explained_yes_is_linearizable budget text Failed comes is = cc
 
-pub explained_no_is_unlinearizable : (budget : ℕ) (text : List ℕ) (outcome : Outcome)
+pub explained_no_is_unlinearizable : (budget : ℕ) (text : List ℕ) (outcome : RunOutcome)
     → IsTextOutcome (IsExplainAnswer budget) IsHistoryRefusal (Some text) outcome
     → status_of outcome ≡ 1 → SpellsUnlinearizable text
 explained_no_is_unlinearizable budget text (Answered Yes bytes) comes is = cc

@@ -6,8 +6,8 @@ use Rattle.events.specs.HistoryView.{with_event}
 use Rattle.events.specs.Operations.{operations}
 use Rattle.orders.specs.Orders.{IsLinearizable}
 use Rattle.outcomes.specs.declared.outcome.Answer.TheVariants.{Yes, No, Undecided}
-use Rattle.outcomes.specs.declared.outcome.Outcome.{Outcome}
-use Rattle.outcomes.specs.declared.outcome.Outcome.TheVariants.{Answered, Noted, Refused, Memory, Words, Failed}
+use Rattle.outcomes.specs.declared.outcome.RunOutcome.{RunOutcome}
+use Rattle.outcomes.specs.declared.outcome.RunOutcome.TheVariants.{Answered, Noted, Refused, Memory, Words, Failed}
 use Rattle.follower.specs.declared.answered.Loss.{Loss}
 use Rattle.stream_text.specs.Cuts.{lines_of}
 use Rattle.stream_engines.specs.Answers.{GoesWrongHere}
@@ -33,7 +33,7 @@ wrong_lines lines loss at =
     }
 
 -- the status of yes is that of lines with an order
-pub yes_has_order : (budget : ℕ) (text : List ℕ) (outcome : Outcome) → IsStreamOutcome budget (Some text) outcome
+pub yes_has_order : (budget : ℕ) (text : List ℕ) (outcome : RunOutcome) → IsStreamOutcome budget (Some text) outcome
     → status_of outcome ≡ 0 → SpellLinearizable (lines_of text)
 yes_has_order budget text (Answered Yes bytes) comes is = record {
   stream = comes.stream;
@@ -59,7 +59,7 @@ yes_has_order budget text (Words bytes) comes is = cc
 yes_has_order budget text Failed comes is = cc
 
 -- the status of no is that of lines without
-pub no_has_none : (budget : ℕ) (text : List ℕ) (outcome : Outcome) → IsStreamOutcome budget (Some text) outcome
+pub no_has_none : (budget : ℕ) (text : List ℕ) (outcome : RunOutcome) → IsStreamOutcome budget (Some text) outcome
     → status_of outcome ≡ 1 → BeginUnlinearizable (lines_of text)
 no_has_none budget text (Answered Yes bytes) comes is = cc
 no_has_none budget text (Answered No bytes) comes is = wrong_lines (lines_of text) comes.0 comes.1

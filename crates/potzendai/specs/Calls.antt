@@ -1,8 +1,9 @@
--- What a call of the library leaves: in the room that the caller gave, as the length of the text, and as the status that is answered.
+-- What a call of the library leaves: in the room that the caller gave, as the length of the text,
+-- and as the status that is answered.
 use Rattle.std.specs.Prelude.{◌≡◌, ◌⊎◌, ℕ, ◌≤◌, List, [], ◌∷◌, ◌++◌, length, take, drop, min, codes, string_bytes}
 use Rattle.search.specs.Limits.{budget_limit}
-use Rattle.outcomes.specs.declared.outcome.Outcome.{Outcome}
-use Rattle.outcomes.specs.declared.outcome.Outcome.TheVariants.{Answered, Noted, Refused, Memory, Words, Failed}
+use Rattle.outcomes.specs.declared.outcome.RunOutcome.{RunOutcome}
+use Rattle.outcomes.specs.declared.outcome.RunOutcome.TheVariants.{Answered, Noted, Refused, Memory, Words, Failed}
 use Rattle.outcomes.specs.Lines.{line, memory_line, io_line}
 use Rattle.outcomes.specs.Statuses.{answer_status, refused_status, memory_status, words_status, failed_status}
 
@@ -11,7 +12,7 @@ abbrev pub IsBudget : ℕ → Type 0
 IsBudget budget = (1 ≤ budget) × (budget ≤ budget_limit)
 
 -- the status of an outcome, as the program ends with it
-abbrev pub status_of : Outcome → ℕ
+abbrev pub status_of : RunOutcome → ℕ
 status_of (Answered answer bytes) = answer_status answer
 status_of (Noted answer bytes note) = answer_status answer
 status_of (Refused bytes hint) = refused_status
@@ -20,7 +21,7 @@ status_of (Words bytes) = words_status
 status_of Failed = failed_status
 
 -- the line of an outcome, as the program writes it, to whichever end
-abbrev pub line_of : Outcome → List ℕ
+abbrev pub line_of : RunOutcome → List ℕ
 line_of (Answered answer bytes) = string_bytes bytes
 line_of (Noted answer bytes note) = string_bytes bytes
 line_of (Refused bytes hint) = string_bytes bytes
@@ -29,26 +30,27 @@ line_of (Words bytes) = string_bytes bytes
 line_of Failed = io_line
 
 -- the hint on a refusal
-abbrev pub hint_of : Outcome → List ℕ
+abbrev pub hint_of : RunOutcome → List ℕ
 hint_of (Refused bytes hint) = string_bytes hint
 hint_of outcome = []
 
 -- the text of an outcome: its line, and behind that of a refusal the hint; without a note
-abbrev pub text_of : Outcome → List ℕ
+abbrev pub text_of : RunOutcome → List ℕ
 text_of outcome = line_of outcome ++ hint_of outcome
 
 -- the text for a budget that no search may have
 abbrev pub budget_line : List ℕ
 budget_line = line (codes "budget: from 1 to 1000000")
 
--- a room after a text was written into it: as much of the text as leaves place for one byte more, a zero byte, and the rest as it was
+-- a room after a text was written into it: as much of the text as leaves place for one byte more, a
+-- zero byte, and the rest as it was
 abbrev pub written : List ℕ → List ℕ → List ℕ
 written text [] = []
 written text (byte ∷ rest) = take (min (length text) (length rest)) text ++ 0 ∷ drop (min (length text) (length rest)) rest
 
 -- a status and a text are those of an outcome that the call can have at the budget
-pub record IsToldOutcome (IsOutcome : Outcome → Type 0) (budget status : ℕ) (text : List ℕ) : Type 0 where
-  pub outcome : Outcome
+pub record IsToldOutcome (IsOutcome : RunOutcome → Type 0) (budget status : ℕ) (text : List ℕ) : Type 0 where
+  pub outcome : RunOutcome
   pub is_budget : IsBudget budget
   pub comes : IsOutcome outcome
   pub status_is : status ≡ status_of outcome
@@ -60,10 +62,9 @@ pub record IsToldBudget (budget status : ℕ) (text : List ℕ) : Type 0 where
   pub status_is : status ≡ words_status
   pub text_is : text ≡ budget_line
 
--- a call that can have these outcomes tells one, or that the budget is none: this is the status, this the length of the text, and the room
--- was this
--- before and is that after it
-pub record IsCall (IsOutcome : Outcome → Type 0) (budget : ℕ) (before after : List ℕ) (size status : ℕ) : Type 0 where
+-- a call that can have these outcomes tells one, or that the budget is none: this is the status,
+-- this the length of the text, and the room was this before and is that after it
+pub record IsCall (IsOutcome : RunOutcome → Type 0) (budget : ℕ) (before after : List ℕ) (size status : ℕ) : Type 0 where
   pub text : List ℕ
   pub told : IsToldOutcome IsOutcome budget status text ⊎ IsToldBudget budget status text
   pub size_is : size ≡ length text

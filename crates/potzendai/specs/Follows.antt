@@ -1,6 +1,6 @@
 -- What a call on a stream that C holds leaves there and answers.
 use Rattle.std.specs.Prelude.{◌≡◌, ◌⊎◌, ℕ, List, [], length, Option, None, Some, codes}
-use Rattle.outcomes.specs.declared.outcome.Outcome.{Outcome}
+use Rattle.outcomes.specs.declared.outcome.RunOutcome.{RunOutcome}
 use Rattle.outcomes.specs.Lines.{line}
 use Rattle.outcomes.specs.Statuses.{memory_status, words_status}
 use Rattle.stream_engines.specs.declared.handed.LineFollower.{LineFollower}
@@ -43,9 +43,10 @@ IsOpening budget follows status = Begins budget follows status ⊎ BeginsNone bu
 abbrev pub closed_line : List ℕ
 closed_line = line (codes "follower: none")
 
--- what is told of a follower: an outcome, that `follow` can have for each text with the lines that were handed over
+-- what is told of a follower: an outcome, that `follow` can have for each text with the lines that
+-- were handed over
 pub record IsToldSoFar (budget : ℕ) (lines : List (List ℕ)) (before after : List ℕ) (size status : ℕ) : Type 0 where
-  pub outcome : Outcome
+  pub outcome : RunOutcome
   pub comes : (told : Option (List ℕ)) → AreLinesOf told lines → IsStreamOutcome budget told outcome
   pub status_is : status ≡ status_of outcome
   pub size_is : size ≡ length (text_of outcome)

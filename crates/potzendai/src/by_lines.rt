@@ -6,15 +6,15 @@ ghost use Rattle.stream_engines.specs.Handed.{IsHanded};
 ghost use Rattle.stream_text.specs.Cuts.{lines_of};
 
 use crate::handle::{PotzendaiFollower, put, take};
-use crate::told::{is_budget, standing, tell, tell_closed};
-use outcomes::{MEMORY, Outcome, WORDS};
+use crate::told::{is_budget, stream_status, tell, tell_closed};
+use outcomes::{MEMORY, RunOutcome, WORDS};
 use std::alloc::Global;
 use std::mem::replace;
 use stream_engines::LineFollower;
 
-/// Begins to follow a stream, before its first line: each answer is to be judged by searches of at most `budget` positions.
-/// What the handle held is closed first. Answers 0; or the status of want of memory, or of a budget that is none, and then the
-/// handle is closed.
+/// Begins to follow a stream, before its first line: each answer is to be judged by searches of at
+/// most `budget` positions. What the handle held is closed first. Answers 0; or the status of want
+/// of memory, or of a budget that is none, and then the handle is closed.
 #[unsafe(no_mangle)]
 pub extern "C" fn potzendai_follow_open(
     alloc: Global,
@@ -37,9 +37,10 @@ pub extern "C" fn potzendai_follow_open(
     0
 }
 
-/// Hands over the next lines of the stream: those of the text, each ended by a line feed, which the last may lack. Answers the
-/// status of the stream so far: 0 while it is followed; else that of `bench follow`, which has ended with a line handed over, and
-/// stays. A handle that is closed stays so.
+/// Hands over the next lines of the stream: those of the text, each ended by a line feed, which the
+/// last may lack. Answers the status of the stream so far: 0 while it is followed; else that of
+/// `bench follow`, which has ended with a line handed over, and stays. A handle that is closed
+/// stays so.
 #[unsafe(no_mangle)]
 pub extern "C" fn potzendai_follow_event(
     alloc: Global,
@@ -59,14 +60,15 @@ pub extern "C" fn potzendai_follow_event(
         return u32::from(WORDS);
     };
     let mut boxed = boxed;
-    let follower = replace(&mut *boxed, LineFollower::Ended(Outcome::Memory));
+    let follower = replace(&mut *boxed, LineFollower::Ended(RunOutcome::Memory));
     *boxed = follower.take_lines(alloc, text);
-    let status = standing(&boxed);
+    let status = stream_status(&boxed);
     put(alloc, handle, boxed);
     status
 }
 
-/// Tells what `bench follow` writes where the lines so far are all. The handle keeps its follower, so that more lines may come.
+/// Tells what `bench follow` writes where the lines so far are all. The handle keeps its follower,
+/// so that more lines may come.
 #[unsafe(no_mangle)]
 pub extern "C" fn potzendai_follow_verdict(
     alloc: Global,

@@ -13,12 +13,12 @@ use explain_engines::explain_outcome;
 use history_engines::judge_outcome;
 use judge::OneThread;
 use location_engines::locate_outcome;
-use picture_engines::{draw_outcome, whole};
+use picture_engines::{draw_outcome, whole_view};
 use std::alloc::Global;
 
-/// Judges the history that the text spells, by a search of at most `budget` configurations in each of its segments. The room
-/// is given what `bench judge` writes, with a zero byte behind it, as far as there is place, and `size` its length.
-/// Answers the exit status of `bench judge`.
+/// Judges the history that the text spells, by a search of at most `budget` configurations in each
+/// of its segments. The room is given what `bench judge` writes, with a zero byte behind it, as far
+/// as there is place, and `size` its length. Answers the exit status of `bench judge`.
 #[unsafe(no_mangle)]
 pub extern "C" fn potzendai_judge(
     alloc: Global,
@@ -42,7 +42,8 @@ pub extern "C" fn potzendai_judge(
     }
 }
 
-/// Finds the event at which the history that the text spells goes wrong, as `bench locate` does. Else as `potzendai_judge`.
+/// Finds the event at which the history that the text spells goes wrong, as `bench locate` does.
+/// Else as `potzendai_judge`.
 #[unsafe(no_mangle)]
 pub extern "C" fn potzendai_locate(
     alloc: Global,
@@ -62,8 +63,8 @@ pub extern "C" fn potzendai_locate(
     }
 }
 
-/// Explains the verdict on the history that the text spells, as `bench explain` does: behind the report of a no, few calls that
-/// show it. Else as `potzendai_judge`.
+/// Explains the verdict on the history that the text spells, as `bench explain` does: behind the
+/// report of a no, few calls that show it. Else as `potzendai_judge`.
 #[unsafe(no_mangle)]
 pub extern "C" fn potzendai_explain(
     alloc: Global,
@@ -87,7 +88,8 @@ pub extern "C" fn potzendai_explain(
     }
 }
 
-/// Draws the verdict on the history that the text spells, as `bench draw --calls 0` does. Else as `potzendai_judge`.
+/// Draws the verdict on the history that the text spells, as `bench draw --calls 0` does. Else as
+/// `potzendai_judge`.
 #[unsafe(no_mangle)]
 pub extern "C" fn potzendai_draw(
     alloc: Global,
@@ -100,7 +102,7 @@ pub extern "C" fn potzendai_draw(
         budget room.old room.new size.new result }
 {
     if is_budget(budget) {
-        let outcome = draw_outcome(alloc, text, &OneThread { alloc, budget }, whole());
+        let outcome = draw_outcome(alloc, text, &OneThread { alloc, budget }, whole_view());
         tell(&outcome, room, size)
     } else {
         tell_budget(room, size)

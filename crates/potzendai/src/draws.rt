@@ -7,12 +7,13 @@ ghost use Rattle.potzendai.specs.Calls.{IsCall};
 
 use crate::told::{is_budget, tell, tell_budget};
 use judge::OneThread;
-use picture_engines::{draw_outcome, unasked};
+use picture_engines::{draw_outcome, unasked_view};
 use std::alloc::Global;
 
-/// Draws of the verdict on the history that the text spells what `bench draw` shows where nothing else is asked for: of a no few calls
-/// that show it, by their processes and events in the text, with those that put what they read; else the whole picture, or a part of one
-/// that is wide. Else as `potzendai_judge`.
+/// Draws of the verdict on the history that the text spells what `bench draw` shows where nothing
+/// else is asked for: of a no few calls that show it, by their processes and events in the text,
+/// with those that put what they read; else the whole picture, or a part of one that is wide. Else
+/// as `potzendai_judge`.
 #[unsafe(no_mangle)]
 pub extern "C" fn potzendai_draw_part(
     alloc: Global,
@@ -25,7 +26,7 @@ pub extern "C" fn potzendai_draw_part(
         budget room.old room.new size.new result }
 {
     if is_budget(budget) {
-        let outcome = draw_outcome(alloc, text, &OneThread { alloc, budget }, unasked());
+        let outcome = draw_outcome(alloc, text, &OneThread { alloc, budget }, unasked_view());
         tell(&outcome, room, size)
     } else {
         tell_budget(room, size)

@@ -25,7 +25,7 @@ impl Model for PotzendaiFollower {
 
 impl PotzendaiFollower {
     /// With no follower.
-    fn closed() -> PotzendaiFollower
+    fn without_follower() -> PotzendaiFollower
         ensures { result.follows ≡ None }
     {
         PotzendaiFollower {
@@ -35,7 +35,7 @@ impl PotzendaiFollower {
     }
 
     /// With this one.
-    fn open(follower: Loose<LineFollower, Global>) -> PotzendaiFollower
+    fn with_follower(follower: Loose<LineFollower, Global>) -> PotzendaiFollower
         ensures { result.follows ≡ Some follower.value }
     {
         let Loose { at, alloc: _ } = follower;
@@ -66,7 +66,7 @@ pub(crate) fn take(alloc: Global, handle: &mut PotzendaiFollower) -> Option<Box<
     ensures taken { option_map (λ f. f.value) result ≡ handle.old.follows }
     ensures closed { handle.new.follows ≡ None }
 {
-    let held = replace(handle, PotzendaiFollower::closed());
+    let held = replace(handle, PotzendaiFollower::without_follower());
     match held.into_loose(alloc) {
         Some(loose) => Some(loose.into_box()),
         None => None,
@@ -77,7 +77,7 @@ pub(crate) fn take(alloc: Global, handle: &mut PotzendaiFollower) -> Option<Box<
 pub(crate) fn put(alloc: Global, handle: &mut PotzendaiFollower, follower: Box<LineFollower>)
     ensures { handle.new.follows ≡ Some follower.value }
 {
-    let opened = PotzendaiFollower::open(Loose::of(follower));
+    let opened = PotzendaiFollower::with_follower(Loose::of(follower));
     let held = replace(handle, opened);
     if let Some(loose) = held.into_loose(alloc) {
         drop(loose.into_box());

@@ -1,8 +1,9 @@
-//! The library: a history's text is judged, the event at which it goes wrong is located, or its verdict is explained or drawn, and
-//! a stream's text is followed, by calls that a program in C makes.
+//! The library: a history's text is judged, the event at which it goes wrong is located, or its
+//! verdict is explained or drawn, and a stream's text is followed, by calls that a program in C
+//! makes.
 //!
-//! A call starts no thread, waits for nobody, and keeps nothing but what a follower holds, to which a stream's lines are handed over
-//! as they come. What it answers stands in room of the caller's.
+//! A call starts no thread, waits for nobody, and keeps nothing but what a follower holds, to which
+//! a stream's lines are handed over as they come. What it answers stands in room of the caller's.
 #![tactic(auto)]
 
 mod by_lines;

@@ -5,7 +5,7 @@ ghost use Rattle.potzendai.specs.Calls.{budget_line, hint_of, line_of, IsBudget,
 ghost use Rattle.potzendai.specs.Follows.{IsToldClosed, standing};
 
 use judge::MAX_BUDGET;
-use outcomes::{FAILED, MEMORY, Outcome, REFUSED, WORDS};
+use outcomes::{FAILED, MEMORY, REFUSED, RunOutcome, WORDS};
 use stream_engines::LineFollower;
 
 /// Whether a search may have this budget.
@@ -15,8 +15,9 @@ pub(crate) fn is_budget(budget: u32) -> bool
     1 <= budget && budget <= MAX_BUDGET
 }
 
-/// Tells an outcome: its text goes into the room, its length into `size`, and its status is answered.
-pub(crate) fn tell(outcome: &Outcome, room: &mut [u8], size: &mut usize) -> u32
+/// Tells an outcome: its text goes into the room, its length into `size`, and its status is
+/// answered.
+pub(crate) fn tell(outcome: &RunOutcome, room: &mut [u8], size: &mut usize) -> u32
     ensures status { result ≡ status_of outcome.now }
     ensures size { size.new ≡ length (text_of outcome.now) }
     ensures room { room.new ≡ written (text_of outcome.now) room.old }
@@ -51,7 +52,7 @@ pub(crate) fn tell_closed(room: &mut [u8], size: &mut usize) -> u32
 }
 
 /// The status of a stream so far: 0 while it is followed.
-pub(crate) fn standing(follower: &LineFollower) -> u32
+pub(crate) fn stream_status(follower: &LineFollower) -> u32
     ensures { result ≡ standing follower.now }
 {
     match follower {
@@ -61,38 +62,38 @@ pub(crate) fn standing(follower: &LineFollower) -> u32
 }
 
 /// The line of an outcome.
-fn line_of(outcome: &Outcome) -> &[u8]
+fn line_of(outcome: &RunOutcome) -> &[u8]
     ensures { result.now ≡ line_of outcome.now }
 {
     match outcome {
-        Outcome::Answered { line, .. } | Outcome::Noted { line, .. } => line.as_bytes(),
-        Outcome::Refused { line, .. } => line.as_bytes(),
-        Outcome::Words(text) => text.as_bytes(),
-        Outcome::Memory => b"memory\n",
-        Outcome::Failed => b"io\n",
+        RunOutcome::Answered { line, .. } | RunOutcome::Noted { line, .. } => line.as_bytes(),
+        RunOutcome::Refused { line, .. } => line.as_bytes(),
+        RunOutcome::Words(text) => text.as_bytes(),
+        RunOutcome::Memory => b"memory\n",
+        RunOutcome::Failed => b"io\n",
     }
 }
 
 /// The hint on a refusal.
-fn hint_of(outcome: &Outcome) -> &[u8]
+fn hint_of(outcome: &RunOutcome) -> &[u8]
     ensures { result.now ≡ hint_of outcome.now }
 {
     match outcome {
-        Outcome::Refused { hint, .. } => hint.as_bytes(),
+        RunOutcome::Refused { hint, .. } => hint.as_bytes(),
         _ => b"",
     }
 }
 
 /// The status of an outcome.
-fn status_of(outcome: &Outcome) -> u8
+fn status_of(outcome: &RunOutcome) -> u8
     ensures { result ≡ status_of outcome.now }
 {
     match outcome {
-        Outcome::Answered { answer, .. } | Outcome::Noted { answer, .. } => answer.status(),
-        Outcome::Refused { .. } => REFUSED,
-        Outcome::Words(_) => WORDS,
-        Outcome::Memory => MEMORY,
-        Outcome::Failed => FAILED,
+        RunOutcome::Answered { answer, .. } | RunOutcome::Noted { answer, .. } => answer.status(),
+        RunOutcome::Refused { .. } => REFUSED,
+        RunOutcome::Words(_) => WORDS,
+        RunOutcome::Memory => MEMORY,
+        RunOutcome::Failed => FAILED,
     }
 }
 

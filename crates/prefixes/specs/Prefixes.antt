@@ -1,6 +1,6 @@
--- The first events of a history, and the one event at which a history goes wrong: linearizability is closed under prefixes, Herlihy and
--- Wing 1990 and Lynch
--- 1996, section 13.1, so that it is lost at one event.
+-- The first events of a history, and the one event at which a history goes wrong: linearizability
+-- is closed under prefixes, Herlihy and Wing 1990 and Lynch 1996, section 13.1, so that it is lost
+-- at one event.
 use Rattle.std.specs.Prelude.{◌≡◌, ℕ, ◌+◌, List, IsSomeAnd, slice_get, take}
 use Rattle.events.specs.declared.event.Event.{Event}
 use Rattle.events.specs.HistoryView.{HistoryView}

@@ -22,7 +22,7 @@ fn main(rt: HostRuntime) -> io::Result<()> {
         return Err(io::Error::from(ErrorKind::InvalidInput));
     };
     let (Some(work), Ok(threads), Ok(rounds)) = (
-        Work::named(work),
+        Work::of_name(work),
         threads.parse::<u8>(),
         rounds.parse::<u32>(),
     ) else {

@@ -46,7 +46,7 @@ pub(crate) enum Work {
 
 impl Work {
     /// The work of a name.
-    pub(crate) fn named(name: &str) -> Option<Work> {
+    pub(crate) fn of_name(name: &str) -> Option<Work> {
         match name {
             "recorder" => Some(Work::Recorder),
             "coupled" => Some(Work::Tree(Variant::Coupled)),
@@ -72,8 +72,8 @@ pub(crate) fn done_in<R: Threads + Sync>(
     let mut done: u64 = 0;
     for _ in 0..rounds {
         let by_thread = match work {
-            Work::Recorder => recorded(rt, alloc, threads)?,
-            Work::Tree(variant) => driven(rt, alloc, variant, threads)?,
+            Work::Recorder => record_rounds(rt, alloc, threads)?,
+            Work::Tree(variant) => drive_tree(rt, alloc, variant, threads)?,
             Work::Word => thread::map_indices(
                 rt,
                 alloc,
@@ -90,7 +90,7 @@ pub(crate) fn done_in<R: Threads + Sync>(
 }
 
 /// How many events each of some threads noted at one recorder.
-fn recorded<R: Threads + Sync>(rt: &R, alloc: Global, threads: u8) -> Result<Vec<u64>, Memory>
+fn record_rounds<R: Threads + Sync>(rt: &R, alloc: Global, threads: u8) -> Result<Vec<u64>, Memory>
     requires { (1 ≤ threads) × (threads ≤ 4) }
 {
     let (recorder, passes) = Recorder::open(alloc, threads, CALLS)?;
@@ -114,7 +114,7 @@ fn note_all(recorder: &Recorder, mut pass: Pass) -> u64
 }
 
 /// How many events were noted while each of some threads did its script on one tree.
-fn driven<R: Threads + Sync>(
+fn drive_tree<R: Threads + Sync>(
     rt: &R,
     alloc: Global,
     variant: Variant,

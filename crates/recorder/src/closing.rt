@@ -76,7 +76,7 @@ impl Recorder {
             processes: _,
             calls_each: _,
         } = self;
-        let hand = joined(&tickets, passes);
+        let hand = join_hands(&tickets, passes);
         if let Err(_) = tickets.close(hand) {
             unreachable!()
         }
@@ -84,7 +84,7 @@ impl Recorder {
 }
 
 /// The hands of passes, joined into one.
-fn joined(tickets: &Tickets, passes: Vec<Pass>) -> Hand
+fn join_hands(tickets: &Tickets, passes: Vec<Pass>) -> Hand
     requires some { passes.items ≢ [] }
     requires own { All (λ p. source_of p ≡ counter tickets.now) passes.items }
     ensures own { counter_of result ≡ counter tickets.now }

@@ -35,9 +35,8 @@ pub record Records (plan : Plan) (items : List Item) (first : State) (left : ℕ
   pub few : made ≤ left
   pub recorded : history ≡ record { start = start; events = history_of state }
 
--- From the first state, with so many turns left, the items before this place are made whole; of the item there some turns are made, and the
--- next one that
--- it names is refused for this cause.
+-- From the first state, with so many turns left, the items before this place are made whole; of the
+-- item there some turns are made, and the next one that it names is refused for this cause.
 pub record StopsAt (plan : Plan) (items : List Item) (first : State) (left place : ℕ) (fault : MachineFault) : Type 0 where
   pub item : Item
   pub is_item : slice_get items place ≡ Some item

@@ -7,7 +7,7 @@ ghost use Rattle.running.specs.Progressed.{HasProgressed, HasStopped};
 
 use crate::arena::Arena;
 use crate::pass::Pass;
-use crate::progress::Progress;
+use crate::progress::CallProgress;
 use art::TreeCall;
 use events::Memory;
 use std::alloc::Global;
@@ -35,7 +35,12 @@ impl Arena {
     /// At most so many steps of the open call of the pass's least process: accesses, and the stamp of its response. `Going`
     /// comes after all of them, and then the call is still open. `Err` is want of memory: the steps made stand, the call is
     /// still open, and it may be advanced again.
-    pub fn advance(&self, alloc: Global, pass: &mut Pass, turns: u32) -> Result<Progress, Memory>
+    pub fn advance(
+        &self,
+        alloc: Global,
+        pass: &mut Pass,
+        turns: u32,
+    ) -> Result<CallProgress, Memory>
         requires own { IsPassOf self.now pass.old }
         requires open { IsTrue (is_open (shows pass.old)) }
         ensures own { IsPassOf self.now pass.new }

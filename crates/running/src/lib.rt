@@ -23,4 +23,4 @@ mod steps;
 pub use arena::Arena;
 pub use fault::ArenaClose;
 pub use pass::Pass;
-pub use progress::Progress;
+pub use progress::CallProgress;

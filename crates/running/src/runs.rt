@@ -17,7 +17,7 @@ impl Pass {
     }
 
     /// Whether the least process has no open call.
-    pub fn idle(&self) -> bool
+    pub fn is_idle(&self) -> bool
         requires pass { IsPass self.now }
         ensures idle { result ≡ is_idle (shows self.now) }
         ensures open { not result ≡ is_open (shows self.now) }

@@ -40,13 +40,13 @@ fn do_call(alloc: Global, map: &mut SortedMap, call: &Call) -> Result<Option<Cal
         Call::Get(_) | Call::Scan(_, _) => return Ok(None),
         Call::Insert(key, _) | Call::Remove(key) | Call::Replace(key, _, _) => key,
     };
-    let undo = restoring(key, map.value(key));
+    let undo = restoring_call(key, map.value(key));
     let _reply = map.step(alloc, call)?;
     Ok(Some(undo))
 }
 
 /// The call that puts a key back to the value that it had, or to none.
-fn restoring(key: u64, value: Option<u64>) -> Call
+fn restoring_call(key: u64, value: Option<u64>) -> Call
     ensures { result ≡ restoring key value }
 {
     match value {

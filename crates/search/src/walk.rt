@@ -85,13 +85,13 @@ impl Walk {
                 budget,
                 standing,
             })),
-            Some(found) => done(found),
+            Some(found) => end_with(found),
         }
     }
 }
 
 /// The search is over, with what it found.
-fn done(found: Result<Found, Memory>) -> Result<Turn, Memory>
+fn end_with(found: Result<Found, Memory>) -> Result<Turn, Memory>
     ensures { result ≡ result_map_both Done (λ memory. memory) found }
 {
     Ok(Turn::Done(found?))

@@ -1,4 +1,5 @@
--- Where calls stand that begin and end one after another: which are open, by which process, and which events there were.
+-- Where calls stand that begin and end one after another: which are open, by which process, and
+-- which events there were.
 use Rattle.std.specs.Prelude.{◌≡◌, ◌≢◌, ◌⊎◌, ℕ, ◌+◌, ◌<◌, ◌≤◌, true, false, List, [], ◌∷◌, ◌++◌, length, map, take, Option, Some, None}
 use Rattle.std.specs.Prelude.{All, AllPairs, Any, Contains, IfSome, IsSomeAnd, slice_get, option_and_then, nat_lt, if◌then◌else◌}
 use Rattle.events.specs.declared.event.Event.{Event}
@@ -45,8 +46,8 @@ earlier first at None = first
 earlier None at (Some res) = Some (at, res)
 earlier (Some first) at (Some res) = Some (if nat_lt res first.1 then (at, res) else first)
 
--- the call with a number may follow those before it: it does not end before one of them or itself begins, and what ended before one of them began
--- ends before it begins
+-- the call with a number may follow those before it: it does not end before one of them or itself
+-- begins, and what ended before one of them began ends before it begins
 abbrev pub EndsBehind : ℕ → Operation → Type 0
 EndsBehind place a = IfSome a.response (λ response. place ≤ response.res)
 
@@ -58,7 +59,8 @@ MayFollow calls number place a = EndsBehind place a × All (EndsOutside a.inv pl
 
 -- ---- where the first calls stand
 
--- the call with a number is that which a process has open: its invocation stands before no other event of the process
+-- the call with a number is that which a process has open: its invocation stands before no other
+-- event of the process
 pub record IsOpenAt (events : List Event) (number process : ℕ) : Type 0 where
   pub before : List Event
   pub call : Call
@@ -81,7 +83,8 @@ abbrev pub IsAnsweredAs : ℕ → Option Response → Option Response → Type 0
 IsAnsweredAs limit (Some response) (Some other) = (response.reply ≡ other.reply) × (response.res < limit)
 IsAnsweredAs limit response other = ⊥
 
--- a call of the list and that of the events with its number: one is open still, or answered as the other
+-- a call of the list and that of the events with its number: one is open still, or answered as the
+-- other
 abbrev pub IsOpenOrAnswered : ℕ → List Seat → ℕ → Operation → Operation → Type 0
 IsOpenOrAnswered limit open_seats number a c =
     ((s : Seat) × Contains open_seats s × (s.number ≡ number) × (c.response ≡ None)) ⊎ IsAnsweredAs limit a.response c.response
@@ -91,7 +94,8 @@ abbrev pub IsEventOf : List Operation → Event → Type 0
 IsEventOf calls (Invoke process call) = (process < process_limit) × Any (λ a. a.call ≡ call) calls
 IsEventOf calls (Answer process reply) = (process < process_limit) × Any (λ a. reply_in a.response ≡ Some reply) calls
 
--- so many calls have begun, and those that are not open were answered before a limit; the processes that are free, the open calls, and the events
+-- so many calls have begun, and those that are not open were answered before a limit; the processes
+-- that are free, the open calls, and the events
 pub record AreSeatedAs (calls : List Operation) (count limit : ℕ) (free : List ℕ) (open_seats : List Seat) (events : List Event) : Type 0 where
   pub within : count ≤ length calls
   pub size : length (operations events) ≡ count

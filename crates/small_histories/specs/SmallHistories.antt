@@ -10,7 +10,8 @@ use Rattle.orders.specs.Orders.{IsLinearizable}
 use Rattle.quiet_cuts.specs.Groups.{AreAlike}
 use Rattle.history_text.specs.Texts.{Spells, history_data}
 
--- a history from these pairs with these calls: at each number the same call with the same answer, and the same precedence
+-- a history from these pairs with these calls: at each number the same call with the same answer,
+-- and the same precedence
 pub record IsHistoryWith (start : Contents) (calls : List Operation) (history : HistoryView) : Type 0 where
   pub is_history : IsHistory history
   pub start_is : history.start ≡ start

@@ -15,10 +15,12 @@ use history_text::{MAX_TEXT, write_history};
 use quiet_cuts::places_do_not_matter;
 use std::alloc::Global;
 
-/// A history with these calls, from these pairs. Its events stand as those of the calls do, an invocation before the responses at its
-/// place, and each call is of the process that was free last. It has an order exactly where the calls have one. There is none where no
-/// history has them: where there are too many calls or pairs, the keys of the pairs do not rise, a scan has no range, an answer lists too
-/// many pairs, more than 64 calls are open at once, a call ends before it begins, or they do not stand in an order of invocations.
+/// A history with these calls, from these pairs. Its events stand as those of the calls do, an
+/// invocation before the responses at its place, and each call is of the process that was free
+/// last. It has an order exactly where the calls have one. There is none where no history has them:
+/// where there are too many calls or pairs, the keys of the pairs do not rise, a scan has no range,
+/// an answer lists too many pairs, more than 64 calls are open at once, a call ends before it
+/// begins, or they do not stand in an order of invocations.
 pub fn small_history(
     alloc: Global,
     start: &[(u64, u64)],
@@ -27,7 +29,8 @@ pub fn small_history(
     ensures history { IfOk result (λ found. MatchOption found (AreOfNoHistory start.now calls.now)
         (λ history. IsHistoryWith start.now calls.now history)) }
     ensures orders { IfOk result (λ found. IfSome found (λ history.
-        IsLinearizable start.now calls.now ↔ IsLinearizable history.start (operations history.events))) }
+        IsLinearizable start.now calls.now
+        ↔ IsLinearizable history.start (operations history.events))) }
 {
     places_do_not_matter();
     match small_events(alloc, calls)? {
@@ -51,7 +54,8 @@ pub fn small_text(alloc: Global, history: &History) -> Result<Option<String>, Me
 
 /// Events of a history that make these calls, at other places; none where those of no history do.
 fn small_events(alloc: Global, calls: &[Operation]) -> Result<Option<Vec<Event>>, Memory>
-    ensures { IfOk result (λ found. MatchOption found (NoEventsHave calls.now) (λ events. AreEventsWith calls.now events.items)) }
+    ensures { IfOk result (λ found. MatchOption found (NoEventsHave calls.now)
+        (λ events. AreEventsWith calls.now events.items)) }
 {
     let mut seats = Seats::new(alloc)?;
     if seat_all(alloc, &mut seats, calls)? {

@@ -1,4 +1,5 @@
-//! Calls as a history by themselves: of few processes, at the places that are left where the other calls of a history go. And its text.
+//! Calls as a history by themselves: of few processes, at the places that are left where the other
+//! calls of a history go. And its text.
 #![tactic(auto)]
 
 mod histories;

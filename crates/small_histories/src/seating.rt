@@ -7,15 +7,17 @@ use crate::seats::{Seats, first_answer, first_before};
 use events::{Memory, Operation};
 use std::alloc::Global;
 
-/// Begins and ends all calls, from where none has begun. Answers whether some history has them. It takes time in proportion to the calls, for
-/// a fixed number of processes, where they lie by rising invocation.
+/// Begins and ends all calls, from where none has begun. Answers whether some history has them. It
+/// takes time in proportion to the calls, for a fixed number of processes, where they lie by rising
+/// invocation.
 pub fn seat_all(alloc: Global, seats: &mut Seats, calls: &[Operation]) -> Result<bool, Memory>
     ensures { AreSeated calls.now 0 0 seats.old
-        → IfOk result (λ all. MatchBool all (AreEventsWith calls.now seats.new.events.items) (NoEventsHave calls.now)) }
+        → IfOk result (λ all. MatchBool all (AreEventsWith calls.now seats.new.events.items)
+        (NoEventsHave calls.now)) }
 {
     let mut begun = 0;
     for number in 0..calls.len() {
-        begun = later(begun, calls[number].inv);
+        begun = later_place(begun, calls[number].inv);
         let fits = seat(alloc, seats, calls, number, begun)?;
         if !fits {
             return Ok(false);
@@ -26,14 +28,14 @@ pub fn seat_all(alloc: Global, seats: &mut Seats, calls: &[Operation]) -> Result
 }
 
 /// The later of two places.
-fn later(place: usize, other: usize) -> usize
+fn later_place(place: usize, other: usize) -> usize
     ensures { result ≡ max place other }
 {
     if place < other { other } else { place }
 }
 
-/// Begins the call with a number behind the answers that stand before it, where the last of the calls up to it begins at this place.
-/// Answers whether it may.
+/// Begins the call with a number behind the answers that stand before it, where the last of the
+/// calls up to it begins at this place. Answers whether it may.
 fn seat(
     alloc: Global,
     seats: &mut Seats,
@@ -44,7 +46,8 @@ fn seat(
     requires within { number < length calls.now }
     requires place { place ≡ begun_of calls.now (number + 1) }
     ensures { AreSeated calls.now number (begun_of calls.now number) seats.old
-        → IfOk result (λ begun. MatchBool begun (AreSeated calls.now (number + 1) place seats.new) (NoEventsHave calls.now)) }
+        → IfOk result (λ begun. MatchBool begun (AreSeated calls.now (number + 1) place seats.new)
+        (NoEventsHave calls.now)) }
 {
     if !may_follow(&calls[..number], &calls[number], place) {
         return Ok(false);
@@ -56,7 +59,8 @@ fn seat(
 
 /// Whether a call that begins with the last of those before it, or behind it, may follow them.
 fn may_follow(before: &[Operation], call: &Operation, place: usize) -> bool
-    ensures { IsTrue result ↔ (EndsBehind place call.now × All (EndsOutside call.now.inv place) before.now) }
+    ensures { IsTrue result ↔ (EndsBehind place call.now
+        × All (EndsOutside call.now.inv place) before.now) }
 {
     ends_behind(place, call) && all_end_outside(call.inv, place, before)
 }
@@ -71,7 +75,8 @@ fn ends_behind(place: usize, call: &Operation) -> bool
     }
 }
 
-/// Whether no call is answered from one place to another. Where there are no such places, no call is looked at.
+/// Whether no call is answered from one place to another. Where there are no such places, no call
+/// is looked at.
 fn all_end_outside(low: usize, high: usize, calls: &[Operation]) -> bool
     ensures { IsTrue result ↔ All (EndsOutside low high) calls.now }
 {
@@ -102,7 +107,8 @@ fn end_before(
     calls: &[Operation],
     place: usize,
 ) -> Result<(), Memory>
-    ensures seated { (count : ℕ) → AreSeated calls.now count place seats.old → OnOk result (AreSeated calls.now count place seats.new) }
+    ensures seated { (count : ℕ) → AreSeated calls.now count place seats.old
+        → OnOk result (AreSeated calls.now count place seats.new) }
     ensures none { OnOk result (NoneEndsBefore place seats.new.open_seats.items) }
 {
     while let Some(at) = first_before(&seats.open_seats, place) {

@@ -9,7 +9,8 @@ ghost use Rattle.small_histories.specs.Seats.{AreSeated, NoEventsHave};
 use events::{Event, Memory, Operation, PROCESSES, Reply, Response};
 use std::alloc::Global;
 
-/// A call that has begun and is not answered yet: its number, its process, and the place of its response, where it has one.
+/// A call that has begun and is not answered yet: its number, its process, and the place of its
+/// response, where it has one.
 #[derive(Clone, Copy)]
 pub struct Seat {
     pub number: usize,
@@ -17,8 +18,8 @@ pub struct Seat {
     pub res: Option<usize>,
 }
 
-/// Where calls stand that begin and end one after another: the processes that are free, that which was free last behind; the open
-/// calls, by rising number; and the events so far.
+/// Where calls stand that begin and end one after another: the processes that are free, that which
+/// was free last behind; the open calls, by rising number; and the events so far.
 #[derive(Drop)]
 pub struct Seats {
     pub free: Vec<u8>,
@@ -39,13 +40,16 @@ impl Seats {
         })
     }
 
-    /// Begins the call with this number, by the process that was free last. Answers whether one was free.
+    /// Begins the call with this number, by the process that was free last. Answers whether one was
+    /// free.
     pub fn begin(&mut self, calls: &[Operation], number: usize) -> Result<bool, Memory>
         requires { number < length calls.now }
-        ensures { (place : ℕ) → AreSeated calls.now number place self.old → NoneEndsBefore place self.old.open_seats.items
+        ensures { (place : ℕ) → AreSeated calls.now number place self.old
+            → NoneEndsBefore place self.old.open_seats.items
             → place ≡ begun_of calls.now (number + 1)
             → IsSomeAnd (slice_get calls.now number) (λ a. MayFollow calls.now number place a)
-            → IfOk result (λ begun. MatchBool begun (AreSeated calls.now (number + 1) place self.new) (NoEventsHave calls.now)) }
+            → IfOk result (λ begun. MatchBool begun
+            (AreSeated calls.now (number + 1) place self.new) (NoEventsHave calls.now)) }
     {
         let Some(process) = self.free.pop() else {
             return Ok(false);
@@ -68,7 +72,8 @@ impl Seats {
     pub fn end(&mut self, alloc: Global, calls: &[Operation], at: usize) -> Result<(), Memory>
         requires { at < length self.old.open_seats.items }
         ensures seated { (count limit : ℕ) → AreSeated calls.now count limit self.old
-            → IsSomeAnd (slice_get self.old.open_seats.items at) (λ s. IsSomeAnd s.res (λ res. res < limit))
+            → IsSomeAnd (slice_get self.old.open_seats.items at)
+            (λ s. IsSomeAnd s.res (λ res. res < limit))
             → OnOk result (AreSeated calls.now count limit self.new) }
         ensures fewer { length self.new.open_seats.items + 1 ≡ length self.old.open_seats.items }
     {
@@ -127,11 +132,12 @@ fn reply_in(alloc: Global, response: &Option<Response>) -> Result<Option<Reply>,
     }
 }
 
-/// The place in the list of the open call that is answered before one, where one is: of those the first, and of several that are answered
-/// at one place that with the least number.
+/// The place in the list of the open call that is answered before one, where one is: of those the
+/// first, and of several that are answered at one place that with the least number.
 pub fn first_before(open_seats: &[Seat], place: usize) -> Option<usize>
     ensures { MatchOption result (NoneEndsBefore place open_seats.now)
-        (λ at. IsSomeAnd (slice_get open_seats.now at) (λ s. IsSomeAnd s.res (λ res. res < place))) }
+        (λ at. IsSomeAnd (slice_get open_seats.now at)
+        (λ s. IsSomeAnd s.res (λ res. res < place))) }
 {
     match first_answer(open_seats) {
         Some((at, res)) => { if res < place { Some(at) } else { None } }
@@ -141,17 +147,22 @@ pub fn first_before(open_seats: &[Seat], place: usize) -> Option<usize>
 
 /// The place in the list of the open call that is answered first, and the place of its response.
 pub fn first_answer(open_seats: &[Seat]) -> Option<(usize, usize)>
-    ensures { MatchOption result (All (λ s. s.res ≡ None) open_seats.now) (IsFirstAmong open_seats.now open_seats.now) }
+    ensures { MatchOption result (All (λ s. s.res ≡ None) open_seats.now)
+        (IsFirstAmong open_seats.now open_seats.now) }
 {
     let mut first = None;
     for (at, seat) in open_seats.iter().enumerate() {
-        first = earlier(first, at, seat.res);
+        first = earlier_answer(first, at, seat.res);
     }
     first
 }
 
 /// The earlier of two answers, the first of them where both stand at one place.
-fn earlier(first: Option<(usize, usize)>, at: usize, res: Option<usize>) -> Option<(usize, usize)>
+fn earlier_answer(
+    first: Option<(usize, usize)>,
+    at: usize,
+    res: Option<usize>,
+) -> Option<(usize, usize)>
     ensures { result ≡ earlier first at res }
 {
     match (first, res) {

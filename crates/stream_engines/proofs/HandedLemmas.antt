@@ -6,8 +6,8 @@ use Rattle.std.proofs.lemmas.Bool.Decides.{nat_tests}
 use Rattle.std.proofs.lemmas.List.{take_all}
 use Rattle.std.proofs.lemmas.List.Elements.{All-head, All-tail}
 use Rattle.stream_text.specs.Cuts.{line_feed, HasNoLineFeed, lines_of}
-use Rattle.outcomes.specs.declared.outcome.Outcome.{Outcome}
-use Rattle.outcomes.specs.declared.outcome.Outcome.TheVariants.{Answered, Noted, Refused, Memory, Words, Failed}
+use Rattle.outcomes.specs.declared.outcome.RunOutcome.{RunOutcome}
+use Rattle.outcomes.specs.declared.outcome.RunOutcome.TheVariants.{Answered, Noted, Refused, Memory, Words, Failed}
 use Rattle.stream_engines.specs.declared.followed.Followed.{Followed}
 use Rattle.stream_engines.specs.declared.handed.LineFollower.{LineFollower}
 use Rattle.stream_engines.specs.declared.handed.LineFollower.TheVariants.{Going, Ended}
@@ -67,7 +67,7 @@ lines_of-unfed byte (next ∷ bytes) whole =
 -- ---- a line more
 
 -- there are too many lines
-pub handed_many : (budget given count number : ℕ) (lines : List (List ℕ)) (line : List ℕ) (f : Followed) (outcome : Outcome)
+pub handed_many : (budget given count number : ℕ) (lines : List (List ℕ)) (line : List ℕ) (f : Followed) (outcome : RunOutcome)
     → IsHanded budget lines (Going f count given) → most_lines ≤ count → number ≡ most_lines + 1 → IsManyRefusal number outcome
     → IsHanded budget (lines ++ line ∷ []) (Ended outcome)
 handed_many budget given count number lines line f outcome handed many numbers is = λ told begins. refused told outcome begins is
@@ -78,7 +78,7 @@ handed_many budget given count number lines line f outcome handed many numbers i
     most : length lines ≡ most_lines
     most = let top = handed.2 in omega (arith, counted, many, top)
 
-    refused : (told : Option (List ℕ)) (outcome : Outcome) → BeginsWith told (lines ++ line ∷ []) → IsManyRefusal number outcome
+    refused : (told : Option (List ℕ)) (outcome : RunOutcome) → BeginsWith told (lines ++ line ∷ []) → IsManyRefusal number outcome
         → IsStreamOutcome budget told outcome
     refused told Memory begins is = tt
     refused told (Answered answer bytes) begins is = absurd is
@@ -124,6 +124,6 @@ handed_last budget lines read bytes (byte ∷ rest) f parts some whole handed =
     (handed_next budget lines read (byte ∷ rest) f handed)
 
 -- all lines of a text were handed over
-pub ended_with : (budget : ℕ) (text : List ℕ) (outcome : Outcome) → IsHanded budget (lines_of text) (Ended outcome)
+pub ended_with : (budget : ℕ) (text : List ℕ) (outcome : RunOutcome) → IsHanded budget (lines_of text) (Ended outcome)
     → IsStreamOutcome budget (Some text) outcome
 ended_with budget text outcome handed = handed (Some text) ([], sym (append-nil (lines_of text)))

@@ -8,11 +8,11 @@ use Rattle.stream_text.specs.Cuts.{lines_of}
 use Rattle.stream_text.specs.Lines.{SpellsEvent}
 use Rattle.follower.specs.declared.answered.Doubt.{Doubt}
 use Rattle.follower.specs.declared.answered.Loss.{Loss}
-use Rattle.follower.specs.Outcomes.{IsLost, IsSpent}
+use Rattle.follower.specs.Outcomes.{IsLost}
 use Rattle.outcomes.specs.declared.outcome.Answer as answers
 use Rattle.outcomes.specs.declared.outcome.Answer.TheVariants.{Yes, Undecided}
-use Rattle.outcomes.specs.declared.outcome.Outcome.{Outcome}
-use Rattle.outcomes.specs.declared.outcome.Outcome.TheVariants.{Answered, Noted, Refused, Memory, Words, Failed}
+use Rattle.outcomes.specs.declared.outcome.RunOutcome.{RunOutcome}
+use Rattle.outcomes.specs.declared.outcome.RunOutcome.TheVariants.{Answered, Noted, Refused, Memory, Words, Failed}
 use Rattle.outcomes.specs.Lines.{line}
 use Rattle.stream_engines.specs.declared.followed.Followed.{Followed}
 use Rattle.stream_engines.specs.Followed.{IsFollowed}
@@ -22,7 +22,7 @@ use Rattle.stream_engines.specs.Reports.{yes_line, spent_data}
 use Rattle.answer_hints.specs.Hints.{yes_hint}
 use Rattle.stream_engines.specs.Reading.{AreLinesOf}
 use Rattle.stream_engines.specs.Leaves.{IsAnsweredBy, IsYesOutcome, IsLostOutcome}
-use Rattle.stream_engines.specs.Answers.{IsWholeAnswer, Judgement, IsJudgedAnswer, IsFollowAnswer}
+use Rattle.stream_engines.specs.Answers.{IsWholeAnswer, Judgement, IsJudgedAnswer, IsSpentBy, IsFollowAnswer}
 use Rattle.stream_engines.specs.Outcomes.{IsStreamOutcome}
 use Rattle.stream_engines.proofs.RefusalLemmas.{next_of}
 
@@ -48,7 +48,7 @@ judged_of text read rest next f process reply IsWhat followed spelled parts judg
 }
 
 pub lost_at : (budget : ℕ) (told : Option (List ℕ)) (read : List (List ℕ)) (next : List ℕ) (f : Followed) (process : ℕ)
-    (reply : Reply) (loss : Loss) (outcome : Outcome) (followed : IsFollowed read f) → SpellsEvent f.version next (Answer process reply)
+    (reply : Reply) (loss : Loss) (outcome : RunOutcome) (followed : IsFollowed read f) → SpellsEvent f.version next (Answer process reply)
     → BeginsWith told (read ++ next ∷ [])
     → IsLost followed.stream.start followed.stream.events process reply loss
     → IsLostOutcome loss outcome → IsStreamOutcome budget told outcome
@@ -68,9 +68,9 @@ lost_at budget (Some text) read next f process reply loss (Answered answer bytes
     )
 
 pub spent_at : (budget : ℕ) (told : Option (List ℕ)) (read : List (List ℕ)) (next : List ℕ) (f : Followed) (process : ℕ)
-    (reply : Reply) (event number : ℕ) (doubt : Doubt) (outcome : Outcome) (followed : IsFollowed read f)
+    (reply : Reply) (event number : ℕ) (doubt : Doubt) (outcome : RunOutcome) (followed : IsFollowed read f)
     → SpellsEvent f.version next (Answer process reply) → BeginsWith told (read ++ next ∷ [])
-    → IsSpent followed.stream.start followed.stream.events process reply budget event number doubt
+    → IsSpentBy followed.stream.start followed.stream.events process reply budget event number doubt
     → IsAnsweredBy Undecided (line (compact_text (spent_data event number doubt))) outcome → IsStreamOutcome budget told outcome
 spent_at budget told read next f process reply event number doubt Memory followed spelled begins judged is = tt
 spent_at budget told read next f process reply event number doubt (Refused bytes hint) followed spelled begins judged is = absurd is
@@ -84,7 +84,7 @@ spent_at budget (Some text) read next f process reply event number doubt (Answer
       number,
       doubt,
       judged_of text read begins.0 next f process reply
-          (λ start events process reply. IsSpent start events process reply budget event number doubt) followed spelled begins.1 judged,
+          (λ start events process reply. IsSpentBy start events process reply budget event number doubt) followed spelled begins.1 judged,
       is.1,
       refl,
     )
@@ -118,7 +118,7 @@ yes_of budget text read f calls overlap answer bytes note followed lines count m
     (subst (λ (n : ℕ). IsSaid (length (operations followed.stream.events)) n bytes note) many
     (subst (λ (n : ℕ). IsSaid n overlap bytes note) count is)))
 
-pub whole_at : (budget : ℕ) (told : Option (List ℕ)) (read : List (List ℕ)) (f : Followed) (calls overlap : ℕ) (outcome : Outcome)
+pub whole_at : (budget : ℕ) (told : Option (List ℕ)) (read : List (List ℕ)) (f : Followed) (calls overlap : ℕ) (outcome : RunOutcome)
     (followed : IsFollowed read f) → AreLinesOf told read → calls ≡ length (operations followed.stream.events)
     → overlap ≡ overlap_of followed.stream.events → IsYesOutcome calls overlap outcome → IsStreamOutcome budget told outcome
 whole_at budget told read f calls overlap Memory followed lines count many is = tt

@@ -5,11 +5,11 @@ use Rattle.std.proofs.lemmas.List.Quantifiers.{Any-push}
 use Rattle.std.specs.Prelude.{IfSome}
 use Rattle.orders.specs.Orders.{IsLinearizable}
 use Rattle.following.specs.keys.KeyStates.{Configuration}
-use Rattle.kept_keys.specs.Judging.{HasOrderFrom}
-use Rattle.kept_keys.specs.Views.{KeptView}
+use Rattle.kept_rows.specs.Judging.{HasOrderFrom}
+use Rattle.kept_rows.specs.Views.{KeptView}
 use Rattle.kept_rows.specs.Outcomes.{HasNoOrder}
-use Rattle.kept_rows.specs.declared.outcomes.KeyLoss.{KeyLoss}
-use Rattle.stream_engines.specs.OwnParts.{OwnPart, part_from, part_of, part_at}
+use Rattle.kept_rows.specs.KeyLoss.{KeyLoss}
+use Rattle.own_parts.specs.OwnParts.{OwnPart, part_from, part_of, part_at}
 
 abbrev pub IsRefuted : OwnPart → Type 0
 IsRefuted part = IsLinearizable part.start part.calls → ⊥

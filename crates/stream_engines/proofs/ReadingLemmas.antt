@@ -9,8 +9,8 @@ use Rattle.stream_text.specs.declared.line_fault.LineFault.TheVariants as faults
 use Rattle.stream_text.specs.LineLaws.{TakesFirstLine}
 use Rattle.stream_text.specs.LineLimits.{line_limit}
 use Rattle.stream_text.specs.Cuts.{line_feed, HasNoLineFeed, lines_of, before_lines, Advances, TakesLine, FindsEnd, BeginsTooLong}
-use Rattle.outcomes.specs.declared.outcome.Outcome.{Outcome}
-use Rattle.outcomes.specs.declared.outcome.Outcome.TheVariants.{Answered, Noted, Refused, Memory, Words, Failed}
+use Rattle.outcomes.specs.declared.outcome.RunOutcome.{RunOutcome}
+use Rattle.outcomes.specs.declared.outcome.RunOutcome.TheVariants.{Answered, Noted, Refused, Memory, Words, Failed}
 use Rattle.stream_engines.specs.declared.followed.Followed.{Followed}
 use Rattle.stream_engines.specs.Followed.{IsFollowed}
 use Rattle.stream_engines.specs.StreamTexts.{BeginsWith}
@@ -135,7 +135,7 @@ long_hint [] next hint is = is
 long_hint (line ∷ read) next hint is = is
 
 pub long_at : (budget : ℕ) (told : Option (List ℕ)) (read : List (List ℕ)) (f : Followed) (number : ℕ) (old : Option (List ℕ))
-    (outcome : Outcome) → IsFollowed read f
+    (outcome : RunOutcome) → IsFollowed read f
     → length read + 1 ≡ number → HasRead told read old → BeginsTooLong old → IsLineRefusal number [] faults.TooLong outcome
     → IsStreamOutcome budget told outcome
 long_at budget told read f number old Memory followed count has long is = tt
@@ -163,7 +163,7 @@ long_at budget (Some text) read f number old (Refused bytes hint) followed count
 -- ---- too many lines
 
 pub many_at : (budget : ℕ) (told : Option (List ℕ)) (read : List (List ℕ)) (f : Followed) (number : ℕ) (new : Option (List ℕ))
-    (outcome : Outcome) → IsFollowed read f
+    (outcome : RunOutcome) → IsFollowed read f
     → length read ≡ most_lines → length read + 1 ≡ number → HasRead told read new → IsManyRefusal number outcome
     → IsStreamOutcome budget told outcome
 many_at budget told read f number new Memory followed many count has is = tt
@@ -179,14 +179,14 @@ many_at budget (Some text) read f number new (Refused bytes hint) followed many 
 
 -- ---- the next line was taken, or was not
 
-pub went_on : (told : Option (List ℕ)) (read : List (List ℕ)) (line : List ℕ) (new : Option (List ℕ)) (r : Result Followed Outcome)
+pub went_on : (told : Option (List ℕ)) (read : List (List ℕ)) (line : List ℕ) (new : Option (List ℕ)) (r : Result Followed RunOutcome)
     → HasRead told (read ++ line ∷ []) new → IfOk r (IsFollowed (read ++ line ∷ []))
     → IfOk r (λ f. (line : List ℕ) × IsFollowed (read ++ line ∷ []) f × HasRead told (read ++ line ∷ []) new)
 went_on told read line new (Ok f) has followed = (line, followed, has)
 went_on told read line new (Err outcome) has followed = tt
 
 pub came_out : (budget : ℕ) (told : Option (List ℕ)) (before after : ℕ) (new : Option (List ℕ))
-    (r : Result Followed Outcome) → after ≡ before
+    (r : Result Followed RunOutcome) → after ≡ before
     → IfErr r (IsStreamOutcome budget told)
     → IfErr r (IsFollowOutcome budget (record {
       old = record { bytes = told; failures = before };

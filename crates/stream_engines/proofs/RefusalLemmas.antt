@@ -10,8 +10,8 @@ use Rattle.stream_text.specs.Lines.{SpellsEvent}
 use Rattle.stream_text.specs.LineFaults.{IsEventLineFault}
 use Rattle.follower.specs.declared.fault.FollowFault.{FollowFault}
 use Rattle.follower.specs.Faults.{shown}
-use Rattle.outcomes.specs.declared.outcome.Outcome.{Outcome}
-use Rattle.outcomes.specs.declared.outcome.Outcome.TheVariants.{Answered, Noted, Refused, Memory, Words, Failed}
+use Rattle.outcomes.specs.declared.outcome.RunOutcome.{RunOutcome}
+use Rattle.outcomes.specs.declared.outcome.RunOutcome.TheVariants.{Answered, Noted, Refused, Memory, Words, Failed}
 use Rattle.stream_engines.specs.declared.followed.Followed.{Followed}
 use Rattle.stream_engines.specs.Followed.{IsFollowed}
 use Rattle.stream_engines.specs.StreamTexts.{BeginsWith}
@@ -51,7 +51,7 @@ numbered count number name bytes same is = is ∙ ap (λ (n : ℕ). stream_fault
 
 -- the next line has a fault
 pub refused_at : (budget : ℕ) (told : Option (List ℕ)) (read : List (List ℕ)) (line : List ℕ) (f : Followed) (number : ℕ)
-    (fault : LineFault) (outcome : Outcome)
+    (fault : LineFault) (outcome : RunOutcome)
     → IsFollowed read f → length read + 1 ≡ number → IsLineFaultAfter read f.version line fault → BeginsWith told (read ++ line ∷ [])
     → IsRefusalAfter read number line fault outcome → IsStreamOutcome budget told outcome
 refused_at budget told read line f number fault Memory followed count wrong begins is = tt
@@ -77,7 +77,7 @@ refused_at budget (Some text) read line f number fault (Refused bytes hint) foll
 -- the event of the next line is out of its turn
 pub refused_turn : (budget : ℕ) (told : Option (List ℕ)) (read : List (List ℕ)) (line : List ℕ) (f : Followed) (number : ℕ) (e : Event)
     (fault : FollowFault)
-    (outcome : Outcome) (followed : IsFollowed read f) → length read + 1 ≡ number → SpellsEvent f.version line e
+    (outcome : RunOutcome) (followed : IsFollowed read f) → length read + 1 ≡ number → SpellsEvent f.version line e
     → (fault ≢ turns.Memory → turn_fault followed.stream.events e ≡ Some fault)
     → BeginsWith told (read ++ line ∷ []) → IsTurnRefusal number line fault outcome → IsStreamOutcome budget told outcome
 refused_turn budget told read line f number e fault Memory followed count spelled wrong begins is = tt
@@ -116,7 +116,7 @@ later_fault [] version line fault some wrong = absurd (omega arith)
 later_fault (first ∷ read) version line fault some wrong = wrong
 
 -- so its refusal is that of a line after others
-pub later_refusal : (read : List (List ℕ)) (number : ℕ) (line : List ℕ) (fault : LineFault) (outcome : Outcome) → 0 < length read
+pub later_refusal : (read : List (List ℕ)) (number : ℕ) (line : List ℕ) (fault : LineFault) (outcome : RunOutcome) → 0 < length read
     → IsLineRefusal number line fault outcome → IsRefusalAfter read number line fault outcome
 later_refusal [] number line fault outcome some is = absurd (omega arith)
 later_refusal (first ∷ read) number line fault (Refused bytes hint) some is = is

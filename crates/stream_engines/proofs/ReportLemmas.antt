@@ -4,7 +4,8 @@ use Rattle.std.specs.Prelude.{flat_map}
 use Rattle.serde_json.specs.View.{items_of}
 use Rattle.serde_json.specs.Written.{has_float, items_have_float}
 use Rattle.history_text.specs.Texts.{number_data}
-use Rattle.kept_rows.specs.declared.outcomes.KeyLoss.{KeyLoss}
+use Rattle.kept_rows.specs.Puts.{put_in}
+use Rattle.kept_rows.specs.KeyLoss.{KeyLoss}
 use Rattle.follower.specs.declared.answered.Doubt.{Doubt}
 use Rattle.follower.specs.declared.answered.Loss.{Loss}
 use Rattle.stream_engines.specs.Reports.{value_data, key_data, lost_data, doubted_keys, spent_data}
@@ -20,7 +21,11 @@ items_have_float-values (Some value ∷ values) = items_have_float-values values
 
 has_float-key : (at : KeyLoss) → has_float (key_data at) ≡ false
 has_float-key at =
-    rw (items_have_float-numbers at.kept.names, items_have_float-values (flat_map (λ c. c.values) at.kept.configurations)) refl
+    rw (
+      items_have_float-numbers at.kept.names,
+      items_have_float-values (flat_map (λ c. map (put_in at.kept c) c.values) at.kept.configurations),
+      items_have_float-values (flat_map (λ c. c.values) at.kept.configurations),
+    ) refl
 
 items_have_float-keys : (keys : List KeyLoss) → items_have_float (items_of (map key_data keys)) ≡ false
 items_have_float-keys [] = refl

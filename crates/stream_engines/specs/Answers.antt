@@ -17,7 +17,9 @@ use Rattle.stream_text.specs.Cuts.{lines_of}
 use Rattle.stream_text.specs.Lines.{SpellsEvent}
 use Rattle.follower.specs.declared.answered.Doubt.{Doubt}
 use Rattle.follower.specs.declared.answered.Loss.{Loss}
-use Rattle.follower.specs.Outcomes.{IsLost, IsSpent}
+use Rattle.follower.specs.FollowerView.{FollowerView}
+use Rattle.follower.specs.Following.{IsFollowing}
+use Rattle.follower.specs.Outcomes.{IsLost, IsSpent, IsDoubtOf}
 use Rattle.outcomes.specs.declared.outcome.Answer as outcomes
 use Rattle.outcomes.specs.declared.outcome.Answer.TheVariants as verdicts
 use Rattle.outcomes.specs.Lines.{line}
@@ -26,9 +28,10 @@ use Rattle.answer_hints.specs.Overlaps.{overlap_of}
 use Rattle.answer_hints.specs.Hints.{yes_hint}
 use Rattle.stream_engines.specs.Refusals.{stream_fault_line, StopsFor}
 use Rattle.stream_engines.specs.Reports.{yes_line, lost_data, spent_data}
-use Rattle.stream_engines.specs.OwnParts.{own_part}
+use Rattle.own_parts.specs.OwnParts.{own_part}
 
--- all lines spell a stream, whose events have an order; the hint is that on its calls and how much they overlap
+-- all lines spell a stream, whose events have an order; the hint is that on its calls and how much
+-- they overlap
 pub record IsWholeAnswer (lines : List (List ℕ)) (bytes hint : List ℕ) : Type 0 where
   pub stream : HistoryView
   pub version : TextVersion
@@ -42,7 +45,8 @@ pub record IsWholeAnswer (lines : List (List ℕ)) (bytes hint : List ℕ) : Typ
 abbrev pub Judgement : Type 1
 Judgement = Contents → List Event → ℕ → Reply → Type 0
 
--- the lines begin with those of a stream whose events have an order, and then comes an answer that was judged
+-- the lines begin with those of a stream whose events have an order, and then comes an answer that
+-- was judged
 pub record IsJudgedAnswer (lines : List (List ℕ)) (IsWhat : Judgement) : Type 0 where
   pub stream : HistoryView
   pub version : TextVersion
@@ -62,10 +66,17 @@ pub record IsJudgedAnswer (lines : List (List ℕ)) (IsWhat : Judgement) : Type 
 abbrev pub GoesWrongHere : List (List ℕ) → Loss → Type 0
 GoesWrongHere lines loss = IsJudgedAnswer lines (λ start events process reply. IsLost start events process reply loss)
 
+-- the answer is spent, and where that is for the number of rows, those of a follower of the events
+-- come to too many by it
+abbrev pub IsSpentBy : Contents → List Event → ℕ → Reply → ℕ → ℕ → ℕ → Doubt → Type 0
+IsSpentBy start events process reply budget event number doubt =
+    IsSpent start events process reply budget event number doubt
+    × ((f : FollowerView) × IsFollowing start events f × IsDoubtOf f process reply doubt)
+
 -- it is not known whether they do, at this budget
 abbrev pub IsDoubtedHere : ℕ → List (List ℕ) → ℕ → ℕ → Doubt → Type 0
 IsDoubtedHere budget lines event number doubt =
-    IsJudgedAnswer lines (λ start events process reply. IsSpent start events process reply budget event number doubt)
+    IsJudgedAnswer lines (λ start events process reply. IsSpentBy start events process reply budget event number doubt)
 
 -- the line of the text of a history; nothing where that would be too long
 abbrev pub IsHistoryLine : HistoryView → List ℕ → Type 0
@@ -92,7 +103,8 @@ IsLinesAnswer budget lines verdicts.Undecided bytes hint =
     (event : ℕ) × (number : ℕ) × (doubt : Doubt) × IsDoubtedHere budget lines event number doubt
     × (bytes ≡ line (compact_text (spent_data event number doubt))) × (hint ≡ [])
 
--- with this line and this hint `follow` refuses the lines: those before are followed, and there it stops
+-- with this line and this hint `follow` refuses the lines: those before are followed, and there it
+-- stops
 pub record IsLinesRefusal (lines : List (List ℕ)) (bytes hint : List ℕ) : Type 0 where
   pub stream : HistoryView
   pub version : TextVersion

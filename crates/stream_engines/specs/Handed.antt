@@ -7,7 +7,8 @@ use Rattle.stream_engines.specs.StreamTexts.{BeginsWith}
 use Rattle.stream_engines.specs.declared.handed.LineFollower.{LineFollower}
 use Rattle.stream_engines.specs.declared.handed.LineFollower.TheVariants.{Going, Ended}
 
--- these lines were handed over, at this budget: they are followed, or have ended as any text that begins with them can
+-- these lines were handed over, at this budget: they are followed, or have ended as any text that
+-- begins with them can
 abbrev pub IsHanded : ℕ → List (List ℕ) → LineFollower → Type 0
 IsHanded budget lines (Going followed count given) =
     (given ≡ budget) × (count ≡ length lines) × (count ≤ most_lines) × IsFollowed lines followed

@@ -7,8 +7,8 @@ use Rattle.follower.specs.declared.answered.Loss.{Loss}
 use Rattle.follower.specs.declared.fault.FollowFault.{FollowFault}
 use Rattle.outcomes.specs.declared.outcome.Answer.{Answer}
 use Rattle.outcomes.specs.declared.outcome.Answer.TheVariants.{Yes, No}
-use Rattle.outcomes.specs.declared.outcome.Outcome.{Outcome}
-use Rattle.outcomes.specs.declared.outcome.Outcome.TheVariants.{Answered, Refused, Memory}
+use Rattle.outcomes.specs.declared.outcome.RunOutcome.{RunOutcome}
+use Rattle.outcomes.specs.declared.outcome.RunOutcome.TheVariants.{Answered, Refused, Memory}
 use Rattle.answer_hints.specs.Hints.{yes_hint}
 use Rattle.answer_hints.specs.Outcomes.{IsHintedBy}
 use Rattle.stream_engines.specs.Refusals.{line_fault_name, turn_fault_name, too_many_name, stream_fault_line}
@@ -17,45 +17,46 @@ use Rattle.stream_engines.specs.Reports.{yes_line}
 use Rattle.stream_engines.specs.Answers.{IsLostText}
 
 -- the outcome of the line of this number, which has this fault
-abbrev pub IsLineRefusal : ℕ → List ℕ → LineFault → Outcome → Type 0
+abbrev pub IsLineRefusal : ℕ → List ℕ → LineFault → RunOutcome → Type 0
 IsLineRefusal number next fault (Refused bytes hint) = (fault ≢ lines.Memory)
     × (string_bytes bytes ≡ stream_fault_line number (line_fault_name fault)) × (string_bytes hint ≡ line_fault_hint next fault)
 IsLineRefusal number next fault Memory = ⊤
 IsLineRefusal number next fault outcome = ⊥
 
 -- the same of the line after these, of which a first one may be a history
-abbrev pub IsRefusalAfter : List (List ℕ) → ℕ → List ℕ → LineFault → Outcome → Type 0
+abbrev pub IsRefusalAfter : List (List ℕ) → ℕ → List ℕ → LineFault → RunOutcome → Type 0
 IsRefusalAfter read number next fault (Refused bytes hint) = (fault ≢ lines.Memory)
     × (string_bytes bytes ≡ stream_fault_line number (line_fault_name fault)) × IsHintAfter read next fault (string_bytes hint)
 IsRefusalAfter read number next fault Memory = ⊤
 IsRefusalAfter read number next fault outcome = ⊥
 
 -- and of its event
-abbrev pub IsTurnRefusal : ℕ → List ℕ → FollowFault → Outcome → Type 0
+abbrev pub IsTurnRefusal : ℕ → List ℕ → FollowFault → RunOutcome → Type 0
 IsTurnRefusal number next fault (Refused bytes hint) = (fault ≢ turns.Memory)
     × (string_bytes bytes ≡ stream_fault_line number (turn_fault_name fault)) × (string_bytes hint ≡ turn_fault_hint next fault)
 IsTurnRefusal number next fault Memory = ⊤
 IsTurnRefusal number next fault outcome = ⊥
 
 -- the outcome where there are too many lines
-abbrev pub IsManyRefusal : ℕ → Outcome → Type 0
+abbrev pub IsManyRefusal : ℕ → RunOutcome → Type 0
 IsManyRefusal number (Refused bytes hint) = (string_bytes bytes ≡ stream_fault_line number too_many_name)
     × (string_bytes hint ≡ too_many_hint)
 IsManyRefusal number Memory = ⊤
 IsManyRefusal number outcome = ⊥
 
 -- an answer with these bytes, where memory suffices
-abbrev pub IsAnsweredBy : Answer → List ℕ → Outcome → Type 0
+abbrev pub IsAnsweredBy : Answer → List ℕ → RunOutcome → Type 0
 IsAnsweredBy answer bytes (Answered given text) = (given ≡ answer) × (string_bytes text ≡ bytes)
 IsAnsweredBy answer bytes Memory = ⊤
 IsAnsweredBy answer bytes outcome = ⊥
 
--- the outcome of so many calls that have an order, with so much overlap in all: a yes with its hint, where it has one
-abbrev pub IsYesOutcome : ℕ → ℕ → Outcome → Type 0
+-- the outcome of so many calls that have an order, with so much overlap in all: a yes with its
+-- hint, where it has one
+abbrev pub IsYesOutcome : ℕ → ℕ → RunOutcome → Type 0
 IsYesOutcome calls overlap outcome = IsHintedBy Yes (yes_line calls overlap) (yes_hint calls overlap) outcome
 
 -- the outcome where an answer was judged and the events go wrong
-abbrev pub IsLostOutcome : Loss → Outcome → Type 0
+abbrev pub IsLostOutcome : Loss → RunOutcome → Type 0
 IsLostOutcome loss (Answered given text) = (given ≡ No) × IsLostText loss (string_bytes text)
 IsLostOutcome loss Memory = ⊤
 IsLostOutcome loss outcome = ⊥

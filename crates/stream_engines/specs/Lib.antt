@@ -2,7 +2,6 @@ pub mod StreamTexts
 pub mod Wanted
 pub mod Refusals
 pub mod Reports
-pub mod OwnParts
 pub mod Followed
 pub mod Answers
 pub mod Leaves

@@ -51,7 +51,8 @@ line_fault_hint next fault = found_hint next (line_wanted fault)
 abbrev pub IsHistoryLine : List ℕ → Type 0
 IsHistoryLine next = (history : HistoryView) × Spells next history × IsHistory history
 
--- the hint on a first line with a fault: where it has no shape of a line, and is a history, which subcommands read those
+-- the hint on a first line with a fault: where it has no shape of a line, and is a history, which
+-- subcommands read those
 abbrev pub IsFirstHint : List ℕ → LineFault → List ℕ → Type 0
 IsFirstHint next lines.Shape hint =
     (IsHistoryLine next × (hint ≡ found_hint next history_elsewhere))

@@ -3,14 +3,17 @@ use Rattle.std.specs.Prelude.{ℕ, List, [], ◌∷◌, ◌++◌, Option, Some, 
 use Rattle.serde_json.specs.Data.{Data, null, string, object, no_members, member}
 use Rattle.history_text.specs.Texts.{number_data, list_data}
 use Rattle.following.specs.keys.KeyStates.{Configuration}
-use Rattle.kept_rows.specs.declared.outcomes.KeyLoss.{KeyLoss}
+use Rattle.kept_rows.specs.Puts.{put_in}
+use Rattle.kept_rows.specs.Views.{KeptView}
+use Rattle.kept_rows.specs.KeyLoss.{KeyLoss}
 use Rattle.follower.specs.declared.answered.Loss.{Loss}
 use Rattle.follower.specs.declared.answered.Doubt.{Doubt}
 use Rattle.follower.specs.declared.answered.Doubt.TheVariants.{Budget, Rows}
 use Rattle.outcomes.specs.Lines.{line}
 use Rattle.answer_hints.specs.Averages.{average_text}
 
--- all events have an order: how many calls there were, and how many other calls were open at an invocation, on average, of so many in all
+-- all events have an order: how many calls there were, and how many other calls were open at an
+-- invocation, on average, of so many in all
 abbrev pub yes_line : ℕ → ℕ → List ℕ
 yes_line calls overlap =
     line (codes "{\"calls\":" ++ decimal calls ++ codes ",\"overlap\":" ++ average_text calls overlap ++ codes ",\"verdict\":\"yes\"}")
@@ -28,16 +31,23 @@ value_data (Some value) = number_data value
 abbrev pub values_data : List Configuration → Data
 values_data configurations = list_data (map value_data (flat_map (λ c. c.values) configurations))
 
--- what is left at a key: each call by the event of its invocation, or that of its scan; the key; and the values that it may have had before these
+-- which calls put them, each by the event of its invocation; none where the value was there at the
+-- start, and beside none
+abbrev pub puts_data : KeptView → List Configuration → Data
+puts_data kept configurations = list_data (map value_data (flat_map (λ c. map (put_in kept c) c.values) configurations))
+
+-- what is left at a key: each call by the event of its invocation, or that of its scan; the key;
+-- the values that it may have had before these, and which calls put them
 abbrev pub key_data : KeyLoss → Data
 key_data at =
     object (member (codes "invoked") (numbers_data at.kept.names) (member (codes "key") (number_data at.key)
-    (member (codes "values") (values_data at.kept.configurations) no_members)))
+    (member (codes "put") (puts_data at.kept at.kept.configurations) (member (codes "values") (values_data at.kept.configurations) no_members))))
 
 abbrev pub keys_data : List KeyLoss → Data
 keys_data keys = list_data (map key_data keys)
 
--- the events go wrong: the number of the call that is answered, the event, and keys at which there is no order any more
+-- the events go wrong: the number of the call that is answered, the event, and keys at which there
+-- is no order any more
 abbrev pub lost_data : Loss → Data
 lost_data loss =
     object (member (codes "call") (number_data loss.number) (member (codes "event") (number_data loss.event)

@@ -1,4 +1,5 @@
--- What the lines of a stream spell: starting pairs, where the first line has such, and then events, a line each.
+-- What the lines of a stream spell: starting pairs, where the first line has such, and then events,
+-- a line each.
 use Rattle.history_text.specs.declared.version.TextVersion.TheVariants.{One, Two, Three}
 use Rattle.std.specs.Prelude.{◌≡◌, ℕ, List, [], ◌∷◌, ◌++◌, Option, IfSome, ⊤}
 use Rattle.events.specs.declared.event.Event.{Event}

@@ -11,14 +11,14 @@ ghost use Rattle.stream_engines.specs.StreamTexts.{BeginsWith};
 use crate::refusals::{refused_event, refused_first, refused_line};
 use crate::reports::{lost_outcome, spent_outcome, yes_outcome};
 use events::{Call, Memory, Pairs, Reply};
-use follower::{Answered, Follower};
+use follower::{AnsweredStream, Follower};
 use history_text::TextVersion;
-use outcomes::Outcome;
+use outcomes::RunOutcome;
 use std::alloc::Global;
 use stream_text::{FirstLine, StreamEvent, read_event_line, read_first_line};
 
-/// A stream, as far as it was followed: its follower, its version, how many calls are open, and how many other calls were open at the
-/// invocations, in all.
+/// A stream, as far as it was followed: its follower, its version, how many calls are open, and how
+/// many other calls were open at the invocations, in all.
 #[derive(Drop)]
 pub struct Followed {
     pub follower: Follower,
@@ -42,13 +42,19 @@ impl Followed {
     }
 
     /// Behind a first line of starting pairs.
-    fn from_start(alloc: Global, version: TextVersion, start: &Pairs) -> Result<Followed, Outcome>
+    fn from_start(
+        alloc: Global,
+        version: TextVersion,
+        start: &Pairs,
+    ) -> Result<Followed, RunOutcome>
         requires { KeysRise start.now }
-        ensures taken { (line : List ℕ) → SpellsStart version line start.now → IfOk result (IsFollowed (line ∷ [])) }
-        ensures stopped { (told : Option (List ℕ)) (budget : ℕ) → IfErr result (IsStreamOutcome budget told) }
+        ensures taken { (line : List ℕ) → SpellsStart version line start.now
+            → IfOk result (IsFollowed (line ∷ [])) }
+        ensures stopped { (told : Option (List ℕ)) (budget : ℕ)
+            → IfErr result (IsStreamOutcome budget told) }
     {
         let Ok(follower) = Follower::new(alloc, start.as_slice()) else {
-            return Err(Outcome::Memory);
+            return Err(RunOutcome::Memory);
         };
         Ok(Followed {
             follower,
@@ -65,11 +71,12 @@ impl Followed {
         before: u64,
         line: &[u8],
         budget: u32,
-    ) -> Result<Followed, Outcome>
+    ) -> Result<Followed, RunOutcome>
         requires { before < u64.MAX }
         ensures taken { (read : List (List ℕ)) → length read ≡ before → IsFollowed read self
             → IfOk result (IsFollowed (read ++ line.now ∷ [])) }
-        ensures stopped { (told : Option (List ℕ)) (read : List (List ℕ)) → length read ≡ before → IsFollowed read self
+        ensures stopped { (told : Option (List ℕ)) (read : List (List ℕ)) → length read ≡ before
+            → IsFollowed read self
             → BeginsWith told (read ++ line.now ∷ []) → IfErr result (IsStreamOutcome budget told) }
     {
         if before == 0 {
@@ -82,9 +89,10 @@ impl Followed {
     }
 
     /// Takes the first line.
-    fn take_first(self, alloc: Global, line: &[u8], budget: u32) -> Result<Followed, Outcome>
+    fn take_first(self, alloc: Global, line: &[u8], budget: u32) -> Result<Followed, RunOutcome>
         ensures taken { IsFollowed [] self → IfOk result (IsFollowed (line.now ∷ [])) }
-        ensures stopped { (told : Option (List ℕ)) → IsFollowed [] self → BeginsWith told (line.now ∷ [])
+        ensures stopped { (told : Option (List ℕ)) → IsFollowed [] self
+            → BeginsWith told (line.now ∷ [])
             → IfErr result (IsStreamOutcome budget told) }
     {
         match read_first_line(alloc, line) {
@@ -104,11 +112,14 @@ impl Followed {
         line: &[u8],
         event: StreamEvent,
         budget: u32,
-    ) -> Result<Followed, Outcome>
-        ensures taken { (read : List (List ℕ)) → IsFollowed read self → SpellsEvent self.version line.now (as_event event)
+    ) -> Result<Followed, RunOutcome>
+        ensures taken { (read : List (List ℕ)) → IsFollowed read self
+            → SpellsEvent self.version line.now (as_event event)
             → IfOk result (IsFollowed (read ++ line.now ∷ [])) }
-        ensures stopped { (told : Option (List ℕ)) (read : List (List ℕ)) → length read + 1 ≡ number → IsFollowed read self
-            → SpellsEvent self.version line.now (as_event event) → BeginsWith told (read ++ line.now ∷ [])
+        ensures stopped { (told : Option (List ℕ)) (read : List (List ℕ))
+            → length read + 1 ≡ number → IsFollowed read self
+            → SpellsEvent self.version line.now (as_event event)
+            → BeginsWith told (read ++ line.now ∷ [])
             → IfErr result (IsStreamOutcome budget told) }
     {
         match event {
@@ -129,10 +140,12 @@ impl Followed {
         line: &[u8],
         process: u16,
         call: Call,
-    ) -> Result<Followed, Outcome>
+    ) -> Result<Followed, RunOutcome>
         ensures taken { (read : List (List ℕ)) → IsFollowed read self
-            → SpellsEvent self.version line.now (events.Invoke process call) → IfOk result (IsFollowed (read ++ line.now ∷ [])) }
-        ensures stopped { (told : Option (List ℕ)) (read : List (List ℕ)) (budget : ℕ) → length read + 1 ≡ number
+            → SpellsEvent self.version line.now (events.Invoke process call)
+            → IfOk result (IsFollowed (read ++ line.now ∷ [])) }
+        ensures stopped { (told : Option (List ℕ)) (read : List (List ℕ)) (budget : ℕ)
+            → length read + 1 ≡ number
             → IsFollowed read self → SpellsEvent self.version line.now (events.Invoke process call)
             → BeginsWith told (read ++ line.now ∷ []) → IfErr result (IsStreamOutcome budget told) }
     {
@@ -158,9 +171,10 @@ impl Followed {
         process: u16,
         reply: Reply,
         budget: u32,
-    ) -> Result<Followed, Outcome>
+    ) -> Result<Followed, RunOutcome>
         ensures taken { (read : List (List ℕ)) → IsFollowed read self
-            → SpellsEvent self.version line.now (events.Answer process reply) → IfOk result (IsFollowed (read ++ line.now ∷ [])) }
+            → SpellsEvent self.version line.now (events.Answer process reply)
+            → IfOk result (IsFollowed (read ++ line.now ∷ [])) }
         ensures stopped { (told : Option (List ℕ)) (read : List (List ℕ)) → length read + 1 ≡ number
             → IsFollowed read self → SpellsEvent self.version line.now (events.Answer process reply)
             → BeginsWith told (read ++ line.now ∷ []) → IfErr result (IsStreamOutcome budget told) }
@@ -168,28 +182,31 @@ impl Followed {
         let version = self.version;
         let (pending, overlap) = (self.pending, self.overlap);
         match self.follower.answer(alloc, process, reply, budget) {
-            Ok(Answered::Going(follower)) => Ok(Followed {
+            Ok(AnsweredStream::Going(follower)) => Ok(Followed {
                 follower,
                 version,
                 pending: pending.saturating_sub(1),
                 overlap,
             }),
-            Ok(Answered::Lost(loss)) => Err(lost_outcome(alloc, &loss)),
+            Ok(AnsweredStream::Lost(loss)) => Err(lost_outcome(alloc, &loss)),
             Ok(
-                Answered::Spent {
+                AnsweredStream::Spent {
                     event,
                     number: call,
                     doubt,
                 },
             ) => Err(spent_outcome(alloc, event, call, &doubt)),
-            Ok(Answered::Refused(_, fault)) => Err(refused_event(alloc, number, line, &fault)),
-            Err(_) => Err(Outcome::Memory),
+            Ok(AnsweredStream::Refused(_, fault)) => Err(refused_event(
+                alloc, number, line, &fault,
+            )),
+            Err(_) => Err(RunOutcome::Memory),
         }
     }
 
     /// All lines were taken.
-    pub fn finish(&self, alloc: Global) -> Outcome
-        ensures { (told : Option (List ℕ)) (read : List (List ℕ)) (budget : ℕ) → IsFollowed read self.now → AreLinesOf told read
+    pub fn finish(&self, alloc: Global) -> RunOutcome
+        ensures { (told : Option (List ℕ)) (read : List (List ℕ)) (budget : ℕ)
+            → IsFollowed read self.now → AreLinesOf told read
             → IsStreamOutcome budget told result }
     {
         yes_outcome(alloc, self.follower.calls(), self.overlap)

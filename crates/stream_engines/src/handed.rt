@@ -1,4 +1,5 @@
-// A stream whose lines are handed over, and wait for nobody: what each makes of it, and its outcome so far.
+// A stream whose lines are handed over, and wait for nobody: what each makes of it, and its outcome
+// so far.
 ghost use Rattle.std.specs.Prelude.{◌≡◌, ℕ, List, [], ◌∷◌, ◌++◌, Option, Some, IfOk};
 ghost use Rattle.stream_text.specs.Cuts.{lines_of};
 ghost use Rattle.stream_engines.specs.Handed.{IsHanded};
@@ -9,21 +10,22 @@ use crate::followed::Followed;
 use crate::reading::MOST_LINES;
 use crate::refusals::refused_many;
 use events::Memory;
-use outcomes::Outcome;
+use outcomes::RunOutcome;
 use std::alloc::Global;
 use stream_text::first_line_feed;
 
 /// Follows a stream whose lines are handed over.
 #[derive(Drop)]
 pub enum LineFollower {
-    /// So many lines were handed over, and are followed: a search reaches at most `budget` positions.
+    /// So many lines were handed over, and are followed: a search reaches at most `budget`
+    /// positions.
     Going {
         followed: Followed,
         lines: u64,
         budget: u32,
     },
     /// They came to this, and what comes behind them is passed over.
-    Ended(Outcome),
+    Ended(RunOutcome),
 }
 
 impl LineFollower {
@@ -87,11 +89,11 @@ impl LineFollower {
 }
 
 /// What the text of a whole stream is answered, before anything is written: as `follow_outcome`.
-pub fn follow_text(alloc: Global, text: &[u8], budget: u32) -> Outcome
+pub fn follow_text(alloc: Global, text: &[u8], budget: u32) -> RunOutcome
     ensures { IsStreamOutcome budget (Some text.now) result }
 {
     let Ok(follower) = LineFollower::new(alloc, budget) else {
-        return Outcome::Memory;
+        return RunOutcome::Memory;
     };
     match follower.take_lines(alloc, text) {
         LineFollower::Going { followed, .. } => followed.finish(alloc),

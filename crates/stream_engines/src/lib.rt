@@ -1,10 +1,9 @@
-//! The engine on a stream of events, over any source and sinks: it reads lines one by one, judges each answer as it comes, and
-//! ends at the first that goes wrong.
+//! The engine on a stream of events, over any source and sinks: it reads lines one by one, judges
+//! each answer as it comes, and ends at the first that goes wrong.
 #![tactic(auto)]
 
 mod followed;
 mod handed;
-mod own_parts;
 mod progress;
 mod reading;
 mod refusals;
@@ -12,5 +11,5 @@ mod reports;
 mod small_lines;
 
 pub use handed::{LineFollower, follow_text};
-pub use progress::{Progress, Unshown};
+pub use progress::Progress;
 pub use reading::{follow_outcome, run_follow};

@@ -5,11 +5,3 @@ pub trait Progress {
     /// So many calls were taken.
     fn show(&mut self, calls: usize);
 }
-
-/// Nothing becomes of it.
-#[derive(Clone, Copy, Debug)]
-pub struct Unshown;
-
-impl Progress for Unshown {
-    fn show(&mut self, _calls: usize) {}
-}

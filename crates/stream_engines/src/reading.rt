@@ -10,7 +10,7 @@ ghost use Rattle.stream_engines.specs.Reading.{HasRead};
 use crate::followed::Followed;
 use crate::progress::Progress;
 use crate::refusals::{refused_line, refused_many};
-use outcomes::{Outcome, write_outcome};
+use outcomes::{RunOutcome, write_outcome};
 use std::alloc::Global;
 use stream_text::{LineFault, NoLine, Window, lines_one_by_one, next_line};
 use streams::{Sink, Source};
@@ -18,9 +18,10 @@ use streams::{Sink, Source};
 /// The most lines that are read.
 pub(crate) const MOST_LINES: u64 = u64::MAX - 1;
 
-/// Reads the lines of a stream one by one, each at most `MAX_LINE` bytes, and judges each answer as it comes: a search at a key
-/// reaches at most `budget` positions from each value that the key may have had. It ends at the end of the source, or at the first
-/// line that goes wrong. Memory is taken for the longest line, and for what the follower keeps. Behind each line it is told how far
+/// Reads the lines of a stream one by one, each at most `MAX_LINE` bytes, and judges each answer as
+/// it comes: a search at a key reaches at most `budget` positions from each value that the key may
+/// have had. It ends at the end of the source, or at the first line that goes wrong. Memory is
+/// taken for the longest line, and for what the follower keeps. Behind each line it is told how far
 /// this is. Answers the exit status.
 pub fn run_follow<S: Source, O: Sink, F: Sink, H: Sink, P: Progress>(
     alloc: Global,
@@ -51,15 +52,15 @@ pub fn follow_outcome<S: Source, P: Progress>(
     source: &mut S,
     budget: u32,
     progress: &mut P,
-) -> Outcome
+) -> RunOutcome
     requires { S.failures source.old < u64.MAX }
     ensures { IsFollowOutcome budget (change S.remaining S.failures source.old source.new) result }
 {
     let Ok(mut window) = Window::new(alloc) else {
-        return Outcome::Memory;
+        return RunOutcome::Memory;
     };
     let Ok(followed) = Followed::new(alloc) else {
-        return Outcome::Memory;
+        return RunOutcome::Memory;
     };
     follow_lines(alloc, &mut window, source, followed, budget, progress)
 }
@@ -72,7 +73,7 @@ fn follow_lines<S: Source, P: Progress>(
     followed: Followed,
     budget: u32,
     progress: &mut P,
-) -> Outcome
+) -> RunOutcome
     requires few { S.failures source.old < u64.MAX }
     requires empty { window.old.bytes ≡ [] }
     requires begins { IsFollowed [] followed }
@@ -99,15 +100,18 @@ fn follow_next<S: Source>(
     followed: Followed,
     before: u64,
     budget: u32,
-) -> Result<Followed, Outcome>
+) -> Result<Followed, RunOutcome>
     requires few { S.failures source.old < u64.MAX }
     requires before { before < u64.MAX }
     ensures sound { OnOk result (S.failures source.new ≡ S.failures source.old) }
-    ensures went { (told : Option (List ℕ)) (read : List (List ℕ)) → length read ≡ before → IsFollowed read followed
+    ensures went { (told : Option (List ℕ)) (read : List (List ℕ)) → length read ≡ before
+        → IsFollowed read followed
         → HasRead told read (prepend_known window.old.bytes (S.remaining source.old))
         → IfOk result (λ next. (line : List ℕ) × IsFollowed (read ++ line ∷ []) next
-        × HasRead told (read ++ line ∷ []) (prepend_known window.new.bytes (S.remaining source.new))) }
-    ensures stopped { (told : Option (List ℕ)) (read : List (List ℕ)) → length read ≡ before → IsFollowed read followed
+        × HasRead told (read ++ line ∷ [])
+        (prepend_known window.new.bytes (S.remaining source.new))) }
+    ensures stopped { (told : Option (List ℕ)) (read : List (List ℕ)) → length read ≡ before
+        → IsFollowed read followed
         → HasRead told read (prepend_known window.old.bytes (S.remaining source.old))
         → IfErr result (IsFollowOutcome budget (record {
           old = record { bytes = told; failures = S.failures source.old };
@@ -124,6 +128,6 @@ fn follow_next<S: Source>(
             }
         }
         Err(NoLine::TooLong) => Err(refused_line(alloc, before + 1, &[], LineFault::TooLong)),
-        Err(NoLine::Failed) => Err(Outcome::Failed),
+        Err(NoLine::Failed) => Err(RunOutcome::Failed),
     }
 }

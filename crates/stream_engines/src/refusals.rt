@@ -9,26 +9,27 @@ use events::{HistoryFault, Memory};
 use follower::FollowFault;
 use history_text::read_history;
 use outcomes::{
-    Outcome, event_wanted, found_hint, json_wanted, pair_wanted, turn_wanted, wanted_hint,
+    RunOutcome, event_wanted, found_hint, json_wanted, pair_wanted, turn_wanted, wanted_hint,
 };
 use std::alloc::{AllocError, Global};
 use stream_text::LineFault;
 
 /// The refusal of the line of this number, or want of memory.
-pub fn refused_line(alloc: Global, number: u64, line: &[u8], fault: LineFault) -> Outcome
+pub fn refused_line(alloc: Global, number: u64, line: &[u8], fault: LineFault) -> RunOutcome
     ensures { IsLineRefusal number line.now fault result }
 {
     if matches!(fault, LineFault::Memory) {
-        return Outcome::Memory;
+        return RunOutcome::Memory;
     }
-    Outcome::refused(
+    RunOutcome::from_refusal(
         line_fault_line(alloc, number, fault),
         line_fault_hint(alloc, line, fault),
     )
 }
 
-/// The refusal of the first line, or want of memory. Where it is a history the hint says what reads those.
-pub fn refused_first(alloc: Global, line: &[u8], fault: LineFault) -> Outcome
+/// The refusal of the first line, or want of memory. Where it is a history the hint says what reads
+/// those.
+pub fn refused_first(alloc: Global, line: &[u8], fault: LineFault) -> RunOutcome
     ensures { IsRefusalAfter [] 1 line.now fault result }
 {
     match fault {
@@ -38,16 +39,16 @@ pub fn refused_first(alloc: Global, line: &[u8], fault: LineFault) -> Outcome
 }
 
 /// The refusal of a first line that spells neither starting pairs nor an event.
-fn refused_shape(alloc: Global, line: &[u8]) -> Outcome
+fn refused_shape(alloc: Global, line: &[u8]) -> RunOutcome
     ensures { IsRefusalAfter [] 1 line.now lines.Shape result }
 {
     match is_history(alloc, line) {
-        Ok(true) => Outcome::refused(
+        Ok(true) => RunOutcome::from_refusal(
             fault_line(alloc, 1, "4 Shape"),
             found_hint(alloc, line, history_elsewhere()),
         ),
         Ok(false) => refused_line(alloc, 1, line, LineFault::Shape),
-        Err(_) => Outcome::Memory,
+        Err(_) => RunOutcome::Memory,
     }
 }
 
@@ -67,12 +68,12 @@ fn is_history(alloc: Global, line: &[u8]) -> Result<bool, Memory>
 }
 
 /// The refusal of the event of the line of this number, or want of memory.
-pub fn refused_event(alloc: Global, number: u64, line: &[u8], fault: &FollowFault) -> Outcome
+pub fn refused_event(alloc: Global, number: u64, line: &[u8], fault: &FollowFault) -> RunOutcome
     ensures { IsTurnRefusal number line.now fault.now result }
 {
     match fault {
-        FollowFault::Memory => Outcome::Memory,
-        _ => Outcome::refused(
+        FollowFault::Memory => RunOutcome::Memory,
+        _ => RunOutcome::from_refusal(
             fault_line(alloc, number, turn_fault_name(fault)),
             found_hint(alloc, line, turn_wanted_for(fault)),
         ),
@@ -80,10 +81,10 @@ pub fn refused_event(alloc: Global, number: u64, line: &[u8], fault: &FollowFaul
 }
 
 /// The refusal of a line behind as many as are read, or want of memory.
-pub fn refused_many(alloc: Global, number: u64) -> Outcome
+pub fn refused_many(alloc: Global, number: u64) -> RunOutcome
     ensures { IsManyRefusal number result }
 {
-    Outcome::refused(
+    RunOutcome::from_refusal(
         fault_line(alloc, number, "5 TooMany"),
         wanted_hint(alloc, too_many_wanted()),
     )
@@ -101,7 +102,8 @@ fn fault_line(alloc: Global, number: u64, name: &str) -> Result<String, AllocErr
 
 /// The line of the fault of a line.
 fn line_fault_line(alloc: Global, number: u64, fault: LineFault) -> Result<String, AllocError>
-    ensures { IfOk result (λ text. string_bytes text ≡ stream_fault_line number (line_fault_name fault)) }
+    ensures { IfOk result (λ text. string_bytes text ≡ stream_fault_line number
+        (line_fault_name fault)) }
 {
     let name = line_fault_name(alloc, fault)?;
     fault_line(alloc, number, name.as_str())

@@ -1,6 +1,7 @@
 // The lines that a stream is answered with.
 ghost use Rattle.std.specs.Prelude.{◌≡◌, ◌++◌, [], map, All, IfOk, OnOk, MatchOption, codes, string_bytes};
 ghost use Rattle.history_text.specs.Texts.{number_data};
+ghost use Rattle.kept_rows.specs.Puts.{put_in};
 ghost use Rattle.kept_rows.specs.Outcomes.{HasNoOrder};
 ghost use Rattle.outcomes.specs.Lines.{line};
 ghost use Rattle.outcomes.specs.declared.outcome.Answer.TheVariants.{Undecided};
@@ -9,50 +10,53 @@ ghost use Rattle.serde_json.specs.View.{view, members_view};
 ghost use Rattle.serde_json.specs.Written.{compact_text};
 ghost use Rattle.stream_engines.specs.Answers.{IsLostText, IsSmallLine};
 ghost use Rattle.stream_engines.specs.Leaves.{IsAnsweredBy, IsLostOutcome, IsYesOutcome};
-ghost use Rattle.stream_engines.specs.OwnParts.{own_part};
-ghost use Rattle.stream_engines.specs.Reports.{yes_line, numbers_data, value_data, values_data, key_data, keys_data, lost_data};
+ghost use Rattle.own_parts.specs.OwnParts.{own_part};
+ghost use Rattle.stream_engines.specs.Reports.{yes_line, numbers_data, value_data, values_data, puts_data, key_data, keys_data, lost_data};
 ghost use Rattle.stream_engines.specs.Reports.{reason_word, doubted_keys, spent_data};
 
-use crate::own_parts::own_part;
 use crate::small_lines::small_line;
 use answer_hints::{average_text, hinted_yes};
 use events::Memory;
 use follower::{Doubt, Loss};
-use kept_keys::Configuration;
-use kept_rows::KeyLoss;
-use outcomes::{Answer, Outcome, line_of};
+use kept_rows::{Configuration, KeptKey, KeyLoss};
+use outcomes::{Answer, RunOutcome, line_of};
+use own_parts::own_part;
 use serde_json::{Map, Value, put};
 use std::alloc::{AllocError, Global};
 
 /// The answer to a stream whose events have an order, with its hint, where it has one.
-pub fn yes_outcome(alloc: Global, calls: usize, overlap: u64) -> Outcome
+pub fn yes_outcome(alloc: Global, calls: usize, overlap: u64) -> RunOutcome
     ensures { IsYesOutcome calls overlap result }
 {
     hinted_yes(alloc, yes_line(alloc, calls, overlap), calls, overlap)
 }
 
-/// The answer where it is not known whether the events go wrong at this one, which answers the call of this number.
-pub fn spent_outcome(alloc: Global, event: usize, number: usize, doubt: &Doubt) -> Outcome
-    ensures { IsAnsweredBy Undecided (line (compact_text (spent_data event number doubt.now))) result }
+/// The answer where it is not known whether the events go wrong at this one, which answers the call
+/// of this number.
+pub fn spent_outcome(alloc: Global, event: usize, number: usize, doubt: &Doubt) -> RunOutcome
+    ensures { IsAnsweredBy Undecided (line (compact_text (spent_data event number doubt.now)))
+        result }
 {
-    Outcome::answered(Answer::Undecided, spent_line(alloc, event, number, doubt))
+    RunOutcome::from_answer(Answer::Undecided, spent_line(alloc, event, number, doubt))
 }
 
-/// The answer where the events go wrong: its line, and where one value alone goes wrong the line of a small history.
-pub fn lost_outcome(alloc: Global, loss: &Loss) -> Outcome
+/// The answer where the events go wrong: its line, and where one value alone goes wrong the line of
+/// a small history.
+pub fn lost_outcome(alloc: Global, loss: &Loss) -> RunOutcome
     ensures { All HasNoOrder loss.now.keys.items → IsLostOutcome loss.now result }
 {
     match lost_lines(alloc, loss) {
-        Ok(lines) => Outcome::Answered {
+        Ok(lines) => RunOutcome::Answered {
             answer: Answer::No,
             line: lines,
         },
-        Err(_) => Outcome::Memory,
+        Err(_) => RunOutcome::Memory,
     }
 }
 
 fn lost_lines(alloc: Global, loss: &Loss) -> Result<String, Memory>
-    ensures { All HasNoOrder loss.now.keys.items → IfOk result (λ text. IsLostText loss.now (string_bytes text)) }
+    ensures { All HasNoOrder loss.now.keys.items
+        → IfOk result (λ text. IsLostText loss.now (string_bytes text)) }
 {
     let mut lines = lost_line(alloc, loss)?;
     let small = own_line(alloc, loss)?;
@@ -62,7 +66,8 @@ fn lost_lines(alloc: Global, loss: &Loss) -> Result<String, Memory>
 
 /// The line of a small history of what goes wrong by itself, where something does.
 fn own_line(alloc: Global, loss: &Loss) -> Result<String, Memory>
-    ensures { All HasNoOrder loss.now.keys.items → IfOk result (λ small. MatchOption (own_part loss.now) (string_bytes small ≡ [])
+    ensures { All HasNoOrder loss.now.keys.items
+        → IfOk result (λ small. MatchOption (own_part loss.now) (string_bytes small ≡ [])
         (λ part. IsSmallLine part.start part.calls (string_bytes small))) }
 {
     match own_part(alloc, loss)? {
@@ -71,8 +76,8 @@ fn own_line(alloc: Global, loss: &Loss) -> Result<String, Memory>
     }
 }
 
-/// The line of a stream whose events have an order: how many calls there were, and how many other calls were open at an invocation, on
-/// average.
+/// The line of a stream whose events have an order: how many calls there were, and how many other
+/// calls were open at an invocation, on average.
 fn yes_line(alloc: Global, calls: usize, overlap: u64) -> Result<String, AllocError>
     ensures { IfOk result (λ text. string_bytes text ≡ yes_line calls overlap) }
 {
@@ -117,7 +122,8 @@ fn spent_line(
     number: usize,
     doubt: &Doubt,
 ) -> Result<String, AllocError>
-    ensures { IfOk result (λ text. string_bytes text ≡ line (compact_text (spent_data event number doubt.now))) }
+    ensures { IfOk result (λ text. string_bytes text ≡ line
+        (compact_text (spent_data event number doubt.now))) }
 {
     let value = spent_value(alloc, event, number, doubt)?;
     line_of(value.to_string(alloc)?)
@@ -145,7 +151,8 @@ fn put_spent(
     doubt: &Doubt,
 ) -> Result<(), AllocError>
     requires { members.old.entries ≡ [] }
-    ensures { OnOk result (object (members_view members.new.entries) ≡ spent_data event number doubt.now) }
+    ensures { OnOk result (object (members_view members.new.entries) ≡ spent_data event number
+        doubt.now) }
 {
     put_answer(alloc, members, number, event)?;
     put_doubt(alloc, members, doubt)?;
@@ -165,7 +172,8 @@ fn put_answer(
     event: usize,
 ) -> Result<(), AllocError>
     ensures { OnOk result (members_view members.new.entries
-        ≡ with_member (codes "event") (number_data event) (with_member (codes "call") (number_data number)
+        ≡ with_member (codes "event") (number_data event)
+        (with_member (codes "call") (number_data number)
         (members_view members.old.entries))) }
 {
     put(members, alloc, "call", Value::from(number))?;
@@ -179,7 +187,8 @@ fn put_doubt(
     doubt: &Doubt,
 ) -> Result<(), AllocError>
     ensures { OnOk result (members_view members.new.entries
-        ≡ with_member (codes "reason") (string (reason_word doubt.now)) (with_member (codes "keys") (keys_data (doubted_keys doubt.now))
+        ≡ with_member (codes "reason") (string (reason_word doubt.now))
+        (with_member (codes "keys") (keys_data (doubted_keys doubt.now))
         (members_view members.old.entries))) }
 {
     put(members, alloc, "keys", doubted_value(alloc, doubt)?)?;
@@ -246,6 +255,12 @@ fn put_key(alloc: Global, members: &mut Map<String, Value>, at: &KeyLoss) -> Res
     put(
         members,
         alloc,
+        "put",
+        puts_value(alloc, &at.kept, &at.kept.configurations)?,
+    )?;
+    put(
+        members,
+        alloc,
         "values",
         values_value(alloc, &at.kept.configurations)?,
     )
@@ -273,12 +288,53 @@ fn values_value(alloc: Global, configurations: &[Configuration]) -> Result<Value
 }
 
 fn push_values(items: &mut Vec<Value>, values: &[Option<u64>]) -> Result<(), AllocError>
-    ensures { OnOk result (map view items.new.items ≡ map view items.old.items ++ map value_data values.now) }
+    ensures { OnOk result (map view items.new.items ≡ map view items.old.items ++ map value_data
+        values.now) }
 {
     for value in values {
         items.push(value_or_null(*value))?;
     }
     Ok(())
+}
+
+/// The calls that put the values of configurations.
+fn puts_value(
+    alloc: Global,
+    kept: &KeptKey,
+    configurations: &[Configuration],
+) -> Result<Value, AllocError>
+    ensures { IfOk result (λ value. view value ≡ puts_data kept.now configurations.now) }
+{
+    let mut items = Vec::new(alloc);
+    for configuration in configurations {
+        push_puts(&mut items, kept, configuration, &configuration.values)?;
+    }
+    Ok(Value::from(items))
+}
+
+fn push_puts(
+    items: &mut Vec<Value>,
+    kept: &KeptKey,
+    configuration: &Configuration,
+    values: &[Option<u64>],
+) -> Result<(), AllocError>
+    ensures { OnOk result (map view items.new.items
+        ≡ map view items.old.items ++ map value_data
+        (map (put_in kept.now configuration.now) values.now)) }
+{
+    for value in values {
+        items.push(place_or_null(kept.put_in(configuration, *value)))?;
+    }
+    Ok(())
+}
+
+fn place_or_null(place: Option<usize>) -> Value
+    ensures { view result ≡ value_data place }
+{
+    let Some(place) = place else {
+        return Value::Null;
+    };
+    Value::from(place)
 }
 
 fn value_or_null(value: Option<u64>) -> Value

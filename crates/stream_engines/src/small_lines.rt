@@ -8,13 +8,15 @@ use outcomes::line_of;
 use small_histories::{small_history, small_text};
 use std::alloc::Global;
 
-/// The line of the text of a history with these calls, from these pairs; nothing where no history has them, or the text is too long.
+/// The line of the text of a history with these calls, from these pairs; nothing where no history
+/// has them, or the text is too long.
 pub(crate) fn small_line(
     alloc: Global,
     start: &[(u64, u64)],
     calls: &[Operation],
 ) -> Result<String, Memory>
-    ensures { (IsLinearizable start.now calls.now → ⊥) → IfOk result (λ text. IsSmallLine start.now calls.now (string_bytes text)) }
+    ensures { (IsLinearizable start.now calls.now → ⊥)
+        → IfOk result (λ text. IsSmallLine start.now calls.now (string_bytes text)) }
 {
     match small_history(alloc, start, calls)? {
         Some(history) => history_line(alloc, &history),

@@ -3,4 +3,3 @@ mod FirstLineLemmas
 mod LineLemmas
 mod ValueLemmas
 mod WindowLemmas
-mod WrittenLineLemmas

@@ -21,7 +21,8 @@ abbrev pub lines_of : List ℕ → List (List ℕ)
 lines_of [] = []
 lines_of (byte ∷ bytes) = if byte == line_feed then [] ∷ lines_of bytes else before_lines byte (lines_of bytes)
 
--- of the bytes to come, where they are known, a line was taken and what ends it: a line feed, or the end
+-- of the bytes to come, where they are known, a line was taken and what ends it: a line feed, or
+-- the end
 pub record TakesLine (old : Option (List ℕ)) (line : List ℕ) (new : Option (List ℕ)) : Type 0 where
   pub whole : HasNoLineFeed line
   pub short : length line ≤ line_limit
@@ -43,7 +44,8 @@ pub record Stays (old : Option (List ℕ)) (line : List ℕ) (new : Option (List
   pub kept : Keeps old new
   pub none : line ≡ []
 
--- the bytes to come, where they are known, begin with more than a line may have, none of which ends a line
+-- the bytes to come, where they are known, begin with more than a line may have, none of which ends
+-- a line
 pub record BeginsTooLong (old : Option (List ℕ)) : Type 0 where
   pub front : List ℕ
   pub rest : Option (List ℕ)

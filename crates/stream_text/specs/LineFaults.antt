@@ -38,7 +38,8 @@ IsEventFault version d fault = ⊥
 
 -- ---- of the value of starting pairs
 
--- the pairs begin with some by rising key, and the value after them is no pair with a key above theirs
+-- the pairs begin with some by rising key, and the value after them is no pair with a key above
+-- theirs
 pub record ShowsPairFault (items : List Data) (place : ℕ) : Type 0 where
   pub before : List (ℕ × ℕ)
   pub next : Data
@@ -54,7 +55,8 @@ IsPairFault items (faults.Start place) = ShowsPairFault items place
 IsPairFault items faults.Memory = ⊤
 IsPairFault items fault = ⊥
 
--- the members are no array and the number of a version with a start, then the first faulty pair; or memory ran out
+-- the members are no array and the number of a version with a start, then the first faulty pair; or
+-- memory ran out
 abbrev pub IsStartFault : Data → Data → LineFault → Type 0
 IsStartFault start named faults.Version = (items : List Data) (version : TextVersion) → start ≡ list_data items
     → NamesVersion named version → ⊥

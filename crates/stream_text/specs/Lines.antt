@@ -1,4 +1,5 @@
--- What a line of a stream spells: an event, or at the head of a stream the pairs that it starts with.
+-- What a line of a stream spells: an event, or at the head of a stream the pairs that it starts
+-- with.
 use Rattle.history_text.specs.declared.version.TextVersion.TheVariants as versions
 use Rattle.std.specs.Prelude.{◌≡◌, ℕ, ◌<◌, ◌≤◌, List, length, map, codes, IsTrue}
 use Rattle.serde_json.specs.Data.{Data}
@@ -27,8 +28,8 @@ pub record IsLine (line : List ℕ) (d : Data) : Type 0 where
   pub short : length line ≤ line_limit
   pub json : IsJson line d
 
--- an event that may stand in a stream of a version: a scan has its ends in order, a replace needs starting pairs, and an answer that tells
--- less than the map answers needs version 3
+-- an event that may stand in a stream of a version: a scan has its ends in order, a replace needs
+-- starting pairs, and an answer that tells less than the map answers needs version 3
 pub record MayStandIn (version : TextVersion) (e : Event) : Type 0 where
   pub shaped : IsTrue (is_shaped e)
   pub standing : IsTrue (may_stand version e)
@@ -59,12 +60,14 @@ pub record SpellsStart (version : TextVersion) (line : List ℕ) (pairs : List (
   pub value : IsLine line (start_line_data version pairs)
   pub rising : KeysRise pairs
 
--- the value of a first line is that of starting pairs by rising key, or of an event of a stream without
+-- the value of a first line is that of starting pairs by rising key, or of an event of a stream
+-- without
 abbrev pub IsFirstOf : Data → FirstLine → Type 0
 IsFirstOf d (first.Start version pairs) = IsTrue (has_start version) × (d ≡ start_line_data version pairs) × KeysRise pairs
 IsFirstOf d (first.Event e) = IsEventData versions.One d (as_event e) × MayStandIn versions.One (as_event e)
 
--- what the first line of a stream spells: starting pairs, or an event of a stream without, which is of version 1
+-- what the first line of a stream spells: starting pairs, or an event of a stream without, which is
+-- of version 1
 abbrev pub SpellsFirst : List ℕ → FirstLine → Type 0
 SpellsFirst line (first.Start version pairs) = SpellsStart version line pairs
 SpellsFirst line (first.Event e) = SpellsEvent versions.One line (as_event e)

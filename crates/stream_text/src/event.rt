@@ -12,8 +12,9 @@ pub enum StreamEvent {
 /// What the first line of a stream spells.
 #[derive(Debug, Drop)]
 pub enum FirstLine {
-    /// The version of the stream, 2 or 3, and the pairs that the map holds at the start, by rising key.
+    /// It says the version of the stream, 2 or 3, and the pairs that the map holds at the start, by
+    /// rising key.
     Start { version: TextVersion, pairs: Pairs },
-    /// An event: the stream is of version 1, and starts with the empty map.
+    /// It is an event: the stream is of version 1, and starts with the empty map.
     Event(StreamEvent),
 }

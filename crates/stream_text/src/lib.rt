@@ -1,30 +1,29 @@
-//! Streams of events, a line each: the lines are cut from a source within bounded memory, read one by one, and written.
+//! Streams of events, a line each: the lines are cut from a source within bounded memory, and read
+//! one by one.
 //!
-//! A stream may go on without end, so nothing here keeps what was read, and no limit of a history holds but that each line has
-//! at most `MAX_LINE` bytes and processes are numbered below 65,536. What an event is called, and which of its faults comes first, is
-//! as in the texts of histories.
+//! A stream may go on without end, so nothing here keeps what was read, and no limit of a history
+//! holds but that each line has at most `MAX_LINE` bytes and processes are numbered below 65,536.
+//! What an event is called, and which of its faults comes first, is as in the texts of histories.
 #![tactic(auto)]
 
+mod cutting;
 mod event;
 mod feeds;
 mod laws;
 mod line_fault;
-mod line_reader;
 mod no_line;
 mod read_line;
 mod room;
 mod window;
-mod write_line;
 
+pub use cutting::next_line;
 pub use event::{FirstLine, StreamEvent};
 pub use feeds::first_line_feed;
 pub use laws::{lines_one_by_one, one_event_line, one_line_fault};
 pub use line_fault::LineFault;
-pub use line_reader::{LineReader, next_line};
 pub use no_line::NoLine;
 pub use read_line::{read_event_line, read_first_line};
 pub use window::Window;
-pub use write_line::event_line;
 
 /// The most bytes that a line has, without the line feed that ends it.
 pub const MAX_LINE: usize = 1_048_576;

@@ -25,9 +25,9 @@ use history_text::{
 use serde_json::Value;
 use std::alloc::Global;
 
-/// The event that a line spells, in a stream of a version. Otherwise the line's first fault, or `Memory`: its length is tested
-/// first, then that it is JSON, then its shape, what may not stand in that version among it, then its process number. A line
-/// without bytes is no JSON.
+/// The event that a line spells, in a stream of a version. Otherwise the line's first fault, or
+/// `Memory`: its length is tested first, then that it is JSON, then its shape, what may not stand
+/// in that version among it, then its process number. A line without bytes is no JSON.
 pub fn read_event_line(
     alloc: Global,
     version: TextVersion,
@@ -35,18 +35,21 @@ pub fn read_event_line(
 ) -> Result<StreamEvent, LineFault>
     ensures spelled { IfOk result (λ e. SpellsEvent version line.now (as_event e)) }
     ensures refused { IfErr result (IsEventLineFault version line.now) }
-    ensures accepted { (e : Event) → SpellsEvent version line.now e → IfErr result (λ fault. fault ≡ faults.Memory) }
+    ensures accepted { (e : Event) → SpellsEvent version line.now e
+        → IfErr result (λ fault. fault ≡ faults.Memory) }
 {
     let value = value_of(alloc, line)?;
     event_of(alloc, version, &value)
 }
 
-/// What the first line of a stream spells: starting pairs where it has the members `start` and `version` alone, else an event of a
-/// stream without. Otherwise its first fault: of starting pairs `Version`, then that of the first faulty pair, `Start`.
+/// What the first line of a stream spells: starting pairs where it has the members `start` and
+/// `version` alone, else an event of a stream without. Otherwise its first fault: of starting pairs
+/// `Version`, then that of the first faulty pair, `Start`.
 pub fn read_first_line(alloc: Global, line: &[u8]) -> Result<FirstLine, LineFault>
     ensures spelled { IfOk result (SpellsFirst line.now) }
     ensures refused { IfErr result (IsFirstLineFault line.now) }
-    ensures accepted { (first : FirstLine) → SpellsFirst line.now first → IfErr result (λ fault. fault ≡ faults.Memory) }
+    ensures accepted { (first : FirstLine) → SpellsFirst line.now first
+        → IfErr result (λ fault. fault ≡ faults.Memory) }
 {
     let value = value_of(alloc, line)?;
     first_of(alloc, &value)
@@ -100,9 +103,11 @@ fn invocation_of(
     call: &Value,
     process: &Value,
 ) -> Result<StreamEvent, LineFault>
-    ensures ok { IfOk result (λ e. event_data (as_event e) ≡ invocation_data (view call.now) (view process.now)) }
+    ensures ok { IfOk result (λ e. event_data (as_event e) ≡ invocation_data (view call.now)
+        (view process.now)) }
     ensures stands { IfOk result (λ e. MayStandIn version (as_event e)) }
-    ensures refused { IfErr result (IsEventFault version (invocation_data (view call.now) (view process.now))) }
+    ensures refused { IfErr result (IsEventFault version
+        (invocation_data (view call.now) (view process.now))) }
 {
     let (Some(call), Some(process)) = (call_of(call), process.as_u64()) else {
         return Err(LineFault::Shape);
@@ -121,9 +126,11 @@ fn response_of(
     reply: &Value,
     process: &Value,
 ) -> Result<StreamEvent, LineFault>
-    ensures ok { IfOk result (λ e. event_data (as_event e) ≡ response_data (view reply.now) (view process.now)) }
+    ensures ok { IfOk result (λ e. event_data (as_event e) ≡ response_data (view reply.now)
+        (view process.now)) }
     ensures stands { IfOk result (λ e. MayStandIn version (as_event e)) }
-    ensures refused { IfErr result (IsEventFault version (response_data (view reply.now) (view process.now))) }
+    ensures refused { IfErr result (IsEventFault version
+        (response_data (view reply.now) (view process.now))) }
 {
     let (Some(reply), Some(process)) = (reply_of(alloc, reply)?, process.as_u64()) else {
         return Err(LineFault::Shape);

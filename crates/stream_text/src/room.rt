@@ -13,8 +13,8 @@ pub fn buffer_of(alloc: Global, size: usize) -> Result<Vec<u8>, AllocError>
     vec![in alloc; 0u8; size]
 }
 
-/// Has room behind the bytes from one place up to another: where there is none they are moved to the front. Answers where they
-/// stand then.
+/// Has room behind the bytes from one place up to another: where there is none they are moved to
+/// the front. Answers where they stand then.
 pub fn make_room(buffer: &mut [u8], from: usize, to: usize) -> (usize, usize)
     requires order { from ≤ to }
     requires within { to ≤ length buffer.old }
@@ -37,7 +37,8 @@ pub fn read_behind<S: Source>(source: &mut S, buffer: &mut [u8], to: usize) -> R
     ensures before { take to buffer.new ≡ take to buffer.old }
     ensures within { IfOk result (λ count. to + count ≤ length buffer.new) }
     ensures consumed { IfOk result (λ count.
-        Consumes (S.remaining source.old) (S.remaining source.new) (between to (to + count) buffer.new)) }
+        Consumes (S.remaining source.old) (S.remaining source.new)
+        (between to (to + count) buffer.new)) }
     ensures end { result ≡ Ok 0 → IsAtEnd (S.remaining source.new) }
     ensures unread { OnErr result (Keeps (S.remaining source.old) (S.remaining source.new)) }
     ensures counted { OnOk result (S.failures source.new ≡ S.failures source.old) }

@@ -2,7 +2,7 @@
 ghost use Rattle.std.specs.Prelude.{◌≡◌, ◌+◌, ◌<◌, ◌≤◌, [], Ok, length, take, drop, IfOk, OnOk, OnErr};
 ghost use Rattle.std.specs.Io.KnownBytes.{IsAtEnd, Keeps};
 ghost use Rattle.stream_text.specs.LineLimits.{line_limit};
-ghost use Rattle.stream_text.specs.ReaderView.{GrowsBy};
+ghost use Rattle.stream_text.specs.Windows.{GrowsBy};
 
 use crate::MAX_LINE;
 use crate::room::{buffer_of, make_room, read_behind};
@@ -10,7 +10,8 @@ use std::alloc::{AllocError, Global};
 use std::marker::Model;
 use streams::{Failed, Source};
 
-/// Twice the longest line: so what is moved to the front is never more than was read since the last move.
+/// Twice the longest line: so what is moved to the front is never more than was read since the last
+/// move.
 const ROOM: usize = 2 * MAX_LINE;
 
 /// The line that was handed out last, and the bytes after it. Contracts see the two lists.
@@ -26,7 +27,7 @@ pub struct Window {
 impl Model for Window {
     ghost use Rattle.std.specs.Prelude.{◌≡◌, ◌≤◌, vec_len};
     ghost use Rattle.std.specs.List.{between};
-    ghost use Rattle.stream_text.specs.ReaderView.{WindowView};
+    ghost use Rattle.stream_text.specs.Windows.{WindowView};
 
     ghost Value = { WindowView };
 
@@ -72,7 +73,8 @@ impl Window {
         self.line_end = self.line;
     }
 
-    /// Hands out the first bytes as the line, and passes over the byte behind them, where there is one.
+    /// Hands out the first bytes as the line, and passes over the byte behind them, where there is
+    /// one.
     pub fn hand_out(&mut self, count: usize)
         requires { count ≤ length self.old.bytes }
         ensures { self.new ≡ record { line = take count self.old.bytes; bytes = drop (count + 1) self.old.bytes } }
@@ -88,7 +90,8 @@ impl Window {
         requires few { S.failures source.old < u64.MAX }
         ensures no_line { self.new.line ≡ [] }
         ensures grown { IfOk result (λ count.
-            GrowsBy (S.remaining source.old) (S.remaining source.new) self.old.bytes self.new.bytes count) }
+            GrowsBy (S.remaining source.old) (S.remaining source.new) self.old.bytes self.new.bytes
+            count) }
         ensures end { result ≡ Ok 0 → IsAtEnd (S.remaining source.new) }
         ensures same { OnErr result (self.new.bytes ≡ self.old.bytes) }
         ensures unread { OnErr result (Keeps (S.remaining source.old) (S.remaining source.new)) }

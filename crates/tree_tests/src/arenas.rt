@@ -21,7 +21,7 @@ fn begin(arena: &Arena, pass: &mut Pass, call: &Call) -> Result<(), Fail>
     let Some(call) = TreeCall::new(call) else {
         return Err(Fail::new("beyond the trees' limits"));
     };
-    if !pass.idle() {
+    if !pass.is_idle() {
         return Err(Fail::new("a call is open"));
     }
     if pass.left() == 0 {
@@ -44,7 +44,7 @@ fn make_steps(
     if let Some(call) = call {
         begin(arena, pass, call)?;
     }
-    if pass.idle() {
+    if pass.is_idle() {
         return Err(Fail::new("no call is open"));
     }
     arena.advance(alloc, pass, steps)?;

@@ -17,8 +17,8 @@ use Rattle.judge.specs.declared.verdict.Verdict.TheVariants as verdicts
 use Rattle.white_space.specs.Laws.{SpellsBetweenWhiteSpace, WhiteSpaceTellsNothing}
 use Rattle.outcomes.specs.declared.outcome.Answer.{Answer}
 use Rattle.outcomes.specs.declared.outcome.Answer.TheVariants.{Yes, No, Undecided}
-use Rattle.outcomes.specs.declared.outcome.Outcome.{Outcome}
-use Rattle.outcomes.specs.declared.outcome.Outcome.TheVariants.{Answered, Noted, Refused, Memory, Words, Failed}
+use Rattle.outcomes.specs.declared.outcome.RunOutcome.{RunOutcome}
+use Rattle.outcomes.specs.declared.outcome.RunOutcome.TheVariants.{Answered, Noted, Refused, Memory, Words, Failed}
 use Rattle.outcomes.specs.Ends.{Change, IsSound}
 use Rattle.outcomes.specs.Outcomes.{IsTextOutcome, IsUnread, IsReadOutcome}
 use Rattle.outcomes.specs.Runs.{Leaves, IsRun}
@@ -58,7 +58,7 @@ nothing_never nothing before behind h k budget answer report is =
 -- ---- the bytes of a run
 
 -- an outcome is not the answer No
-abbrev IsNotNo : Outcome → Type 0
+abbrev IsNotNo : RunOutcome → Type 0
 IsNotNo (Answered answer bytes) = answer ≢ No
 IsNotNo (Noted answer bytes note) = answer ≢ No
 IsNotNo (Refused bytes hint) = ⊤
@@ -67,7 +67,7 @@ IsNotNo (Words bytes) = ⊤
 IsNotNo Failed = ⊤
 
 -- a run of `judge` ends with No only where its outcome is No
-no_status : (outcome : Outcome) (output faults hints : Change) (status : ℕ) → IsNotNo outcome → Leaves outcome output faults hints status
+no_status : (outcome : RunOutcome) (output faults hints : Change) (status : ℕ) → IsNotNo outcome → Leaves outcome output faults hints status
     → status ≢ answer_status No
 no_status (Answered Yes bytes) output faults hints status never (inl leaves) = λ is. omega (arith, is, leaves.3)
 no_status (Answered No bytes) output faults hints status never (inl leaves) = absurd (never refl)
@@ -83,7 +83,7 @@ no_status (Words bytes) output faults hints status never leaves = λ is. omega (
 no_status Failed output faults hints status never leaves = λ is. omega (arith, is, leaves.3)
 
 -- where no text was read the outcome is not No
-unread : (source : Change) (outcome : Outcome) → IsUnread source outcome → IsNotNo outcome
+unread : (source : Change) (outcome : RunOutcome) → IsUnread source outcome → IsNotNo outcome
 unread source (Answered answer bytes) h = absurd h
 unread source (Noted answer bytes note) h = absurd h
 unread source (Refused bytes hint) h = tt
@@ -95,7 +95,7 @@ pub run_never : (bytes : List ℕ) → AreNeverRefuted bytes → AreRefutedByNoR
 run_never bytes never before behind h k budget source output faults hints status reads run =
     no_status run.outcome output faults hints status (by_read run.comes) run.leaves
   where
-    by_outcome : (outcome : Outcome)
+    by_outcome : (outcome : RunOutcome)
         → IsHintedOutcome (IsHintedJudgeAnswer budget) IsHistoryRefusal (Some (before ++ (bytes ++ behind))) outcome → IsNotNo outcome
     by_outcome (Answered answer report) c = never before behind h k budget answer (string_bytes report) c.answered
     by_outcome (Noted answer report note) c = never before behind h k budget answer (string_bytes report) c.answered
@@ -125,7 +125,7 @@ module _ (output : Change) (bytes : List ℕ) (was : WasWritten output bytes) wh
       (subst (λ new. Keeps (Some was.first) new) was.new (subst (λ old. Keeps old output.new.bytes) was.old h) ∙ sym (append-nil was.first))
 
   -- what an outcome has for the output, where that did not fail
-  pub written : (outcome : Outcome) (faults hints : Change) (status : ℕ) → Leaves outcome output faults hints status → IsSound output
+  pub written : (outcome : RunOutcome) (faults hints : Change) (status : ℕ) → Leaves outcome output faults hints status → IsSound output
       → bytes ≡ output_of outcome
   written (Answered answer more) faults hints status (inl leaves) sound = said (string_bytes more) leaves.0.0
   written (Answered answer more) faults hints status (inr leaves) sound = absurd (omega (arith, sound, leaves.0.1))
@@ -140,7 +140,7 @@ module _ (output : Change) (bytes : List ℕ) (was : WasWritten output bytes) wh
 
 module _ (IsAnswer : List ℕ → Answer → List ℕ → Type 0) (IsRefusal : List ℕ → List ℕ → List ℕ → Type 0) (text : List ℕ)
     (nothing : WhiteSpaceTellsNothing) (answered : (answer : Answer) (bytes : List ℕ) → IsAnswer text answer bytes → AreNeverRefuted bytes) where
-  pub outcome_never : (recorded : Outcome) → IsTextOutcome IsAnswer IsRefusal (Some text) recorded → AreNeverRefuted (output_of recorded)
+  pub outcome_never : (recorded : RunOutcome) → IsTextOutcome IsAnswer IsRefusal (Some text) recorded → AreNeverRefuted (output_of recorded)
   outcome_never (Answered answer bytes) h = answered answer (string_bytes bytes) h
   outcome_never (Noted answer bytes note) h = absurd h
   outcome_never (Refused bytes hint) h = nothing_never nothing
@@ -148,7 +148,7 @@ module _ (IsAnswer : List ℕ → Answer → List ℕ → Type 0) (IsRefusal : L
   outcome_never (Words bytes) h = absurd h
   outcome_never Failed h = absurd h
 
-  unread_never : (source : Change) (recorded : Outcome) → IsUnread source recorded → AreNeverRefuted (output_of recorded)
+  unread_never : (source : Change) (recorded : RunOutcome) → IsUnread source recorded → AreNeverRefuted (output_of recorded)
   unread_never source (Answered answer bytes) h = absurd h
   unread_never source (Noted answer bytes note) h = absurd h
   unread_never source (Refused bytes hint) h = absurd h

@@ -2,7 +2,7 @@
 use Rattle.std.specs.Prelude.{◌≡◌, ℕ, List, Some}
 use Rattle.art_rows.specs.declared.table.Shape.{Shape}
 use Rattle.art_steps.specs.declared.variant.Variant.{Variant}
-use Rattle.outcomes.specs.declared.outcome.Outcome.{Outcome}
+use Rattle.outcomes.specs.declared.outcome.RunOutcome.{RunOutcome}
 use Rattle.outcomes.specs.Ends.{Change, IsSound}
 use Rattle.outcomes.specs.Outcomes.{IsTextOutcome}
 use Rattle.outcomes.specs.Runs.{IsRun}
@@ -15,7 +15,7 @@ use Rattle.tree_verdicts.specs.Writes.{IsFull, SpellsFullReplay, output_of, AreN
 -- text is refused, or memory is wanting, that is nothing, and so is no history.
 abbrev pub ReplaysAreNeverRefuted : Type 0
 ReplaysAreNeverRefuted =
-    (text : List ℕ) (recorded : Outcome) → SpellsFullReplay text → IsTextOutcome IsReplayAnswer IsReplayRefusal (Some text) recorded
+    (text : List ℕ) (recorded : RunOutcome) → SpellsFullReplay text → IsTextOutcome IsReplayAnswer IsReplayRefusal (Some text) recorded
     → AreNeverRefuted (output_of recorded)
 
 -- Nor is what `run_replay` writes of such a text, unless its output fails.
@@ -27,7 +27,7 @@ ReplayRunsAreNeverRefuted =
 -- What `tree_drive_outcome` has for the output, of a full tree and whatever text, is never refuted.
 abbrev pub DrivesAreNeverRefuted : Type 0
 DrivesAreNeverRefuted =
-    (shape : Shape) (variant : Variant) (limit : ℕ) (text : List ℕ) (recorded : Outcome) → IsFull variant
+    (shape : Shape) (variant : Variant) (limit : ℕ) (text : List ℕ) (recorded : RunOutcome) → IsFull variant
     → IsTextOutcome (IsTreeDriveAnswer shape variant limit) IsDriveRefusal (Some text) recorded → AreNeverRefuted (output_of recorded)
 
 -- Nor is what `run_tree_drive` writes, unless its output fails.

@@ -18,9 +18,8 @@ abbrev pub IsNoRefutation : Verdict → Type 0
 IsNoRefutation (No segment) = ⊥
 IsNoRefutation verdict = Unit {0}
 
--- No verdict that is shown of the calls of a run of a full tree, at whatever budget, refutes it: so `judge_alone` and `judge`, which show
--- what they answer,
--- never answer No there.
+-- No verdict that is shown of the calls of a run of a full tree, at whatever budget, refutes it: so
+-- `judge_alone` and `judge`, which show what they answer, never answer No there.
 abbrev pub NeverRefuted : Type 0
 NeverRefuted =
     (plan : Plan) (start : Contents) (words schedule : List ℕ) (s : State) → IsRun plan start words schedule s

@@ -6,8 +6,8 @@ use Rattle.replay_text.specs.Replays.{ReplayView}
 use Rattle.replay_text.specs.ReplayTexts.{SpellsReplay}
 use Rattle.outcomes.specs.declared.outcome.Answer.{Answer}
 use Rattle.outcomes.specs.declared.outcome.Answer.TheVariants.{No}
-use Rattle.outcomes.specs.declared.outcome.Outcome.{Outcome}
-use Rattle.outcomes.specs.declared.outcome.Outcome.TheVariants.{Answered, Noted, Refused, Memory, Words, Failed}
+use Rattle.outcomes.specs.declared.outcome.RunOutcome.{RunOutcome}
+use Rattle.outcomes.specs.declared.outcome.RunOutcome.TheVariants.{Answered, Noted, Refused, Memory, Words, Failed}
 use Rattle.outcomes.specs.Ends.{Change}
 use Rattle.outcomes.specs.Runs.{IsRun}
 use Rattle.outcomes.specs.Statuses.{answer_status}
@@ -24,7 +24,7 @@ abbrev pub SpellsFullReplay : List ℕ → Type 0
 SpellsFullReplay text = (r : ReplayView) × SpellsReplay text r × IsFull r.variant
 
 -- what an outcome has for the output: its answer, with the line feed behind it, and nothing where it is none
-abbrev pub output_of : Outcome → List ℕ
+abbrev pub output_of : RunOutcome → List ℕ
 output_of (Answered answer bytes) = string_bytes bytes
 output_of (Noted answer bytes note) = string_bytes bytes
 output_of (Refused bytes hint) = []

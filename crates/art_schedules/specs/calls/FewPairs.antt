@@ -18,9 +18,8 @@ pub record ChangesIn (plan : Plan) (first : State) (schedule : List ℕ) (change
   pub call : Call
   pub is_in : IsIn now p calls call
 
--- The pairs before each step, and whether the step changes them: from the starting pairs on, only steps of calls change them, each by one
--- more pair at most,
--- and no call at two steps.
+-- The pairs before each step, and whether the step changes them: from the starting pairs on, only
+-- steps of calls change them, each by one more pair at most, and no call at two steps.
 pub record GrowByCalls (plan : Plan) (start : Contents) (first : State) (schedule : List ℕ) (pairs : ℕ → Contents)
     (changes : ℕ → Bool) : Type 0 where
   pub begins : pairs 0 ≡ start

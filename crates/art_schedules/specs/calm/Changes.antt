@@ -51,9 +51,9 @@ pub record HoldsThen (variant : Variant) (shape : Shape) (later : State) (p : �
   pub is_open : IsOpen later p call process
   pub holds : held_by variant shape call process ≡ rows
 
--- What the step of process p changes in the words of rows: nothing, a word behind the version of a row that it holds or of the row that it
--- fills, the version
--- by which it takes a row, or that by which it releases one.
+-- What the step of process p changes in the words of rows: nothing, a word behind the version of a
+-- row that it holds or of the row that it fills, the version by which it takes a row, or that by
+-- which it releases one.
 pub data RowChange (variant : Variant) (shape : Shape) (s : State) (p : ℕ) (later : State) : Type 0 where
   RowsStay : ((word : ℕ) → 5 ≤ word → slice_index later.words word ≡ slice_index s.words word) → RowChange variant shape s p later
   RowWritten : (word value : ℕ) → (asks : AsksFor variant shape s p (Store word value)) → (h : Held)

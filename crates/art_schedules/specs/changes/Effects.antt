@@ -78,9 +78,9 @@ pub record IsRemovedFrom (s : Shape) (calm later : List ℕ) (base : ℕ) (kind 
   pub free : IsFree s calm key base kind x
   pub row : HasNewChild s calm later base kind x Empty
 
--- The byte's child, whose keys part from the key at level d, where they have byte a, gives way to a fresh row that the calm tree does not
--- reach. The calm
--- words of the fresh row have this child and the new leaf.
+-- The byte's child, whose keys part from the key at level d, where they have byte a, gives way to a
+-- fresh row that the calm tree does not reach. The calm words of the fresh row have this child and
+-- the new leaf.
 pub record IsPairHung (s : Shape) (calm later : List ℕ) (base : ℕ) (kind : Kind) (x key value fresh d a : ℕ) : Type 0 where
   pub leads : LeadsTo s calm key base kind x
   pub parts : Parts calm key d a (child_on s calm base kind x)
@@ -88,9 +88,9 @@ pub record IsPairHung (s : Shape) (calm later : List ℕ) (base : ℕ) (kind : K
   pub filled : IsFilled s calm later fresh Four
   pub row : HasNewChild s calm later base kind x (Row fresh Four)
 
--- The row on the byte, to which the key's way leads too, gives way to a fresh row that the calm tree does not reach. The calm words of the
--- fresh row have the
--- level, the path and the children of that row, and the new leaf.
+-- The row on the byte, to which the key's way leads too, gives way to a fresh row that the calm
+-- tree does not reach. The calm words of the fresh row have the level, the path and the children of
+-- that row, and the new leaf.
 pub record IsGrownHung (s : Shape) (calm later : List ℕ) (base : ℕ) (kind : Kind) (x key value full : ℕ) (full_kind : Kind)
     (y fresh : ℕ) (larger : Kind)
     : Type 0 where

@@ -13,9 +13,9 @@ use Rattle.art_serial.specs.trees.Trees.{IsAtRest, SameTree, LeadsTo, AreZeroPas
 abbrev pub HasFewClaims : ℕ → List ℕ → Type 0
 HasFewClaims n words = (kind : Kind) → slice_index words (claims_of kind) ≤ n
 
--- The later words are a tree at rest, which means these pairs. Its rows are those of the calm tree but for some that are gone, and fresh
--- ones. Ways to rows
--- that are not gone stay, and there are no others but to fresh rows; of no row of the calm tree has the info changed.
+-- The later words are a tree at rest, which means these pairs. Its rows are those of the calm tree
+-- but for some that are gone, and fresh ones. Ways to rows that are not gone stay, and there are no
+-- others but to fresh rows; of no row of the calm tree has the info changed.
 pub record Follows (s : Shape) (n : ℕ) (calm later : List ℕ) (pairs : Contents) (gone : ℕ → Type 0)
     (fresh : ℕ → Kind → Type 0) : Type 0 where
   pub rests : IsAtRest s n later

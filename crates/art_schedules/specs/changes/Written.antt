@@ -1,6 +1,6 @@
--- What a call writes in rows that it holds or fills, as a change of a calm table. The words are those on which its work ran alone, the
--- written ones those that
--- it left; the calm words and the later ones say the same of these rows.
+-- What a call writes in rows that it holds or fills, as a change of a calm table. The words are
+-- those on which its work ran alone, the written ones those that it left; the calm words and the
+-- later ones say the same of these rows.
 use Rattle.std.specs.Prelude.{◌≡◌, ◌≢◌, ℕ, ◌+◌, ◌<◌, ◌≤◌, List, take, slice_index, slice_set, length, Some}
 use Rattle.art_rows.specs.declared.table.Shape.{Shape}
 use Rattle.art_rows.specs.declared.table.Kind.{Kind}

@@ -87,9 +87,9 @@ TakesLive shape s p = (h : Held) → AsksFor Coupled shape s p (Swap h.base h.ke
 abbrev pub MakesLeave : Shape → List ℕ → Hold → Option ℕ → Type 0
 MakesLeave shape calm h named = HangsOnAbove shape calm h × (named ≡ Some h.row.base)
 
--- What a step of process p has to do with the rows that are obsolete: one that it makes obsolete is named, one that was named leaves the
--- calm tree as p
--- releases the row above; what comes into it is not obsolete behind the step.
+-- What a step of process p has to do with the rows that are obsolete: one that it makes obsolete is
+-- named, one that was named leaves the calm tree as p releases the row above; what comes into it is
+-- not obsolete behind the step.
 pub record LeavesBy (shape : Shape) (s t : State) (p : ℕ) (calm : List ℕ) (effect : Option Effect)
     (leaving next : ℕ → Option ℕ) : Type 0 where
   pub others : (r : ℕ) → r ≢ p → next r ≡ leaving r

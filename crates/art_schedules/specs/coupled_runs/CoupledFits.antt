@@ -55,9 +55,8 @@ HasNone g p = (g.fresh p ≡ None) × (g.leaving p ≡ None)
 abbrev pub OfScans : Type 1
 OfScans = List ℕ → State → List ℕ → ℕ → Call → Process → Status → Type 0
 
--- What fits an open call: on its way; at work before its effect; behind the moment at which it found its reply; behind its effect; refused;
--- or it scans, and
--- what fits a scan fits it.
+-- What fits an open call: on its way; at work before its effect; behind the moment at which it
+-- found its reply; behind its effect; refused; or it scans, and what fits a scan fits it.
 pub data IsFit (shape : Shape) (Scans : OfScans) (g : Ghosts) (schedule : List ℕ) (s : State) (calm : List ℕ) (p : ℕ)
     (call : Call) (q : Process)
     (status : Status) : Type 0 where

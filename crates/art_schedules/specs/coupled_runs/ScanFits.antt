@@ -15,9 +15,9 @@ use Rattle.art_schedules.specs.locked_scans.Walking.{HasWalked, HasPairsFound}
 use Rattle.art_schedules.specs.coupled_runs.CoupledFits.{OfScans}
 use Rattle.art_schedules.specs.coupled.Walks.{IsOver}
 
--- What is known of a scan, by its status: before the end of its walk, how it has come to its stage and what it knows of the calm tree; then
--- its reply, which
--- is that of the map at the end of its walk. It changes nothing.
+-- What is known of a scan, by its status: before the end of its walk, how it has come to its stage
+-- and what it knows of the calm tree; then its reply, which is that of the map at the end of its
+-- walk. It changes nothing.
 abbrev pub KnowsScan : Shape → ℕ → ℕ → List ℕ → List ℕ → ScanAt → Status → Type 0
 KnowsScan shape low high calm words x Before = (IsOver x.step → ⊥) × HasWalked shape low high calm words x × KnowsTree shape calm x
 KnowsScan shape low high calm words x (Found reply) = HasPairsFound shape low high calm words reply x

@@ -216,9 +216,9 @@ IsEffectOf (Replace key expected value) old e =
 IsEffectOf (Get key) old e = ⊥
 IsEffectOf (Scan low high) old e = ⊥
 
--- All rows that the call holds are unchanged but for the upper one. It releases that next, or another row before: unchanged, or as
--- obsolete, where that row
--- goes by the effect. A row that goes and is released is obsolete.
+-- All rows that the call holds are unchanged but for the upper one. It releases that next, or
+-- another row before: unchanged, or as obsolete, where that row goes by the effect. A row that goes
+-- and is released is obsolete.
 pub data IsReleasing (c : Setting) (real calm : List ℕ) (row : Held) (e : Effect) (o : Outcome) (stage : Stage) : Type 0 where
   Last : stage ≡ Unlock (hold_alone row) (Some o) → ((b : ℕ) → IsGone e b → is_obsolete (slice_index real b) ≡ true)
       → IsReleasing c real calm row e o stage

@@ -1,8 +1,7 @@
--- Marks: the row that a call at work made obsolete in its step before, and what a step of the call makes of it. Where a row is to be
--- replaced by its larger
--- copy, the call releases it as obsolete, and takes it out of calm's tree by its next step, the release of the row above. Only between
--- these two steps is a row
--- of calm's tree obsolete: the marks of all calls name these rows.
+-- Marks: the row that a call at work made obsolete in its step before, and what a step of the call
+-- makes of it. Where a row is to be replaced by its larger copy, the call releases it as obsolete,
+-- and takes it out of calm's tree by its next step, the release of the row above. Only between
+-- these two steps is a row of calm's tree obsolete: the marks of all calls name these rows.
 use Rattle.std.specs.Prelude.{◌≡◌, ℕ, ◌<◌, List, Option, Some, None}
 use Rattle.events.specs.declared.event.Call.{Call}
 use Rattle.events.specs.declared.event.Reply.{Reply}
@@ -45,10 +44,10 @@ IsMarked left (Claiming none x) = left ≡ None
 IsMarked left (Going x) = left ≡ None
 IsMarked left (Hanging x) = IsMarkedBy left x.at
 
--- What a step of a call at work makes of its mark. Where the call works on, it had none, and has from now on what this step made obsolete.
--- Where it is refused,
--- it had none. Where it takes effect, the row that it had goes by the effect. A step behind which the call does not work makes no row
--- obsolete.
+-- What a step of a call at work makes of its mark. Where the call works on, it had none, and has
+-- from now on what this step made obsolete. Where it is refused, it had none. Where it takes
+-- effect, the row that it had goes by the effect. A step behind which the call does not work makes
+-- no row obsolete.
 abbrev pub MarksGoOn : {variant : Variant} {shape : Shape} {s : State} {p : ℕ} {t : State} {calm after : List ℕ}
     {m : Contents} {call : Call}
     {fresh : Option Named} → Option ℕ → Stage → WorkStep variant shape s p t calm after m call fresh → Type 0

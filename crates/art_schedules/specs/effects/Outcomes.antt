@@ -43,9 +43,9 @@ abbrev pub FreshGoesOn : Shape → State → Option Named → Option Named → T
 FreshGoesOn shape s fresh later = (later ≡ fresh)
     ⊎ ((row : Named) × (later ≡ Some row) × ((kind : Kind) → IsClaimed shape s.words row.0 kind → ⊥))
 
--- What a step of a call at work does: it goes on and calm's tree stays; or it is refused, and calm's tree stays; or this is the step of its
--- effect, and its
--- reply is the map's, not a refusal; the row that comes is not obsolete.
+-- What a step of a call at work does: it goes on and calm's tree stays; or it is refused, and
+-- calm's tree stays; or this is the step of its effect, and its reply is the map's, not a refusal;
+-- the row that comes is not obsolete.
 pub data WorkStep (variant : Variant) (shape : Shape) (s : State) (p : ℕ) (t : State) (calm after : List ℕ) (m : Contents) (call : Call)
     (fresh : Option Named)
     : Type 0 where

@@ -32,9 +32,9 @@ unwaited x = go x.step
 abbrev pub rows_of_scan : Shape → ℕ → ℕ → ScanAt → List Held
 rows_of_scan shape low high x = holds (setting shape Coupled (Scan low high)) (OnScan low high x)
 
--- Before its first release: alone on calm, where no lock is waited for, the scan comes to this stage, by accesses to words of the rows that
--- it holds. On these
--- rows the words are those that it has there; behind the versions they are calm's.
+-- Before its first release: alone on calm, where no lock is waited for, the scan comes to this
+-- stage, by accesses to words of the rows that it holds. On these rows the words are those that it
+-- has there; behind the versions they are calm's.
 pub record HasWalked (shape : Shape) (low high : ℕ) (calm words : List ℕ) (x : ScanAt) : Type 0 where
   pub now : List ℕ
   pub alone : Alone (setting shape Coupled (Scan low high)) (rows_of_scan shape low high x)

@@ -1,6 +1,6 @@
--- What a call on a key of the optimistic tree knows at each stage at which it is not at work. It holds no row on its way: all that it knows
--- of a row is so
--- where the version that it has kept is still the row's.
+-- What a call on a key of the optimistic tree knows at each stage at which it is not at work. It
+-- holds no row on its way: all that it knows of a row is so where the version that it has kept is
+-- still the row's.
 use Rattle.std.specs.Prelude.{◌≡◌, ℕ, ◌≤◌, Bool, true, false, List, slice_index, Option, Some, None}
 use Rattle.events.specs.declared.event.Reply.{Reply}
 use Rattle.events.specs.declared.event.Reply.TheVariants as reply
@@ -128,9 +128,8 @@ IsPast words n = n.kept ≤ slice_index words n.base
 abbrev pub IsHeldReached : Shape → List ℕ → List ℕ → Held → Type 0
 IsHeldReached s calm words n = IsSame calm words n × Reached s calm n.base n.kind
 
--- What a call that has not begun its work knows: of calm by its stage, where `found` is the reply that it has found, if any; of the
--- versions that it has
--- kept; and of the rows that it holds.
+-- What a call that has not begun its work knows: of calm by its stage, where `found` is the reply
+-- that it has found, if any; of the versions that it has kept; and of the rows that it holds.
 pub record KnowsWay (c : Setting) (calm words : List ℕ) (found : Option Reply) (stage : Stage) : Type 0 where
   pub way : KnowsAt found (is_insert c.call) c calm words stage
   pub kept : Each (IsPast words) (rows_kept false (is_insert c.call) stage)

@@ -30,9 +30,8 @@ use Rattle.art_schedules.specs.optimistic.Knows.{KnowsWay}
 use Rattle.art_schedules.specs.optimistic.Goes.{Goes}
 use Rattle.art_schedules.specs.calm.Changes.{IsRunStep}
 
--- What the call knew before a step of another process it knows behind it, where the calm tree changes by an effect or by none, and a row
--- leaves it only
--- where it is obsolete.
+-- What the call knew before a step of another process it knows behind it, where the calm tree
+-- changes by an effect or by none, and a row leaves it only where it is obsolete.
 abbrev pub OtherStepsKeepWays : Type 0
 OtherStepsKeepWays = (plan : Plan) (start : Contents) (words schedule : List ℕ) (p : ℕ) (s t : State)
     → IsRunStep plan start words schedule p s t

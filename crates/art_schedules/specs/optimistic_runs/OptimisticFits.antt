@@ -33,9 +33,9 @@ pub record IsWorld (shape : Shape) (g : Ghosts) (s : State) : Type 0 where
   pub claimed : (p : ℕ) (row : Named) → g p ≡ Some row → IsClaimed shape s.words row.0 row.1
   pub apart : (p r : ℕ) → p ≢ r → AreTwoRows (g p) (g r)
 
--- What fits an open call: on its way; behind the moment at which it found its reply; at work before its effect; behind its effect, or
--- refused; or it scans, and
--- nothing is known of it before it is answered.
+-- What fits an open call: on its way; behind the moment at which it found its reply; at work before
+-- its effect; behind its effect, or refused; or it scans, and nothing is known of it before it is
+-- answered.
 pub data IsFit (shape : Shape) (g : Ghosts) (s : State) (calm : List ℕ) (p : ℕ) (call : Call) (q : Process) (status : Status) : Type 0 where
   Seeks : (stage : Stage) → is_scan call ≡ false → g p ≡ None → stage_of Optimistic shape call q ≡ OnKey stage
       → KnowsWay (setting shape Optimistic call) calm s.words None stage → status ≡ Before → IsFit shape g s calm p call q status

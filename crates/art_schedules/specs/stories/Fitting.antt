@@ -52,9 +52,9 @@ pub record IsToldStep (plan : Plan) (start : Contents) (words schedule : List �
   pub few : length (tale.pairs (length schedule)) ≤ pair_limit
   pub earlier : (u : ℕ) → u ≤ length schedule → MeansAt plan words schedule u (tale.pairs u)
 
--- What becomes of the status in a step that keeps the pairs: it stays, or what was found is forgotten, or a reply is found, in the pairs as
--- they are now or as
--- they were at an earlier moment within the call.
+-- What becomes of the status in a step that keeps the pairs: it stays, or what was found is
+-- forgotten, or a reply is found, in the pairs as they are now or as they were at an earlier moment
+-- within the call.
 pub data Next (plan : Plan) (first : State) (schedule : List ℕ) (tale : Tale) (p calls : ℕ) (call : Call)
     (status next : Status) : Type 0 where
   Stays : next ≡ status → Next plan first schedule tale p calls call status next
@@ -71,9 +71,8 @@ abbrev pub HasItsReply : Plan → List ℕ → List ℕ → Tale → ℕ → Cal
 HasItsReply plan words schedule tale p call q status reply =
     (next : Status) × Next plan (opened_on plan words) schedule tale p (length (begun q)) call status next × HasReply next reply
 
--- What an open call does in a step of its own: it keeps the pairs, or changes them as it does with this reply. `Behind` is what has to be
--- so behind the step,
--- by its effect and the status then.
+-- What an open call does in a step of its own: it keeps the pairs, or changes them as it does with
+-- this reply. `Behind` is what has to be so behind the step, by its effect and the status then.
 pub data OwnStep (plan : Plan) (words schedule : List ℕ) (tale : Tale) (p : ℕ) (t : State) (calm after : List ℕ) (call : Call)
     (q : Process) (status : Status)
     (Behind : Option Effect → Status → Type 0) : Type 0 where

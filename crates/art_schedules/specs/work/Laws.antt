@@ -93,9 +93,9 @@ WorkComesToRelease = (c : Setting) (h : Hold) (work : Work) (w0 : List ℕ) (num
     → (at : Stage) × (words : List ℕ) × Solo c (OnKey (work_at c h work)) w0 (OnKey at) words × IsRelease h at
     × IsDoneBy c h work number w0 at words
 
--- In a run of a full tree, a call that went on by itself beside the call of the run, with the same words on the rows that this one holds
--- and on the row that
--- it fills, follows it in each access but a lock.
+-- In a run of a full tree, a call that went on by itself beside the call of the run, with the same
+-- words on the rows that this one holds and on the row that it fills, follows it in each access but
+-- a lock.
 abbrev pub SolosFollow : Type 0
 SolosFollow = (c : Setting) (at0 at : CallAt) (w0 words real : List ℕ) (a : Access) (mark : Option Point) → IsFull c.variant
     → 1 ≤ c.shape.rows256

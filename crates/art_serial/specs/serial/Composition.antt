@@ -12,9 +12,9 @@ use Rattle.art_steps.specs.TreeCalls.{is_tree_call}
 use Rattle.art_serial.specs.alone.Alone.{RunsAlone}
 use Rattle.art_serial.specs.serial.Serial.{ticked}
 
--- From so many calls made, these words and these pairs, stamps and calls of a tree that run alone to a legal reply come to so many calls,
--- those words and
--- those pairs. The clock may be set back to 0, as it is before a schedule that starts with pairs.
+-- From so many calls made, these words and these pairs, stamps and calls of a tree that run alone
+-- to a legal reply come to so many calls, those words and those pairs. The clock may be set back to
+-- 0, as it is before a schedule that starts with pairs.
 pub data ComesTo (shape : Shape) (variant : Variant) (made : ℕ) (first : List ℕ) (start : Contents) : ℕ → List ℕ → Contents → Type 0 where
   here : ComesTo shape variant made first start made first start
   stamp : {n : ℕ} {words : List ℕ} {m : Contents} → ComesTo shape variant made first start n words m

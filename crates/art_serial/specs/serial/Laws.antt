@@ -21,9 +21,9 @@ SerialSchedulesRunAlone =
     (plan : Plan) (first schedule : List ℕ) (s : State) → IsRunOn plan first schedule s → IsSerial (history_of s)
     → (done : List (Call × Reply)) × HasRunAlone plan first s done
 
--- Where each call of a tree may run alone to a legal reply, from all that stamps and such calls come to, the history of a serial schedule
--- is legal, and they
--- come to the state's words and the pairs after its history. Some calls may have been made before the schedule.
+-- Where each call of a tree may run alone to a legal reply, from all that stamps and such calls
+-- come to, the history of a serial schedule is legal, and they come to the state's words and the
+-- pairs after its history. Some calls may have been made before the schedule.
 abbrev pub SerialSchedulesCompose : Type 0
 SerialSchedulesCompose = (plan : Plan) (first schedule : List ℕ) (s : State) (made : ℕ) (start : Contents) → IsRunOn plan first schedule s
     → IsSerial (history_of s) → made + calls_in plan ≤ call_limit → EachMayBeAnswered plan.shape plan.variant made first start

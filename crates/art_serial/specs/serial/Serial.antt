@@ -1,6 +1,6 @@
--- Serial schedules as lists of calls that run alone, one after another. A history is serial where each call is answered before the next is
--- invoked: Herlihy and
--- Wing 1990, section 2, where such a history is called sequential.
+-- Serial schedules as lists of calls that run alone, one after another. A history is serial where
+-- each call is answered before the next is invoked: Herlihy and Wing 1990, section 2, where such a
+-- history is called sequential.
 use Rattle.std.specs.Prelude.{◌≡◌, ℕ, ◌+◌, ◌%◌, ◌^◌, ◌≤◌, IsTrue, IsSomeAnd, List, [], ◌∷◌, ◌++◌, length, map, sum, slice_index, slice_set}
 use Rattle.std.specs.Prelude.{All, None}
 use Rattle.std.specs.List.{AllZip}
@@ -23,9 +23,8 @@ use Rattle.art_serial.specs.alone.Alone.{RunsAlone}
 abbrev pub ticked : List ℕ → List ℕ
 ticked words = slice_set words clock ((slice_index words clock + 1) % 2 ^ 64)
 
--- From the first words these calls with their replies come to these words: for each in turn a stamp is drawn, the call runs alone from its
--- beginning to its
--- reply, and a stamp is drawn.
+-- From the first words these calls with their replies come to these words: for each in turn a stamp
+-- is drawn, the call runs alone from its beginning to its reply, and a stamp is drawn.
 pub data SerialRun (shape : Shape) (variant : Variant) (first : List ℕ) : List (Call × Reply) → List ℕ → Type 0 where
   none : SerialRun shape variant first [] first
   more : {done : List (Call × Reply)} {words last : List ℕ} → (call : Call) → (reply : Reply) → SerialRun shape variant first done words
@@ -49,9 +48,9 @@ IsDone a done = (a.call ≡ done.0) × IsSomeAnd a.response (λ response. respon
 abbrev pub calls_in : Plan → ℕ
 calls_in plan = sum (map (λ script. length script) plan.scripts)
 
--- These calls with their replies, run alone one after another, come from the first words to the state's. They are the calls of its history,
--- in their order, and
--- none is open. They are calls of a tree, and no more than the scripts hold.
+-- These calls with their replies, run alone one after another, come from the first words to the
+-- state's. They are the calls of its history, in their order, and none is open. They are calls of a
+-- tree, and no more than the scripts hold.
 pub record HasRunAlone (plan : Plan) (first : List ℕ) (s : State) (done : List (Call × Reply)) : Type 0 where
   pub run : SerialRun plan.shape plan.variant first done s.words
   pub operations : AllZip IsDone (operations (history_of s)) done
@@ -63,9 +62,9 @@ pub record HasRunAlone (plan : Plan) (first : List ℕ) (s : State) (done : List
 abbrev pub sole_plan : Shape → Variant → List Call → Plan
 sole_plan shape variant script = record { shape = shape; variant = variant; scripts = script ∷ [] }
 
--- What is so of one process that has made its whole script: its history is serial, and these calls with their replies, which have run
--- alone, are those of its
--- script, in their order, with the replies that it logged.
+-- What is so of one process that has made its whole script: its history is serial, and these calls
+-- with their replies, which have run alone, are those of its script, in their order, with the
+-- replies that it logged.
 pub record HasRunScript (plan : Plan) (script : List Call) (first : List ℕ) (s : State) (q : Process)
     (done : List (Call × Reply)) : Type 0 where
   pub serial : IsSerial (history_of s)

@@ -28,9 +28,9 @@ IsUnused s words kind number = number < rows_of s kind → (word : ℕ) → base
 abbrev pub AreZeroPastClaims : Shape → List ℕ → Type 0
 AreZeroPastClaims s words = (kind : Kind) (number : ℕ) → slice_index words (claims_of kind) ≤ number → IsUnused s words kind number
 
--- A table between calls where nobody else runs: no row is locked, the words are a tree, no row of it is obsolete, each row of it was
--- claimed, at most n claims
--- of each kind were made, and a row that was not claimed has only zeros.
+-- A table between calls where nobody else runs: no row is locked, the words are a tree, no row of
+-- it is obsolete, each row of it was claimed, at most n claims of each kind were made, and a row
+-- that was not claimed has only zeros.
 pub record IsAtRest (s : Shape) (n : ℕ) (words : List ℕ) : Type 0 where
   pub long : length words ≡ table_words s
   pub small : All (λ w. w < 2 ^ 64) words

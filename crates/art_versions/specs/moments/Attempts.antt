@@ -12,9 +12,10 @@ use Rattle.art_steps.specs.Act.{act}
 use Rattle.art_core.specs.Core.{Plan}
 use Rattle.art_core.specs.Moments.{BeginsAttempt, Reads, Enters, Checks}
 
--- The word that the i-th access read is of a row that the attempt had entered by then, with a version that was neither locked nor obsolete.
--- It entered the row
--- before its m-th word, and checked it behind that, and not before this read: the version was the one with which it had entered.
+-- The word that the i-th access read is of a row that the attempt had entered by then, with a
+-- version that was neither locked nor obsolete. It entered the row before its m-th word, and
+-- checked it behind that, and not before this read: the version was the one with which it had
+-- entered.
 pub record IsOfCheckedRow (plan : Plan) (call : Call) (attempt : List ℕ) (m i word : ℕ) : Type 0 where
   pub base : ℕ
   pub kind : Kind

@@ -12,9 +12,9 @@ use Rattle.art_core.specs.Core.{Plan}
 use Rattle.art_core.specs.Moments.{BeginsAttempt, Reads, Enters, Checks}
 use Rattle.art_versions.specs.moments.RowReplies.{row_reply}
 
--- The info word by which a get goes at the row that it entered there: the one that it read behind that entry; and at the root, which it
--- enters first and of which
--- it reads none, the word of a root.
+-- The info word by which a get goes at the row that it entered there: the one that it read behind
+-- that entry; and at the root, which it enters first and of which it reads none, the word of a
+-- root.
 abbrev pub GoesBy : Plan → Call → List ℕ → ℕ → ℕ → ℕ → Type 0
 GoesBy plan call attempt entry base info =
     ((base ≡ root_base plan.shape) × (info ≡ 3) × ((i other : ℕ) (kind : Kind) → Enters plan call attempt i other kind → entry ≤ i))
@@ -26,9 +26,9 @@ HasRead plan call attempt entry base kind words =
     (i word : ℕ) → Reads plan call attempt i word → entry ≤ i → base < word → word < base + row_words kind
     → slice_index words word ≡ slice_index attempt i
 
--- The attempt that answers: it checked the row that it entered last behind that entry, found the version with which it had entered, and
--- read nothing more. Its reply
--- is that of any words which have what it read of the row.
+-- The attempt that answers: it checked the row that it entered last behind that entry, found the
+-- version with which it had entered, and read nothing more. Its reply is that of any words which
+-- have what it read of the row.
 pub record IsCheckedGet (plan : Plan) (key : ℕ) (got : List ℕ) (reply : Reply) : Type 0 where
   pub earlier : List ℕ
   pub attempt : List ℕ

@@ -15,10 +15,10 @@ use Rattle.art_core.specs.Moments.{HasGot, BeginsAttempt, Reads, Enters, Checks,
 use Rattle.art_versions.specs.moments.RowReplies.{row_reply}
 use Rattle.art_versions.specs.moments.Gets.{GoesBy}
 
--- The row is the last that the answering attempt entered. At a moment within the call it is unlocked and has the words that were read of
--- it, of its version word the
--- one with which it was entered; so it stands from that entry to its check, behind which nothing is read. The reply is what its words say
--- of the key then.
+-- The row is the last that the answering attempt entered. At a moment within the call it is
+-- unlocked and has the words that were read of it, of its version word the one with which it was
+-- entered; so it stands from that entry to its check, behind which nothing is read. The reply is
+-- what its words say of the key then.
 pub record HasMomentOfLastRow (plan : Plan) (first : State) (schedule : List ℕ) (p calls key : ℕ) (got : List ℕ)
     (reply : Reply) : Type 0 where
   pub earlier : List ℕ

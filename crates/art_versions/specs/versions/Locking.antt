@@ -1,6 +1,6 @@
--- The rows that a call of a full tree holds at each of its stages. Here and in Holding the first flag says that the variant locks what it
--- reads, as the
--- coupled tree does, and the second that the call is an insert.
+-- The rows that a call of a full tree holds at each of its stages. Here and in Holding the first
+-- flag says that the variant locks what it reads, as the coupled tree does, and the second that the
+-- call is an insert.
 use Rattle.std.specs.Prelude.{ℕ, List, [], ◌∷◌, ◌++◌, map, Bool, true, false, Option, Some, None}
 use Rattle.art_stages.specs.declared.stage.Held.{Held}
 use Rattle.art_stages.specs.declared.stage.Position.{Position}

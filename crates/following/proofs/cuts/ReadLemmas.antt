@@ -20,8 +20,8 @@ use Rattle.quiet_cuts.specs.Leaves.{Leaves}
 use Rattle.quiet_cuts.proofs.SetLemmas.{Completed, Each}
 use Rattle.quiet_cuts.proofs.AroundLemmas.{found, any_of, beside, AllPairs-before, AllPairs-behind, AllPairs-beside}
 use Rattle.quiet_cuts.proofs.ValueLemmas.{rising_after}
-use Rattle.call_search.specs.Replies.{says_unchanged}
-use Rattle.call_search.proofs.ReplyLemmas.{unchanged}
+use Rattle.quiet_cuts.specs.Replies.{says_unchanged}
+use Rattle.quiet_cuts.proofs.ReplyLemmas.{unchanged}
 use Rattle.following.specs.cuts.FirstReads.{without}
 use Rattle.following.specs.cuts.Laws.{ReadsFirst}
 

@@ -40,7 +40,7 @@ use Rattle.following.proofs.keys.GrownPartLemmas.{to_later}
 use Rattle.following.proofs.keys.InTurnLemmas.{legal_filter, is_refused_from, refused_changes_nothing, refused_legal, ended_not_refused}
 use Rattle.following.proofs.keys.InTurnLemmas.{cut_response, cut, grown_cut, legal_cut, cut_waits}
 use Rattle.following.proofs.keys.KeyCallLemmas.{front_begun}
-use Rattle.following.proofs.keys.RefuteLemmas.{from_not}
+use Rattle.following.proofs.keys.PrefixLemmas.{from_not}
 
 -- refused calls in turn are legal, and leave what they find
 refused_in_turn : (place : ℕ) (m : Contents) (order : List Operation)

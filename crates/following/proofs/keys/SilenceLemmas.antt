@@ -44,7 +44,7 @@ use Rattle.following.proofs.keys.ChoiceLemmas.{any_from, any_to}
 use Rattle.following.proofs.keys.EarlyLemmas.{from_left_at, left_differ, same_part}
 use Rattle.following.proofs.keys.GrownLemmas.{IsGrownResponse, IsGrown, in_later, in_now, grown_inv, same_completed, grown_before}
 use Rattle.following.proofs.keys.GrownPartLemmas.{below_spread, to_now}
-use Rattle.following.proofs.keys.RefuteLemmas.{grown_later, now_differ}
+use Rattle.following.proofs.keys.PrefixLemmas.{grown_later, now_differ}
 use Rattle.following.proofs.keys.SettleBackLemmas.{zip_pairs, zip_weaker, zip_each, grown_waits}
 
 -- only what is pending is an open scan

@@ -1,40 +1,22 @@
 -- A read goes that stands in each order before all that may change the pairs, with what it may find.
-use Rattle.std.proofs.Common.{◌≡◌, ◌==◌, Bool, true, false, List, [], ◌∷◌, ◌++◌, Option, Some, None, is_some, refl, sym, ap, ◌∙◌, subst, ⊎_elim}
-use Rattle.std.specs.Prelude.{◌≢◌, ◌⊎◌, IsSomeAnd, AllPairs, Contains}
+use Rattle.std.proofs.Common.{◌≡◌, ◌==◌, Bool, true, false, List, [], ◌∷◌, ◌++◌, refl, sym, ap, ◌∙◌, subst, ⊎_elim}
+use Rattle.std.specs.Prelude.{◌≢◌, ◌⊎◌, AllPairs, Contains}
 use Rattle.std.proofs.lemmas.Bool.{both_ways, eqb-true, eq-eqb}
 use Rattle.std.proofs.lemmas.List.Elements.{All-contains, Contains-append_left, Contains-append_right, Contains-append_cases}
-use Rattle.events.specs.declared.event.Call.{Call}
 use Rattle.events.specs.declared.operation.Operation.{Operation}
-use Rattle.events.specs.declared.operation.Response.{Response}
 use Rattle.events.specs.Precedence.{precedes, NonePrecedesItself}
 use Rattle.list_laws.proofs.Lists.{All-from_contains, Contains-around, Contains-first, Contains-later, Contains-split}
 use Rattle.map_object.specs.MapObject.{Contents, IsRising}
-use Rattle.orders.specs.Orders.{after_call, after_calls, IsLegalCall, IsLegal, IsLinearizable}
+use Rattle.orders.specs.Orders.{after_calls, IsLegalCall, IsLegal, IsLinearizable}
 use Rattle.orders.proofs.OrderLemmas.{IsLegal-append, IsLegal-front, IsLegal-back}
 use Rattle.quiet_cuts.proofs.AroundLemmas.{beside, middle, All-around, AllPairs-around, AllPairs-before, AllPairs-behind, AllPairs-beside}
-use Rattle.call_search.specs.Replies.{says_unchanged}
-use Rattle.call_search.proofs.ReplyLemmas.{unchanged}
-use Rattle.following.proofs.moments.DistinctLemmas.{InvocationsDiffer, same_invocation}
-use Rattle.following.proofs.moments.DistinctLemmas.{order_from_linearizable, linearizable_from_order}
+use Rattle.quiet_cuts.specs.Replies.{IsRead}
+use Rattle.quiet_cuts.proofs.ReplyLemmas.{read_completed, read_leaves}
+use Rattle.following.proofs.moments.DistinctLemmas.{InvocationsDiffer, same_invocation, order_from_linearizable, linearizable_from_order}
 use Rattle.following.proofs.keys.InTurnLemmas.{place_for}
 
--- a completed call that says that it changed nothing
-abbrev pub SaysUnchanged : Operation → Type 0
-SaysUnchanged x = IsSomeAnd x.response (λ r. says_unchanged x.call r.reply ≡ true)
-
-pub says_completed : (call : Call) (response : Option Response) → IsSomeAnd response (λ r. says_unchanged call r.reply ≡ true)
-    → is_some response ≡ true
-says_completed call None says = absurd says
-says_completed call (Some r) says = refl
-
--- where it is legal, it changes nothing
-read_leaves : (m : Contents) (call : Call) (response : Option Response) → IsSomeAnd response (λ r. says_unchanged call r.reply ≡ true)
-    → IsRising m → IsLegalCall m call response → after_call m call response ≡ m
-read_leaves m call None says rising legal = absurd says
-read_leaves m call (Some r) says rising legal = unchanged m call r.reply rising says legal
-
--- and nor do several in turn
-reads_leave : (m : Contents) (order : List Operation) → IsRising m → ((x : Operation) → Contains order x → SaysUnchanged x) → IsLegal m order
+-- reads in turn leave the pairs as they are
+reads_leave : (m : Contents) (order : List Operation) → IsRising m → ((x : Operation) → Contains order x → IsRead x) → IsLegal m order
     → after_calls m order ≡ m
 reads_leave m [] rising says legal = refl
 reads_leave m (x ∷ order) rising says legal =
@@ -45,8 +27,8 @@ reads_leave m (x ∷ order) rising says legal =
 
 -- calls with a read and without it: of the others each says too that it changed nothing, or the read precedes it
 module _ (start : Contents) (rising : IsRising start) (calls others : List Operation) (x : Operation) (differ : InvocationsDiffer calls)
-    (others_differ : InvocationsDiffer others) (none : NonePrecedesItself calls) (x_is : Contains calls x) (x_says : SaysUnchanged x)
-    (first : (z : Operation) → Contains calls z → SaysUnchanged z ⊎ (precedes x z ≡ true))
+    (others_differ : InvocationsDiffer others) (none : NonePrecedesItself calls) (x_is : Contains calls x) (x_says : IsRead x)
+    (first : (z : Operation) → Contains calls z → IsRead z ⊎ (precedes x z ≡ true))
     (from : (z : Operation) → Contains others z → Contains calls z × (z.inv ≢ x.inv))
     (into : (z : Operation) → Contains calls z → z.inv ≢ x.inv → Contains others z) where
   abbrev R : Operation → Operation → Type 0
@@ -56,13 +38,13 @@ module _ (start : Contents) (rising : IsRising start) (calls others : List Opera
   D a b = a.inv ≢ b.inv
 
   -- what may stand before it is a read
-  before_says : (z : Operation) → Contains calls z → precedes x z ≡ false → SaysUnchanged z
+  before_says : (z : Operation) → Contains calls z → precedes x z ≡ false → IsRead z
   before_says z z_is waits = ⊎_elim (λ says. says) (λ before. absurd (both_ways _ waits before)) (first z z_is)
 
   pub without_read : IsLinearizable start calls → IsLegalCall start x.call x.response × IsLinearizable start others
   without_read h =
       let (order, is) = order_from_linearizable start calls differ h in
-      let (front, back, parts) = Contains-split order x (is.complete x x_is (says_completed x.call x.response x_says)) in
+      let (front, back, parts) = Contains-split order x (is.complete x x_is (read_completed x.call x.response x_says)) in
       let distinct = subst (AllPairs D) parts is.distinct in
       let keeps = subst (AllPairs R) parts is.precedence in
       let legal = subst (IsLegal start) parts is.legal in

@@ -24,7 +24,8 @@ use Rattle.orders.specs.Orders.{IsLegalCall, IsLinearizable}
 use Rattle.quiet_cuts.specs.Cells.{calls_left}
 use Rattle.quiet_cuts.proofs.SetLemmas.{same_call}
 use Rattle.quiet_cuts.proofs.LeftLemmas.{left_from, not_dropped, in_left, from_left}
-use Rattle.call_search.specs.Replies.{says_unchanged}
+use Rattle.quiet_cuts.specs.Replies.{says_unchanged, IsRead}
+use Rattle.quiet_cuts.proofs.ReplyLemmas.{read_completed}
 use Rattle.following.specs.moments.KeyCalls.{Kind, OfKey, Told, Silent, kind_of, spread_response, spread_call, get_at, part_at, at_key}
 use Rattle.following.specs.moments.Timings.{IsToldScan, IsTiming}
 use Rattle.following.specs.keys.KeyStates.{one_key, Configuration, KeyState, Timings, AreAhead, Holds, KeyStandsFor}
@@ -40,7 +41,7 @@ use Rattle.following.proofs.keys.FoundLemmas.{FindsAt, part_finds}
 use Rattle.following.proofs.keys.GrownLemmas.{in_now, same_completed, grown_inv, grown_before}
 use Rattle.following.proofs.keys.GrownPartLemmas.{scan_not_own, to_later}
 use Rattle.following.proofs.keys.SilentLemmas.{with_place, the_place, but_place}
-use Rattle.following.proofs.keys.StillLemmas.{SaysUnchanged, says_completed, without_read, with_read}
+use Rattle.following.proofs.keys.StillLemmas.{without_read, with_read}
 
 -- ---- what a call finds
 
@@ -95,17 +96,17 @@ module _ (events more : List Event) (key : ℕ) (spread moment : ℕ → ℕ) (t
   later = operations (events ++ more)
 
   -- what the call is at the key
-  record IsRead (kind : Kind) (x : Operation) : Type 0 where
+  record IsReadPart (kind : Kind) (x : Operation) : Type 0 where
     shows : part_at key spread moment a ≡ Some x
     completed : is_some a.response ≡ true
-    says : SaysUnchanged x
+    says : IsRead x
     finds : (value : Option ℕ) → IsFoundBy key a kind value ↔ IsLegalCall (one_key key value) x.call x.response
 
   shows_as : (x : Operation) (kind : Kind) → kind_of a.call a.response ≡ kind → IsPart key spread moment a x kind
       → part_at key spread moment a ≡ Some x
   shows_as x kind is part = is_part key spread moment a x (kind_of a.call a.response) (subst (IsPart key spread moment a x) (sym is) part)
 
-  read_of : (kind : Kind) → kind_of a.call a.response ≡ kind → IsKindAt key kind → IsStillCall key a kind → (x : Operation) × IsRead kind x
+  read_of : (kind : Kind) → kind_of a.call a.response ≡ kind → IsKindAt key kind → IsStillCall key a kind → (x : Operation) × IsReadPart kind x
   read_of (OfKey own) is at is_still =
       let x = spread_call spread a in
       let says = is_still at in
@@ -113,7 +114,7 @@ module _ (events more : List Event) (key : ℕ) (spread moment : ℕ → ℕ) (t
         x,
         record {
           shows = shows;
-          completed = says_completed a.call a.response says;
+          completed = read_completed a.call a.response says;
           says = spread_says spread a.call a.response says;
           finds = λ value.
               let m = one_key key value in
@@ -147,13 +148,13 @@ module _ (events more : List Event) (key : ℕ) (spread moment : ℕ → ℕ) (t
 
   -- a call left says that it changed nothing, or is invoked behind all that came so far
   left_says : (b z : Operation) → Contains later b → (Contains gone b.inv → ⊥) → part_at key spread moment b ≡ Some z
-      → SaysUnchanged z ⊎ (spread (length events) ≤ z.inv)
+      → IsRead z ⊎ (spread (length events) ≤ z.inv)
   left_says b z b_is out shows = ⊎_elim early late (cases_lt b.inv (length events))
     where
       part : IsPart key spread moment b z (kind_of b.call b.response)
       part = part_is key spread moment b z (kind_of b.call b.response) shows
 
-      late : length events ≤ b.inv → SaysUnchanged z ⊎ (spread (length events) ≤ z.inv)
+      late : length events ≤ b.inv → IsRead z ⊎ (spread (length events) ≤ z.inv)
       late behind =
           let upto = spread_upto later spread moment timing (length events) b.inv behind in
           inr (⊎_elim
@@ -163,7 +164,7 @@ module _ (events more : List Event) (key : ℕ) (spread moment : ℕ → ℕ) (t
           let at : z.inv ≡ moment b.inv = as_told.1 in omega (arith, at, upto, inside))
           (part_inv key spread moment b z (kind_of b.call b.response) refl part))
 
-      by_kind : (kind : Kind) → kind_of b.call b.response ≡ kind → IsPart key spread moment b z kind → b.inv < length events → SaysUnchanged z
+      by_kind : (kind : Kind) → kind_of b.call b.response ≡ kind → IsPart key spread moment b z kind → b.inv < length events → IsRead z
       by_kind (OfKey own) is h before =
           let (c, c_is, grown) = in_now events more b b_is before in
           let call : b.call ≡ c.call = ap (λ (o : Operation). o.call) grown.same in
@@ -172,12 +173,12 @@ module _ (events more : List Event) (key : ℕ) (spread moment : ℕ → ℕ) (t
           let left = in_left gone (operations events) c c_is
           (left_from gone c (λ dropped. out (subst (Contains gone) (grown_inv (length events) c b grown) dropped))) in
           let says = subst (IsStillCall key c) own_now (still c left) h.0 in
-          let same : b ≡ c = same_completed (length events) c b grown (says_completed c.call c.response says) in
-          subst SaysUnchanged (ap (spread_call spread) (sym same) ∙ h.1) (spread_says spread c.call c.response says)
-      by_kind (Told low high pairs) is h before = subst SaysUnchanged h.2 (get_says key (value_reply (value_at pairs key)))
+          let same : b ≡ c = same_completed (length events) c b grown (read_completed c.call c.response says) in
+          subst IsRead (ap (spread_call spread) (sym same) ∙ h.1) (spread_says spread c.call c.response says)
+      by_kind (Told low high pairs) is h before = subst IsRead h.2 (get_says key (value_reply (value_at pairs key)))
       by_kind Silent is h before = absurd h
 
-      early : b.inv < length events → SaysUnchanged z ⊎ (spread (length events) ≤ z.inv)
+      early : b.inv < length events → IsRead z ⊎ (spread (length events) ≤ z.inv)
       early before = inl (by_kind (kind_of b.call b.response) refl part before)
 
   abbrev left_at_key : List ℕ → List Operation
@@ -188,7 +189,7 @@ module _ (events more : List Event) (key : ℕ) (spread moment : ℕ → ℕ) (t
     here : Contains (operations (events ++ more)) a
     ended : (r : Response) → x.response ≡ Some r → r.res < spread (length events)
 
-  is_there : (x : Operation) → IsRead (kind_of a.call a.response) x → IsThere x
+  is_there : (x : Operation) → IsReadPart (kind_of a.call a.response) x → IsThere x
   is_there x read =
       let (b, z, b_is, z_shows, z_grown, grown) = to_later events more spread moment timing key a x a_here read.shows in
       let same : b ≡ a = same_completed (length events) a b grown read.completed in
@@ -197,7 +198,7 @@ module _ (events more : List Event) (key : ℕ) (spread moment : ℕ → ℕ) (t
         ended = λ r answered. grown_before (spread (length events)) x.response z.response r z_grown.response answered;
       }
 
-  module _ (taken : List ℕ) (fresh : Contains taken a.inv → ⊥) (x : Operation) (read : IsRead (kind_of a.call a.response) x) where
+  module _ (taken : List ℕ) (fresh : Contains taken a.inv → ⊥) (x : Operation) (read : IsReadPart (kind_of a.call a.response) x) where
     abbrev with_it : List Operation
     with_it = left_at_key (gone ++ taken)
 
@@ -231,7 +232,7 @@ module _ (events more : List Event) (key : ℕ) (spread moment : ℕ → ℕ) (t
         (but_place gone taken a.inv b.inv dropped)) shows
 
     -- the others say so too, or it precedes them
-    first : (z : Operation) → Contains with_it z → SaysUnchanged z ⊎ (precedes x z ≡ true)
+    first : (z : Operation) → Contains with_it z → IsRead z ⊎ (precedes x z ≡ true)
     first z z_is =
         let (b, b_is, out, shows) = from_left_at events more key spread moment timing (gone ++ taken) z z_is in
         ⊎_elim

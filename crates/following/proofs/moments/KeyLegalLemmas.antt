@@ -34,7 +34,7 @@ told_value (Some value) = refl
 get_legal : (m pairs : Contents) (key : ℕ) → value_at m key ≡ value_at pairs key → IsLegalReply m (Get key) (value_reply (value_at pairs key))
 get_legal m pairs key same = inr (tells_all m (Get key) (value_reply (value_at pairs key)) (ap value_reply (sym same)))
 
-get_finds : (m pairs : Contents) (key : ℕ) → IsLegalReply m (Get key) (value_reply (value_at pairs key)) → value_at pairs key ≡ value_at m key
+pub get_finds : (m pairs : Contents) (key : ℕ) → IsLegalReply m (Get key) (value_reply (value_at pairs key)) → value_at pairs key ≡ value_at m key
 get_finds m pairs key legal = ⊎_elim
     (λ refused. absurd (value_answers (value_at pairs key) refused))
     (λ tells. let whole : value_reply (value_at pairs key) ≡ value_reply (value_at m key) =

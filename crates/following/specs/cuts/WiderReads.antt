@@ -5,10 +5,11 @@ use Rattle.events.specs.declared.operation.Response.{Response}
 use Rattle.events.specs.Precedence.{precedes}
 use Rattle.map_object.specs.MapObject.{Contents, IsRising, after_reply, IsLegalReply}
 use Rattle.orders.specs.Orders.{IsLinearizable}
-use Rattle.call_search.specs.Replies.{says_unchanged}
+use Rattle.quiet_cuts.specs.Replies.{says_unchanged}
 use Rattle.following.specs.cuts.FirstReads.{without}
 
--- a read that may be answered so at some of these pairs only: narrowed, they are those at which it may
+-- a read that may be answered so at some of these pairs only: narrowed, they are those at which it
+-- may
 pub record IsNarrowingRead (values narrowed : List Contents) (calls : List Operation) (n : ℕ) : Type 0 where
   pub call : Operation
   pub response : Response

@@ -42,7 +42,8 @@ IsNarrowedBy a k l = (l.gone ≡ k.gone) × ((d : Configuration) → Contains l.
 abbrev pub IsNotAhead : ℕ → KeyState → Type 0
 IsNotAhead place k = All (λ c. All (λ entry. entry.0 ≢ place) c.ahead) k.configurations
 
--- further events tell nothing of a key: what they answer is answered `done`, or is nothing at the key and nowhere noted
+-- further events tell nothing of a key: what they answer is answered `done`, or is nothing at the
+-- key and nowhere noted
 abbrev pub TellNothing : List Event → List Event → ℕ → (ℕ → ℕ) → (ℕ → ℕ) → KeyState → Type 0
 TellNothing events more key spread moment k =
     (a : Operation) (r : Response) → Contains (operations (events ++ more)) a → a.response ≡ Some r → length events ≤ r.res

@@ -1,5 +1,5 @@
--- The choices of what is kept of a key: one value behind the calls taken, and for each of them that was open one value that it found. A
--- configuration has each choice of its lists.
+-- The choices of what is kept of a key: one value behind the calls taken, and for each of them that
+-- was open one value that it found. A configuration has each choice of its lists.
 use Rattle.std.specs.Prelude.{◌≡◌, ◌↔◌, ℕ, ◌==◌, not, List, [], ◌∷◌, ◌++◌, Option, filter, map, Any, Contains}
 use Rattle.std.specs.List.{AllZip}
 use Rattle.following.specs.keys.KeyStates.{Configuration, KeyState}
@@ -8,7 +8,8 @@ use Rattle.following.specs.keys.KeyStates.{Configuration, KeyState}
 abbrev pub HaveSame : {X : Type 0} → List X → List X → Type 0
 HaveSame {X} xs ys = (x : X) → Contains xs x ↔ Contains ys x
 
--- the places of calls that are gone or taken, the value behind them, and what those found that were open
+-- the places of calls that are gone or taken, the value behind them, and what those found that were
+-- open
 pub record Choice : Type 0 where
   pub taken : List ℕ
   pub value : Option ℕ

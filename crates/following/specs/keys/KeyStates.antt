@@ -1,5 +1,6 @@
--- What is kept of one key while events come: which calls are gone, and what the others may start from. A call that was open at a past moment
--- may have taken effect before it: that is chosen, together with what it found.
+-- What is kept of one key while events come: which calls are gone, and what the others may start
+-- from. A call that was open at a past moment may have taken effect before it: that is chosen,
+-- together with what it found.
 use Rattle.std.specs.Prelude.{◌≡◌, ◌↔◌, ℕ, Bool, true, List, [], ◌∷◌, ◌++◌, Option, Some, None, All, Any, Contains, ⊤}
 use Rattle.events.specs.declared.event.Call.{Call}
 use Rattle.events.specs.declared.event.Event.{Event}
@@ -17,14 +18,16 @@ abbrev pub one_key : ℕ → Option ℕ → Contents
 one_key key None = []
 one_key key (Some value) = (key, value) ∷ []
 
--- What the calls left of a key may go on from: `taken` has the places of the invocations of those that took effect already, `values` what the
--- key may hold behind them, and `ahead` for calls that were open then the places of their invocations, with what each may have found.
+-- What the calls left of a key may go on from: `taken` has the places of the invocations of those
+-- that took effect already, `values` what the key may hold behind them, and `ahead` for calls that
+-- were open then the places of their invocations, with what each may have found.
 pub record Configuration : Type 0 where
   pub taken : List ℕ
   pub values : List (Option ℕ)
   pub ahead : List (ℕ × List (Option ℕ))
 
--- what is kept of a key: the places of the invocations of calls that are dropped for good, and configurations of the others
+-- what is kept of a key: the places of the invocations of calls that are dropped for good, and
+-- configurations of the others
 pub record KeyState : Type 0 where
   pub gone : List ℕ
   pub configurations : List Configuration
@@ -42,7 +45,8 @@ MayHaveFound calls place value = (a : Operation) → Contains calls a → a.inv 
 abbrev pub AreAhead : List Operation → List (ℕ × List (Option ℕ)) → Type 0
 AreAhead calls ahead = All (λ entry. Any (MayHaveFound calls entry.0) entry.1) ahead
 
--- a configuration holds: the answers of calls taken agree with it, and the others have an order from one of its values
+-- a configuration holds: the answers of calls taken agree with it, and the others have an order
+-- from one of its values
 abbrev pub Holds : ℕ → (ℕ → ℕ) → (ℕ → ℕ) → List Operation → List ℕ → Configuration → Type 0
 Holds key spread moment calls gone c =
     AreAhead calls c.ahead
@@ -62,8 +66,9 @@ IsRefuted events allows key gone c =
     (spread moment : ℕ → ℕ) → IsTiming (operations events) spread moment → allows spread moment ≡ true
     → Holds key spread moment (operations events) gone c → ⊥
 
--- What is kept of a key stands for the events so far, for a class of timings: with any further events, in each such timing, the calls at the
--- key have an order from the start exactly where some configuration holds.
+-- What is kept of a key stands for the events so far, for a class of timings: with any further
+-- events, in each such timing, the calls at the key have an order from the start exactly where some
+-- configuration holds.
 abbrev pub KeyStandsFor : Contents → List Event → Timings → ℕ → KeyState → Type 0
 KeyStandsFor start events allows key k =
     (more : List Event) (spread moment : ℕ → ℕ) → IsTiming (operations (events ++ more)) spread moment → allows spread moment ≡ true

@@ -69,7 +69,8 @@ SameChoicesStand =
     (start : Contents) (events : List Event) (allows : Timings) (key : ℕ) (k l : KeyState) → HaveSameChoices k l
     → KeyStandsFor start events allows key k → KeyStandsFor start events allows key l
 
--- so configurations with the same calls taken, and the same noted for open ones, are one with the values of both, in whatever order they stand
+-- so configurations with the same calls taken, and the same noted for open ones, are one with the
+-- values of both, in whatever order they stand
 abbrev pub EqualConfigurationsJoin : Type 0
 EqualConfigurationsJoin =
     (start : Contents) (events : List Event) (allows : Timings) (key : ℕ) (k l : KeyState) → l.gone ≡ k.gone → HaveSameValues k l
@@ -97,26 +98,29 @@ SilentCallsGo =
 abbrev pub OpenGetsLoseAnswers : Type 0
 OpenGetsLoseAnswers = OpenGetsGo → ⊥
 
--- where a call is answered, the configurations stay that agree with the answer, and note no longer what it found
+-- where a call is answered, the configurations stay that agree with the answer, and note no longer
+-- what it found
 abbrev pub AnswersNarrow : Type 0
 AnswersNarrow =
     (start : Contents) (events : List Event) (allows : Timings) (key : ℕ) (k l : KeyState) (a : Operation) → Contains (operations events) a
     → is_completed a ≡ true → IsNarrowedBy a k l → KeyStandsFor start events allows key k → KeyStandsFor start events allows key l
 
--- which calls ended before a place and which were open there is told by places alone, but for scans, of which each has its moment before it or
--- behind it
+-- which calls ended before a place and which were open there is told by places alone, but for
+-- scans, of which each has its moment before it or behind it
 abbrev pub PlacesTellCuts : Type 0
 PlacesTellCuts =
     (events : List Event) (allows : Timings) (key : ℕ) (gone : List ℕ) (place : ℕ) (ended begun : List ℕ)
     → IsPlaceCut events allows key gone place ended begun → IsKeyCut events allows key gone place ended begun
 
--- to be done in turn is to be left something: so what is known of the pairs that calls leave holds of settlements too
+-- to be done in turn is to be left something: so what is known of the pairs that calls leave holds
+-- of settlements too
 abbrev pub TurnsLeave : Type 0
 TurnsLeave =
     (m left : Contents) (calls sorted : List Operation) → HaveSame sorted calls → InvocationsRise sorted
     → Leaves m sorted left ↔ ((order : List Operation) × AreInTurn m calls order × (left ≡ after_calls m order))
 
--- at any past moment of a key its choices may become those to which they go on, with calls open or not
+-- at any past moment of a key its choices may become those to which they go on, with calls open or
+-- not
 abbrev pub KeysSettle : Type 0
 KeysSettle =
     (start : Contents) (events : List Event) (allows : Timings) (key : ℕ) (k l : KeyState) (place : ℕ) (ended begun : List ℕ)
@@ -130,8 +134,9 @@ QuietKeysSettle =
     → IsKeyCut events allows key k.gone place ended [] → SettlesQuietly events allows key ended k l
     → KeyStandsFor start events allows key k → KeyStandsFor start events allows key l
 
--- where of the calls of a key that are left all say that they changed nothing, each of them goes that no configuration has taken, and a told
--- scan over the key too, with the values narrowed to those that it may have found; scans over the key may be open
+-- where of the calls of a key that are left all say that they changed nothing, each of them goes
+-- that no configuration has taken, and a told scan over the key too, with the values narrowed to
+-- those that it may have found; scans over the key may be open
 abbrev pub StillKeysNarrow : Type 0
 StillKeysNarrow =
     (start : Contents) (events : List Event) (allows : Timings) (key : ℕ) (k l : KeyState) (a : Operation)

@@ -1,5 +1,6 @@
--- A past moment of a key by the places of events: which calls of the key ended before it and which were open, whatever the timing; and which
--- scans have their moments before it in each timing of a class.
+-- A past moment of a key by the places of events: which calls of the key ended before it and which
+-- were open, whatever the timing; and which scans have their moments before it in each timing of a
+-- class.
 use Rattle.std.specs.Prelude.{◌≡◌, ◌↔◌, ◌⊎◌, ℕ, ◌<◌, ◌≤◌, true, false, List, length, Any, Contains}
 use Rattle.events.specs.declared.event.Event.{Event}
 use Rattle.events.specs.declared.operation.Operation.{Operation}
@@ -12,7 +13,8 @@ use Rattle.following.specs.moments.Timings.{IsTiming}
 use Rattle.following.specs.keys.KeyStates.{Timings}
 use Rattle.following.specs.keys.Settling.{IsOpenScanOver}
 
--- the scan that is invoked at a place has its moment before another one, in each timing of the class, or behind it
+-- the scan that is invoked at a place has its moment before another one, in each timing of the
+-- class, or behind it
 abbrev pub IsMomentBefore : List Event → Timings → ℕ → ℕ → Type 0
 IsMomentBefore events allows place inv =
     (spread moment : ℕ → ℕ) → IsTiming (operations events) spread moment → allows spread moment ≡ true → moment inv < spread place
@@ -33,7 +35,8 @@ WasOpen key place a (OfKey own) = (own ≡ key) × (a.inv < place) × (is_before
 WasOpen key place a (Told low high pairs) = ⊥
 WasOpen key place a Silent = ⊥
 
--- the calls left that ended before the place, and those that were open then; each told scan over the key has its moment before it or behind it
+-- the calls left that ended before the place, and those that were open then; each told scan over
+-- the key has its moment before it or behind it
 pub record IsPlaceCut (events : List Event) (allows : Timings) (key : ℕ) (gone : List ℕ) (place : ℕ) (ended begun : List ℕ) : Type 0 where
   pub past : place ≤ length events
   pub scans : (a : Operation) → Contains (operations events) a → IsOpenScanOver key a.call a.response → place ≤ a.inv

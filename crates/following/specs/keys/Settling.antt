@@ -1,5 +1,6 @@
--- A key settles at a past moment: of its calls those that ended before it took effect before it, and some of those that were open then; what
--- these may leave, and what the open ones may have found, is noted in place of them.
+-- A key settles at a past moment: of its calls those that ended before it took effect before it,
+-- and some of those that were open then; what these may leave, and what the open ones may have
+-- found, is noted in place of them.
 use Rattle.std.specs.Prelude.{◌≡◌, ◌≢◌, ◌↔◌, ◌⊎◌, ℕ, ◌<◌, ◌≤◌, true, false, IsSomeAnd, List, [], ◌∷◌, ◌++◌, length, filter, Option, Some, None}
 use Rattle.std.specs.Prelude.{All, Any, AllPairs, Contains}
 use Rattle.std.specs.List.{AllZip}
@@ -32,8 +33,9 @@ IsOpenScanOver key (Replace own expected value) response = ⊥
 abbrev pub HasPart : ℕ → (ℕ → ℕ) → (ℕ → ℕ) → List Operation → (Operation → Type 0) → ℕ → Type 0
 HasPart key spread moment calls Is place = Any (λ a. (a.inv ≡ place) × IsSomeAnd (part_at key spread moment a) Is) calls
 
--- A past moment of a key, by a place of the stream: of its calls that are not gone, those that ended before it and those that were open then,
--- by the places of their invocations. They are the same in each timing of the class, and no scan over the key that was open then is open yet.
+-- A past moment of a key, by a place of the stream: of its calls that are not gone, those that
+-- ended before it and those that were open then, by the places of their invocations. They are the
+-- same in each timing of the class, and no scan over the key that was open then is open yet.
 pub record IsKeyCut (events : List Event) (allows : Timings) (key : ℕ) (gone : List ℕ) (place : ℕ) (ended begun : List ℕ)
     : Type 0 where
   pub past : place ≤ length events
@@ -55,7 +57,8 @@ pub record AreInTurn (m : Contents) (calls order : List Operation) : Type 0 wher
   pub precedence : KeepsPrecedence order
   pub legal : IsLegal m order
 
--- what open calls find at a key, where calls are done in turn: the places of their invocations, and the values
+-- what open calls find at a key, where calls are done in turn: the places of their invocations, and
+-- the values
 abbrev pub found_at : ℕ → Option Response → Option ℕ → List (ℕ × Option ℕ) → List (ℕ × Option ℕ)
 found_at place None value rest = (place, value) ∷ rest
 found_at place (Some response) value rest = rest
@@ -64,8 +67,9 @@ abbrev pub found_in : ℕ → Contents → List Operation → List (ℕ × Optio
 found_in key m [] = []
 found_in key m (a ∷ order) = found_at a.inv a.response (value_at m key) (found_in key (after_call m a.call a.response) order)
 
--- a choice goes on to one behind the moment: the calls that ended before it and some of those that were open then, but for those that it has
--- taken already, are done in turn from its value, and leave the value of the other; what open ones found is noted
+-- a choice goes on to one behind the moment: the calls that ended before it and some of those that
+-- were open then, but for those that it has taken already, are done in turn from its value, and
+-- leave the value of the other; what open ones found is noted
 pub record GoesOn (key : ℕ) (spread moment : ℕ → ℕ) (calls : List Operation) (ended begun : List ℕ) (w next : Choice) : Type 0 where
   pub chosen : List ℕ
   pub were_begun : All (Contains begun) chosen
@@ -76,13 +80,15 @@ pub record GoesOn (key : ℕ) (spread moment : ℕ → ℕ) (calls : List Operat
   pub found : (n : ℕ) (value : Option ℕ) → Contains next.found (n, value)
       ↔ (Contains w.found (n, value) ⊎ Contains (found_in key (one_key key w.value) order) (spread n, value))
 
--- a key settles where its choices become, in each timing of the class, exactly those to which its choices go on
+-- a key settles where its choices become, in each timing of the class, exactly those to which its
+-- choices go on
 abbrev pub SettlesTo : List Event → Timings → ℕ → List ℕ → List ℕ → KeyState → KeyState → Type 0
 SettlesTo events allows key ended begun k l =
     (spread moment : ℕ → ℕ) → IsTiming (operations events) spread moment → allows spread moment ≡ true → (next : Choice) → HasChoice l next
     ↔ ((w : Choice) × HasChoice k w × GoesOn key spread moment (operations events) ended begun w next)
 
--- the values that calls leave, done in turn from some value of a configuration, with the other parts as they are
+-- the values that calls leave, done in turn from some value of a configuration, with the other
+-- parts as they are
 pub record IsSettled (events : List Event) (allows : Timings) (key : ℕ) (gone ended : List ℕ) (c d : Configuration)
     : Type 0 where
   pub taken : d.taken ≡ c.taken

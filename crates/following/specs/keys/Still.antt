@@ -1,6 +1,7 @@
--- Keys at which nothing can change any more: of their calls left all are completed, and say that they changed nothing. A scan over such a key
--- may be open for long. Until it has a moment the key does not settle, but its reads can be dropped at once, with the values narrowed
--- to those at which they may be answered so.
+-- Keys at which nothing can change any more: of their calls left all are completed, and say that
+-- they changed nothing. A scan over such a key may be open for long. Until it has a moment the key
+-- does not settle, but its reads can be dropped at once, with the values narrowed to those at which
+-- they may be answered so.
 use Rattle.events.specs.declared.event.Reply.TheVariants as replies
 use Rattle.std.specs.Prelude.{◌≡◌, ◌↔◌, ◌⊎◌, ℕ, ◌≤◌, true, IsSomeAnd, List, [], ◌∷◌, ◌++◌, Option, Some, None, Contains, ⊤}
 use Rattle.std.specs.List.{AllZip}
@@ -11,7 +12,7 @@ use Rattle.events.specs.declared.operation.Response.{Response}
 use Rattle.events.specs.Operations.{operations}
 use Rattle.map_object.specs.MapObject.{value_at, value_reply, TellsOf}
 use Rattle.quiet_cuts.specs.Cells.{calls_left}
-use Rattle.call_search.specs.Replies.{says_unchanged}
+use Rattle.quiet_cuts.specs.Replies.{says_unchanged}
 use Rattle.following.specs.moments.KeyCalls.{Kind, OfKey, Told, Silent, kind_of}
 use Rattle.following.specs.keys.KeyStates.{Configuration, KeyState}
 
@@ -24,18 +25,21 @@ IsKindAt key Silent = ⊥
 abbrev pub IsAtKey : ℕ → Operation → Type 0
 IsAtKey key a = IsKindAt key (kind_of a.call a.response)
 
--- a call that is completed and says that it changed nothing, if it is one of the key; of scans nothing is asked, told or open
+-- a call that is completed and says that it changed nothing, if it is one of the key; of scans
+-- nothing is asked, told or open
 abbrev pub IsStillCall : ℕ → Operation → Kind → Type 0
 IsStillCall key a (OfKey own) = own ≡ key → IsSomeAnd a.response (λ r. says_unchanged a.call r.reply ≡ true)
 IsStillCall key a (Told low high pairs) = ⊤
 IsStillCall key a Silent = ⊤
 
--- a key is still: of the calls that are not gone there, those of the key are completed and say that they changed nothing
+-- a key is still: of the calls that are not gone there, those of the key are completed and say that
+-- they changed nothing
 abbrev pub IsStill : List Event → ℕ → List ℕ → Type 0
 IsStill events key gone =
     (a : Operation) → Contains (calls_left gone (operations events)) a → IsStillCall key a (kind_of a.call a.response)
 
--- a call that finds a value may be answered as it is: where it is refused, or the answer tells of the value
+-- a call that finds a value may be answered as it is: where it is refused, or the answer tells of
+-- the value
 abbrev pub MayBeAnswered : Call → Option Response → Option ℕ → Type 0
 MayBeAnswered call None value = ⊤
 MayBeAnswered call (Some response) value = (response.reply ≡ replies.Refused) ⊎ TellsOf call (value_reply value) response.reply

@@ -1,4 +1,5 @@
--- The calls at one key, where each scan takes effect at a moment: at a moment a scan is one get for each key of its range.
+-- The calls at one key, where each scan takes effect at a moment: at a moment a scan is one get for
+-- each key of its range.
 use Rattle.events.specs.declared.event.Reply.TheVariants as replies
 use Rattle.std.specs.Prelude.{ℕ, ◌==◌, ◌&&◌, nat_le, if◌then◌else◌, List, Option, Some, None, filter_map}
 use Rattle.events.specs.declared.event.Call.{Call}
@@ -8,8 +9,8 @@ use Rattle.events.specs.declared.operation.Operation.{Operation}
 use Rattle.events.specs.declared.operation.Response.{Response}
 use Rattle.map_object.specs.MapObject.{Contents, value_at, value_reply}
 
--- What a call is to the keys: a call of one key; a scan from one key to another that was told pairs; or silent, as a scan is that is pending,
--- was refused, or was answered without pairs.
+-- What a call is to the keys: a call of one key; a scan from one key to another that was told
+-- pairs; or silent, as a scan is that is pending, was refused, or was answered without pairs.
 pub data Kind : Type 0 where
   OfKey : ℕ → Kind
   Told : ℕ → ℕ → Contents → Kind
@@ -53,8 +54,9 @@ get_at key moment pairs = record {
   response = Some (record { res = moment; reply = value_reply (value_at pairs key) });
 }
 
--- What a call is at a key, if it is anything there: a call of the key is itself; a scan that was told pairs and has the key in its range is a
--- get at its moment, which `moment` gives by the place of its invocation.
+-- What a call is at a key, if it is anything there: a call of the key is itself; a scan that was
+-- told pairs and has the key in its range is a get at its moment, which `moment` gives by the place
+-- of its invocation.
 abbrev pub part_of : ℕ → (ℕ → ℕ) → (ℕ → ℕ) → Operation → Kind → Option Operation
 part_of key spread moment a (OfKey own) = if own == key then Some (spread_call spread a) else None
 part_of key spread moment a (Told low high pairs) =

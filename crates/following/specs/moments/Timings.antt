@@ -17,8 +17,8 @@ use Rattle.following.specs.moments.KeyCalls.{kind_of, at_key, Told}
 abbrev pub IsToldScan : Operation → Type 0
 IsToldScan a = (low : ℕ) × ((high : ℕ) × ((pairs : Contents) × (kind_of a.call a.response ≡ Told low high pairs)))
 
--- The places of events are spread, and each scan that was told pairs has a moment, by the place of its invocation: within the scan, between
--- the places of events, and no two scans have one.
+-- The places of events are spread, and each scan that was told pairs has a moment, by the place of
+-- its invocation: within the scan, between the places of events, and no two scans have one.
 pub record IsTiming (calls : List Operation) (spread moment : ℕ → ℕ) : Type 0 where
   pub rises : (p q : ℕ) → p < q → spread p < spread q
   pub begun : (a : Operation) → Contains calls a → IsToldScan a → spread a.inv < moment a.inv
@@ -70,7 +70,8 @@ abbrev pub EventsStandApart : List Operation → Type 0
 EventsStandApart calls = (a b : Operation) (response : Response) → Contains calls a → Contains calls b → a.response ≡ Some response
     → response.res ≢ b.inv
 
--- the calls of one key by rising invocation, in place of a list of the same calls in which they stand otherwise
+-- the calls of one key by rising invocation, in place of a list of the same calls in which they
+-- stand otherwise
 pub record AreByInvocation (key : ℕ) (calls sorted : List Operation) : Type 0 where
   pub same : (a : Operation) → Contains sorted a ↔ Contains calls a
   pub names : All (λ a. NamesKeysWithin key key a.call) sorted

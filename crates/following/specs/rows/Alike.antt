@@ -11,7 +11,8 @@ use Rattle.following.specs.moments.Timings.{IsToldScan, IsTiming}
 use Rattle.following.specs.keys.KeyStates.{KeyState, Timings}
 use Rattle.following.specs.rows.Rows.{Row}
 
--- of each two calls, what the one is at the key precedes what the other is there in both timings or in none
+-- of each two calls, what the one is at the key precedes what the other is there in both timings or
+-- in none
 abbrev pub AreAlikeAt : ℕ → List Operation → (ℕ → ℕ) → (ℕ → ℕ) → (ℕ → ℕ) → (ℕ → ℕ) → Type 0
 AreAlikeAt key calls spread moment other_spread other_moment =
     (a b x y z w : Operation) → Contains calls a → Contains calls b → part_at key spread moment a ≡ Some x → part_at key spread moment b ≡ Some y

@@ -1,14 +1,18 @@
 -- Which moments of a scan are enough, where each scan of a row has an exact moment.
 --
--- Scans are tied where their ranges overlap, directly or through other scans that are open, or whose moments are still kept. Events of
--- calls at keys that no tied scan has do not count: a moment may pass them, if the moments of all tied scans pass them with it. So from one event that
--- counts to the next, one moment is enough in each order with the tied scans that have theirs there.
+-- Scans are tied where their ranges overlap, directly or through other scans that are open, or
+-- whose moments are still kept. Events of calls at keys that no tied scan has do not count: a
+-- moment may pass them, if the moments of all tied scans pass them with it. So from one event that
+-- counts to the next, one moment is enough in each order with the tied scans that have theirs
+-- there.
 --
--- To leave out the scans that are tied only through another is wrong. From the pairs {2: 2, 3: 2}: a scan A of [0, 3] begins, then scans B
--- of [1, 2] and C of [3, 3], a remove of 3, and an insert of 1; B is told {2: 2}, and C nothing; insert and remove are done, and A is told {1: 5, 2: 2,
--- 3: 2}. At each key of B, and at each of C, one moment is as good as another: each may have its own behind the insert's beginning. But
--- A is behind the insert and before the remove, so B is before A, and A before C: only the order of B before C has an order of the calls.
--- A smaller example is proved: `WiderBlocks`.
+-- To leave out the scans that are tied only through another is wrong. From the pairs {2: 2, 3: 2}:
+-- a scan A of [0, 3] begins, then scans B of [1, 2] and C of [3, 3], a remove of 3, and an insert
+-- of 1; B is told {2: 2}, and C nothing; insert and remove are done, and A is told {1: 5, 2: 2, 3:
+-- 2}. At each key of B, and at each of C, one moment is as good as another: each may have its own
+-- behind the insert's beginning. But A is behind the insert and before the remove, so B is before
+-- A, and A before C: only the order of B before C has an order of the calls. A smaller example is
+-- proved: `WiderBlocks`.
 use Rattle.std.specs.Prelude.{◌≡◌, ◌⊎◌, ℕ, ◌≤◌, Bool, true, false, List, Some, Contains, ⊤}
 use Rattle.events.specs.declared.event.Call.{Call}
 use Rattle.events.specs.declared.event.Call.TheVariants.{Get, Insert, Remove, Scan, Replace}
@@ -34,8 +38,9 @@ IsOver key call = (low_key call ≤ key) × (key ≤ high_key call)
 abbrev pub IsOutside : ℕ → ℕ → ℕ → Type 0
 IsOutside low high place = (place ≤ low) ⊎ (high ≤ place)
 
--- Between two places no event counts for some tied scans: none of them begins there; a call of a key of one that has begun has no event there,
--- if it is not gone at the key; and any other scan over such a key is gone there, has ended by the first place, or begins from the second on.
+-- Between two places no event counts for some tied scans: none of them begins there; a call of a
+-- key of one that has begun has no event there, if it is not gone at the key; and any other scan
+-- over such a key is gone there, has ended by the first place, or begins from the second on.
 pub record IsBlock (calls : List Operation) (states : ℕ → KeyState) (tied : List ℕ) (low high : ℕ) : Type 0 where
   pub begun : (a : Operation) → Contains calls a → Contains tied a.inv → IsOutside low high a.inv
   pub events : (key : ℕ) (a b : Operation) → Contains calls a → Contains tied a.inv → a.inv ≤ low → IsOver key a.call

@@ -1,6 +1,7 @@
--- Classes of timings by comparisons: of the moment of a scan with the place of an event, or with the moment of another scan. A scan is named by the
--- place of its invocation. So an interval of a moment is two comparisons, and an exact moment is one between two neighbouring events, with
--- the order of those scans that have theirs there too.
+-- Classes of timings by comparisons: of the moment of a scan with the place of an event, or with
+-- the moment of another scan. A scan is named by the place of its invocation. So an interval of a
+-- moment is two comparisons, and an exact moment is one between two neighbouring events, with the
+-- order of those scans that have theirs there too.
 use Rattle.std.specs.Prelude.{◌≡◌, ℕ, ◌≤◌, Bool, true, nat_lt, ◌&&◌, List, [], ◌∷◌, ◌++◌, Some, Contains}
 use Rattle.events.specs.declared.operation.Operation.{Operation}
 use Rattle.events.specs.declared.operation.Response.{Response}
@@ -30,7 +31,8 @@ class_of comparisons = λ spread moment. all_hold spread moment comparisons
 abbrev pub also : Timings → List Comparison → Timings
 also allows comparisons = λ spread moment. allows spread moment && class_of comparisons spread moment
 
--- the gaps of a scan between some events, by comparisons: before the first, from each to the next, and behind the last
+-- the gaps of a scan between some events, by comparisons: before the first, from each to the next,
+-- and behind the last
 abbrev pub gaps_from : ℕ → List Comparison → List ℕ → List (List Comparison)
 gaps_from scan from [] = from ∷ []
 gaps_from scan from (place ∷ places) = (from ++ Before scan place ∷ []) ∷ gaps_from scan (Behind scan place ∷ []) places
@@ -46,8 +48,9 @@ SpeaksOf Is (Behind scan place) = Is scan
 SpeaksOf Is (Before scan place) = Is scan
 SpeaksOf Is (InTurn scan other) = Is scan × Is other
 
--- What comparisons imply of the moments of scans: themselves, where each scan begins and ends, what holds of earlier events and of later ones, and
--- what follows for two scans of which one takes effect first.
+-- What comparisons imply of the moments of scans: themselves, where each scan begins and ends, what
+-- holds of earlier events and of later ones, and what follows for two scans of which one takes
+-- effect first.
 pub data Implies (calls : List Operation) (comparisons : List Comparison) : Comparison → Type 0 where
   given : (c : Comparison) → Contains comparisons c → Implies calls comparisons c
   begun : (a : Operation) → Contains calls a → IsToldScan a → Implies calls comparisons (Behind a.inv a.inv)

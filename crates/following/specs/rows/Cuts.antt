@@ -1,4 +1,5 @@
--- A past moment of a key, by the comparisons of a class: which calls ended before it, and which were open then.
+-- A past moment of a key, by the comparisons of a class: which calls ended before it, and which
+-- were open then.
 use Rattle.std.specs.Prelude.{◌≡◌, ◌↔◌, ℕ, ◌≤◌, true, List, length, Any, Contains}
 use Rattle.events.specs.declared.event.Event.{Event}
 use Rattle.events.specs.declared.operation.Operation.{Operation}
@@ -18,8 +19,8 @@ HasEndedBy comparisons key place a (OfKey own) = (own ≡ key) × (is_before a.r
 HasEndedBy comparisons key place a (Told low high pairs) = (low ≤ key) × (key ≤ high) × IsBefore comparisons a place
 HasEndedBy comparisons key place a Silent = ⊥
 
--- the calls left that ended before a place, and those that were open then; comparisons part each told scan over the key from the place, and no
--- scan over the key that is open now had begun
+-- the calls left that ended before a place, and those that were open then; comparisons part each
+-- told scan over the key from the place, and no scan over the key that is open now had begun
 pub record IsComparedCut (events : List Event) (comparisons : List Comparison) (key : ℕ) (gone : List ℕ) (place : ℕ) (ended begun : List ℕ)
     : Type 0 where
   pub past : place ≤ length events

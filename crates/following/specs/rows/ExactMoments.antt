@@ -1,11 +1,13 @@
--- Exact moments: each scan takes effect in the gap behind some event, with a rank among those that do so there. They are a timing, by numbers.
+-- Exact moments: each scan takes effect in the gap behind some event, with a rank among those that
+-- do so there. They are a timing, by numbers.
 use Rattle.std.specs.Prelude.{◌≡◌, ◌≢◌, ◌⊎◌, ℕ, ◌+◌, ◌*◌, ◌<◌, ◌≤◌, List, Some, Contains}
 use Rattle.events.specs.declared.operation.Operation.{Operation}
 use Rattle.events.specs.declared.operation.Response.{Response}
 use Rattle.following.specs.moments.Timings.{IsToldScan}
 use Rattle.following.specs.rows.Comparisons.{Comparison, Behind, Before, InTurn}
 
--- the gap of each told scan, by the event before it, lies within the scan; ranks are below a width, and differ in one gap
+-- the gap of each told scan, by the event before it, lies within the scan; ranks are below a width,
+-- and differ in one gap
 pub record AreExact (calls : List Operation) (width : ℕ) (gap rank : ℕ → ℕ) : Type 0 where
   pub wide : 0 < width
   pub begun : (a : Operation) → Contains calls a → IsToldScan a → a.inv ≤ gap a.inv
@@ -21,7 +23,8 @@ places_by width place = width * place
 abbrev pub moments_by : ℕ → (ℕ → ℕ) → (ℕ → ℕ) → ℕ → ℕ
 moments_by width gap rank scan = width * gap scan + rank scan
 
--- what they say: the gap is behind an event or before it, and of two scans the gap or, in one gap, the rank of the one is less
+-- what they say: the gap is behind an event or before it, and of two scans the gap or, in one gap,
+-- the rank of the one is less
 abbrev pub SayExactly : (ℕ → ℕ) → (ℕ → ℕ) → Comparison → Type 0
 SayExactly gap rank (Behind scan place) = place ≤ gap scan
 SayExactly gap rank (Before scan place) = gap scan < place

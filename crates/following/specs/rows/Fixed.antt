@@ -1,4 +1,5 @@
--- Classes that fix what matters of a timing to a key: a row is judged there in any one timing of its class.
+-- Classes that fix what matters of a timing to a key: a row is judged there in any one timing of
+-- its class.
 use Rattle.std.specs.Prelude.{◌≡◌, ◌≢◌, ◌↔◌, ◌⊎◌, ℕ, ◌≤◌, false, List, ◌++◌, Option, Some, Contains}
 use Rattle.events.specs.declared.operation.Operation.{Operation}
 use Rattle.events.specs.declared.operation.Response.{Response}
@@ -30,8 +31,8 @@ abbrev pub ComesFirst : List Comparison → Operation → Operation → Type 0
 ComesFirst comparisons a b = Contains comparisons (InTurn a.inv b.inv)
     ⊎ ((place : ℕ) × IsBefore comparisons a place × IsBehind comparisons b place)
 
--- comparisons fix a key for some calls: each scan over it that was told pairs is parted from each event of a call of the key, and of two
--- such scans one comes first
+-- comparisons fix a key for some calls: each scan over it that was told pairs is parted from each
+-- event of a call of the key, and of two such scans one comes first
 pub record AreFixed (comparisons : List Comparison) (key : ℕ) (calls : List Operation) : Type 0 where
   pub events : (a b : Operation) → Contains calls a → Contains calls b → IsToldScan a → IsOver key a.call → is_scan b.call ≡ false
       → IsOver key b.call → IsParted comparisons a b.inv × ((r : Response) → b.response ≡ Some r → IsParted comparisons a r.res)

@@ -73,7 +73,8 @@ EqualRowsJoin =
     (start : Contents) (events : List Event) (front back : List Row) (row other : Row) → Contains (front ++ back) other
     → HoldsWhere events row other → RowsStandFor start events (front ++ row ∷ back) → RowsStandFor start events (front ++ back)
 
--- what is kept of a key holds in both or in none of two timings that are alike there for the calls that are not gone
+-- what is kept of a key holds in both or in none of two timings that are alike there for the calls
+-- that are not gone
 abbrev pub AlikeTimingsHold : Type 0
 AlikeTimingsHold =
     (key : ℕ) (calls : List Operation) (spread moment other_spread other_moment : ℕ → ℕ) (k : KeyState)
@@ -84,7 +85,8 @@ AlikeTimingsHold =
 abbrev pub AlikeTimingsCover : Type 0
 AlikeTimingsCover = (events : List Event) (row : Row) (classes : List Timings) → HaveAlike events row classes → Cover events row classes
 
--- so a row holds only where another with the same states does, if each of its timings is alike to one of the other
+-- so a row holds only where another with the same states does, if each of its timings is alike to
+-- one of the other
 abbrev pub AlikeRowsJoin : Type 0
 AlikeRowsJoin =
     (events : List Event) (row other : Row) → ((key : ℕ) → row.states key ≡ other.states key) → HaveAlike events row (other.allows ∷ [])
@@ -96,8 +98,9 @@ GoneScansDoNotMatter =
     (calls : List Operation) (states : ℕ → KeyState) (spread moment other : ℕ → ℕ) (key : ℕ) → DifferInGone calls states moment other
     → AreAlikeAt key (calls_left (states key).gone calls) spread moment spread other
 
--- so of two rows with the same states one may go, where their classes differ in comparisons of answered scans that are gone at each key of their
--- ranges: those of the other are of such scans alone, and hold in some timing of the events so far
+-- so of two rows with the same states one may go, where their classes differ in comparisons of
+-- answered scans that are gone at each key of their ranges: those of the other are of such scans
+-- alone, and hold in some timing of the events so far
 abbrev pub ForgottenScansJoin : Type 0
 ForgottenScansJoin =
     (events : List Event) (states : ℕ → KeyState) (kept one two : List Comparison) (forgotten : List ℕ) (spread moment : ℕ → ℕ)
@@ -146,7 +149,8 @@ GainsaidRowsAreLost =
     (events : List Event) (states : ℕ → KeyState) (comparisons : List Comparison) → Gainsay (operations events) comparisons
     → RowHolds (operations events) (record { allows = class_of comparisons; states = states }) → ⊥
 
--- and of a block, in which no event counts for the scans that are tied to one, it is enough to try its first gap
+-- and of a block, in which no event counts for the scans that are tied to one, it is enough to try
+-- its first gap
 abbrev pub MomentsSuffice : Type 0
 MomentsSuffice =
     (events : List Event) (states : ℕ → KeyState) (comparisons : List Comparison) (tied : List ℕ) (low high scan : ℕ) → low < high
@@ -155,11 +159,13 @@ MomentsSuffice =
     → Cover events (record { allows = class_of comparisons; states = states })
     (also (class_of comparisons) (Before scan (suc low) ∷ []) ∷ [])
 
--- but not where scans that are open are not counted: an open scan ties the moments of others to events at its other keys
+-- but not where scans that are open are not counted: an open scan ties the moments of others to
+-- events at its other keys
 abbrev pub OpenScansTieMoments : Type 0
 OpenScansTieMoments = ToldMomentsSuffice → ⊥
 
--- where comparisons fix a key, all timings of their class are alike there for the calls that are not gone
+-- where comparisons fix a key, all timings of their class are alike there for the calls that are
+-- not gone
 abbrev pub FixedTimingsAlike : Type 0
 FixedTimingsAlike =
     (calls : List Operation) (comparisons : List Comparison) (key : ℕ) (gone : List ℕ) (spread moment other_spread other_moment : ℕ → ℕ)
@@ -191,7 +197,8 @@ UntouchedKeysHold =
     → allows spread moment ≡ true → SomeHolds key spread moment (operations events) k
     → SomeHolds key spread moment (operations (events ++ e ∷ [])) k
 
--- comparisons tell of the moments of scans in each timing of their class, so which calls of a key ended before a place
+-- comparisons tell of the moments of scans in each timing of their class, so which calls of a key
+-- ended before a place
 abbrev pub ComparisonsTellMoments : Type 0
 ComparisonsTellMoments =
     (events : List Event) (comparisons : List Comparison) (a : Operation) (place : ℕ) → Contains (operations events) a → IsToldScan a
@@ -228,7 +235,8 @@ TimingsAreTimingsAt =
     (calls : List Operation) (spread moment : ℕ → ℕ) → IsTiming calls spread moment → (key : ℕ) (gone : List ℕ)
     → IsTimingAt key (calls_left gone calls) spread moment
 
--- where comparisons fix a key up to twins, what is kept of it holds in all timings of their class at the key or in none
+-- where comparisons fix a key up to twins, what is kept of it holds in all timings of their class
+-- at the key or in none
 abbrev pub TwinTimingsHold : Type 0
 TwinTimingsHold =
     (calls : List Operation) (comparisons : List Comparison) (key : ℕ) (k : KeyState) (spread moment other_spread other_moment : ℕ → ℕ)
@@ -265,8 +273,8 @@ TwinTimingsSettle =
     → class_of comparisons other_spread other_moment ≡ true → SettlesIn (operations events) key spread moment ended begun k l
     → SettlesIn (operations events) key other_spread other_moment ended begun k l
 
--- so a key settles in a class, where some of its comparisons part the key at a moment and fix it up to twins, and one timing at it says what it
--- settles to
+-- so a key settles in a class, where some of its comparisons part the key at a moment and fix it up
+-- to twins, and one timing at it says what it settles to
 abbrev pub TwinKeysSettle : Type 0
 TwinKeysSettle =
     (start : Contents) (events : List Event) (kept others : List Comparison) (key : ℕ) (k l : KeyState) (place : ℕ) (ended begun : List ℕ)

@@ -1,5 +1,6 @@
--- A row is one way in which the scans of a stream may have taken effect: a class of timings, with what is kept of each key for them. Some rows
--- stand for a stream where its calls have an order, with any further events, exactly where one of the rows holds.
+-- A row is one way in which the scans of a stream may have taken effect: a class of timings, with
+-- what is kept of each key for them. Some rows stand for a stream where its calls have an order,
+-- with any further events, exactly where one of the rows holds.
 use Rattle.std.specs.Prelude.{◌≡◌, ◌↔◌, ℕ, true, List, [], ◌∷◌, ◌++◌, Any, Contains}
 use Rattle.events.specs.declared.event.Event.{Event}
 use Rattle.events.specs.declared.operation.Operation.{Operation}
@@ -26,8 +27,8 @@ pub record RowHolds (calls : List Operation) (row : Row) : Type 0 where
 abbrev pub SomeRowHolds : List Operation → List Row → Type 0
 SomeRowHolds calls rows = HaveScansForm calls × Any (RowHolds calls) rows
 
--- rows stand for the events so far: what each keeps of a key does for the timings of its class, and with any further events the calls have an
--- order from the start exactly where some row holds
+-- rows stand for the events so far: what each keeps of a key does for the timings of its class, and
+-- with any further events the calls have an order from the start exactly where some row holds
 pub record RowsStandFor (start : Contents) (events : List Event) (rows : List Row) : Type 0 where
   pub keys : (row : Row) → Contains rows row → (key : ℕ) → KeyStandsFor start events row.allows key (row.states key)
   pub orders : (more : List Event) → IsLinearizable start (operations (events ++ more)) ↔ SomeRowHolds (operations (events ++ more)) rows

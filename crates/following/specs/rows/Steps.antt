@@ -15,8 +15,9 @@ with_states row states = record { allows = row.allows; states = states }
 abbrev pub HoldsWhere : List Event → Row → Row → Type 0
 HoldsWhere events row other = (more : List Event) → RowHolds (operations (events ++ more)) row → RowHolds (operations (events ++ more)) other
 
--- The events are followed to rows: from none on, each event is taken; between events a row goes that does not hold, the states of a row become
--- others that stand for the same, a row becomes several by classes that cover it, and one goes that holds only where another does.
+-- The events are followed to rows: from none on, each event is taken; between events a row goes
+-- that does not hold, the states of a row become others that stand for the same, a row becomes
+-- several by classes that cover it, and one goes that holds only where another does.
 pub data Follows (start : Contents) : List Event → List Row → Type 0 where
   at_start : Follows start [] (first_row start ∷ [])
   take : (events : List Event) (e : Event) (rows : List Row) → Follows start events rows → Follows start (events ++ e ∷ []) rows

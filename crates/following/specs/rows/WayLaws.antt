@@ -11,13 +11,15 @@ use Rattle.following.specs.rows.Comparisons.{Comparison, Behind, Before, InTurn,
 use Rattle.following.specs.rows.Rows.{Row, RowHolds, RowsStandFor, with_class, IsWithin, Cover}
 use Rattle.following.specs.rows.Ways.{turn_choices, ways_in, IsAnotherScan, AreEqualRows}
 
--- a row may be split by all choices of an answered scan among some others: before or behind each of them
+-- a row may be split by all choices of an answered scan among some others: before or behind each of
+-- them
 abbrev pub TurnChoicesCover : Type 0
 TurnChoicesCover =
     (events : List Event) (row : Row) (a : Operation) (others : List ℕ) → Contains (operations events) a → IsToldScan a
     → All (IsAnotherScan events a) others → Cover events row (map (also row.allows) (turn_choices a.inv others))
 
--- and by its ways: the gaps between some events, with the choices in each gap among others of its own
+-- and by its ways: the gaps between some events, with the choices in each gap among others of its
+-- own
 abbrev pub WaysCover : Type 0
 WaysCover =
     (events : List Event) (row : Row) (a : Operation) (places : List ℕ) (others : List (List ℕ)) → Contains (operations events) a
@@ -47,7 +49,8 @@ EqualRowsStand =
     (start : Contents) (events : List Event) (rows others : List Row) → AllZip AreEqualRows rows others → RowsStandFor start events rows
     → RowsStandFor start events others
 
--- so where comparisons more cover a row that is given by comparisons, it may become several, each with some of these among its own
+-- so where comparisons more cover a row that is given by comparisons, it may become several, each
+-- with some of these among its own
 abbrev pub ComparedRowsSplit : Type 0
 ComparedRowsSplit =
     (start : Contents) (events : List Event) (front back : List Row) (states : ℕ → KeyState) (comparisons : List Comparison)
@@ -69,7 +72,8 @@ LeastGapsBound =
     → Implies calls comparisons (Behind scan place) → IsTiming calls spread moment → class_of comparisons spread moment ≡ true
     → spread place < moment scan
 
--- and a row does not hold in which a scan is to take effect before an event that stands at or before its bound
+-- and a row does not hold in which a scan is to take effect before an event that stands at or
+-- before its bound
 abbrev pub LateScansAreLost : Type 0
 LateScansAreLost =
     (calls : List Operation) (states : ℕ → KeyState) (comparisons : List Comparison) (scan place bound : ℕ)

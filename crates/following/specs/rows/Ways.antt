@@ -1,5 +1,5 @@
--- The ways in which an answered scan may have taken effect: in which gap between some events, and in each gap before or behind each of some
--- other scans.
+-- The ways in which an answered scan may have taken effect: in which gap between some events, and
+-- in each gap before or behind each of some other scans.
 use Rattle.std.specs.Prelude.{◌≡◌, ◌≢◌, ℕ, List, [], ◌∷◌, ◌++◌, map, Any}
 use Rattle.events.specs.declared.event.Event.{Event}
 use Rattle.events.specs.declared.operation.Operation.{Operation}

@@ -19,8 +19,8 @@ pub fn rows_go_on()
     ensures { RowsGoOn }
 {}
 
-/// Events have an order exactly where the scans may be answered so by some map, and some row holds: in a timing of its class, some
-/// configuration of each key does.
+/// Events have an order exactly where the scans may be answered so by some map, and some row holds:
+/// in a timing of its class, some configuration of each key does.
 pub fn rows_judge()
     ensures { RowsJudge }
 {}
@@ -35,7 +35,8 @@ pub fn lost_rows_go()
     ensures { LostRowsGo }
 {}
 
-/// In a row, what is kept of the keys may become anything that stands for the same events and timings.
+/// In a row, what is kept of the keys may become anything that stands for the same events and
+/// timings.
 pub fn states_may_change()
     ensures { StatesMayChange }
 {}
@@ -50,35 +51,38 @@ pub fn equal_rows_join()
     ensures { EqualRowsJoin }
 {}
 
-/// Of two timings in which the calls of a key that are not gone stand in the same precedence, what is kept of the key holds in both
-/// or in none.
+/// Of two timings in which the calls of a key that are not gone stand in the same precedence, what
+/// is kept of the key holds in both or in none.
 pub fn alike_timings_hold()
     ensures { AlikeTimingsHold }
 {
     places_do_not_matter();
 }
 
-/// So some classes cover a row, if for each timing of it, with any further events, one of them has one that is alike at each key.
+/// So some classes cover a row, if for each timing of it, with any further events, one of them has
+/// one that is alike at each key.
 pub fn alike_timings_cover()
     ensures { AlikeTimingsCover }
 {
     places_do_not_matter();
 }
 
-/// And a row holds only where another with the same states does, if each of its timings is alike to one of the other.
+/// And a row holds only where another with the same states does, if each of its timings is alike to
+/// one of the other.
 pub fn alike_rows_join()
     ensures { AlikeRowsJoin }
 {
     places_do_not_matter();
 }
 
-/// Timings are alike that differ only in the moments of scans that are gone at each key of their ranges.
+/// Timings are alike that differ only in the moments of scans that are gone at each key of their
+/// ranges.
 pub fn gone_scans_do_not_matter()
     ensures { GoneScansDoNotMatter }
 {}
 
-/// So of two rows with the same states one may go, where their classes differ only in what they say of answered scans that are gone
-/// at each key of their ranges.
+/// So of two rows with the same states one may go, where their classes differ only in what they say
+/// of answered scans that are gone at each key of their ranges.
 pub fn forgotten_scans_join()
     ensures { ForgottenScansJoin }
 {
@@ -105,7 +109,8 @@ pub fn turns_among_cover()
     ensures { TurnsAmongCover }
 {}
 
-/// What comparisons imply may be added to them: of earlier and later events, and of scans of which one takes effect first.
+/// What comparisons imply may be added to them: of earlier and later events, and of scans of which
+/// one takes effect first.
 pub fn implied_comparisons_hold()
     ensures { ImpliedComparisonsHold }
 {}
@@ -115,22 +120,23 @@ pub fn gainsaid_rows_are_lost()
     ensures { GainsaidRowsAreLost }
 {}
 
-/// Where no event counts between two others for the scans that are tied to one, it is enough to try one moment of it: behind the
-/// first of them, before any other event.
+/// Where no event counts between two others for the scans that are tied to one, it is enough to try
+/// one moment of it: behind the first of them, before any other event.
 pub fn moments_suffice()
     ensures { MomentsSuffice }
 {
     places_do_not_matter();
 }
 
-/// But not where scans that are open are not counted: from no pairs, a scan A of [0, 1] begins, a scan C of [1, 1], an insert of
-/// 1 and one of 0; C is told the one, then A the other alone. C takes effect behind A, so behind the beginning of the second.
+/// But not where scans that are open are not counted: from no pairs, a scan A of [0, 1] begins, a
+/// scan C of [1, 1], an insert of 1 and one of 0; C is told the one, then A the other alone. C
+/// takes effect behind A, so behind the beginning of the second.
 pub fn open_scans_tie_moments()
     ensures { OpenScansTieMoments }
 {}
 
-/// Where comparisons part each scan over a key from the events of its calls, and order the scans over it, all timings in which they
-/// hold are alike there.
+/// Where comparisons part each scan over a key from the events of its calls, and order the scans
+/// over it, all timings in which they hold are alike there.
 pub fn fixed_timings_are_alike()
     ensures { FixedTimingsAlike }
 {}
@@ -149,18 +155,20 @@ pub fn fixed_rows_judge()
     places_do_not_matter();
 }
 
-/// What is kept of a key holds on with an event that answers no call of the key and no scan over it: only the other keys are judged
-/// again.
+/// What is kept of a key holds on with an event that answers no call of the key and no scan over
+/// it: only the other keys are judged again.
 pub fn untouched_keys_hold()
     ensures { UntouchedKeysHold }
 {}
 
-/// Comparisons tell which scans took effect before a place, and which behind it, in each timing in which they hold.
+/// Comparisons tell which scans took effect before a place, and which behind it, in each timing in
+/// which they hold.
 pub fn comparisons_tell_moments()
     ensures { ComparisonsTellMoments }
 {}
 
-/// So at a past moment from which comparisons part the scans over a key, they tell which of its calls ended before it.
+/// So at a past moment from which comparisons part the scans over a key, they tell which of its
+/// calls ended before it.
 pub fn compared_cuts()
     ensures { ComparedCuts }
 {}
@@ -175,13 +183,15 @@ pub fn fixed_keys_settle_quietly()
     ensures { FixedKeysSettleQuietly }
 {}
 
-/// A timing is one at each key, in which the scans over the key that are left there have their moments.
+/// A timing is one at each key, in which the scans over the key that are left there have their
+/// moments.
 pub fn timings_are_timings_at()
     ensures { TimingsAreTimingsAt }
 {}
 
-/// Where comparisons part each scan over a key from the events of its calls, and order those scans over it that were told different things of
-/// it, what is kept of the key holds in all timings at it in which they hold or in none: twins may be exchanged.
+/// Where comparisons part each scan over a key from the events of its calls, and order those scans
+/// over it that were told different things of it, what is kept of the key holds in all timings at
+/// it in which they hold or in none: twins may be exchanged.
 pub fn twin_timings_hold()
     ensures { TwinTimingsHold }
 {
@@ -202,13 +212,14 @@ pub fn twin_rows_judge()
     places_do_not_matter();
 }
 
-/// What such a key settles to at a past moment in one timing at it, it settles to in each: of twins either may be done first.
+/// What such a key settles to at a past moment in one timing at it, it settles to in each: of twins
+/// either may be done first.
 pub fn twin_timings_settle()
     ensures { TwinTimingsSettle }
 {}
 
-/// So what stands for such a key, in a class, settles as one timing at the key says, in which those comparisons hold that part it at the
-/// moment and fix it up to twins.
+/// So what stands for such a key, in a class, settles as one timing at the key says, in which those
+/// comparisons hold that part it at the moment and fix it up to twins.
 pub fn twin_keys_settle()
     ensures { TwinKeysSettle }
 {}
@@ -228,7 +239,8 @@ pub fn rows_are_exact()
     ensures { RowsAreExact }
 {}
 
-/// So the events have an order exactly where the scans may be answered so by some map, and some row holds.
+/// So the events have an order exactly where the scans may be answered so by some map, and some row
+/// holds.
 pub fn followed_rows_judge()
     ensures { FollowedRowsJudge }
 {}

@@ -1,15 +1,17 @@
-// Laws of rows that part by an answered scan, and of classes that no timing has: each function only carries its clause.
+// Laws of rows that part by an answered scan, and of classes that no timing has: each function only
+// carries its clause.
 ghost use Rattle.following.specs.rows.WayLaws.{AlsoJoins, CirclesAreLost, CirclesHaveNoMoments, ClassesAreWithin, EqualClassesStand};
 ghost use Rattle.following.specs.rows.WayLaws.{EqualRowsStand, ImpliedComparisonsTell, LateScansAreLost, LeastGapsBound, TurnChoicesCover};
 ghost use Rattle.following.specs.rows.WayLaws.{ComparedRowsSplit, WaysCover};
 
-/// A row may be split by all choices of an answered scan among some others: before or behind each of them.
+/// A row may be split by all choices of an answered scan among some others: before or behind each
+/// of them.
 pub fn turn_choices_cover()
     ensures { TurnChoicesCover }
 {}
 
-/// A row may be split by the ways of an answered scan: its gaps between some events, and in each gap the choices among scans that may differ
-/// from gap to gap.
+/// A row may be split by the ways of an answered scan: its gaps between some events, and in each
+/// gap the choices among scans that may differ from gap to gap.
 pub fn ways_cover()
     ensures { WaysCover }
 {}
@@ -34,7 +36,8 @@ pub fn equal_rows_stand()
     ensures { EqualRowsStand }
 {}
 
-/// A row that is given by comparisons becomes several, where more comparisons cover it, each with some of these beside its own.
+/// A row that is given by comparisons becomes several, where more comparisons cover it, each with
+/// some of these beside its own.
 pub fn compared_rows_split()
     ensures { ComparedRowsSplit }
 {}
@@ -54,7 +57,8 @@ pub fn late_scans_are_lost()
     ensures { LateScansAreLost }
 {}
 
-/// Where each of some scans is to take effect behind one of them, they have no moments: there would be ever smaller ones.
+/// Where each of some scans is to take effect behind one of them, they have no moments: there would
+/// be ever smaller ones.
 pub fn circles_have_no_moments()
     ensures { CirclesHaveNoMoments }
 {}

@@ -6,12 +6,19 @@ pub fn opened_rows_follow()
     ensures { OpenedRowsFollow }
 {}
 
-/// Rows that part follow the events with the scan's answer; where none is left, no events have an order any more.
+/// Rows that part follow the events with the scan's answer; where none is left, no events have an
+/// order any more.
 pub fn rows_take_scans()
     ensures { RowsTakeScans }
 {
+    following::operations_stand_apart();
+    dead_events::answers_stand_apart();
     dead_events::ends_join();
     dead_events::begins_join();
+    dead_events::dead_begins_join();
+    dead_events::values_tell_dead();
+    dead_events::dead_ends_join();
+    dead_events::values_tell_dead_ends();
     following_reads::read_timings_hold();
     following_reads::read_rows_judge();
     kept_keys::kept_keys_narrow();

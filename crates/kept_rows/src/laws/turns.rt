@@ -1,7 +1,8 @@
 // Laws of rows that take the answers of calls of one key.
 ghost use Rattle.kept_rows.specs.TurnLaws.{AnswersAreKept, RowsTakeAnswers, BaseTakesAnswers, BaseIsLost};
 
-/// Rows that turn follow the events with the answer; where none stays, no events have an order any more.
+/// Rows that turn follow the events with the answer; where none stays, no events have an order any
+/// more.
 pub fn rows_take_answers()
     ensures { RowsTakeAnswers }
 {
@@ -39,7 +40,8 @@ pub fn base_is_lost()
     kept_keys::kept_keys_judge();
 }
 
-/// What a row keeps of a key is kept with the answer of a call of it, whether that has an order or not.
+/// What a row keeps of a key is kept with the answer of a call of it, whether that has an order or
+/// not.
 pub fn answers_are_kept()
     ensures { AnswersAreKept }
 {

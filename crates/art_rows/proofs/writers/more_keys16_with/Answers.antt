@@ -33,9 +33,9 @@ returns-then-place-lt8 c =
 
 pub returns-then-place-lt16 : goal.returns-then-place-lt16
 returns-then-place-lt16 c =
-    second_put c.args.byte c.args.count c.args.first c.args.second c.key_count-count.result c.new_key_place16-place.result c.inserted.result
+    second_put c.args.byte c.args.count c.args.first c.args.second c.key_count-count.result c.new_key_place16-place.result c.with_byte_between.result
     c.key_count-count.ensures.count c.new_key_place16-place.ensures.place (omega arith) (omega arith) (omega arith)
-    (c.inserted.ensures.bytes
+    (c.with_byte_between.ensures.bytes
     ∙ ap (λ k. packed (put_in c.args.byte (c.new_key_place16-place.result - 8) (low_bytes k c.args.second))) c.min-then-place-lt16.ensures)
 
 pub returns-else-place-lt16 : goal.returns-else-place-lt16

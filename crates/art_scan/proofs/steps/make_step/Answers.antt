@@ -13,13 +13,13 @@ returns-in-Lock-clause-step c =
 
 pub returns-in-Exchange-clause-step : goal.returns-in-Exchange-clause-step
 returns-in-Exchange-clause-step c =
-    c.exchanged.ensures.step
+    c.take_exchange.ensures.step
     ∙ ap (λ s. step_after (setting_of c.args.setting.now) c.args.low c.args.high s (walk_of c.args.lists.now) c.args.got)
     (sym c.in-Exchange.is)
 
 pub returns-in-Wait-clause-step : goal.returns-in-Wait-clause-step
 returns-in-Wait-clause-step c =
-    c.waited.ensures.step
+    c.take_wait.ensures.step
     ∙ ap (λ s. step_after (setting_of c.args.setting.now) c.args.low c.args.high s (walk_of c.args.lists.now) c.args.got)
     (sym c.in-Wait.is)
 
@@ -57,7 +57,7 @@ returns-in-Index-clause-step c =
 
 pub returns-in-Release-clause-step : goal.returns-in-Release-clause-step
 returns-in-Release-clause-step c =
-    c.released.ensures.step
+    c.leave_row.ensures.step
     ∙ ap (λ s. step_after (setting_of c.args.setting.now) c.args.low c.args.high s (walk_of c.args.lists.now) c.args.got)
     (sym c.in-Release.is)
 

@@ -2,6 +2,7 @@ use Rattle.std.proofs.Common.{◌≡◌, Some, length, refl, ap, ◌∙◌, subs
 use Rattle.std.specs.Prelude.{slice_get}
 use Rattle.std.proofs.lemmas.Bool.{cases_lt}
 use Rattle.std.proofs.lemmas.Option.{slice_get_read, slice_get_within}
+use Rattle.quiet_cuts.proofs.ReplyLemmas.{read_completed, read_leaves}
 use Rattle.call_search.specs.Idle.{AreIdle}
 use Rattle.call_search.specs.Standing.{places}
 use Rattle.call_search.proofs.EarliestLemmas.{not_next}
@@ -46,9 +47,10 @@ returns-then-is_read-clause-choices g c =
     let here : slice_get calls i ≡ Some a = slice_get_read calls (length calls) i a refl c.loop-place-test.true c.index-calls-place.is in
     let next = c.may_come.ensures.next c.if-may_come.true in
     let rising = c.requires.1.1.1.0 in
+    let read = c.is_read.ensures.0 c.if-is_read.true in
     read_choices g.start calls path c.in_ok-from_slice.field-0.items i rising c.in_ok-from_slice.ensures.items next
-    (read_next g.start calls path i a rising here (c.is_read.ensures.completed c.if-is_read.true)
-    (c.is_read.ensures.leaves c.if-is_read.true) next)
+    (read_next g.start calls path i a rising here (read_completed a.call a.response read) (λ m rises legal.
+    read_leaves m a.call a.response read rises legal) next)
 
 pub loop-place-preserved : goal.loop-place-preserved
 loop-place-preserved g c =

@@ -1,4 +1,4 @@
-use Rattle.call_search.proofs.ReplyLemmas.{told_leave_all}
+use Rattle.call_search.proofs.ToldLemmas.{told_leave_all}
 use Rattle.call_search.proofs.laws.told_calls_leave_all.Goals as goal
 
 pub returns : goal.returns

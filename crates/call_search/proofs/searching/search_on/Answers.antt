@@ -4,11 +4,11 @@ use Rattle.list_laws.proofs.Lists.{All-from_contains}
 use Rattle.map_object.specs.MapObject.{Contents}
 use Rattle.configurations.specs.Configurations.{IsReachable}
 use Rattle.call_search.specs.Standing.{HasMoved, rest_of}
-use Rattle.call_search.specs.declared.standing.Standing.{Standing}
+use Rattle.call_search.specs.declared.standing.CallSearch.{CallSearch}
 use Rattle.call_search.proofs.searching.search_on.Goals as goal
 
 -- a search that has moved has less to do: a configuration more is one fewer that the budget allows
-falls : (start : Contents) (calls : List Operation) (budget : ℕ) (old new : Standing) → length old.memo ≤ budget
+falls : (start : Contents) (calls : List Operation) (budget : ℕ) (old new : CallSearch) → length old.memo ≤ budget
     → HasMoved start calls old new
     → rest_of budget (length calls) new < rest_of budget (length calls) old
 falls start calls budget old new within h = ⊎_elim

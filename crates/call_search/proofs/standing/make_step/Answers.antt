@@ -2,7 +2,7 @@ use Rattle.std.proofs.Common.{Result, Ok, Err, ◌≡◌, ◌-◌, ◌+◌, ◌�
 use Rattle.std.specs.Prelude.{vec_len, IfOk}
 use Rattle.std.proofs.lemmas.List.{append-nil, length-append}
 use Rattle.call_search.specs.Standing.{places, AreChoices, Closes, to_try, IsStep, IsLooked}
-use Rattle.call_search.specs.declared.standing.Standing.{Standing}
+use Rattle.call_search.specs.declared.standing.CallSearch.{CallSearch}
 use Rattle.call_search.proofs.StandingLemmas.{last_of, step_from, step_on, step_back}
 use Rattle.call_search.proofs.standing.make_step.Goals as goal
 
@@ -31,7 +31,7 @@ returns-in_default g c =
     let e = c.in_default.ensures in
     let none = none_left w.rest.items c.pop.new.self.items (vec_len w.rest - 1) e.items e.rest (omega (arith, e.cases.0)) in
     let old_none : w.rest.items ≡ [] = e.items ∙ append-nil c.pop.new.self.items ∙ none in
-    let middle : Standing = record {
+    let middle : CallSearch = record {
       levels = w.levels;
       rest = c.pop.new.self;
       at = w.at;
@@ -76,7 +76,7 @@ returns g c =
     let calls = c.args.calls.now in
     let taken = rw c.if-new.false at c.in_ok-new.ensures in
     let s = c.requires.1.1.1.1 in
-    let middle : Standing = record {
+    let middle : CallSearch = record {
       levels = w.levels;
       rest = c.pop.new.self;
       at = w.at;

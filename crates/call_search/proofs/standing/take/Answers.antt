@@ -14,7 +14,7 @@ use Rattle.search.proofs.MemoLemmas.{visited_or_not}
 use Rattle.memo.specs.Taking.{after_one}
 use Rattle.memo.proofs.TakingLemmas.{Contains-with_place, with_place-rises}
 use Rattle.call_search.specs.Standing.{places, StandsWith, to_try, IsPushed}
-use Rattle.call_search.specs.declared.standing.Standing.{Standing}
+use Rattle.call_search.specs.declared.standing.CallSearch.{CallSearch}
 use Rattle.events.specs.declared.event.Call.{Call}
 use Rattle.call_search.specs.declared.standing.Level.{Level}
 use Rattle.call_search.proofs.StandingLemmas.{stands-push, dead-seen, to_try-push, stands-same}
@@ -30,11 +30,11 @@ same_call : (m n : Contents) (a b : Operation) → b ≡ a → n ≡ after_call 
 same_call m n a b is h = subst (λ (x : Operation). n ≡ after_call m x.call x.response) (sym is) h
 
 -- the place below which all calls are taken, after one more
-low_within : {place : ℕ} {undo : Option Call} {old new : Standing} (p : IsPushed place undo old new)
+low_within : {place : ℕ} {undo : Option Call} {old new : CallSearch} (p : IsPushed place undo old new)
     → new.low ≤ length (set old.taken.items place true)
 low_within {place} {undo} {old} {new} p = subst (λ xs. new.low ≤ length xs) p.taken p.within
 
-low_below : {place : ℕ} {undo : Option Call} {old new : Standing} (p : IsPushed place undo old new) (k : ℕ) → k < new.low
+low_below : {place : ℕ} {undo : Option Call} {old new : CallSearch} (p : IsPushed place undo old new) (k : ℕ) → k < new.low
     → (k < old.low) ⊎ (get_or (set old.taken.items place true) k false ≡ true)
 low_below {place} {undo} {old} {new} p k lt = subst (λ xs. (k < old.low) ⊎ (get_or xs k false ≡ true)) p.taken (p.below k lt)
 

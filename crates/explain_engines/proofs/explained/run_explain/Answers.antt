@@ -1,33 +1,17 @@
+use Rattle.std.proofs.Common.{rules}
 use Rattle.history_text.specs.Limits.{text_limit}
 use Rattle.history_engines.specs.Answers.{IsHistoryRefusal}
-use Rattle.outcomes.specs.Ends.{change}
-use Rattle.outcomes.proofs.ReadText.{IsReadOutcome-read}
-use Rattle.outcomes.proofs.Reading.{IsTextRead-unread}
+use Rattle.outcomes.proofs.ReadText.{IsRun-read}
 use Rattle.history_engines.proofs.WholeHistories.{IsHistoryRefusal-whole}
 use Rattle.explain_engines.specs.Answers.{IsExplainAnswer}
 use Rattle.explain_engines.proofs.OutcomeLemmas.{IsExplainAnswer-whole}
 use Rattle.explain_engines.proofs.explained.run_explain.Goals as goal
 
-pub returns-in-Ok-clause-run : goal.returns-in-Ok-clause-run
-returns-in-Ok-clause-run g c =
+pub returns-clause-run : goal.returns-clause-run
+returns-clause-run g c =
     let budget = c.args.budget in
-    let source = change g.S.Source.remaining g.S.Source.failures c.args.source.now c.text_from.new.source in
-    record {
-      outcome = c.explain_outcome-outcome.result;
-      comes = IsReadOutcome-read (IsExplainAnswer budget) IsHistoryRefusal text_limit
-          (IsExplainAnswer-whole budget) IsHistoryRefusal-whole source c.deref.result.now c.explain_outcome-outcome.result
-          (rw c.deref.ensures.value c.in-Ok.ensures.text) c.in-Ok.ensures.sound c.explain_outcome-outcome.ensures;
-      leaves = c.write_outcome.ensures;
-    }
-
-pub returns-in-Ok-clause-read : goal.returns-in-Ok-clause-read
-returns-in-Ok-clause-read g c = record { whole = λ _ _. c.in-Ok.ensures.read; most = c.text_from.ensures.most }
-
-pub returns-in-Err-clause-read : goal.returns-in-Err-clause-read
-returns-in-Err-clause-read g c =
-    IsTextRead-unread text_limit (change g.S.Source.remaining g.S.Source.failures c.args.source.now c.text_from.new.source)
-    (change g.O.Sink.written g.O.Sink.failures c.args.output.now c.write_outcome-in-Err.new.output)
-    (change g.F.Sink.written g.F.Sink.failures c.args.faults.now c.write_outcome-in-Err.new.faults)
-    (change g.H.Sink.written g.H.Sink.failures c.args.hints.now c.write_outcome-in-Err.new.hints) c.in-Err.outcome
-    c.write_outcome-in-Err.result
-    c.in-Err.ensures.unread c.text_from.ensures.most c.write_outcome-in-Err.ensures
+    IsRun-read (IsExplainAnswer budget) IsHistoryRefusal text_limit (IsExplainAnswer-whole budget) IsHistoryRefusal-whole c.run_text.ensures.run
+    (λ text outcome made.
+    let shows = made.shows in
+    let met = made.says.met in
+    search rules)

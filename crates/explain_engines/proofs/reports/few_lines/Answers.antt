@@ -1,42 +1,40 @@
-use Rattle.std.proofs.Common.{◌≡◌, ℕ, List, ◌++◌, string_bytes, ap, ◌∙◌, subst}
+use Rattle.std.proofs.Common.{ℕ, List, ◌++◌, ◌≡◌, string_bytes, ap, ◌∙◌, subst}
 use Rattle.events.specs.HistoryView.{HistoryView}
 use Rattle.events.specs.declared.operation.Operation.{Operation}
+use Rattle.explaining.specs.declared.explanation.Reason.{Reason}
 use Rattle.map_object.specs.MapObject.{Contents}
 use Rattle.orders.specs.Orders.{IsLinearizable}
 use Rattle.explain_engines.specs.Answers.{AreOriginLines, AreHistoryLines}
+use Rattle.explain_engines.specs.Reports.{rows}
 use Rattle.explain_engines.proofs.LineLemmas.{few_from}
 use Rattle.explain_engines.proofs.reports.few_lines.Goals as goal
 
--- what is told of pairs and calls is told of those that they are
-told_of : (budget : ℕ) (start pairs : Contents) (calls those : List Operation) (bytes : List ℕ) → start ≡ pairs → calls ≡ those
-    → (IsLinearizable pairs those → ⊥) → ((IsLinearizable start calls → ⊥) → AreHistoryLines budget start calls bytes)
-    → AreHistoryLines budget pairs those bytes
-told_of budget start pairs calls those bytes first second none line =
-    subst (λ (m : Contents). AreHistoryLines budget m those bytes) first
-    (subst (λ (l : List Operation). AreHistoryLines budget start l bytes) second
-    (line (λ order. none (subst (λ (m : Contents). IsLinearizable m those) first
-    (subst (λ (l : List Operation). IsLinearizable start l) second order)))))
+-- what is told of calls is told of those that they are
+told_of : (budget : ℕ) (start : Contents) (events : List (ℕ × ℕ)) (calls those : List Operation) (bytes : List ℕ) → calls ≡ those
+    → (IsLinearizable start those → ⊥) → ((IsLinearizable start calls → ⊥) → AreHistoryLines budget start events calls bytes)
+    → AreHistoryLines budget start events those bytes
+told_of budget start events calls those bytes is none lines =
+    subst (λ (l : List Operation). AreHistoryLines budget start events l bytes) is
+    (lines (λ order. none (subst (λ (l : List Operation). IsLinearizable start l) is order)))
 
-origins_of : (history : HistoryView) (start pairs : Contents) (calls those : List Operation) (bytes : List ℕ) → start ≡ pairs → calls ≡ those
-    → AreOriginLines history start calls bytes → AreOriginLines history pairs those bytes
-origins_of history start pairs calls those bytes first second lines =
-    subst (λ (m : Contents). AreOriginLines history m those bytes) first
-    (subst (λ (l : List Operation). AreOriginLines history start l bytes) second lines)
+origins_of : (history : HistoryView) (start : Contents) (calls those : List Operation) (bytes : List ℕ) → calls ≡ those
+    → AreOriginLines history start calls bytes → AreOriginLines history start those bytes
+origins_of history start calls those bytes is lines = subst (λ (l : List Operation). AreOriginLines history start l bytes) is lines
 
 pub returns : goal.returns
-returns c = λ explains.
+returns c =
     let history = c.args.history.now in
-    let few = c.args.few in
-    let segment = c.args.segment.now in
+    let few = c.args.few.now in
+    let start = c.args.start.now in
+    let told = c.args.told.now in
     let outside = string_bytes c.in_ok-outside.outside in
     let small = string_bytes c.in_ok-small.small in
-    let start = c.start-start.result.now in
     let calls = c.as_slice-calls.result.now in
-    few_from c.args.budget history segment few (string_bytes c.in_ok-text.text) outside small (string_bytes c.push_str.new.self)
-    (string_bytes c.push_str-2.new.self) explains c.in_ok-text.ensures
-    (origins_of history start segment.start calls few.calls.items outside c.start-start.ensures.start c.as_slice-calls.ensures.value
-    c.in_ok-outside.ensures)
-    (told_of c.args.budget start segment.start calls few.calls.items small c.start-start.ensures.start c.as_slice-calls.ensures.value
-    explains.enough.none c.in_ok-small.ensures)
+    few_from c.args.budget history start c.args.events.now told few (string_bytes c.in_ok-text.text) outside small
+    (string_bytes c.push_str.new.self) (string_bytes c.push_str-2.new.self)
+    (c.in_ok-text.ensures ∙ ap (λ (l : List Reason). rows history told l) c.deref.ensures.value)
+    (origins_of history start calls few.calls.items outside c.as_slice-calls.ensures.value c.in_ok-outside.ensures)
+    (told_of c.args.budget start c.args.events.now calls few.calls.items small c.as_slice-calls.ensures.value c.requires.none
+    c.in_ok-small.ensures)
     (c.in_ok-push_str.ensures.bytes ∙ ap (λ (l : List ℕ). string_bytes c.in_ok-text.text ++ l) c.as_str.ensures.value)
     (c.in_ok-push_str-2.ensures.bytes ∙ ap (λ (l : List ℕ). string_bytes c.push_str.new.self ++ l) c.as_str-2.ensures.value)

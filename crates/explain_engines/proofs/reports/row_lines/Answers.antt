@@ -43,8 +43,8 @@ module _ (history : HistoryView) (calls : List Operation) (reasons : List Reason
 
 pub loop-number-preserved : goal.loop-number-preserved
 loop-number-preserved c =
-    let calls = c.as_slice-calls.result.now in
-    let reasons = c.as_slice-reasons.result.now in
+    let calls = c.args.calls.now in
+    let reasons = c.args.reasons.now in
     let number = c.loop-number.number in
     let call = c.index-calls-number.result in
     let found = c.in-Some.ensures.lookup in
@@ -55,12 +55,10 @@ loop-number-preserved c =
 
 pub returns-in_default : goal.returns-in_default
 returns-in_default c =
-    no_reason c.args.history.now c.as_slice-calls.result.now c.as_slice-reasons.result.now c.loop-number.number
+    no_reason c.args.history.now c.args.calls.now c.args.reasons.now c.loop-number.number
     (string_bytes c.loop-number.text) _ c.in_default.ensures.lookup.3 c.loop-number.invariant
-    ∙ (λ j. rows c.args.history.now (c.as_slice-calls.ensures.value j) (c.as_slice-reasons.ensures.value j))
 
 pub returns : goal.returns
 returns c =
-    no_call c.args.history.now c.as_slice-calls.result.now c.as_slice-reasons.result.now c.loop-number.number
+    no_call c.args.history.now c.args.calls.now c.args.reasons.now c.loop-number.number
     (string_bytes c.loop-number.text) _ c.loop-number-test.false c.loop-number.invariant
-    ∙ (λ j. rows c.args.history.now (c.as_slice-calls.ensures.value j) (c.as_slice-reasons.ensures.value j))

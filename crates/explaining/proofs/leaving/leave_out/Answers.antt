@@ -6,7 +6,7 @@ use Rattle.list_laws.specs.Lists.{has_number}
 use Rattle.map_object.specs.MapObject.{Contents}
 use Rattle.orders.specs.Orders.{IsLinearizable}
 use Rattle.quiet_cuts.specs.TimeCuts.{InvocationsRise}
-use Rattle.call_search.specs.declared.found.Found.{Found}
+use Rattle.call_search.specs.declared.found.SearchEnd.{SearchEnd}
 use Rattle.call_search.specs.Found.{IsFound}
 use Rattle.explaining.specs.Rest.{gone_of, is_held, are_held}
 use Rattle.explaining.proofs.RestLemmas.{rest_rises, rest_apart}
@@ -34,7 +34,7 @@ returns-in-NoOrder c =
     (subst
     (λ (gone : List Operation). list_any (λ (b : Operation). has_number places b.inv && is_held c.deref.result.now gone b) calls ≡ false)
     (c.deref-2.ensures.value ∙ c.in_ok-gone.ensures) (sym c.are_held.ensures ∙ c.if-are_held.false)) in
-    let found = subst (λ (f : Found). IsFound c.in_ok-start.start c.deref-5.result.now c.args.budget f) c.in-NoOrder.is
+    let found = subst (λ (f : SearchEnd). IsFound c.in_ok-start.start c.deref-5.result.now c.args.budget f) c.in-NoOrder.is
     c.in_ok-search_calls.ensures in
     rest_enough c.args.map.now calls places c.in_ok-rest.rest.items c.requires.rising c.requires.apart free
     c.in_ok-rest.ensures

@@ -1,6 +1,6 @@
 use Rattle.std.proofs.Common.{◌==◌, not, rules}
 use Rattle.std.proofs.lemmas.Fn.{filter_same}
-use Rattle.kept_rows.specs.declared.rows.OpenScan.{OpenScan}
+use Rattle.kept_rows.specs.OpenScan.{OpenScan}
 use Rattle.follower.proofs.open_scans.end_scan.Goals as goal
 
 pub returns : goal.returns

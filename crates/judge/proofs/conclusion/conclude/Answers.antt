@@ -100,8 +100,8 @@ returns-in-Some-first_spent-clause-shown c =
     shows_undecided c.args.budget c.args.history.now.start (operations c.args.history.now.events)
     c.segment_at-in-Some-first_spent.result (returns-in-Some-first_spent-clause-exact c)
 
-pub merged-requires : goal.merged-requires
-merged-requires c = (
+pub merge_answers-requires : goal.merge_answers-requires
+merge_answers-requires c = (
   c.args.segments.items,
   c.requires.segments,
   found_orders c.args.budget c.args.segments.items (orders_in c.args.answers.items)
@@ -116,10 +116,10 @@ returns-clause-exact c = record {
   are_segments = c.requires.segments;
   ordered = all_ordered c.args.budget c.args.segments.items c.args.answers.items c.requires.exact
       (rw c.deref.ensures.value at c.in_default.ensures.none) (rw c.deref-2.ensures.value at c.in_default-first_spent.ensures.none);
-  merged = c.in_ok-merged.ensures.merged;
+  merged = c.in_ok-merge_answers.ensures.merged;
 }
 
 pub returns-clause-shown : goal.returns-clause-shown
 returns-clause-shown c =
-    shows_yes c.args.budget c.args.history.now.start (operations c.args.history.now.events) c.in_ok-merged.field-0.items
-    (returns-clause-exact c) c.in_ok-merged.ensures.order
+    shows_yes c.args.budget c.args.history.now.start (operations c.args.history.now.events) c.in_ok-merge_answers.field-0.items
+    (returns-clause-exact c) c.in_ok-merge_answers.ensures.order

@@ -5,7 +5,7 @@ use Rattle.command_line.specs.declared.line.Line.{Line}
 use Rattle.command_line.specs.declared.line.Line.TheVariants.{Check, Judge, Locate, Explain, Draw, Follow}
 use Rattle.command_line.specs.Lines.{IsLineOf}
 use Rattle.command_line.specs.LineFaults.{IsAccepted}
-use Rattle.outcomes.specs.declared.outcome.Outcome.{Outcome}
+use Rattle.outcomes.specs.declared.outcome.RunOutcome.{RunOutcome}
 use Rattle.outcomes.specs.Ends.{Change, change}
 use Rattle.line_outcomes.proofs.OutcomeLemmas.{fault-words}
 use Rattle.judge_lines.specs.Outcomes.{AsksForTrees, IsJudgeLineOutcome}
@@ -14,13 +14,13 @@ use Rattle.judge_bench.specs.Outcomes.{IsJudgeWordsOutcome}
 use Rattle.judge_bench.proofs.command.run.Goals as goal
 
 -- of a line that asks for neither a plan nor a tree
-here-words : (line : Line) (words : List Text) (source : Change) (outcome : Outcome) → IsAccepted words → IsLineOf words line
+here-words : (line : Line) (words : List Text) (source : Change) (outcome : RunOutcome) → IsAccepted words → IsLineOf words line
     → ¬ (AsksForTrees line) → IsJudgeLineOutcome line source outcome → IsJudgeWordsOutcome words source outcome
 here-words line words source outcome accepted asked here comes = inl (judged-words IsJudgeLineOutcome line words source outcome here
     (λ comes. record { line = line; accepted = accepted; asked = asked; comes = comes }) comes)
 
 -- of any line
-asked-words : (line : Line) (words : List Text) (source : Change) (outcome : Outcome) → IsAccepted words → IsLineOf words line
+asked-words : (line : Line) (words : List Text) (source : Change) (outcome : RunOutcome) → IsAccepted words → IsLineOf words line
     → IsJudgeLineOutcome line source outcome → IsJudgeWordsOutcome words source outcome
 asked-words (Check order) words source outcome accepted asked comes =
     here-words (Check order) words source outcome accepted asked (λ other. other) comes

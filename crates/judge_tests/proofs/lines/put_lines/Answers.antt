@@ -3,7 +3,7 @@ use Rattle.judge_tests.proofs.lines.put_lines.Goals.{in-Ok-true+in_ok-extend_fro
 use Rattle.judge_tests.proofs.lines.put_lines.Goals as goal
 
 pub loop-turn-preserved : goal.loop-turn-preserved
-loop-turn-preserved c = elim c.match-advance.branch [
+loop-turn-preserved c = elim c.match-next_line.branch [
   | in-Ok-true+in_ok-extend_from_slice-in-Ok-true+in_ok-push-in-Ok-true w ↦ record {
     few = omega (arith, w.in-Ok-true.ensures.counted, c.loop-turn.invariant.few);
     counted = omega (arith, w.failed-is, c.loop-turn.invariant.counted);

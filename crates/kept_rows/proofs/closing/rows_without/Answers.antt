@@ -1,5 +1,5 @@
-use Rattle.kept_rows.specs.Tidying.{IsWithout}
-use Rattle.kept_rows.proofs.ForgettingLemmas.{zip_last}
+use Rattle.kept_rows.specs.Closing.{IsWithout}
+use Rattle.scan_rows.proofs.ForgettingLemmas.{zip_last}
 use Rattle.kept_rows.proofs.closing.rows_without.Goals as goal
 
 pub loop-row-preserved : goal.loop-row-preserved

@@ -1,5 +1,5 @@
 use Rattle.std.specs.List.{AllZip}
-use Rattle.kept_rows.specs.Tidying.{IsWithout}
+use Rattle.kept_rows.specs.Closing.{IsWithout}
 use Rattle.kept_rows.proofs.closing.rows_without.Given as goal
 
 -- the rows so far are without the key

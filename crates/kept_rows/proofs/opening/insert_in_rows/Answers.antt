@@ -1,7 +1,7 @@
 use Rattle.std.proofs.Common.{add-one, subst, get_or}
 use Rattle.kept_keys.specs.Views.{KeptView}
-use Rattle.kept_rows.specs.Steps.{HasOwn}
-use Rattle.kept_rows.proofs.ScanListLemmas.{up_to_more, up_to_all}
+use Rattle.kept_rows.specs.Opening.{HasOwn}
+use Rattle.scan_rows.proofs.ScanListLemmas.{up_to_more, up_to_all}
 use Rattle.kept_rows.proofs.opening.insert_in_rows.Goals as goal
 
 pub loop-row-preserved : goal.loop-row-preserved

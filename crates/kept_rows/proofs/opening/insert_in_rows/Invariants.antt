@@ -1,5 +1,5 @@
-use Rattle.kept_rows.specs.Steps.{HasOwn}
-use Rattle.kept_rows.proofs.ScanListLemmas.{AreUpTo}
+use Rattle.kept_rows.specs.Opening.{HasOwn}
+use Rattle.scan_rows.proofs.ScanListLemmas.{AreUpTo}
 use Rattle.kept_rows.proofs.opening.insert_in_rows.Given as goal
 
 abbrev pub invariant-loop-row : goal.invariant-loop-row

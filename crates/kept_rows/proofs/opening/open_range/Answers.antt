@@ -2,7 +2,7 @@ use Rattle.std.proofs.Common.{ℕ, List, ◌≤◌, get_or, sym, subst}
 use Rattle.std.specs.Prelude.{◌↔◌, Contains}
 use Rattle.std.specs.Option.{IsSome}
 use Rattle.std.proofs.lemmas.List.{get_or_default}
-use Rattle.kept_rows.specs.Rows.{entry_at}
+use Rattle.scan_rows.specs.Entries.{entry_at}
 use Rattle.kept_rows.proofs.ScanOpenLemmas.{opened_none, opened_more, opened_all}
 use Rattle.kept_rows.proofs.opening.open_range.Goals as goal
 

@@ -1,5 +1,5 @@
 use Rattle.std.proofs.Common.{sym, ap, ◌∙◌}
-use Rattle.kept_rows.specs.Rows.{RowView}
+use Rattle.scan_rows.specs.RowView.{RowView}
 use Rattle.kept_rows.proofs.EntryLemmas.{first_own}
 use Rattle.kept_rows.proofs.own_keys.is_own.Goals as goal
 

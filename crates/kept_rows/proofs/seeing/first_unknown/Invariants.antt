@@ -1,5 +1,5 @@
 use Rattle.std.proofs.Common.{take}
-use Rattle.kept_rows.specs.Steps.{AreKnown}
+use Rattle.kept_rows.specs.Seeing.{AreKnown}
 use Rattle.kept_rows.proofs.seeing.first_unknown.Given as goal
 
 -- those so far are known

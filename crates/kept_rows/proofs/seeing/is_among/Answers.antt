@@ -1,6 +1,6 @@
 use Rattle.std.proofs.Common.{rules}
 use Rattle.std.proofs.lemmas.List.Sorted.{answers_always}
-use Rattle.kept_rows.proofs.ScanListLemmas.{key_found}
+use Rattle.scan_rows.proofs.ScanListLemmas.{key_found}
 use Rattle.kept_rows.proofs.ScanKeyLemmas.{among}
 use Rattle.kept_rows.proofs.seeing.is_among.Goals as goal
 

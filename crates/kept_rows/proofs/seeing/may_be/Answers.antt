@@ -1,4 +1,4 @@
-use Rattle.kept_rows.proofs.ScanKeyLemmas.{none_may}
+use Rattle.scan_rows.proofs.RestingLemmas.{none_may}
 use Rattle.kept_rows.proofs.seeing.may_be.Goals as goal
 
 pub returns-in-None : goal.returns-in-None

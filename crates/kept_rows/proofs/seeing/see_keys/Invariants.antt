@@ -1,5 +1,5 @@
 use Rattle.std.proofs.Common.{take}
-use Rattle.kept_rows.specs.Steps.{HaveSeenAt}
+use Rattle.kept_rows.specs.Seeing.{HaveSeenAt}
 use Rattle.kept_rows.proofs.seeing.see_keys.Given as goal
 
 -- those so far have seen the scan

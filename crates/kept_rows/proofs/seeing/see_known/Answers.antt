@@ -1,8 +1,8 @@
 use Rattle.std.proofs.Common.{◌≤◌, ℕ, List, sym, subst}
 use Rattle.std.specs.Prelude.{◌↔◌, Contains}
 use Rattle.std.specs.Option.{IsSome}
-use Rattle.kept_rows.specs.Parting.{ScanAnswer}
-use Rattle.kept_rows.specs.Rows.{entry_at}
+use Rattle.row_parting.specs.ScanAnswers.{ScanAnswer}
+use Rattle.scan_rows.specs.Entries.{entry_at}
 use Rattle.kept_rows.proofs.ScanKeyLemmas.{lost_unseen, others_seen}
 use Rattle.kept_rows.proofs.seeing.see_known.Goals as goal
 

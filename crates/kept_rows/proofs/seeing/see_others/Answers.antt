@@ -1,7 +1,7 @@
 use Rattle.std.proofs.Common.{ap, subst}
 use Rattle.map_object.specs.MapObject.{Contents}
-use Rattle.kept_rows.specs.Parting.{ScanAnswer}
-use Rattle.kept_rows.specs.Steps.{IsUnknown}
+use Rattle.row_parting.specs.ScanAnswers.{ScanAnswer}
+use Rattle.kept_rows.specs.Seeing.{IsUnknown}
 use Rattle.kept_rows.proofs.ScanKeyLemmas.{unknown_unseen}
 use Rattle.kept_rows.proofs.seeing.see_others.Goals as goal
 

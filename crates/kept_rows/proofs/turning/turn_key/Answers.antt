@@ -4,8 +4,15 @@ use Rattle.events.specs.declared.event.Reply.{Reply}
 use Rattle.kept_keys.specs.Judging.{IsJudged}
 use Rattle.kept_keys.specs.Steps.{IsAnswered}
 use Rattle.kept_keys.specs.Views.{KeptView}
-use Rattle.kept_keys.specs.declared.judging.Judged.TheVariants.{Order, NoOrder, Spent}
+use Rattle.kept_keys.specs.Judged.TheVariants.{Order, NoOrder, Spent}
 use Rattle.kept_rows.proofs.turning.turn_key.Goals as goal
+
+pub judge-requires-clause-rising : goal.judge-requires-clause-rising
+judge-requires-clause-rising c =
+    let a = c.args.answer.now in
+    let answered = c.in_ok-answered.answered in
+    (c.requires.may_turn.behind answered
+    (subst (λ (reply : Reply). IsAnswered a.place a.name a.call reply c.args.kept answered) c.in_ok-reply.ensures c.in_ok-answered.ensures)).rising
 
 -- src/turning.rt:43:1
 pub returns-in_ok-settled-in-Order : goal.returns-in_ok-settled-in-Order

@@ -4,7 +4,8 @@ use Rattle.std.proofs.lemmas.List.{length-set}
 use Rattle.std.proofs.lemmas.Option.{none-some, slice_get_within}
 use Rattle.kept_keys.specs.Views.{KeptView}
 use Rattle.kept_rows.specs.Beginning.{AreRising, IsEntryAt}
-use Rattle.kept_rows.specs.Rows.{RowView, entry_at}
+use Rattle.scan_rows.specs.RowView.{RowView}
+use Rattle.scan_rows.specs.Entries.{entry_at}
 use Rattle.kept_rows.specs.Sound.{MayTurn}
 use Rattle.kept_rows.specs.Turned.{HasOther, IsKeyTurned, answer_of}
 use Rattle.kept_rows.specs.Turning.{IsTurned, IsTurnedDown, IsTurnedAway}

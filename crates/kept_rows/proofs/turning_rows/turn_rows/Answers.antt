@@ -1,9 +1,9 @@
 -- Each row comes to those that go on, or its key to those that have no order.
 use Rattle.std.proofs.Common.{List, [], ◌∷◌, ◌++◌, sym, subst}
-use Rattle.kept_rows.specs.Rows.{RowView}
+use Rattle.scan_rows.specs.RowView.{RowView}
 use Rattle.kept_rows.specs.Turned.{IsOneTurned, answer_of}
 use Rattle.kept_rows.specs.Turning.{AreTurned, at_start, stays, goes}
-use Rattle.kept_rows.specs.declared.outcomes.KeyLoss.{KeyLoss}
+use Rattle.scan_rows.specs.declared.key_loss.KeyLoss.{KeyLoss}
 use Rattle.kept_rows.proofs.turning_rows.turn_rows.Goals as goal
 
 -- src/turning_rows.rt:49:5

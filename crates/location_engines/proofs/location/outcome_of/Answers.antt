@@ -6,8 +6,8 @@ use Rattle.locating.specs.declared.location.Location.{Location}
 use Rattle.outcomes.specs.Lines.{line}
 use Rattle.outcomes.specs.Outcomes.{IsTextOutcome}
 use Rattle.outcomes.specs.declared.outcome.Answer.{Answer}
-use Rattle.outcomes.specs.declared.outcome.Outcome.{Outcome}
-use Rattle.outcomes.specs.declared.outcome.Outcome.TheVariants.{Answered, Memory}
+use Rattle.outcomes.specs.declared.outcome.RunOutcome.{RunOutcome}
+use Rattle.outcomes.specs.declared.outcome.RunOutcome.TheVariants.{Answered, Memory}
 use Rattle.serde_json.specs.Written.{compact_text}
 use Rattle.history_engines.specs.Answers.{IsHistoryRefusal, IsTextOf}
 use Rattle.location_engines.specs.Answers.{answer_of_location, IsLocateAnswer}
@@ -15,7 +15,7 @@ use Rattle.location_engines.proofs.location.outcome_of.Goals as goal
 
 -- a location that is answered with the line of its report is an outcome of the text
 IsTextOutcome-located : {E : Type 0} (budget : ℕ) (text : List ℕ) (history : HistoryView) (location : Location) (report : List ℕ) (answer : Answer)
-    (full : Result (String Global) E) (outcome : Outcome) → IsTextOf text history → IsLocated budget history location
+    (full : Result (String Global) E) (outcome : RunOutcome) → IsTextOf text history → IsLocated budget history location
     → report ≡ compact_text (location_data location) → answer ≡ answer_of_location location → IfOk full (λ f. string_bytes f ≡ line report)
     → MatchResult full (λ f. outcome ≡ Answered answer f) (λ _. outcome ≡ Memory)
     → IsTextOutcome (IsLocateAnswer budget) IsHistoryRefusal (Some text) outcome
@@ -35,4 +35,4 @@ IsTextOutcome-located budget text history location report answer (Err e) outcome
 pub returns-in-Ok-location_line : goal.returns-in-Ok-location_line
 returns-in-Ok-location_line c budget text history is_text located =
     IsTextOutcome-located budget text history c.in-Ok.location (string_bytes c.in-Ok-location_line.report) c.answer_of.result c.line_of.result
-    c.answered.result is_text (rw c.in-Ok.is at located) c.in-Ok-location_line.ensures c.answer_of.ensures c.line_of.ensures c.answered.ensures
+    c.from_answer.result is_text (rw c.in-Ok.is at located) c.in-Ok-location_line.ensures c.answer_of.ensures c.line_of.ensures c.from_answer.ensures

@@ -5,4 +5,4 @@ use Rattle.machine.proofs.opening.runners.Goals as goal
 pub loop-script-preserved : goal.loop-script-preserved
 loop-script-preserved c =
     rw c.in_ok-push.ensures.items
-    (half-more _ _ _ _ _ _ c.loop-script.invariant (ap (map (λ script. script.items)) c.in-Some.ensures.steps.0) c.fresh.ensures)
+    (half-more _ _ _ _ _ _ c.loop-script.invariant (ap (map (λ script. script.items)) c.in-Some.ensures.steps.0) c.fresh_runner.ensures)

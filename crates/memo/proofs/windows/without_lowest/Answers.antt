@@ -5,6 +5,6 @@ use Rattle.memo.proofs.windows.without_lowest.Goals as goal
 
 pub returns-clause-bits : goal.returns-clause-bits
 returns-clause-bits c n =
-    c.trimmed.ensures.bits n
+    c.without_zeros.ensures.bits n
     ∙ ap (λ (words : List ℕ). bit_of words n) c.in_ok-moved.ensures
     ∙ bit_of-moved c.args.words.now c.args.count c.requires (λ k. omega (arith, c.type_inv.words k)) n

@@ -4,4 +4,4 @@ use Rattle.past_choices.proofs.mark.with_mark.Goals as goal
 
 pub returns : goal.returns
 unfolding with_mark
-returns c = rw (c.told.ensures, c.kind.ensures) refl
+returns c = rw (c.value_or_zero.ensures, c.kind.ensures) refl

@@ -5,17 +5,17 @@ drawn_text-requires c = rw c.deref.ensures.value c.in_ok-front.ensures.markable
 
 pub returns : goal.returns
 returns c =
-    let drawn = rw c.deref.ensures.value at c.in_ok-drawing.ensures in
+    let drawn = rw (c.deref.ensures.value, c.event_of-wrong.ensures) at c.in_ok-drawing.ensures in
     record {
       verdict = c.args.verdict.now;
-      wrong = c.args.wrong;
+      location = c.args.location.now;
       front = c.in_ok-front.front.items;
       choice = c.in_ok-choice.choice;
       picture = drawn.shown.picture;
       part = drawn.part;
       shown = c.requires.shown;
       exact = c.requires.exact;
-      goes_wrong = c.requires.wrong;
+      located = c.requires.located;
       fronted = c.in_ok-front.ensures.front;
       pictured = drawn.shown.pictured;
       chosen = c.in_ok-choice.ensures;

@@ -25,6 +25,8 @@ returns c =
       res = c.place_of.ensures;
       invoked = invoked-by _ _ _ _ c.requires.call by;
       lane = rw (← c.requires.lanes) c.lane_of.ensures;
+      low = c.low_key.ensures;
+      high = c.high_key.ensures;
       span = record { from = c.event_column.ensures; to = c.column_of.ensures };
       call = c.requires.words;
       reply = c.requires.reply;

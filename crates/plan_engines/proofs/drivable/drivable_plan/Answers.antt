@@ -5,8 +5,8 @@ use Rattle.plans.specs.declared.fault.PlanFault.TheVariants as plans
 use Rattle.plans.specs.Plans.{AreScripts}
 use Rattle.plan_text.specs.PlanTexts.{SpellsPlan}
 use Rattle.drives.specs.Drives.{IsDrivable}
-use Rattle.outcomes.specs.declared.outcome.Outcome.{Outcome}
-use Rattle.outcomes.specs.declared.outcome.Outcome.TheVariants.{Answered, Noted, Refused, Memory, Words, Failed}
+use Rattle.outcomes.specs.declared.outcome.RunOutcome.{RunOutcome}
+use Rattle.outcomes.specs.declared.outcome.RunOutcome.TheVariants.{Answered, Noted, Refused, Memory, Words, Failed}
 use Rattle.plan_engines.specs.Drives.{IsUndriven}
 use Rattle.plan_engines.specs.Faults.{IsPlanFaultOutcome}
 use Rattle.plan_engines.specs.Outcomes.{IsUndrivenOutcome}
@@ -18,7 +18,7 @@ denied true P same is p = cc
 denied false P same is p = let yes = same.1 p in cc
 
 -- for a fault for which no plan is driven
-undriven : (text : List ℕ) (fault : PlanFault) (outcome : Outcome) → IsUndriven text fault → IsPlanFaultOutcome fault outcome
+undriven : (text : List ℕ) (fault : PlanFault) (outcome : RunOutcome) → IsUndriven text fault → IsPlanFaultOutcome fault outcome
     → IsUndrivenOutcome text outcome
 undriven text fault (Answered answer bytes) is h = h
 undriven text fault (Noted answer bytes note) is h = h

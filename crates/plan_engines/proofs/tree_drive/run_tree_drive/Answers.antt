@@ -1,54 +1,26 @@
-use Rattle.std.specs.Prelude.{IfSome}
+use Rattle.std.proofs.Common.{rules}
 use Rattle.history_text.specs.Limits.{text_limit}
 use Rattle.arena_drives.specs.ArenaDrives.{IsArenaDriveOf}
-use Rattle.outcomes.specs.Ends.{change}
-use Rattle.outcomes.proofs.ReadText.{IsReadOutcome-read}
-use Rattle.outcomes.proofs.Reading.{IsTextRead-unread, told-status, unread-status}
+use Rattle.outcomes.proofs.ReadText.{IsRun-read}
+use Rattle.outcomes.proofs.Reading.{made-status}
 use Rattle.plan_engines.specs.Drives.{IsTreeDriveAnswer, IsDriveRefusal, WasPassedForPlan}
 use Rattle.plan_engines.proofs.WholePlans.{IsDrivenAnswer-whole, IsDriveRefusal-whole, planned-whole}
 use Rattle.plan_engines.proofs.tree_drive.run_tree_drive.Goals as goal
 
-pub returns-in-Ok-clause-run : goal.returns-in-Ok-clause-run
-returns-in-Ok-clause-run g c =
-    let source = change g.S.Source.remaining g.S.Source.failures c.args.source.now c.text_from.new.source in
-    record {
-      outcome = c.tree_drive_outcome-outcome.result;
-      comes = IsReadOutcome-read (IsTreeDriveAnswer c.args.shape c.args.variant c.args.limit) IsDriveRefusal text_limit
-          (IsDrivenAnswer-whole (IsArenaDriveOf c.args.shape c.args.variant c.args.limit)) IsDriveRefusal-whole source c.deref.result.now
-          c.tree_drive_outcome-outcome.result
-          (rw c.deref.ensures.value c.in-Ok.ensures.text) c.in-Ok.ensures.sound c.tree_drive_outcome-outcome.ensures.outcome;
-      leaves = c.write_outcome.ensures;
-    }
+pub returns-clause-run : goal.returns-clause-run
+returns-clause-run g c =
+    IsRun-read (IsTreeDriveAnswer c.args.shape c.args.variant c.args.limit) IsDriveRefusal text_limit
+    (IsDrivenAnswer-whole (IsArenaDriveOf c.args.shape c.args.variant c.args.limit)) IsDriveRefusal-whole c.run_text.ensures.run
+    (λ text outcome made.
+    let shows = made.shows in
+    let met = made.says.met in
+    search rules)
 
-pub returns-in-Ok-clause-read : goal.returns-in-Ok-clause-read
-returns-in-Ok-clause-read g c = record { whole = λ _ _. c.in-Ok.ensures.read; most = c.text_from.ensures.most }
-
-pub returns-in-Err-clause-read : goal.returns-in-Err-clause-read
-returns-in-Err-clause-read g c =
-    IsTextRead-unread text_limit (change g.S.Source.remaining g.S.Source.failures c.args.source.now c.text_from.new.source)
-    (change g.O.Sink.written g.O.Sink.failures c.args.output.now c.write_outcome-in-Err.new.output)
-    (change g.F.Sink.written g.F.Sink.failures c.args.faults.now c.write_outcome-in-Err.new.faults)
-    (change g.H.Sink.written g.H.Sink.failures c.args.hints.now c.write_outcome-in-Err.new.hints) c.in-Err.outcome
-    c.write_outcome-in-Err.result
-    c.in-Err.ensures.unread c.text_from.ensures.most c.write_outcome-in-Err.ensures
-
-pub returns-in-Ok-clause-passed : goal.returns-in-Ok-clause-passed
-returns-in-Ok-clause-passed g c =
+pub returns-clause-passed : goal.returns-clause-passed
+returns-clause-passed g c =
     let WasPassed = g.G.Gate.was_passed c.args.gate.now in
-    told-status (WasPassedForPlan WasPassed) text_limit (g.S.Source.remaining c.args.source.now) c.deref.result.now
-    c.tree_drive_outcome-outcome.result
-    (change g.O.Sink.written g.O.Sink.failures c.args.output.now c.write_outcome.new.output)
-    (change g.F.Sink.written g.F.Sink.failures c.args.faults.now c.write_outcome.new.faults)
-    (change g.H.Sink.written g.H.Sink.failures c.args.hints.now c.write_outcome.new.hints)
-    c.write_outcome.result (planned-whole WasPassed)
-    (rw c.deref.ensures.value c.in-Ok.ensures.text) c.write_outcome.ensures c.tree_drive_outcome-outcome.ensures.passed
-
-pub returns-in-Err-clause-passed : goal.returns-in-Err-clause-passed
-returns-in-Err-clause-passed g c =
-    unread-status (IfSome (g.S.Source.remaining c.args.source.now) (WasPassedForPlan (g.G.Gate.was_passed c.args.gate.now)))
-    (change g.S.Source.remaining g.S.Source.failures c.args.source.now c.text_from.new.source)
-    (change g.O.Sink.written g.O.Sink.failures c.args.output.now c.write_outcome-in-Err.new.output)
-    (change g.F.Sink.written g.F.Sink.failures c.args.faults.now c.write_outcome-in-Err.new.faults)
-    (change g.H.Sink.written g.H.Sink.failures c.args.hints.now c.write_outcome-in-Err.new.hints) c.in-Err.outcome
-    c.write_outcome-in-Err.result
-    c.in-Err.ensures.unread c.write_outcome-in-Err.ensures
+    made-status (WasPassedForPlan WasPassed) text_limit (planned-whole WasPassed) c.run_text.ensures.run
+    (λ text outcome made.
+    let shows = made.shows in
+    let met = made.says.met in
+    search rules)

@@ -4,29 +4,27 @@ use Rattle.events.specs.declared.operation.Operation.{Operation}
 use Rattle.map_object.specs.MapObject.{Contents}
 use Rattle.orders.specs.Orders.{IsLinearizable}
 use Rattle.stream_engines.specs.Answers.{IsSmallLine}
-use Rattle.stream_engines.specs.OwnParts.{OwnPart}
+use Rattle.own_parts.specs.OwnParts.{OwnPart}
 use Rattle.stream_engines.proofs.OwnLemmas.{IsRefuted, own_refuted}
 use Rattle.stream_engines.proofs.reports.own_line.Goals as goal
 
--- the line of what goes wrong by itself
-told : {E : Type 0} (own : Option OwnPart) (start : Contents) (calls : List Operation) (r : Result (String Global) E)
-    → own ≡ Some (record { start = start; calls = calls }) → IfSome own IsRefuted
+-- the line of what goes wrong by itself, from pairs and with calls that are the part's
+told : {E : Type 0} (own : Option OwnPart) (part : OwnPart) (start : Contents) (calls : List Operation) (r : Result (String Global) E)
+    → own ≡ Some part → start ≡ part.start → calls ≡ part.calls → IfSome own IsRefuted
     → ((IsLinearizable start calls → ⊥) → IfOk r (λ text. IsSmallLine start calls (string_bytes text)))
     → IfOk r (λ small. MatchOption own (string_bytes small ≡ []) (λ part. IsSmallLine part.start part.calls (string_bytes small)))
-told own start calls r is refuted line =
+told own part start calls r is first second refuted line =
+    let none : IsLinearizable part.start part.calls → ⊥ = subst (λ (o : Option OwnPart). IfSome o IsRefuted) is refuted in
     subst (λ (o : Option OwnPart). IfOk r (λ small. MatchOption o (string_bytes small ≡ [])
     (λ part. IsSmallLine part.start part.calls (string_bytes small)))) (sym is)
-    (line (subst (λ (o : Option OwnPart). IfSome o IsRefuted) is refuted))
-
--- pairs and calls that are those of a part
-same_part : (part : OwnPart) (pairs start : Contents) (those calls : List Operation) → record { start = pairs; calls = those } ≡ part
-    → start ≡ pairs → calls ≡ those → part ≡ record { start = start; calls = calls }
-same_part part pairs start those calls is first second =
-    sym is ∙ (λ j. record { start = sym first j; calls = sym second j })
+    (subst (λ (m : Contents). IfOk r (λ small. IsSmallLine m part.calls (string_bytes small))) first
+    (subst (λ (l : List Operation). IfOk r (λ small. IsSmallLine start l (string_bytes small))) second
+    (line (λ order. none (subst (λ (m : Contents). IsLinearizable m part.calls) first
+    (subst (λ (l : List Operation). IsLinearizable start l) second order))))))
 
 pub returns-in-Some : goal.returns-in-Some
 returns-in-Some c = λ none.
-    let same = same_part c.in-Some.part c.part.inside.start.items c.deref.result.now c.part.inside.calls.items c.deref-in-Some.result.now
-    c.part.view_is c.deref.ensures.value c.deref-in-Some.ensures.value in
-    told _ c.deref.result.now c.deref-in-Some.result.now c.small_line.result
-    (sym c.in_ok-part.ensures ∙ (c.in-Some.is ∙ ap Some same)) (own_refuted c.args.loss.now.keys.items none) c.small_line.ensures
+    told _ c.in-Some.part c.deref.result.now c.deref-in-Some.result.now c.small_line.result (sym c.in_ok-part.ensures ∙ c.in-Some.is)
+    (c.deref.ensures.value ∙ ap (λ (p : OwnPart). p.start) c.part.view_is)
+    (c.deref-in-Some.ensures.value ∙ ap (λ (p : OwnPart). p.calls) c.part.view_is)
+    (own_refuted c.args.loss.now.keys.items none) c.small_line.ensures

@@ -4,16 +4,16 @@ use Rattle.follower.specs.FollowerView.{FollowerView, known_call}
 use Rattle.follower.proofs.FaultLemmas.{waits, idles, idle_answer, many_answers}
 use Rattle.follower.proofs.follower.Follower.answer.Goals as goal
 
-pub returns-in_default : goal.returns-in_default
-returns-in_default c = λ start events h.
+pub returns-in_default-clause-answered : goal.returns-in_default-clause-answered
+returns-in_default-clause-answered c = λ start events h.
     let f = c.args.self in
     let process = c.args.process in
     let idle : known_call f.open_calls process ≡ None =
     ap (λ (g : FollowerView). known_call g.open_calls process) (sym c.self.view_is) ∙ (sym c.open_call.ensures ∙ c.in_default.is) in
     (idle_answer events process (idles start events f process h idle), refl)
 
-pub returns-then-self-ge-EVENT_LIMIT : goal.returns-then-self-ge-EVENT_LIMIT
-returns-then-self-ge-EVENT_LIMIT c = λ start events h.
+pub returns-then-self-ge-EVENT_LIMIT-clause-answered : goal.returns-then-self-ge-EVENT_LIMIT-clause-answered
+returns-then-self-ge-EVENT_LIMIT-clause-answered c = λ start events h.
     let f = c.args.self in
     let process = c.args.process in
     let here : known_call f.open_calls process ≡ Some c.in-Some.known =

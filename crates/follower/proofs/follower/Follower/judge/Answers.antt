@@ -2,13 +2,14 @@ use Rattle.std.proofs.Common.{◌≡◌, ℕ, ◌+◌, ◌<◌, ◌==◌, ◌++�
 use Rattle.events.specs.declared.event.Event.{Event}
 use Rattle.events.specs.declared.event.Event.TheVariants.{Answer}
 use Rattle.map_object.specs.MapObject.{Contents}
-use Rattle.kept_rows.proofs.KnownLemmas.{at_key}
 use Rattle.follower.specs.Faults.{event_limit}
 use Rattle.follower.specs.FollowerView.{FollowerView, known_call}
 use Rattle.follower.specs.Following.{IsFollowing}
-use Rattle.follower.specs.Steps.{AreRowsAnswered}
+use Rattle.follower.specs.Outcomes.{HasTooManyWays}
+use Rattle.follower.specs.Steps.{AreRowsAnswered, AreRowsCounted, AreCrowdedFor, without_scan}
 use Rattle.follower.proofs.FollowLemmas.{may_be_answered, still_open, answer_taken, seen_so}
 use Rattle.follower.proofs.JudgeLemmas.{is_call, accepted, is_told, goes_wrong}
+use Rattle.follower.proofs.OpenLemmas.{at_process}
 use Rattle.follower.proofs.follower.Follower.judge.Goals as goal
 
 pub take_answer-requires-clause-may : goal.take_answer-requires-clause-may
@@ -49,16 +50,16 @@ next c start events h =
     } in
     let (follows, here) = seen_so start events process known f c.args.self c.self.view_is h c.requires.known in
     let scans = still_open start events f process known reply follows here c.deref.result.now (c.deref.ensures.value ∙ c.end_scan.ensures) in
-    let answered = subst (AreRowsAnswered start (events ++ Answer process reply ∷ []) c.args.budget known.call) c.in-Going.is
-    (c.in_ok-rows.ensures start events process follows.rows (sym follows.events_are)
+    let answered = subst (AreRowsAnswered start (events ++ Answer process reply ∷ []) c.args.budget known.call reply) c.in-Going.is
+    (c.in_ok-rows.ensures.answered start events process follows.rows (sym follows.events_are)
     (is_call start events f process known reply follows here).is_open scans) in
     let changed : (p : ℕ) → known_call c.remove.new.self.entries p ≡ cond (p == process) None (known_call f.open_calls p) = λ p.
-    c.remove.ensures.updates.0 p ∙ ap (λ b. cond b None (known_call f.open_calls p)) (at_key process p) in
+    c.remove.ensures.updates.0 p ∙ ap (λ b. cond b None (known_call f.open_calls p)) (at_process process p) in
     answer_taken start events f process known reply follows here c.followed_rows_have_orders.ensures c.in-Going.rows c.remove.new.self.entries
     c.end_scan.new.scans.items answered changed c.end_scan.ensures
 
-pub returns-in-Going : goal.returns-in-Going
-returns-in-Going c = λ start events h.
+pub returns-in-Going-clause-answered : goal.returns-in-Going-clause-answered
+returns-in-Going-clause-answered c = λ start events h.
     (accepted start events c.args.self c.args.process c.args.known c.args.reply h c.requires.known c.requires.room, next c start events h)
 
 pub invariant_of-result : goal.invariant_of-result
@@ -70,8 +71,8 @@ invariant_of-result c =
       follows = next c some.start some.events (subst (IsFollowing some.start some.events) c.self.view_is some.follows);
     }
 
-pub returns-in-Lost : goal.returns-in-Lost
-returns-in-Lost c = λ start events h.
+pub returns-in-Lost-clause-answered : goal.returns-in-Lost-clause-answered
+returns-in-Lost-clause-answered c = λ start events h.
     let process = c.args.process in
     let known = c.args.known in
     let reply = c.args.reply in
@@ -85,21 +86,22 @@ returns-in-Lost c = λ start events h.
     } in
     let (follows, here) = seen_so start events process known f c.args.self c.self.view_is h c.requires.known in
     let scans = still_open start events f process known reply follows here c.deref.result.now (c.deref.ensures.value ∙ c.end_scan.ensures) in
-    let answered = subst (AreRowsAnswered start (events ++ Answer process reply ∷ []) c.args.budget known.call) c.in-Lost.is
-    (c.in_ok-rows.ensures start events process follows.rows (sym follows.events_are)
+    let answered = subst (AreRowsAnswered start (events ++ Answer process reply ∷ []) c.args.budget known.call reply) c.in-Lost.is
+    (c.in_ok-rows.ensures.answered start events process follows.rows (sym follows.events_are)
     (is_call start events f process known reply follows here).is_open scans) in
     let room : f.events < event_limit = subst (λ (g : FollowerView). g.events < event_limit) (sym c.self.view_is) c.requires.room in
     record {
       accepted = accepted start events f process known reply follows here room;
       call = known.call;
       told = is_told start events f process known reply follows here;
-      keys = answered.0;
-      some = answered.1;
-      wrong = λ more. goes_wrong start events f process known reply follows here answered.2 more;
+      keys = answered.keys;
+      some = answered.some;
+      none = answered.none;
+      wrong = λ more. goes_wrong start events f process known reply follows here answered.lost more;
     }
 
-pub returns-in-Spent : goal.returns-in-Spent
-returns-in-Spent c = λ start events h.
+pub returns-in-Spent-clause-answered : goal.returns-in-Spent-clause-answered
+returns-in-Spent-clause-answered c = λ start events h.
     let process = c.args.process in
     let known = c.args.known in
     let reply = c.args.reply in
@@ -113,8 +115,8 @@ returns-in-Spent c = λ start events h.
     } in
     let (follows, here) = seen_so start events process known f c.args.self c.self.view_is h c.requires.known in
     let scans = still_open start events f process known reply follows here c.deref.result.now (c.deref.ensures.value ∙ c.end_scan.ensures) in
-    let answered = subst (AreRowsAnswered start (events ++ Answer process reply ∷ []) c.args.budget known.call) c.in-Spent.is
-    (c.in_ok-rows.ensures start events process follows.rows (sym follows.events_are)
+    let answered = subst (AreRowsAnswered start (events ++ Answer process reply ∷ []) c.args.budget known.call reply) c.in-Spent.is
+    (c.in_ok-rows.ensures.answered start events process follows.rows (sym follows.events_are)
     (is_call start events f process known reply follows here).is_open scans) in
     let room : f.events < event_limit = subst (λ (g : FollowerView). g.events < event_limit) (sym c.self.view_is) c.requires.room in
     record {
@@ -124,8 +126,8 @@ returns-in-Spent c = λ start events h.
       doubt_is = answered;
     }
 
-pub returns-in-Crowded : goal.returns-in-Crowded
-returns-in-Crowded c = λ start events h.
+pub returns-in-Crowded-clause-answered : goal.returns-in-Crowded-clause-answered
+returns-in-Crowded-clause-answered c = λ start events h.
     let process = c.args.process in
     let known = c.args.known in
     let reply = c.args.reply in
@@ -139,8 +141,8 @@ returns-in-Crowded c = λ start events h.
     } in
     let (follows, here) = seen_so start events process known f c.args.self c.self.view_is h c.requires.known in
     let scans = still_open start events f process known reply follows here c.deref.result.now (c.deref.ensures.value ∙ c.end_scan.ensures) in
-    let answered = subst (AreRowsAnswered start (events ++ Answer process reply ∷ []) c.args.budget known.call) c.in-Crowded.is
-    (c.in_ok-rows.ensures start events process follows.rows (sym follows.events_are)
+    let answered = subst (AreRowsAnswered start (events ++ Answer process reply ∷ []) c.args.budget known.call reply) c.in-Crowded.is
+    (c.in_ok-rows.ensures.answered start events process follows.rows (sym follows.events_are)
     (is_call start events f process known reply follows here).is_open scans) in
     let room : f.events < event_limit = subst (λ (g : FollowerView). g.events < event_limit) (sym c.self.view_is) c.requires.room in
     record {
@@ -149,3 +151,29 @@ returns-in-Crowded c = λ start events h.
       told = is_told start events f process known reply follows here;
       doubt_is = answered;
     }
+
+pub returns-in-Crowded-clause-counted : goal.returns-in-Crowded-clause-counted
+returns-in-Crowded-clause-counted c = λ start events h.
+    let process = c.args.process in
+    let known = c.args.known in
+    let reply = c.args.reply in
+    let inside = c.self.inside in
+    let f : FollowerView = record {
+      rows = inside.rows;
+      open_calls = inside.open_calls.entries;
+      open_scans = inside.open_scans.items;
+      events = inside.events;
+      calls = inside.calls;
+    } in
+    let (follows, here) = seen_so start events process known f c.args.self c.self.view_is h c.requires.known in
+    let left : c.deref.result.now ≡ without_scan known.place f.open_scans = c.deref.ensures.value ∙ c.end_scan.ensures in
+    let scans = still_open start events f process known reply follows here c.deref.result.now left in
+    let counted = subst (AreRowsCounted f.rows f.events known.place known.call reply c.deref.result.now) c.in-Crowded.is
+    (c.in_ok-rows.ensures.counted start events process follows.rows (sym follows.events_are)
+    (is_call start events f process known reply follows here).is_open scans) in
+    let many : HasTooManyWays f process reply = record {
+      known = known;
+      is_known = here;
+      crowded = subst (AreCrowdedFor f.rows f.events known.place known.call reply) left counted;
+    } in
+    subst (λ (g : FollowerView). HasTooManyWays g process reply) c.self.view_is many

@@ -2,12 +2,12 @@ use Rattle.std.proofs.Common.{◌≡◌, ℕ, ◌+◌, ◌<◌, ◌==◌, ◌++�
 use Rattle.events.specs.declared.event.Event.{Event}
 use Rattle.events.specs.declared.event.Event.TheVariants.{Invoke}
 use Rattle.map_object.specs.MapObject.{Contents}
-use Rattle.kept_rows.proofs.KnownLemmas.{at_key}
 use Rattle.follower.specs.Faults.{event_limit}
 use Rattle.follower.specs.FollowerView.{FollowerView, known_call}
 use Rattle.follower.specs.Following.{IsFollowing}
 use Rattle.follower.specs.declared.open_calls.OpenCall.{OpenCall}
 use Rattle.follower.proofs.FollowLemmas.{well_begun, call_taken, call_more}
+use Rattle.follower.proofs.OpenLemmas.{at_process}
 use Rattle.follower.proofs.follower.Follower.take_call.Goals as goal
 
 -- the follower goes on
@@ -38,7 +38,7 @@ next c start events h =
     let orders = c.followed_rows_have_orders.ensures in
     let known : OpenCall = record { place = f.events; number = f.calls; call = call } in
     let changed : (p : ℕ) → known_call c.insert.new.self.entries p ≡ cond (p == process) (Some known) (known_call f.open_calls p) = λ p.
-    c.in_ok-insert.ensures.updates.0 p ∙ ap (λ b. cond b (Some known) (known_call f.open_calls p)) (at_key process p) in
+    c.in_ok-insert.ensures.updates.0 p ∙ ap (λ b. cond b (Some known) (known_call f.open_calls p)) (at_process process p) in
     let few = call_more start events f follows room in
     let calls : c.saturating_add.result ≡ f.calls + 1 = grind (arith, c.saturating_add.ensures, few) in
     let rows = c.in_ok-rows.ensures start events process follows.rows (sym follows.events_are) (well_begun orders start events f process call follows idle) in

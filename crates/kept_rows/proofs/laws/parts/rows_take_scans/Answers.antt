@@ -17,6 +17,14 @@ returns c =
       answered = c.gone_calls_are_answered.ensures.answered;
       read_timings = c.read_timings_hold.ensures;
       read_rows = c.read_rows_judge.ensures;
-      ends = c.ends_join.ensures;
-      begins = c.begins_join.ensures;
+      gaps = record {
+        apart = c.operations_stand_apart.ensures;
+        answers = c.answers_stand_apart.ensures;
+        ends = c.ends_join.ensures;
+        begins = c.begins_join.ensures;
+        dead_begins = c.dead_begins_join.ensures;
+        values = c.values_tell_dead.ensures;
+        dead_ends = c.dead_ends_join.ensures;
+        values_ends = c.values_tell_dead_ends.ensures;
+      };
     } in take_scans laws

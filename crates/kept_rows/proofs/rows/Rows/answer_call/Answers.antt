@@ -6,7 +6,8 @@ use Rattle.std.proofs.lemmas.Result.{IfOk-weaker}
 use Rattle.events.specs.declared.event.Event.TheVariants.{Answer}
 use Rattle.kept_rows.specs.Beginning.{AreRising, first_keys}
 use Rattle.kept_rows.specs.Outcomes.{IsAnswered}
-use Rattle.kept_rows.specs.Rows.{RowsView, entry_at}
+use Rattle.kept_rows.specs.Rows.{RowsView}
+use Rattle.scan_rows.specs.Entries.{entry_at}
 use Rattle.kept_rows.specs.Sound.{MayRowTurn}
 use Rattle.kept_rows.specs.Turned.{AreRowsTurned, IsBaseTurned, answer_of}
 use Rattle.kept_rows.specs.TurnLaws.{IsAnswerOf}

@@ -6,9 +6,9 @@ use Rattle.recorder.specs.Recorders.{IsPassOf}
 use Rattle.recorder.proofs.CloseLemmas.{some-pass}
 use Rattle.recorder.proofs.recorders.Recorder.join.Goals as goal
 
-pub joined-hand-requires-clause-some : goal.joined-hand-requires-clause-some
-joined-hand-requires-clause-some c = some-pass c.args.self c.args.passes.items c.requires.all
+pub join_hands-hand-requires-clause-some : goal.join_hands-hand-requires-clause-some
+join_hands-hand-requires-clause-some c = some-pass c.args.self c.args.passes.items c.requires.all
 
-pub joined-hand-requires-clause-own : goal.joined-hand-requires-clause-own
-joined-hand-requires-clause-own c = All-weaker (IsPassOf c.args.self) (λ p. source_of p ≡ counter c.args.self.tickets)
+pub join_hands-hand-requires-clause-own : goal.join_hands-hand-requires-clause-own
+join_hands-hand-requires-clause-own c = All-weaker (IsPassOf c.args.self) (λ p. source_of p ≡ counter c.args.self.tickets)
     (λ p h. h.source_is) c.args.passes.items c.requires.own

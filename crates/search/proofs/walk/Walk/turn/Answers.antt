@@ -18,7 +18,7 @@ mapped f P (Ok a) h = h a refl
 mapped f P (Err e) h = tt
 
 pub returns-in-Some : goal.returns-in-Some
-returns-in-Some c = rw c.done.ensures
+returns-in-Some c = rw c.end_with.ensures
     (mapped (λ found. Done found) (IsTurn c.args.self) c.in-Some.found
     (λ found is.
     let made = transposed c.make_turn.result found (sym c.transpose.ensures ∙ c.in-Some.is ∙ ap (λ r. Some r) is) in

@@ -1,6 +1,6 @@
 use Rattle.std.proofs.Common.{◌≡◌, ℕ, ◌+◌, ◌≤◌, List, [], ◌∷◌, ◌++◌, length, Option, Some, None, refl, sym, ap, ◌∙◌, subst, append_assoc, arith}
 use Rattle.std.proofs.lemmas.List.{length-append}
-use Rattle.outcomes.specs.declared.outcome.Outcome.{Outcome}
+use Rattle.outcomes.specs.declared.outcome.RunOutcome.{RunOutcome}
 use Rattle.stream_engines.specs.declared.followed.Followed.{Followed}
 use Rattle.stream_engines.specs.declared.handed.LineFollower.{LineFollower}
 use Rattle.stream_engines.specs.declared.handed.LineFollower.TheVariants.{Going, Ended}
@@ -24,7 +24,7 @@ went_on budget given count lines line f next handed few taken = (
 )
 
 -- or ends the stream
-came_out : (budget given count : ℕ) (lines : List (List ℕ)) (line : List ℕ) (f : Followed) (outcome : Outcome)
+came_out : (budget given count : ℕ) (lines : List (List ℕ)) (line : List ℕ) (f : Followed) (outcome : RunOutcome)
     → IsHanded budget lines (Going f count given)
     → ((told : Option (List ℕ)) (read : List (List ℕ)) → length read ≡ count → IsFollowed read f → BeginsWith told (read ++ line ∷ [])
     → IsStreamOutcome given told outcome)

@@ -2,7 +2,7 @@
 use Rattle.std.proofs.Common.{◌≡◌, ◌+◌, List, ℕ, length, ap, ◌∙◌, arith}
 use Rattle.std.specs.List.{between}
 use Rattle.std.proofs.lemmas.Result.{err_from_is_err_and}
-use Rattle.stream_text.specs.ReaderView.{WindowView}
+use Rattle.stream_text.specs.Windows.{WindowView}
 use Rattle.stream_text.proofs.WindowLemmas.{kept_before, grown_behind, length_between}
 use Rattle.stream_text.proofs.window.Window.fill.Goals as goal
 use Rattle.stream_text.proofs.window.Window.fill.Goals.{After-make_room-from}

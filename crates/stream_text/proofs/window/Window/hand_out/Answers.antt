@@ -1,6 +1,6 @@
 use Rattle.std.proofs.Common.{◌≡◌, ◌≤◌, ◌+◌, List, ℕ, length, take, drop, ap, ap₂, ◌∙◌, arith}
 use Rattle.std.specs.List.{between}
-use Rattle.stream_text.specs.ReaderView.{WindowView}
+use Rattle.stream_text.specs.Windows.{WindowView}
 use Rattle.stream_text.proofs.WindowLemmas.{between_front, between_rest, length_between}
 use Rattle.stream_text.proofs.window.Window.hand_out.Goals as goal
 

@@ -1,0 +1,7 @@
+-- Those so far, with those to come.
+use Rattle.std.proofs.Common.{◌≡◌, ◌++◌, drop}
+use Rattle.explain_engines.specs.Fronts.{unpreceded}
+use Rattle.explain_engines.proofs.fronts.minimal_calls.Given as goal
+
+abbrev pub invariant-loop-call : goal.invariant-loop-call
+invariant-loop-call l = l.next.items ++ unpreceded l.rest (drop l.call-index l.rest) ≡ unpreceded l.rest l.rest

@@ -1,0 +1,10 @@
+use Rattle.explaining.specs.Explained.{AreEnough}
+use Rattle.explaining.proofs.explaining.by_halves.Given as goal
+
+-- those kept so far are enough
+abbrev pub invariant-loop-size : goal.invariant-loop-size
+invariant-loop-size l = AreEnough l.map l.calls l.kept.items
+
+-- fewer go at a time
+abbrev pub decreases-loop-size : goal.decreases-loop-size
+decreases-loop-size l = l.size

@@ -1,0 +1,12 @@
+use Rattle.std.proofs.Common.{sym, subst}
+use Rattle.events.specs.Precedence.{NonePrecedesItself}
+use Rattle.events.proofs.TimeLemmas.{inv_rises, NonePrecedesItself-operations}
+use Rattle.quiet_cuts.specs.TimeCuts.{InvocationsRise}
+use Rattle.explaining.proofs.losing.explain_history.Goals as goal
+
+pub explanation_at-requires-clause-rising : goal.explanation_at-requires-clause-rising
+explanation_at-requires-clause-rising c = subst InvocationsRise (sym c.calls.ensures.calls) (inv_rises c.args.history.now.events)
+
+pub explanation_at-requires-clause-apart : goal.explanation_at-requires-clause-apart
+explanation_at-requires-clause-apart c =
+    subst NonePrecedesItself (sym c.calls.ensures.calls) (NonePrecedesItself-operations c.args.history.now.events)

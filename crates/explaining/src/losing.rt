@@ -1,0 +1,271 @@
+// The explanation of a history that may have gone wrong at the last of its events.
+ghost use Rattle.std.specs.Prelude.{◌≡◌, ◌<◌, All, AllPairs, IfOk, MatchOption};
+ghost use Rattle.events.specs.Operations.{operations};
+ghost use Rattle.events.specs.Precedence.{NonePrecedesItself};
+ghost use Rattle.explaining.specs.Explained.{AreEnough, IsExplained, IsExplanation, IsReasonFor, IsUnshown};
+ghost use Rattle.explaining.specs.declared.explanation.Reason.{Reason};
+
+use crate::explaining::{by_halves, few_configurations, least_of};
+use crate::explanation::Explanation;
+use crate::leaving::{Without, leave_out};
+use crate::rests::{precedes, says_put};
+use crate::telling::tells_put;
+use crate::windows::places_of;
+use events::{Call, History, Memory, Operation};
+use map_object::SortedMap;
+use std::alloc::Global;
+
+/// Explains why a history has no order, by few of its calls as `explain_calls`, where those that
+/// have to do with the last event or the last calls, up to 256 of them, show that it has none: so
+/// it is quick where the history goes wrong at that event. Else nothing is said.
+pub fn explain_history(
+    alloc: Global,
+    history: &History,
+    budget: u32,
+) -> Result<Option<Explanation>, Memory>
+    ensures { IfOk result (IsExplained history.now.start (operations history.now.events) budget) }
+{
+    let map = SortedMap::of(alloc, history.start())?;
+    explanation_at(alloc, &map, history.calls(), history.events().len(), budget)
+}
+
+/// Explains calls of so many events.
+fn explanation_at(
+    alloc: Global,
+    map: &SortedMap,
+    calls: &[Operation],
+    events: usize,
+    budget: u32,
+) -> Result<Option<Explanation>, Memory>
+    requires rising { AllPairs (λ a b. a.inv < b.inv) calls.now }
+    requires apart { NonePrecedesItself calls.now }
+    ensures { IfOk result (IsExplained map.now calls.now budget) }
+{
+    let few = few_configurations(budget);
+    let told = told_places(alloc, calls, events)?;
+    let missed = missed_places(alloc, calls, events)?;
+    match shown_calls(
+        alloc,
+        map,
+        calls,
+        &told,
+        &missed,
+        &[8, 16, 32, 64, 128, 256],
+        few,
+    )? {
+        Some(shown) => Ok(Some(explanation_of(alloc, map, calls, shown, budget)?)),
+        None => Ok(None),
+    }
+}
+
+/// Explains calls by some that are enough.
+fn explanation_of(
+    alloc: Global,
+    map: &SortedMap,
+    calls: &[Operation],
+    shown: Vec<Operation>,
+    budget: u32,
+) -> Result<Explanation, Memory>
+    requires rising { AllPairs (λ a b. a.inv < b.inv) calls.now }
+    requires apart { NonePrecedesItself calls.now }
+    requires enough { AreEnough map.now calls.now shown.items }
+    ensures { IfOk result (IsExplanation map.now calls.now budget) }
+{
+    let few = few_configurations(budget);
+    let kept = by_halves(alloc, map, calls, shown, few)?;
+    least_of(alloc, map, calls, kept, budget)
+}
+
+/// Calls that are enough, where short searches show it: so many of those whose places stand first
+/// in either list, or so many of the last ones, for the first of these numbers that does.
+fn shown_calls(
+    alloc: Global,
+    map: &SortedMap,
+    calls: &[Operation],
+    told: &[usize],
+    missed: &[usize],
+    counts: &[usize],
+    budget: u32,
+) -> Result<Option<Vec<Operation>>, Memory>
+    requires rising { AllPairs (λ a b. a.inv < b.inv) calls.now }
+    requires apart { NonePrecedesItself calls.now }
+    ensures { IfOk result (λ shown. MatchOption shown
+        (All (IsUnshown map.now budget calls.now) counts.now)
+        (λ rest. AreEnough map.now calls.now rest.items)) }
+{
+    for count in counts {
+        match shown_by(alloc, map, calls, told, missed, *count, budget)? {
+            Some(rest) => return Ok(Some(rest)),
+            None => {}
+        }
+    }
+    Ok(None)
+}
+
+/// What is left of so many calls, those whose places stand first in either list, or the last ones,
+/// where they show that all have no order.
+fn shown_by(
+    alloc: Global,
+    map: &SortedMap,
+    calls: &[Operation],
+    told: &[usize],
+    missed: &[usize],
+    count: usize,
+    budget: u32,
+) -> Result<Option<Vec<Operation>>, Memory>
+    requires rising { AllPairs (λ a b. a.inv < b.inv) calls.now }
+    requires apart { NonePrecedesItself calls.now }
+    ensures { IfOk result (λ shown. MatchOption shown (IsUnshown map.now budget calls.now count)
+        (λ rest. AreEnough map.now calls.now rest.items)) }
+{
+    let first = &missed[..count.min(missed.len())];
+    match rest_where_shown(alloc, map, calls, first, budget)? {
+        Some(rest) => Ok(Some(rest)),
+        None => told_where_shown(alloc, map, calls, told, count, budget),
+    }
+}
+
+/// What is left of so many calls, those whose places stand first here, or the last ones, where they
+/// show that all have no order.
+fn told_where_shown(
+    alloc: Global,
+    map: &SortedMap,
+    calls: &[Operation],
+    places: &[usize],
+    count: usize,
+    budget: u32,
+) -> Result<Option<Vec<Operation>>, Memory>
+    requires rising { AllPairs (λ a b. a.inv < b.inv) calls.now }
+    requires apart { NonePrecedesItself calls.now }
+    ensures { IfOk result (λ shown. MatchOption shown (IsUnshown map.now budget calls.now count)
+        (λ rest. AreEnough map.now calls.now rest.items)) }
+{
+    let first = &places[..count.min(places.len())];
+    match rest_where_shown(alloc, map, calls, first, budget)? {
+        Some(rest) => Ok(Some(rest)),
+        None => last_where_shown(alloc, map, calls, count, budget),
+    }
+}
+
+/// What is left of so many of the last calls, where they show that all have no order.
+fn last_where_shown(
+    alloc: Global,
+    map: &SortedMap,
+    calls: &[Operation],
+    count: usize,
+    budget: u32,
+) -> Result<Option<Vec<Operation>>, Memory>
+    requires rising { AllPairs (λ a b. a.inv < b.inv) calls.now }
+    requires apart { NonePrecedesItself calls.now }
+    ensures { IfOk result (λ shown. MatchOption shown (IsUnshown map.now budget calls.now count)
+        (λ rest. AreEnough map.now calls.now rest.items)) }
+{
+    let places = places_of(alloc, &calls[calls.len().saturating_sub(count)..])?;
+    rest_where_shown(alloc, map, calls, &places, budget)
+}
+
+/// What is left of the calls that were invoked at these places, where they show that all have no
+/// order.
+fn rest_where_shown(
+    alloc: Global,
+    map: &SortedMap,
+    calls: &[Operation],
+    places: &[usize],
+    budget: u32,
+) -> Result<Option<Vec<Operation>>, Memory>
+    requires rising { AllPairs (λ a b. a.inv < b.inv) calls.now }
+    requires apart { NonePrecedesItself calls.now }
+    ensures { IfOk result (λ shown. MatchOption shown
+        ((reason : Reason) × IsReasonFor map.now budget calls.now places.now reason)
+        (λ rest. AreEnough map.now calls.now rest.items)) }
+{
+    match leave_out(alloc, map, calls, places, budget)? {
+        Without::Rest(rest) => Ok(Some(rest)),
+        Without::Kept(_) => Ok(None),
+    }
+}
+
+/// Of calls of so many events the places of the one which the last event answers, and of those that
+/// put something else at a key of it before it began, the last ones first. Those that put what it
+/// tells are left out: where they stay without their answers, they may come right before it.
+fn missed_places(alloc: Global, calls: &[Operation], events: usize) -> Result<Vec<usize>, Memory> {
+    let mut places = Vec::new(alloc);
+    if let Some(wrong) = answered_by(calls, events) {
+        places.push(wrong.inv)?;
+        push_near(&mut places, calls, wrong, Nearness::Missed)?;
+    }
+    Ok(places)
+}
+
+/// The places of calls of so many events: those nearest to the call which the last event answers
+/// first, and of those as near the last ones.
+fn told_places(alloc: Global, calls: &[Operation], events: usize) -> Result<Vec<usize>, Memory> {
+    let mut places = Vec::with_capacity(alloc, calls.len())?;
+    if let Some(wrong) = answered_by(calls, events) {
+        push_near(&mut places, calls, wrong, Nearness::Told)?;
+        push_near(&mut places, calls, wrong, Nearness::Missed)?;
+        push_near(&mut places, calls, wrong, Nearness::OfKey)?;
+        push_near(&mut places, calls, wrong, Nearness::Apart)?;
+    }
+    Ok(places)
+}
+
+/// What a call may have to do with one that was answered wrongly.
+#[derive(Clone, Copy, Debug, PartialEq, Eq)]
+enum Nearness {
+    /// It is that call, or may have put what that call tells.
+    Told,
+    /// It put something else at a key of that call before that one began.
+    Missed,
+    /// It has a key of that call.
+    OfKey,
+    /// It has none.
+    Apart,
+}
+
+/// The call that the last of so many events answers.
+fn answered_by(calls: &[Operation], events: usize) -> Option<&Operation> {
+    for call in calls {
+        if let Some(response) = &call.response {
+            if response.res == events.saturating_sub(1) {
+                return Some(call);
+            }
+        }
+    }
+    None
+}
+
+/// Adds the places of the calls that are so near to one, the last ones first.
+fn push_near(
+    places: &mut Vec<usize>,
+    calls: &[Operation],
+    wrong: &Operation,
+    nearness: Nearness,
+) -> Result<(), Memory> {
+    for call in calls.iter().rev() {
+        if nearness_of(wrong, call) == nearness {
+            places.push(call.inv)?;
+        }
+    }
+    Ok(())
+}
+
+/// What a call may have to do with one that was answered wrongly.
+fn nearness_of(wrong: &Operation, call: &Operation) -> Nearness {
+    if call.inv == wrong.inv || tells_put(wrong, call) {
+        return Nearness::Told;
+    }
+    if !share_key(&wrong.call, &call.call) {
+        return Nearness::Apart;
+    }
+    if says_put(call) && precedes(call, wrong) {
+        Nearness::Missed
+    } else {
+        Nearness::OfKey
+    }
+}
+
+/// Whether a key is among those of both calls.
+fn share_key(call: &Call, other: &Call) -> bool {
+    call.low_key() <= other.high_key() && other.low_key() <= call.high_key()
+}

@@ -1,0 +1,14 @@
+use Rattle.std.proofs.lemmas.Bool.{false≢true}
+use Rattle.scan_rows.proofs.ScanListLemmas.{none_more, none_all}
+use Rattle.kept_rows.proofs.reaching.has_own_in.Goals as goal
+
+pub loop-entry-preserved : goal.loop-entry-preserved
+loop-entry-preserved c =
+    none_more _ c.args.own.now c.loop-entry.entry-index c.entry-item.result c.loop-entry-test.true c.entry-item.is
+    (λ h. false≢true (c.if-is_between.ensures.1 h)) c.loop-entry.invariant
+
+pub returns : goal.returns
+returns c = (
+  λ h. absurd (false≢true h),
+  λ h. absurd (none_all _ c.args.own.now c.loop-entry.entry-index c.loop-entry-test.false c.loop-entry.invariant h),
+)

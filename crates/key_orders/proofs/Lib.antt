@@ -1,0 +1,5 @@
+pub mod FrontLemmas
+mod GuessLemmas
+mod JudgeFewLemmas
+pub mod JudgeLemmas
+mod JudgeVerdictLemmas

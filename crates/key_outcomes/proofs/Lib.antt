@@ -1,0 +1,7 @@
+mod JoinLemmas
+pub mod SettleChoiceLemmas
+pub mod SettleDueLemmas
+mod SettleOneLemmas
+pub mod SettleOutcomeLemmas
+pub mod SettleStartLemmas
+mod SettleUniteLemmas

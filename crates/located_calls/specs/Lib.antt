@@ -1,0 +1,2 @@
+pub mod Evidences
+pub mod Told

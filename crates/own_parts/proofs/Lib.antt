@@ -1,0 +1,2 @@
+mod LeftLemmas
+mod PartLemmas

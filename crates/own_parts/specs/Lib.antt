@@ -1,0 +1,2 @@
+pub mod OwnParts
+pub mod Laws

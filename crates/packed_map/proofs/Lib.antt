@@ -1,0 +1,6 @@
+mod CutLemmas
+mod EditLemmas
+mod GapLemmas
+mod LeafLemmas
+mod RangeLemmas
+mod SearchLemmas

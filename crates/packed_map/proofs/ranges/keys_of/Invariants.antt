@@ -1,0 +1,8 @@
+use Rattle.std.proofs.Common.{◌≡◌, take}
+use Rattle.packed_map.specs.Leaves.{entries_of}
+use Rattle.packed_map.specs.Ranges.{keys_between}
+use Rattle.packed_map.proofs.ranges.keys_of.Given as goal
+
+-- the keys of the leaves so far
+abbrev pub invariant-loop-leaf : goal.invariant-loop-leaf
+invariant-loop-leaf g l = l.keys.items ≡ keys_between l.low l.high (entries_of (take l.leaf-index l.leaf-items))

@@ -1,0 +1,9 @@
+pub mod CrowdLemmas
+pub mod HoldLemmas
+mod PlacedLemmas
+pub mod RivalLemmas
+pub mod ScanGapLemmas
+pub mod ScanPlaceLemmas
+pub mod ScanTryLemmas
+pub mod ScanWayLemmas
+pub use Rattle.scan_gaps.proofs.ToldLemmas

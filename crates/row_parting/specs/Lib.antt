@@ -1,0 +1,13 @@
+pub mod Crowding
+pub mod Crowds
+pub mod Parting
+pub mod Placed
+pub mod Placing
+pub mod Scannable
+pub mod Steps
+pub mod Trying
+pub use Rattle.scan_gaps.specs.Candidates
+pub use Rattle.scan_gaps.specs.Limits
+pub use Rattle.scan_gaps.specs.Passing
+pub use Rattle.scan_gaps.specs.Reaching
+pub use Rattle.scan_gaps.specs.ScanAnswers

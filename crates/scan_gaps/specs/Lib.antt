@@ -1,0 +1,15 @@
+pub mod Candidates
+pub mod Limits
+pub mod Passing
+pub mod Places
+pub mod Reaching
+pub mod ScanAnswers
+pub use Rattle.scan_rows.specs.Judging
+pub use Rattle.scan_rows.specs.Moments
+pub use Rattle.scan_rows.specs.Retiming
+pub use Rattle.scan_rows.specs.RowView
+pub use Rattle.scan_rows.specs.Settling
+pub use Rattle.scan_rows.specs.Steps
+pub use Rattle.scan_rows.specs.Views
+pub use Rattle.scan_rows.specs.declared.key_loss.KeyLoss
+pub use Rattle.scan_rows.specs.declared.row.KeptScan

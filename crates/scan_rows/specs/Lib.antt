@@ -1,0 +1,13 @@
+pub mod Joining
+pub mod Moments
+pub mod Printing
+pub mod RowView
+pub mod Settling
+pub mod Tidying
+pub mod Timing
+pub use Rattle.known_keys.specs.Entries
+pub use Rattle.known_keys.specs.Judging
+pub use Rattle.known_keys.specs.Reads
+pub use Rattle.known_keys.specs.Retiming
+pub use Rattle.known_keys.specs.Steps
+pub use Rattle.known_keys.specs.Views

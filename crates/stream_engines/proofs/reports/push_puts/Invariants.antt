@@ -1,0 +1,10 @@
+-- The calls so far stand behind those that were there.
+use Rattle.std.proofs.Common.{◌≡◌, ◌++◌, map, take}
+use Rattle.serde_json.specs.View.{view}
+use Rattle.kept_rows.specs.Puts.{put_in}
+use Rattle.stream_engines.specs.Reports.{value_data}
+use Rattle.stream_engines.proofs.reports.push_puts.Given as goal
+
+abbrev pub invariant-loop-value : goal.invariant-loop-value
+invariant-loop-value l =
+    map view l.items.items ≡ map view l.fn.items.items ++ map value_data (map (put_in l.kept l.configuration) (take l.value-index l.values))

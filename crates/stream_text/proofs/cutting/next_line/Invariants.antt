@@ -1,0 +1,18 @@
+-- What was looked at has no line feed, and the bytes at hand stand before those that the source still has.
+use Rattle.std.proofs.Common.{◌≡◌, ◌-◌, ◌≤◌, [], length, take}
+use Rattle.std.specs.Io.KnownBytes.{Keeps, prepend_known}
+use Rattle.stream_text.specs.Cuts.{HasNoLineFeed}
+use Rattle.stream_text.proofs.cutting.next_line.Given as goal
+
+abbrev pub invariant-loop-more : goal.invariant-loop-more
+invariant-loop-more g l = record {
+  seen : l.seen ≤ length l.window.bytes;
+  whole : HasNoLineFeed (take l.seen l.window.bytes);
+  no_line : l.window.line ≡ [];
+  kept : Keeps (prepend_known l.fn.window.bytes (g.S.Source.remaining l.fn.source))
+      (prepend_known l.window.bytes (g.S.Source.remaining l.source));
+  counted : g.S.Source.failures l.source ≡ g.S.Source.failures l.fn.source;
+}
+
+abbrev pub decreases-loop-more : goal.decreases-loop-more
+decreases-loop-more g l = 1048577 - length l.window.bytes

@@ -1,0 +1,52 @@
+// A source, cut at its line feeds.
+ghost use Rattle.std.specs.Prelude.{◌≡◌, ◌+◌, ◌<◌, IfOk, OnOk, OnErr, IsErrOf};
+ghost use Rattle.std.specs.Io.KnownBytes.{prepend_known};
+ghost use Rattle.stream_text.specs.Cuts.{Advances, Stays, BeginsTooLong};
+
+use crate::MAX_LINE;
+use crate::feeds::first_line_feed;
+use crate::no_line::NoLine;
+use crate::window::Window;
+use streams::Source;
+
+/// Hands out the next line of a source, of which a beginning was read into the window, and answers
+/// whether there is one; else why none was handed out: then nothing that is to come is lost, and a
+/// later call begins at the same bytes. It takes no memory. The time is linear in the bytes read.
+pub fn next_line<S: Source>(window: &mut Window, source: &mut S) -> Result<bool, NoLine>
+    requires { S.failures source.old < u64.MAX }
+    ensures line { IfOk result (λ found. Advances found
+        (prepend_known window.old.bytes (S.remaining source.old)) window.new.line
+        (prepend_known window.new.bytes (S.remaining source.new))) }
+    ensures stays { OnErr result (Stays
+        (prepend_known window.old.bytes (S.remaining source.old)) window.new.line
+        (prepend_known window.new.bytes (S.remaining source.new))) }
+    ensures too_long { IsErrOf result NoLine.TooLong
+        → BeginsTooLong (prepend_known window.old.bytes (S.remaining source.old)) }
+
+    // The count of failures rises exactly where the answer is that a call failed.
+    ensures counted { OnOk result (S.failures source.new ≡ S.failures source.old) }
+    ensures unread { IsErrOf result NoLine.TooLong → S.failures source.new ≡ S.failures source.old }
+    ensures raised { IsErrOf result NoLine.Failed
+        → S.failures source.new ≡ S.failures source.old + 1 }
+{
+    window.forget_line();
+    let mut seen = 0;
+    loop {
+        if let Some(more) = first_line_feed(&window.bytes()[seen..]) {
+            let length = seen + more;
+            if length > MAX_LINE {
+                return Err(NoLine::TooLong);
+            }
+            window.hand_out(length);
+            return Ok(true);
+        }
+        seen = window.bytes().len();
+        if seen > MAX_LINE {
+            return Err(NoLine::TooLong);
+        }
+        if window.fill(source)? == 0 {
+            window.hand_out(seen);
+            return Ok(seen > 0);
+        }
+    }
+}
