@@ -4,13 +4,9 @@ use Rattle.std.specs.Prelude.{ℕ, List, Option, Some, None, codes}
 use Rattle.serde_json.specs.Data.{Data, null, object, no_members, member}
 use Rattle.events.specs.declared.event.Event.{Event}
 use Rattle.history_text.specs.Texts.{number_data}
+use Rattle.small_histories.specs.Values.{value_data}
 use Rattle.own_parts.specs.OwnParts.{OwnPart}
 use Rattle.explain_engines.specs.Origins.{writer_data}
-
--- a value, or none
-abbrev pub value_data : Option ℕ → Data
-value_data None = null
-value_data (Some value) = number_data value
 
 -- the call that put it, by the event of its invocation, with its process; none where it was there
 -- at the start, and beside none

@@ -4,13 +4,14 @@ ghost use Rattle.serde_json.specs.Data.{object};
 ghost use Rattle.serde_json.specs.View.{view, members_view};
 ghost use Rattle.serde_json.specs.Written.{compact_text};
 ghost use Rattle.outcomes.specs.Lines.{line};
-ghost use Rattle.explain_engines.specs.Parts.{value_data, put_data, part_data};
+ghost use Rattle.explain_engines.specs.Parts.{put_data, part_data};
 
 use crate::writers::writer_value;
 use events::{Event, History, Memory};
 use outcomes::line_of;
 use own_parts::OwnPart;
 use serde_json::{Map, Value, put};
+use small_histories::value_or_null;
 use std::alloc::{AllocError, Global};
 
 /// The line of a key and a value, from which calls of it begin, with the call that put it.
@@ -44,16 +45,6 @@ fn put_part(
     put(members, alloc, "from", value_or_null(part.value))?;
     put(members, alloc, "key", Value::from(part.key))?;
     put(members, alloc, "put", put_value(alloc, events, part.put)?)
-}
-
-/// A value, or none.
-fn value_or_null(value: Option<u64>) -> Value
-    ensures { view result ≡ value_data value }
-{
-    match value {
-        Some(value) => Value::from(value),
-        None => Value::Null,
-    }
 }
 
 /// The call that put a value, if any did, by the event of its invocation, with its process.

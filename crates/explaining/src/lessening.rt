@@ -14,7 +14,7 @@ use std::alloc::Global;
 pub enum Pass {
     /// One of them can be left out, and these are the others.
     Less(Vec<Operation>),
-    /// None can be left out, each for its reason.
+    /// None can be left out, and each has its reason to stay.
     Least(Vec<Reason>),
 }
 

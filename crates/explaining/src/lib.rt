@@ -32,5 +32,5 @@ pub use explaining::explain_calls;
 pub use explanation::{Explanation, Reason};
 pub use laws::{relaxed_calls_have_orders, rests_are_relaxed};
 pub use losing::explain_history;
-pub use rests::precedes;
+pub use rests::{precedes, without_answer};
 pub use telling::{depends_on, is_sure, names_key, put_by, put_of, tells_put};

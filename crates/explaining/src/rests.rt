@@ -103,7 +103,7 @@ fn if_belongs(call: Operation) -> Option<Operation>
 }
 
 /// The call without its answer.
-fn without_answer(call: &Operation) -> Operation
+pub fn without_answer(call: &Operation) -> Operation
     ensures { result ≡ opened call.now }
 {
     Operation {

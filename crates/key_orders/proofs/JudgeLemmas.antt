@@ -1,11 +1,10 @@
 -- The calls of a key that are not taken.
-use Rattle.std.proofs.Common.{◌≡◌, ℕ, ◌+◌, ◌<◌, ◌≤◌, Bool, true, false, cond, List, [], ◌∷◌, ◌++◌, length, get_or, take, map, filter, refl}
+use Rattle.std.proofs.Common.{◌≡◌, ℕ, ◌<◌, true, false, List, [], ◌∷◌, length, map, filter, refl}
 use Rattle.std.proofs.Common.{sym, ap, ◌∙◌, subst, arith}
 use Rattle.std.specs.Prelude.{not, zip, AllPairs, Contains}
-use Rattle.std.proofs.lemmas.List.{map-append, take_all}
-use Rattle.std.proofs.lemmas.List.Elements.{All-contains, filter_more}
+use Rattle.std.proofs.lemmas.List.Elements.{All-contains}
 use Rattle.std.proofs.lemmas.List.Kept.{AllPairs-filter}
-use Rattle.std.proofs.lemmas.Slice.Zip.{length-zip, get_or-zip, seconds-zip}
+use Rattle.std.proofs.lemmas.Slice.Zip.{seconds-zip}
 use Rattle.events.specs.declared.operation.Operation.{Operation}
 use Rattle.events.specs.Precedence.{precedes, NonePrecedesItself}
 use Rattle.list_laws.specs.Lists.{has_number}
@@ -13,39 +12,6 @@ use Rattle.list_laws.proofs.Lists.{All-from_contains, Contains-from_filter}
 use Rattle.list_laws.proofs.Lists.{filter_all}
 use Rattle.list_laws.proofs.FilterLemmas.{AllPairs-map, AllPairs-from_map, Contains-map, Contains-from_map}
 use Rattle.key_configurations.specs.Calls.{calls_but}
-
--- those of the first calls that are not taken
-abbrev pub left_before : List ℕ → List ℕ → List Operation → ℕ → List Operation
-left_before taken names calls i = map (λ call. call.1) (filter (λ call. not (has_number taken call.0)) (take i (zip names calls)))
-
--- one call more
-pub left_more : (taken names : List ℕ) (calls : List Operation) (i n : ℕ) (a : Operation) → length names ≡ length calls → i < length calls
-    → n ≡ get_or names i n → a ≡ get_or calls i a
-    → left_before taken names calls (i + 1) ≡ left_before taken names calls i ++ cond (not (has_number taken n)) (a ∷ []) []
-left_more taken names calls i n a each within n_here a_here =
-    let keeps = λ (call : ℕ × Operation). not (has_number taken call.0) in
-    let pairs = zip names calls in
-    let inside : i < length pairs = rw length-zip (omega arith) in
-    let here : get_or pairs i (n, a) ≡ (n, a) =
-    get_or-zip names calls i (n, a) (omega arith) within ∙ ap (λ (m : ℕ). (m, get_or calls i a)) (sym n_here)
-    ∙ ap (λ (b : Operation). (n, b)) (sym a_here) in
-    ap (map (λ (call : ℕ × Operation). call.1))
-    (filter_more keeps pairs i (n, a) inside
-    ∙ ap (λ (call : ℕ × Operation). filter keeps (take i pairs) ++ cond (keeps call) (call ∷ []) []) here)
-    ∙ map-append (λ (call : ℕ × Operation). call.1) (filter keeps (take i pairs)) (cond (keeps (n, a)) ((n, a) ∷ []) [])
-    ∙ ap (λ (more : List Operation). left_before taken names calls i ++ more) (one_or_none (keeps (n, a)) n a)
-  where
-    one_or_none : (t : Bool) (n : ℕ) (a : Operation)
-        → map (λ (call : ℕ × Operation). call.1) (cond t ((n, a) ∷ []) []) ≡ cond t (a ∷ []) []
-    one_or_none true n a = refl
-    one_or_none false n a = refl
-
--- all of them
-pub left_all : (taken names : List ℕ) (calls : List Operation) (i : ℕ) → length names ≡ length calls → length calls ≤ i
-    → left_before taken names calls i ≡ calls_but taken names calls
-left_all taken names calls i each past =
-    ap (λ (pairs : List (ℕ × Operation)). map (λ call. call.1) (filter (λ call. not (has_number taken call.0)) pairs))
-    (take_all i (zip names calls) (rw length-zip (omega arith)))
 
 -- where none is taken all calls are left
 pub calls_but_none : (taken names : List ℕ) (calls : List Operation) → length names ≡ length calls → length taken ≡ 0

@@ -1,17 +1,18 @@
 // Few calls of a key, tried in each order.
 ghost use Rattle.std.specs.Prelude.{◌≡◌, ◌↔◌, ◌<◌, ◌≤◌, length, slice_index_or, All, IsTrue, true, false};
-ghost use Rattle.events.specs.Precedence.{NonePrecedesItself, is_before};
+ghost use Rattle.events.specs.Precedence.{NonePrecedesItself};
 ghost use Rattle.orders.specs.Orders.{IsLinearizable};
 ghost use Rattle.following.specs.keys.KeyStates.{one_key};
 ghost use Rattle.past_choices.specs.Values.{IsCallOf};
 ghost use Rattle.key_orders.specs.Few.{AreDone, IsMinimal, MayBegin, HasRest};
 
-use events::{Call, Operation, Response};
+use events::{Call, Operation};
+use order_guesses::is_ended;
 use past_choices::{may_be_answered, value_behind};
 
-/// So many calls are few. They are tried in each order, with no memory of positions, and so with
-/// none at all.
-pub(crate) const FEW: usize = 4;
+/// The most calls of a key that are few. They are tried in each order, with no memory of positions,
+/// and so with none at all.
+pub(crate) const FEW_CALLS: usize = 4;
 
 /// Whether few calls of a key have an order from a value of it, or none.
 pub(crate) fn few_have_order(key: u64, value: Option<u64>, calls: &[Operation]) -> bool
@@ -20,11 +21,11 @@ pub(crate) fn few_have_order(key: u64, value: Option<u64>, calls: &[Operation]) 
     requires apart { NonePrecedesItself calls.now }
     ensures { IsTrue result ↔ IsLinearizable (one_key key value) calls.now }
 {
-    has_rest(key, value, calls, [false; FEW])
+    has_rest(key, value, calls, [false; FEW_CALLS])
 }
 
 /// Whether those of few calls that are not taken have an order from a value, or none.
-fn has_rest(key: u64, value: Option<u64>, calls: &[Operation], taken: [bool; FEW]) -> bool
+fn has_rest(key: u64, value: Option<u64>, calls: &[Operation], taken: [bool; FEW_CALLS]) -> bool
     requires few { length calls.now ≤ 4 }
     requires of_key { All (λ a. IsCallOf key a.call) calls.now }
     requires apart { NonePrecedesItself calls.now }
@@ -46,7 +47,7 @@ fn has_rest(key: u64, value: Option<u64>, calls: &[Operation], taken: [bool; FEW
 }
 
 /// Whether no completed call is left.
-fn are_done(calls: &[Operation], taken: [bool; FEW]) -> bool
+fn are_done(calls: &[Operation], taken: [bool; FEW_CALLS]) -> bool
     requires few { length calls.now ≤ 4 }
     ensures { IsTrue result ↔ AreDone calls.now taken }
 {
@@ -63,7 +64,7 @@ fn may_begin(
     key: u64,
     value: Option<u64>,
     calls: &[Operation],
-    taken: [bool; FEW],
+    taken: [bool; FEW_CALLS],
     place: usize,
 ) -> bool
     requires few { length calls.now ≤ 4 }
@@ -78,26 +79,16 @@ fn may_begin(
 }
 
 /// Whether no call that is left precedes this one.
-fn is_minimal(calls: &[Operation], taken: [bool; FEW], call: &Operation) -> bool
+fn is_minimal(calls: &[Operation], taken: [bool; FEW_CALLS], call: &Operation) -> bool
     requires few { length calls.now ≤ 4 }
     ensures { IsTrue result ↔ IsMinimal calls.now taken call.now }
 {
     for place in 0..calls.len() {
-        if !taken[place] && is_before(&calls[place].response, call.inv) {
+        if !taken[place] && is_ended(&calls[place], call.inv) {
             return false;
         }
     }
     true
-}
-
-/// Whether a response stands before a place.
-pub(crate) fn is_before(response: &Option<Response>, place: usize) -> bool
-    ensures { result ≡ is_before response.now place }
-{
-    match response {
-        Some(response) => response.res < place,
-        None => false,
-    }
 }
 
 /// Whether all calls are of a key.

@@ -8,12 +8,12 @@ ghost use Rattle.key_orders.specs.Fronts.{IsFront, IsApartFrom, IsChecked, Begin
 ghost use Rattle.key_orders.specs.Judging.{HasOrder};
 
 use crate::calls_left::CallsLeft;
-use crate::few::{is_before, is_of};
-use crate::guessing::{may_follow, order_mended};
+use crate::few::is_of;
+use crate::guessing::{may_follow, order_near_from};
 use crate::kept_order::KeptOrder;
 use events::{Memory, Operation};
 use key_configurations::{Configuration, is_among};
-use order_guesses::Guess;
+use order_guesses::{Guess, is_ended};
 use past_choices::value_behind;
 use std::alloc::Global;
 use std::mem;
@@ -30,22 +30,24 @@ pub struct Front {
     pub rest: Vec<usize>,
 }
 
-/// Where fewer calls are left each order is checked whole.
-const MANY: usize = 64;
+/// Where more calls of a key than these are left, the first ones of an order stay checked. Where
+/// they are fewer each order is checked whole.
+const MANY_CALLS: usize = 64;
 
-/// Where more calls stand behind the front it goes on.
-const MOST: usize = 24;
+/// Where more calls than these stand behind the front, it goes on.
+const MOST_BEHIND: usize = 24;
 
-/// So many calls stay behind it: the next order may be another one there.
-const LEAST: usize = 12;
+/// At least so many calls stay behind the front when it goes on: the next order may be another one
+/// there.
+const LEAST_BEHIND: usize = 12;
 
-/// Behind so many calls an open call keeps a front from going on.
-const STUCK: usize = 256;
+/// Where no more calls than these stand behind the front, an open call keeps it from going on.
+const STUCK_BEHIND: usize = 256;
 
 impl KeptOrder {
-    /// Whether the order that was found last goes on behind its front, with the call that came
-    /// since or with another end. It is kept.
-    pub(crate) fn goes_on(
+    /// Goes on with the order that was found last behind its front, with the call that came since
+    /// or with another end, and keeps it. Says whether that is an order of the calls left.
+    pub(crate) fn go_on(
         &mut self,
         alloc: Global,
         key: u64,
@@ -65,7 +67,7 @@ impl KeptOrder {
         let Some(guess) = &mut self.guess else {
             return Ok(false);
         };
-        if !goes_on_behind(alloc, &mut front, left.calls, guess)? {
+        if !go_on_behind(alloc, &mut front, left.calls, guess)? {
             return Ok(false);
         }
         self.front = Some(front);
@@ -98,7 +100,7 @@ fn front_of(
 ) -> Result<Option<Box<Front>>, Memory>
     ensures { IfOk result (λ found. MatchOption found ⊤ (λ f. IsFront calls.now f.value)) }
 {
-    if calls.len() <= MANY || !guess.taken.is_empty() {
+    if calls.len() <= MANY_CALLS || !guess.taken.is_empty() {
         return Ok(None);
     }
     let mut front = Front {
@@ -109,7 +111,7 @@ fn front_of(
         seen: 0,
         rest: Vec::new(alloc),
     };
-    go_over(&mut front, calls, guess.front(LEAST))?;
+    go_over(&mut front, calls, guess.front(LEAST_BEHIND))?;
     Ok(Some(Box::new(alloc, front)?))
 }
 
@@ -145,9 +147,9 @@ fn begins(c: &Configuration, value: Option<u64>) -> bool
     c.taken.is_empty() && c.values.contains(&value)
 }
 
-/// Whether a guess is an order behind a front, or becomes one with another end. The front goes on
-/// where many calls stand behind it.
-fn goes_on_behind(
+/// Makes a guess an order behind a front, as it is or with another end, and says whether it is one
+/// then. The front goes on where many calls stand behind it.
+fn go_on_behind(
     alloc: Global,
     front: &mut Front,
     calls: &[Operation],
@@ -166,11 +168,11 @@ fn goes_on_behind(
     }
     let depth = front.seen.saturating_sub(front.rest.len());
     let near = guess.end_to_numbers(alloc, depth, &front.rest)?;
-    let Some(end) = order_mended(alloc, front.key, front.value, &rest, &near)? else {
+    let Some(end) = order_near_from(alloc, front.key, front.value, &rest, &near)? else {
         return Ok(false);
     };
     guess.set_end(depth, &end, &front.rest)?;
-    if front.rest.len() > MOST {
+    if front.rest.len() > MOST_BEHIND {
         take_on(front, calls, guess.end(depth));
     }
     Ok(true)
@@ -209,7 +211,7 @@ fn calls_of(alloc: Global, calls: &[Operation], places: &[usize]) -> Result<Vec<
 fn none_ended(calls: &[Operation], moment: usize) -> bool
     ensures { IsTrue result → All (λ a. is_before a.response moment ≡ false) calls.now }
 {
-    calls.iter().all(|call| !is_before(&call.response, moment))
+    calls.iter().all(|call| !is_ended(call, moment))
 }
 
 /// The front goes on with calls of an order while more than a few stand behind it.
@@ -220,7 +222,7 @@ fn take_on(front: &mut Front, calls: &[Operation], order: &[usize])
     ensures first { front.new.first ≡ front.old.first }
 {
     for place in order {
-        if front.rest.len() <= LEAST || !take(front, calls, *place) {
+        if front.rest.len() <= LEAST_BEHIND || !take(front, calls, *place) {
             return;
         }
     }
@@ -238,7 +240,7 @@ fn take(front: &mut Front, calls: &[Operation], place: usize) -> bool
         return false;
     }
     let call = &calls[place];
-    if !call.is_completed() && front.rest.len() <= STUCK {
+    if !call.is_completed() && front.rest.len() <= STUCK_BEHIND {
         return false;
     }
     if !is_of(front.key, &call.call) || !may_follow(front.value, front.latest, call) {

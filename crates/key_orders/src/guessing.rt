@@ -9,21 +9,21 @@ ghost use Rattle.key_orders.specs.Fronts.{IsChecked};
 ghost use Rattle.key_orders.specs.Judging.{HasOrder, HasOrderFrom};
 
 use crate::calls_left::CallsLeft;
-use crate::few::{FEW, is_before, is_of};
-use crate::judging::calls_but;
+use crate::few::{FEW_CALLS, is_of};
 use crate::kept_order::KeptOrder;
 use events::{Memory, Operation};
-use key_configurations::{Configuration, is_value_among};
+use key_configurations::{Configuration, calls_but, is_value_among};
 use order_guesses::{
-    Guess, guessed_order, mended_order, numbers_of_guess, order_with, places_but, rounds_for,
+    Guess, guessed_order, is_ended, mended_order, numbers_of_guess, order_with, places_but,
+    rounds_for,
 };
 use past_choices::{may_be_answered, value_behind};
 use std::alloc::Global;
 
 impl KeptOrder {
-    /// Whether an order of the calls left is guessed, where they are not few. It is kept, and the
-    /// next one is looked for near it.
-    pub(crate) fn is_guessed(
+    /// Guesses an order of the calls left, where they are not few, and keeps it: the next one is
+    /// looked for near it. Says whether one was found.
+    pub(crate) fn keep_guessed_order(
         &mut self,
         alloc: Global,
         key: u64,
@@ -34,10 +34,10 @@ impl KeptOrder {
         ensures checked { IsChecked left.now.calls self.new }
         ensures guessed { IfOk result (λ is. is ≡ true → HasOrder key left.now) }
     {
-        if left.calls.len() <= FEW {
+        if left.calls.len() <= FEW_CALLS {
             return Ok(false);
         }
-        if self.goes_on(alloc, key, left)? {
+        if self.go_on(alloc, key, left)? {
             return Ok(true);
         }
         match self.guess_order(alloc, key, left)? {
@@ -195,11 +195,11 @@ fn order_near(
     if !is_value_among(values, value) {
         return Ok(None);
     }
-    order_mended(alloc, key, value, calls, guess)
+    order_near_from(alloc, key, value, calls, guess)
 }
 
 /// One from a value, or none, near another one: with the call that came since, or with another end.
-pub(crate) fn order_mended(
+pub(crate) fn order_near_from(
     alloc: Global,
     key: u64,
     value: Option<u64>,
@@ -318,7 +318,7 @@ pub(crate) fn may_follow(value: Option<u64>, latest: usize, call: &Operation) ->
     ensures { IsTrue result → (MayBeAnswered value call.now.call call.now.response
         × (is_before call.now.response latest ≡ false)) }
 {
-    may_be_answered(value, call) && !is_before(&call.response, latest)
+    may_be_answered(value, call) && !is_ended(call, latest)
 }
 
 /// Whether all completed calls are taken.

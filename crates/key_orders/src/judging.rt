@@ -7,11 +7,11 @@ ghost use Rattle.key_orders.specs.Fronts.{IsChecked};
 ghost use Rattle.key_orders.specs.Judging.{IsJudged, NoneWasFound, IsJudgedFrom, AreJudgedFrom};
 
 use crate::calls_left::CallsLeft;
-use crate::few::{FEW, are_of, few_have_order};
+use crate::few::{FEW_CALLS, are_of, few_have_order};
 use crate::kept_order::KeptOrder;
 use call_search::{SearchEnd, search_calls};
 use events::{Memory, Operation};
-use key_configurations::Configuration;
+use key_configurations::{Configuration, calls_but};
 use map_object::SortedMap;
 use std::alloc::Global;
 
@@ -47,7 +47,7 @@ impl KeptOrder {
         ensures spent { IfOk result (λ verdict. verdict ≡ Judged.Spent
             → NoneWasFound budget key left.now) }
     {
-        if self.is_guessed(alloc, key, left)? {
+        if self.keep_guessed_order(alloc, key, left)? {
             return Ok(Judged::Order);
         }
         left.search(alloc, key, budget)
@@ -98,25 +98,6 @@ impl<'a> CallsLeft<'a> {
     }
 }
 
-/// Copies of the calls that are not taken.
-pub(crate) fn calls_but(
-    alloc: Global,
-    taken: &[usize],
-    names: &[usize],
-    calls: &[Operation],
-) -> Result<Vec<Operation>, Memory>
-    requires { length names.now ≡ length calls.now }
-    ensures { IfOk result (λ v. v.items ≡ calls_but taken.now names.now calls.now) }
-{
-    let mut left = Vec::with_capacity(alloc, calls.len())?;
-    for (place, call) in calls.iter().enumerate() {
-        if !taken.contains(&names[place]) {
-            left.push(call.copy(alloc)?)?;
-        }
-    }
-    Ok(left)
-}
-
 /// Judges calls from some values.
 fn judge_values(
     alloc: Global,
@@ -152,7 +133,7 @@ fn judge_value(
     requires apart { NonePrecedesItself calls.now }
     ensures { IfOk result (IsJudgedFrom budget key calls.now value) }
 {
-    if calls.len() <= FEW && are_of(key, calls) {
+    if calls.len() <= FEW_CALLS && are_of(key, calls) {
         return Ok(order_if(few_have_order(key, value, calls)));
     }
     let map = map_of(alloc, key, value)?;

@@ -2,10 +2,10 @@
 ghost use Rattle.std.specs.Prelude.{◌≡◌, IfOk, MatchOption, None, Some, ⊤};
 ghost use Rattle.key_orders.specs.Fronts.{IsApartFrom};
 
-use crate::few::{FEW, is_before};
+use crate::few::FEW_CALLS;
 use crate::fronts::{Front, apart_from};
 use events::{Memory, Operation};
-use order_guesses::{Guess, copied_guess, forget, make_room, note};
+use order_guesses::{Guess, copied_guess, forget, is_ended, make_room, note};
 use std::alloc::Global;
 use std::mem;
 
@@ -99,8 +99,6 @@ impl KeptOrder {
 
 /// Whether few calls did not end before a moment.
 fn few_are_left(calls: &[Operation], limit: usize) -> bool {
-    let left = calls
-        .iter()
-        .filter(|call| !is_before(&call.response, limit));
-    left.count() <= FEW
+    let left = calls.iter().filter(|call| !is_ended(call, limit));
+    left.count() <= FEW_CALLS
 }

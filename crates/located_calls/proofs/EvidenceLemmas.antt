@@ -13,7 +13,7 @@ use Rattle.located_calls.specs.Evidences.{IsLossEvidence, IsOwnEvidence, ShowsNo
 
 -- what goes wrong by itself at a loss is of the events up to there
 pub own_of : OwnPartsHaveNoOrder → (budget : ℕ) (history : HistoryView) (loss : Loss) (part : OwnPart) → IsLostAt budget history loss
-    → own_part loss ≡ Some part → (events : List Event) × IsOwnPartOf events part
+    → own_part loss ≡ Some part → (events : List Event) × IsOwnPartOf history.start events part
 own_of law budget history loss part lost is =
     let followed = lost.followed in
     let answered = followed.answered_is in

@@ -18,11 +18,11 @@ use std::alloc::Global;
 /// What shows that a history goes wrong at an event, or may.
 #[derive(Debug, Drop)]
 pub enum Evidence {
-    /// Few calls of the events up to it, from the pairs that the map holds at the start.
+    /// Few calls of the events up to it do, from the pairs that the map holds at the start.
     OfEvents(Explanation),
-    /// Few of the calls left of one key, from the value that it had before them.
+    /// Few of the calls left of one key do, from the value that it had before them.
     OfKey(OwnPart, Explanation),
-    /// Nothing.
+    /// Nothing does.
     Missing,
 }
 

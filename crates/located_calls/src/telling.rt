@@ -1,9 +1,9 @@
 // The calls of a history that few calls of a part are.
 ghost use Rattle.std.specs.Prelude.{◌≡◌, IfOk};
-ghost use Rattle.explaining.specs.Rest.{opened};
 ghost use Rattle.located_calls.specs.Told.{call_at, answered_as, told_as, told_of, told_calls};
 
 use events::{Memory, Operation};
+use explaining::without_answer;
 use own_parts::event_of;
 use std::alloc::Global;
 
@@ -60,17 +60,6 @@ fn answered_as(alloc: Global, call: &Operation, whole: &Operation) -> Result<Ope
     if call.response.is_some() {
         whole.copy(alloc)
     } else {
-        Ok(opened(whole))
-    }
-}
-
-/// The call without its answer.
-fn opened(call: &Operation) -> Operation
-    ensures { result ≡ opened call.now }
-{
-    Operation {
-        call: call.call,
-        inv: call.inv,
-        response: None,
+        Ok(without_answer(whole))
     }
 }

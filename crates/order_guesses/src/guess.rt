@@ -1,4 +1,7 @@
 // The order that was found last of the calls left of a key.
+ghost use Rattle.std.specs.Prelude.{◌≡◌, ◌↔◌, false, IsSomeAnd, IsTrue, slice_get};
+ghost use Rattle.events.specs.Precedence.{is_before};
+
 use events::{Memory, Operation};
 use past_choices::value_behind;
 use std::alloc::Global;
@@ -217,8 +220,11 @@ pub(crate) fn value_after(value: Option<u64>, calls: &[Operation], order: &[usiz
     found
 }
 
-/// Whether a call did not end before a moment.
-fn is_left(calls: &[Operation], place: usize, limit: usize) -> bool {
+/// Whether there is a call at a place, and it did not end before a moment.
+fn is_left(calls: &[Operation], place: usize, limit: usize) -> bool
+    ensures { IsTrue result ↔ IsSomeAnd (slice_get calls.now place)
+        (λ a. is_before a.response limit ≡ false) }
+{
     match calls.get(place) {
         Some(call) => !is_ended(call, limit),
         None => false,
@@ -226,7 +232,9 @@ fn is_left(calls: &[Operation], place: usize, limit: usize) -> bool {
 }
 
 /// Whether a call ended before a place.
-pub(crate) fn is_ended(call: &Operation, place: usize) -> bool {
+pub fn is_ended(call: &Operation, place: usize) -> bool
+    ensures { result ≡ is_before call.now.response place }
+{
     match &call.response {
         Some(response) => response.res < place,
         None => false,

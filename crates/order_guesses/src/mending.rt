@@ -157,9 +157,16 @@ fn is_marked(taken: &[bool], place: usize) -> bool {
     }
 }
 
-/// The calls of an order from which on another end is looked for, at the first, at the second, and
-/// so on.
+/// How many of the calls that begin before the first answer of a missing one are ordered anew with
+/// the end: at the first look, at the second, and so on.
 const ENDS: [usize; 4] = [0, 16, 128, 1024];
+
+/// For each call that is left another end may take so many calls that are no reads, going back
+/// included.
+const END_ROUNDS_EACH: usize = 4;
+
+/// And so many more, however few calls are left.
+const END_ROUNDS_MORE: usize = 64;
 
 /// An order that begins as this one, and ends in another way.
 fn end_anew(
@@ -207,7 +214,10 @@ fn with_end(
             rest.push(calls[place].copy(alloc)?)?;
         }
     }
-    let rounds = rest.len().saturating_mul(4).saturating_add(64);
+    let rounds = rest
+        .len()
+        .saturating_mul(END_ROUNDS_EACH)
+        .saturating_add(END_ROUNDS_MORE);
     let Some(end) = guessed_order(alloc, value_after(value, calls, front), &rest, rounds)? else {
         return Ok(None);
     };

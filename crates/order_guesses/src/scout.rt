@@ -1,4 +1,6 @@
 // A quick look for an order of calls of one key: what is found is a guess, to be checked.
+ghost use Rattle.std.specs.Prelude.{◌≡◌, ◌<◌, ◌≤◌, ◌^◌, ℕ, IfSome, None};
+
 use events::{Call, Memory, Operation, Reply};
 use past_choices::{may_be_answered, value_behind};
 use quiet_cuts::is_read;
@@ -19,9 +21,19 @@ pub fn guessed_order(
     scouted_order(alloc, value, calls, rounds)
 }
 
-/// A scout that begins with nothing takes so many calls at most that are no reads.
+/// For each call an order that is looked for anew may take so many calls that are no reads, going
+/// back included.
+const ROUNDS_EACH: usize = 16;
+
+/// And so many more, however few calls there are.
+const ROUNDS_MORE: usize = 1000;
+
+/// How many calls that are no reads an order that is looked for anew takes at most.
 pub fn rounds_for(calls: &[Operation]) -> usize {
-    calls.len().saturating_mul(16).saturating_add(1000)
+    calls
+        .len()
+        .saturating_mul(ROUNDS_EACH)
+        .saturating_add(ROUNDS_MORE)
 }
 
 /// Whether the completed calls may come as they stand.
@@ -72,8 +84,8 @@ fn scouted_order(
     Ok(None)
 }
 
-/// So many digests of positions are kept, which is 2 to the 12.
-const SEEN: usize = 4096;
+/// So many digests of positions are kept, each at the place that its first 12 bits tell.
+const SEEN_DIGESTS: usize = 4096;
 
 /// A call that was taken, and what the key held before it.
 #[derive(Clone, Copy)]
@@ -114,7 +126,8 @@ struct Scout {
     values: Vec<Option<u64>>,
     puts: Vec<usize>,
     tells: Vec<usize>,
-    parts: Vec<CallValues>,
+    /// Which of these values each call puts and tells of.
+    values_of_calls: Vec<CallValues>,
     /// A value is told of by calls left that none puts.
     is_lost: bool,
 }
@@ -130,11 +143,11 @@ fn open(alloc: Global, value: Option<u64>, calls: &[Operation]) -> Result<Scout,
         left: 0,
         value,
         digest: 0,
-        seen: vec![in alloc; 0; SEEN]?,
+        seen: vec![in alloc; 0; SEEN_DIGESTS]?,
         puts: vec![in alloc; 0; values.len()]?,
         tells: vec![in alloc; 0; values.len()]?,
         values,
-        parts: Vec::new(alloc),
+        values_of_calls: Vec::new(alloc),
         is_lost: false,
     };
     for call in calls {
@@ -263,7 +276,7 @@ impl Scout {
         if call.is_completed() {
             self.left = self.left.saturating_add(1);
         }
-        self.parts.push(CallValues { put, told })?;
+        self.values_of_calls.push(CallValues { put, told })?;
         Ok(())
     }
 
@@ -284,8 +297,8 @@ impl Scout {
 
     /// What a call puts and tells.
     fn call_values(&self, place: usize) -> CallValues {
-        match self.parts.get(place) {
-            Some(part) => *part,
+        match self.values_of_calls.get(place) {
+            Some(values) => *values,
             None => CallValues {
                 put: None,
                 told: None,
@@ -323,9 +336,9 @@ impl Scout {
         if call.is_completed() {
             self.left = self.left.saturating_sub(1);
         }
-        let part = self.call_values(place);
-        lower(&mut self.puts, part.put);
-        lower(&mut self.tells, part.told);
+        let values = self.call_values(place);
+        lower(&mut self.puts, values.put);
+        lower(&mut self.tells, values.told);
         self.value = value_behind(before, call);
         self.is_lost = self.value != before && self.lacks(before);
         self.rise();
@@ -367,9 +380,9 @@ impl Scout {
         self.value = turn.value;
         self.digest = self.digest.wrapping_sub(word_of(turn.place));
         self.low = self.low.min(turn.place);
-        let part = self.call_values(turn.place);
-        raise(&mut self.puts, part.put);
-        raise(&mut self.tells, part.told);
+        let values = self.call_values(turn.place);
+        raise(&mut self.puts, values.put);
+        raise(&mut self.tells, values.told);
         if let Some(call) = calls.get(turn.place) {
             if call.is_completed() {
                 self.left = self.left.saturating_add(1);
@@ -425,7 +438,7 @@ impl Scout {
     /// Notes the calls that may come next as ways, the one that is answered first to be tried
     /// first.
     fn look_on(&mut self, alloc: Global, calls: &[Operation]) -> Result<(), Memory> {
-        if self.is_lost || self.is_met() {
+        if self.is_lost || self.note_position() {
             return Ok(());
         }
         let mut next = self.next_calls(alloc, calls)?;
@@ -475,9 +488,9 @@ impl Scout {
         }
     }
 
-    /// Whether a position of this digest was met, which is noted. One that is met later may take
-    /// its room.
-    fn is_met(&mut self) -> bool {
+    /// Notes the position by its digest, and says whether one of this digest was noted before. One
+    /// that is met later may take its room.
+    fn note_position(&mut self) -> bool {
         let value = match self.value {
             Some(value) => word_of(value as usize),
             None => 1,
@@ -498,7 +511,10 @@ impl Scout {
 }
 
 /// The place of a call's answer, or the greatest number.
-pub(crate) fn answer_of(call: &Operation) -> usize {
+pub(crate) fn answer_of(call: &Operation) -> usize
+    ensures answered { IfSome call.now.response (λ response. result ≡ response.res) }
+    ensures pending { call.now.response ≡ None → (place : ℕ) → place < 2 ^ 64 → place ≤ result }
+{
     match &call.response {
         Some(response) => response.res,
         None => usize::MAX,

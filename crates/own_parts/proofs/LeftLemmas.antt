@@ -10,7 +10,7 @@ use Rattle.events.specs.Precedence.{precedes, NonePrecedesItself}
 use Rattle.list_laws.specs.Lists.{has_number}
 use Rattle.list_laws.proofs.Lists.{AllPairs-head, AllPairs-tail, All-from_contains, Contains-cases, Contains-from_filter, Contains-nil}
 use Rattle.list_laws.proofs.FilterLemmas.{AllPairs-map, AllPairs-from_map, Contains-map, Contains-from_map}
-use Rattle.kept_keys.specs.Calls.{calls_but}
+use Rattle.key_configurations.specs.Calls.{calls_but}
 use Rattle.own_parts.specs.OwnParts.{event_of}
 
 -- a call beside its name, by its place

@@ -28,16 +28,16 @@ use Rattle.own_parts.proofs.LeftLemmas.{keeps, named_of, calls_rise, calls_apart
 module _ (start : Contents) (events : List Event) (key : ℕ) (kept : KeptView) (was : WasKept start events key kept) (c : Configuration) where
   -- what is left of a configuration is of the events
   from_value : (value : Option ℕ) (part : OwnPart) → (HasOrderFrom key kept c value → ⊥) → part_from key kept c (value ∷ []) ≡ Some part
-      → IsOwnPartOf events part
+      → IsOwnPartOf start events part
   from_value value part none is =
       let left = was.is_kept.left in
-      subst (IsOwnPartOf events) (same_Some _ part is) (record {
+      subst (IsOwnPartOf start events) (same_Some _ part is) (record {
         none = none;
         rise = calls_rise c.taken kept.names kept.calls left.each left.rising;
         apart = calls_apart c.taken kept.names kept.calls left.each left.apart;
         sorted = one_rises key value;
-        gone = was.gone;
-        moment = was.numbers;
+        kept = kept;
+        was = was;
         timed = was.is_kept.timed;
         are = λ x x_is.
             let (p, p_is, same) = named_of c.taken kept.names kept.calls x x_is in
@@ -56,14 +56,14 @@ module _ (start : Contents) (events : List Event) (key : ℕ) (kept : KeptView) 
       })
 
   from_values : (values : List (Option ℕ)) (part : OwnPart) → (Any (HasOrderFrom key kept c) values → ⊥) → part_from key kept c values ≡ Some part
-      → IsOwnPartOf events part
+      → IsOwnPartOf start events part
   from_values [] part none is = absurd (none-some part is)
   from_values (value ∷ []) part none is = from_value value part (λ order. none (Any-push (HasOrderFrom key kept c) [] value order)) is
   from_values (value ∷ other ∷ values) part none is = absurd (none-some part is)
 
 of_configurations : (start : Contents) (events : List Event) (key : ℕ) (kept : KeptView) (was : WasKept start events key kept)
     (cs : List Configuration) (part : OwnPart) → (Any (λ c. Any (HasOrderFrom key kept c) c.values) cs → ⊥) → part_of key kept cs ≡ Some part
-    → IsOwnPartOf events part
+    → IsOwnPartOf start events part
 of_configurations start events key kept was [] part none is = absurd (none-some part is)
 of_configurations start events key kept was (c ∷ []) part none is =
     from_values start events key kept was c c.values part
@@ -71,7 +71,7 @@ of_configurations start events key kept was (c ∷ []) part none is =
 of_configurations start events key kept was (c ∷ other ∷ cs) part none is = absurd (none-some part is)
 
 at_key : (start : Contents) (events : List Event) (call : Call) (keys : List KeyLoss) (part : OwnPart)
-    → All (IsLostKey start events call) keys → part_among keys ≡ Some part → IsOwnPartOf events part
+    → All (IsLostKey start events call) keys → part_among keys ≡ Some part → IsOwnPartOf start events part
 at_key start events call [] part lost is = absurd (none-some part is)
 at_key start events call (at ∷ []) part lost is =
     let (of_call, none, was) = All-head (IsLostKey start events call) at [] lost in

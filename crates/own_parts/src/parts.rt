@@ -2,13 +2,13 @@
 ghost use Rattle.std.specs.Prelude.{◌≡◌, IfOk};
 ghost use Rattle.following.specs.keys.KeyStates.{one_key};
 ghost use Rattle.kept_keys.specs.Judging.{calls_of};
-ghost use Rattle.kept_keys.specs.Calls.{calls_but};
 ghost use Rattle.own_parts.specs.OwnParts.{event_of, events_but, part_from, part_of, own_part};
 
 use events::{Memory, Operation};
 use follower::Loss;
 use kept_keys::{Configuration, KeptKey};
 use kept_rows::KeyLoss;
+use key_configurations::calls_but;
 use std::alloc::Global;
 use std::marker::Model;
 
@@ -108,27 +108,6 @@ fn left_of(
     ensures { IfOk result (λ calls. calls.items ≡ calls_of kept.now configuration.now) }
 {
     calls_but(alloc, &configuration.taken, &kept.names, &kept.calls)
-}
-
-/// Copies of the calls of other names than these.
-fn calls_but(
-    alloc: Global,
-    taken: &[usize],
-    names: &[usize],
-    calls: &[Operation],
-) -> Result<Vec<Operation>, Memory>
-    ensures { IfOk result (λ left. left.items ≡ calls_but taken.now names.now calls.now) }
-{
-    let mut left = Vec::new(alloc);
-    for (place, call) in calls.iter().enumerate() {
-        let Some(name) = names.get(place) else {
-            return Ok(left);
-        };
-        if !taken.contains(name) {
-            left.push(call.copy(alloc)?)?;
-        }
-    }
-    Ok(left)
 }
 
 /// The places of the calls of other names than these, each with the name.

@@ -1,2 +1,3 @@
 pub mod SmallHistories
 pub mod Seats
+pub mod Values

@@ -4,11 +4,12 @@ use Rattle.std.specs.Prelude.{flat_map}
 use Rattle.serde_json.specs.View.{items_of}
 use Rattle.serde_json.specs.Written.{has_float, items_have_float}
 use Rattle.history_text.specs.Texts.{number_data}
+use Rattle.small_histories.specs.Values.{value_data}
 use Rattle.kept_rows.specs.Puts.{put_in}
 use Rattle.kept_rows.specs.KeyLoss.{KeyLoss}
 use Rattle.follower.specs.declared.answered.Doubt.{Doubt}
 use Rattle.follower.specs.declared.answered.Loss.{Loss}
-use Rattle.stream_engines.specs.Reports.{value_data, key_data, lost_data, doubted_keys, spent_data}
+use Rattle.stream_engines.specs.Reports.{key_data, lost_data, doubted_keys, spent_data}
 
 items_have_float-numbers : (numbers : List ℕ) → items_have_float (items_of (map number_data numbers)) ≡ false
 items_have_float-numbers [] = refl

@@ -1,6 +1,6 @@
 -- The reports of a stream: JSON, with members by rising bytes.
-use Rattle.std.specs.Prelude.{ℕ, List, [], ◌∷◌, ◌++◌, Option, Some, None, map, flat_map, codes, decimal}
-use Rattle.serde_json.specs.Data.{Data, null, string, object, no_members, member}
+use Rattle.std.specs.Prelude.{ℕ, List, [], ◌∷◌, ◌++◌, map, flat_map, codes, decimal}
+use Rattle.serde_json.specs.Data.{Data, string, object, no_members, member}
 use Rattle.history_text.specs.Texts.{number_data, list_data}
 use Rattle.following.specs.keys.KeyStates.{Configuration}
 use Rattle.kept_rows.specs.Puts.{put_in}
@@ -9,6 +9,7 @@ use Rattle.kept_rows.specs.KeyLoss.{KeyLoss}
 use Rattle.follower.specs.declared.answered.Loss.{Loss}
 use Rattle.follower.specs.declared.answered.Doubt.{Doubt}
 use Rattle.follower.specs.declared.answered.Doubt.TheVariants.{Budget, Rows}
+use Rattle.small_histories.specs.Values.{value_data}
 use Rattle.outcomes.specs.Lines.{line}
 use Rattle.answer_hints.specs.Averages.{average_text}
 
@@ -22,12 +23,7 @@ yes_line calls overlap =
 abbrev pub numbers_data : List ℕ → Data
 numbers_data numbers = list_data (map number_data numbers)
 
--- a value that a key may have had, or none
-abbrev pub value_data : Option ℕ → Data
-value_data None = null
-value_data (Some value) = number_data value
-
--- those of all configurations, one configuration after the other
+-- the values of all configurations, one configuration after the other
 abbrev pub values_data : List Configuration → Data
 values_data configurations = list_data (map value_data (flat_map (λ c. c.values) configurations))
 

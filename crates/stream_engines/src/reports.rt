@@ -10,8 +10,9 @@ ghost use Rattle.serde_json.specs.View.{view, members_view};
 ghost use Rattle.serde_json.specs.Written.{compact_text};
 ghost use Rattle.stream_engines.specs.Answers.{IsLostText, IsSmallLine};
 ghost use Rattle.stream_engines.specs.Leaves.{IsAnsweredBy, IsLostOutcome, IsYesOutcome};
+ghost use Rattle.small_histories.specs.Values.{value_data};
 ghost use Rattle.own_parts.specs.OwnParts.{own_part};
-ghost use Rattle.stream_engines.specs.Reports.{yes_line, numbers_data, value_data, values_data, puts_data, key_data, keys_data, lost_data};
+ghost use Rattle.stream_engines.specs.Reports.{yes_line, numbers_data, values_data, puts_data, key_data, keys_data, lost_data};
 ghost use Rattle.stream_engines.specs.Reports.{reason_word, doubted_keys, spent_data};
 
 use crate::small_lines::small_line;
@@ -22,6 +23,7 @@ use kept_rows::{Configuration, KeptKey, KeyLoss};
 use outcomes::{Answer, RunOutcome, line_of};
 use own_parts::own_part;
 use serde_json::{Map, Value, put};
+use small_histories::value_or_null;
 use std::alloc::{AllocError, Global};
 
 /// The answer to a stream whose events have an order, with its hint, where it has one.
@@ -335,13 +337,4 @@ fn place_or_null(place: Option<usize>) -> Value
         return Value::Null;
     };
     Value::from(place)
-}
-
-fn value_or_null(value: Option<u64>) -> Value
-    ensures { view result ≡ value_data value }
-{
-    match value {
-        Some(value) => Value::from(value),
-        None => Value::Null,
-    }
 }

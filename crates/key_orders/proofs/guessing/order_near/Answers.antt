@@ -14,6 +14,6 @@ returns c =
     let values = c.args.values.now in
     let value = c.args.guess.now.value in
     let Has = λ (value : Option ℕ). IsLinearizable (one_key key value) calls in
-    IfOk-weaker c.order_mended.result (λ found. IfSome found (λ guess. Has value)) (λ found. IfSome found (λ guess. Any Has values))
+    IfOk-weaker c.order_near_from.result (λ found. IfSome found (λ guess. Has value)) (λ found. IfSome found (λ guess. Any Has values))
     (λ found some. IfSome_then found some (λ guess has. any_from Has values value (c.is_value_among.ensures.0 c.if-not-is_value_among.false) has))
-    c.order_mended.ensures
+    c.order_near_from.ensures

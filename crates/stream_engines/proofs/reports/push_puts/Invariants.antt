@@ -2,7 +2,7 @@
 use Rattle.std.proofs.Common.{◌≡◌, ◌++◌, map, take}
 use Rattle.serde_json.specs.View.{view}
 use Rattle.kept_rows.specs.Puts.{put_in}
-use Rattle.stream_engines.specs.Reports.{value_data}
+use Rattle.small_histories.specs.Values.{value_data}
 use Rattle.stream_engines.proofs.reports.push_puts.Given as goal
 
 abbrev pub invariant-loop-value : goal.invariant-loop-value

@@ -1,7 +1,7 @@
 -- The values so far stand behind those that were there.
 use Rattle.std.proofs.Common.{◌≡◌, ◌++◌, map, take}
 use Rattle.serde_json.specs.View.{view}
-use Rattle.stream_engines.specs.Reports.{value_data}
+use Rattle.small_histories.specs.Values.{value_data}
 use Rattle.stream_engines.proofs.reports.push_values.Given as goal
 
 abbrev pub invariant-loop-value : goal.invariant-loop-value

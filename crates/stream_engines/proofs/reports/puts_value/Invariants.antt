@@ -2,7 +2,7 @@
 use Rattle.std.proofs.Common.{◌≡◌, map, take, flat_map}
 use Rattle.serde_json.specs.View.{view}
 use Rattle.kept_rows.specs.Puts.{put_in}
-use Rattle.stream_engines.specs.Reports.{value_data}
+use Rattle.small_histories.specs.Values.{value_data}
 use Rattle.stream_engines.proofs.reports.puts_value.Given as goal
 
 abbrev pub invariant-loop-configuration : goal.invariant-loop-configuration

@@ -1,7 +1,7 @@
 -- The values so far are those of the configurations.
 use Rattle.std.proofs.Common.{◌≡◌, map, take, flat_map}
 use Rattle.serde_json.specs.View.{view}
-use Rattle.stream_engines.specs.Reports.{value_data}
+use Rattle.small_histories.specs.Values.{value_data}
 use Rattle.stream_engines.proofs.reports.values_value.Given as goal
 
 abbrev pub invariant-loop-configuration : goal.invariant-loop-configuration

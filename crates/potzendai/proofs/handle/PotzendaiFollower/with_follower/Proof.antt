@@ -1,4 +1,4 @@
--- `open` hands what the box's parts own to the handle.
+-- `with_follower` hands what the box's parts own to the handle.
 use Rattle.std.proofs.Common.{◌≡◌, List, [], ◌∷◌, ◌++◌, refl, sym, subst, true, Some}
 use mir.Val.{Val, vptr, vbool}
 use base.Logic.{SProp, ent, emp, id⊢}

@@ -1,4 +1,4 @@
--- `closed` puts a null pointer and false together.
+-- `without_follower` puts a null pointer and false together.
 use Rattle.std.proofs.Common.{◌≡◌, [], ◌∷◌, refl, false, lit<, Option, None}
 use mir.Val.{Val, vnull, vbool}
 use base.Logic.{SProp, emp}

@@ -3,9 +3,9 @@ use Rattle.std.specs.List.{slice_index_or}
 use Rattle.std.proofs.lemmas.List.{drop_more, drop_all}
 use Rattle.events.specs.declared.operation.Operation.{Operation}
 use Rattle.list_laws.specs.Lists.{has_number}
-use Rattle.kept_keys.specs.Calls.{calls_but}
-use Rattle.own_parts.proofs.parts.calls_but.Goals as goal
-use Rattle.own_parts.proofs.parts.calls_but.Goals.{then-not-contains+in_ok-copy+in_ok-push, else-not-contains}
+use Rattle.key_configurations.specs.Calls.{calls_but}
+use Rattle.key_configurations.proofs.left.calls_but.Goals as goal
+use Rattle.key_configurations.proofs.left.calls_but.Goals.{then-not-contains+in_ok-copy+in_ok-push, else-not-contains}
 
 module _ (taken names : List ℕ) (calls : List Operation) (i : ℕ) where
   -- the next call is of those that are wanted, or is not

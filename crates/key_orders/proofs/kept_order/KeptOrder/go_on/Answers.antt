@@ -5,7 +5,7 @@ use Rattle.key_configurations.specs.Views.{KeptView}
 use Rattle.key_orders.specs.Fronts.{BeginsAt}
 use Rattle.key_orders.specs.declared.fronts.Front.{Front}
 use Rattle.key_orders.proofs.FrontLemmas.{order_from}
-use Rattle.key_orders.proofs.kept_order.KeptOrder.goes_on.Goals as goal
+use Rattle.key_orders.proofs.kept_order.KeptOrder.go_on.Goals as goal
 
 pub returns-clause-found : goal.returns-clause-found
 returns-clause-found c = λ yes.
@@ -21,4 +21,4 @@ returns-clause-found c = λ yes.
     (subst (IsLinearizable (one_key c.args.key f.first)) calls
     (subst (λ (n : ℕ). IsLinearizable (one_key n f.first) c.left.inside.calls.now) key
     (subst (λ (g : Front). IsLinearizable (one_key g.key g.first) c.left.inside.calls.now) c.deref_mut.ensures.value
-    (c.in_ok-goes_on_behind.ensures.found c.if-not-branch.false))))
+    (c.in_ok-go_on_behind.ensures.found c.if-not-branch.false))))

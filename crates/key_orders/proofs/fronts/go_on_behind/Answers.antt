@@ -5,14 +5,14 @@ use Rattle.orders.specs.Orders.{IsLinearizable, calls_at}
 use Rattle.following.specs.keys.KeyStates.{one_key}
 use Rattle.key_orders.specs.Fronts.{IsFront}
 use Rattle.key_orders.proofs.FrontLemmas.{front_goes_on}
-use Rattle.key_orders.proofs.fronts.goes_on_behind.Goals as goal
-use Rattle.key_orders.proofs.fronts.goes_on_behind.Goals.{then-len-gt-MOST, else-len-gt-MOST}
+use Rattle.key_orders.proofs.fronts.go_on_behind.Goals as goal
+use Rattle.key_orders.proofs.fronts.go_on_behind.Goals.{then-len-gt-MOST_BEHIND, else-len-gt-MOST_BEHIND}
 
 pub returns-clause-front : goal.returns-clause-front
 returns-clause-front c =
-    elim c.if-len-gt-MOST.branch [
-      | then-len-gt-MOST w ↦ subst (IsFront c.args.calls.now) (sym w.front-is) w.take_on.ensures.front
-      | else-len-gt-MOST w ↦ subst (IsFront c.args.calls.now) (sym w.front-is) c.in_ok-see.ensures.front
+    elim c.if-len-gt-MOST_BEHIND.branch [
+      | then-len-gt-MOST_BEHIND w ↦ subst (IsFront c.args.calls.now) (sym w.front-is) w.take_on.ensures.front
+      | else-len-gt-MOST_BEHIND w ↦ subst (IsFront c.args.calls.now) (sym w.front-is) c.in_ok-see.ensures.front
     ]
 
 pub returns-clause-found : goal.returns-clause-found
