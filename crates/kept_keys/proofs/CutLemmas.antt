@@ -15,7 +15,7 @@ use Rattle.list_laws.proofs.FilterLemmas.{Contains-map, Contains-from_map}
 use Rattle.list_laws.proofs.Lists.{All-from_contains, Contains-filter, filter_none}
 use Rattle.list_laws.proofs.Lists.{AllPairs-across, AllPairs-back, AllPairs-head, Contains-cases, Contains-first, Contains-nil}
 use Rattle.kept_keys.specs.Cuts.{IsPlaceOf, IsQuietPlace, HasNoQuietPlace, is_past, picked}
-use Rattle.kept_keys.specs.Puts.{later}
+use Rattle.key_outcomes.specs.Puts.{later}
 use Rattle.kept_keys.specs.Settling.{was_open, names_open}
 use Rattle.key_configurations.specs.Views.{KeptView, width}
 

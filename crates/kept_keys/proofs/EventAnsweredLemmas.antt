@@ -38,7 +38,7 @@ use Rattle.key_configurations.specs.Calls.{AreCallsOf}
 use Rattle.kept_keys.specs.Kept.{IsKept}
 use Rattle.key_configurations.specs.Formed.{IsFormed, IsOpenAhead}
 use Rattle.kept_keys.specs.Laws.{KeptKeysTakeAnswers}
-use Rattle.kept_keys.specs.Puts.{ArePutBy}
+use Rattle.key_outcomes.specs.Puts.{ArePutBy}
 use Rattle.kept_keys.specs.Steps.{IsOpenCall, respond, HasAnswer, HasGone}
 use Rattle.key_configurations.specs.Views.{KeptView, state, width}
 use Rattle.kept_keys.specs.Answering.{with_response}
@@ -46,7 +46,7 @@ use Rattle.kept_keys.proofs.EventOpenLemmas.{IsOpenIn, open_in, calls_with_answe
 use Rattle.kept_keys.proofs.EventPartLemmas.{own_part, own_not_told, HasPartAs, timing_from, named_call, name_of_call, call_before}
 use Rattle.kept_keys.proofs.EventLawLemmas.{past_more}
 use Rattle.kept_keys.proofs.EventReplyLemmas.{answered_here, answered_elsewhere, answered_inv, name_cases, left_is, is_one}
-use Rattle.kept_keys.proofs.PutLemmas.{put_on}
+use Rattle.key_outcomes.proofs.PutLemmas.{put_on}
 
 -- ---- lists of names and calls
 

@@ -31,7 +31,7 @@ use Rattle.kept_keys.specs.Laws.{KeptKeysBegin, KeptKeysNarrow, KeptKeysTakeCall
 use Rattle.kept_keys.specs.Steps.{with_call, IsNotAt}
 use Rattle.key_configurations.specs.Views.{KeptView, fresh, state, width}
 use Rattle.kept_keys.proofs.EventPartLemmas.{not_at, own_part, pending_not_told, calls_from, timing_from}
-use Rattle.kept_keys.proofs.PutLemmas.{put_none, put_on}
+use Rattle.key_outcomes.proofs.PutLemmas.{put_none, put_on}
 use Rattle.kept_keys.proofs.EventPartLemmas.{name_before, call_before}
 
 -- ---- before any event

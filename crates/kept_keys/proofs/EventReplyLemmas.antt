@@ -35,7 +35,7 @@ use Rattle.key_configurations.specs.Views.{KeptView, state, width}
 use Rattle.kept_keys.proofs.EventOpenLemmas.{IsOpenIn, open_in, left_with_answer}
 use Rattle.kept_keys.proofs.EventPartLemmas.{not_at, calls_from, timing_from}
 use Rattle.kept_keys.proofs.EventLawLemmas.{past_more, kept_invoked}
-use Rattle.kept_keys.proofs.PutLemmas.{put_on}
+use Rattle.key_outcomes.proofs.PutLemmas.{put_on}
 
 -- ---- one call is answered
 

@@ -11,7 +11,7 @@ mod EventOpenLemmas
 mod EventPartLemmas
 mod EventReplyLemmas
 mod JudgeLawLemmas
-pub mod PutLemmas
+mod PutInLemmas
 pub mod ReadFoundLemmas
 pub mod ReadGoLemmas
 pub mod ReadKeepLemmas

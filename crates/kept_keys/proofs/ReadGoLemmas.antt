@@ -33,10 +33,10 @@ use Rattle.key_configurations.specs.Calls.{AreCallsOf}
 use Rattle.key_configurations.specs.Formed.{IsOpenAhead, IsFormed}
 use Rattle.kept_keys.specs.Kept.{IsKept}
 use Rattle.kept_keys.specs.Laws.{KeptReadsGo}
-use Rattle.kept_keys.specs.Puts.{ArePutBy, noted_put, values_of}
+use Rattle.key_outcomes.specs.Puts.{ArePutBy, noted_put, values_of}
 use Rattle.kept_keys.specs.Reads.{IsStillKept, AllFind, AreReadOff}
 use Rattle.key_configurations.specs.Views.{KeptView, width}
-use Rattle.kept_keys.proofs.PutLemmas.{put_among}
+use Rattle.key_outcomes.proofs.PutLemmas.{put_among}
 use Rattle.kept_keys.proofs.ReadFoundLemmas.{found_or_not, those_of, found_as_kept}
 use Rattle.kept_keys.proofs.ScanPartLemmas.{call_at, pair_at}
 use Rattle.kept_keys.proofs.ScanZipLemmas.{zip_names, zip_all, name_of_pair, call_of_pair, call_of_name, name_of_call}

@@ -14,7 +14,7 @@ use Rattle.following.specs.keys.KeyStates.{Configuration}
 use Rattle.following.proofs.keys.ChoiceLemmas.{any_from, any_to}
 use Rattle.past_choices.specs.Values.{MayBeAnswered}
 use Rattle.kept_keys.specs.Reads.{AreReadOff, HasSeen, IsNarrowedByReads, IsStillKept}
-use Rattle.kept_keys.specs.Puts.{noted_put, puts_of, seen, values_of}
+use Rattle.key_outcomes.specs.Puts.{noted_put, puts_of, seen, values_of}
 use Rattle.key_configurations.specs.Views.{KeptView}
 
 -- ---- a test that stays as it is

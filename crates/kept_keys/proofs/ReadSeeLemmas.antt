@@ -27,11 +27,11 @@ use Rattle.following.proofs.moments.KindLemmas.{is_part}
 use Rattle.key_configurations.specs.Formed.{IsFormed}
 use Rattle.kept_keys.specs.Kept.{IsKept}
 use Rattle.kept_keys.specs.Laws.{KeptKeysSeeScans}
-use Rattle.kept_keys.specs.Puts.{ArePutBy, noted_put, seen}
+use Rattle.key_outcomes.specs.Puts.{ArePutBy, noted_put, seen}
 use Rattle.kept_keys.specs.Reads.{HasSeen}
 use Rattle.kept_keys.specs.Steps.{IsOpenCall}
 use Rattle.key_configurations.specs.Views.{KeptView, fresh, width}
-use Rattle.kept_keys.proofs.PutLemmas.{put_none, put_note, put_on}
+use Rattle.key_outcomes.proofs.PutLemmas.{put_none, put_note, put_on}
 use Rattle.kept_keys.proofs.ReadFoundLemmas.{found_or_not, those_of, has_or_not, some_or_none}
 use Rattle.kept_keys.proofs.ReadGoLemmas.{zip_some, zip_some_back, left_less, timing_less, none_ahead, kept_without}
 use Rattle.kept_keys.proofs.ScanAnswerLemmas.{open_call}

@@ -9,7 +9,7 @@ use Rattle.following.specs.keys.KeyStates.{Configuration, KeyStandsFor}
 use Rattle.following.specs.rows.ExactMoments.{places_by}
 use Rattle.key_configurations.specs.Formed.{IsFormed}
 use Rattle.kept_keys.specs.Laws.{KeptKeysRetime}
-use Rattle.kept_keys.specs.Puts.{ArePutBy}
+use Rattle.key_outcomes.specs.Puts.{ArePutBy}
 use Rattle.key_configurations.specs.Views.{width}
 use Rattle.kept_keys.proofs.ScanPartLemmas.{part_stays, open_part_stays, call_at, pair_at, formed_on}
 use Rattle.kept_keys.proofs.ScanZipLemmas.{name_of_pair, call_of_name}

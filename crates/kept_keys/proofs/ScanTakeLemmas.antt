@@ -37,10 +37,10 @@ use Rattle.following.proofs.moments.KindLemmas.{is_part}
 use Rattle.key_configurations.specs.Calls.{AreCallsOf}
 use Rattle.key_configurations.specs.Formed.{IsFormed}
 use Rattle.kept_keys.specs.Laws.{KeptKeysTakeScans}
-use Rattle.kept_keys.specs.Puts.{ArePutBy}
+use Rattle.key_outcomes.specs.Puts.{ArePutBy}
 use Rattle.kept_keys.specs.Steps.{get_of, HasGet, IsOpenCall}
 use Rattle.key_configurations.specs.Views.{KeptView, width}
-use Rattle.kept_keys.proofs.PutLemmas.{put_on}
+use Rattle.key_outcomes.proofs.PutLemmas.{put_on}
 use Rattle.kept_keys.proofs.ScanAnswerLemmas.{open_call, answered_calls}
 use Rattle.kept_keys.proofs.ScanPartLemmas.{call_at, pair_at, formed_on}
 use Rattle.kept_keys.proofs.ScanZipLemmas.{zip_names, zip_calls, name_of_pair, call_of_pair, call_of_name, name_of_call}

@@ -1,5 +1,5 @@
 -- A key settles, and its configurations are joined.
-use Rattle.std.proofs.Common.{◌≡◌, ℕ, ◌+◌, List, ◌++◌, None}
+use Rattle.std.proofs.Common.{◌≡◌, ℕ, List, ◌++◌, None}
 use Rattle.std.proofs.Common.{sym, subst}
 use Rattle.std.specs.Prelude.{zip, All, Any, Contains}
 use Rattle.std.proofs.lemmas.List.Elements.{All-contains}

@@ -32,11 +32,11 @@ use Rattle.following.proofs.rows.UntouchedLemmas.{over_from_part}
 use Rattle.following.proofs.rows.PartedLemmas.{IsMomentWithin, said_before, said_behind}
 use Rattle.key_configurations.specs.Calls.{AreCallsOf}
 use Rattle.kept_keys.specs.Laws.{KeptKeysSettle}
-use Rattle.kept_keys.specs.Puts.{ArePutBy, values_of}
+use Rattle.key_outcomes.specs.Puts.{ArePutBy, values_of}
 use Rattle.kept_keys.specs.Settling.{has_ended, was_open, names_ended, names_open, IsSettledAt}
 use Rattle.key_configurations.specs.Views.{KeptView, state, width}
 use Rattle.kept_keys.proofs.EventPartLemmas.{timing_from, name_before}
-use Rattle.kept_keys.proofs.PutLemmas.{put_settled}
+use Rattle.key_outcomes.proofs.PutLemmas.{put_settled}
 use Rattle.key_outcomes.proofs.SettleChoiceLemmas.{one_call, zip_name}
 use Rattle.key_outcomes.proofs.SettleDueLemmas.{zip_names, zip_calls, picked_all, picked_pairs}
 

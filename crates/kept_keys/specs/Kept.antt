@@ -10,7 +10,7 @@ use Rattle.following.specs.rows.ExactMoments.{places_by}
 use Rattle.following.specs.rows.Twins.{IsTimingAt}
 use Rattle.key_configurations.specs.Calls.{AreCallsOf}
 use Rattle.key_configurations.specs.Formed.{IsFormed}
-use Rattle.kept_keys.specs.Puts.{ArePutBy}
+use Rattle.key_outcomes.specs.Puts.{ArePutBy}
 use Rattle.key_configurations.specs.Views.{KeptView, state, width}
 
 -- A key as it is kept, in a class of timings, where `moment` has the numbers of the moments of the

@@ -3,7 +3,6 @@ pub mod Cuts
 pub mod Gone
 pub mod Kept
 pub mod Laws
-pub mod Puts
 pub mod Reads
 pub mod Retiming
 pub mod Settling
@@ -11,6 +10,7 @@ pub mod Steps
 pub use Rattle.key_configurations.specs.Calls
 pub use Rattle.key_configurations.specs.Formed
 pub use Rattle.key_orders.specs.Judging
+pub use Rattle.key_outcomes.specs.Puts
 pub use Rattle.key_outcomes.specs.SettleSteps
 pub use Rattle.key_configurations.specs.Views
 pub use Rattle.key_orders.specs.declared.judging.Judged

@@ -5,7 +5,7 @@ use Rattle.events.specs.declared.operation.Operation.{Operation}
 use Rattle.quiet_cuts.specs.Replies.{says_unchanged}
 use Rattle.following.specs.keys.KeyStates.{Configuration}
 use Rattle.past_choices.specs.Values.{MayBeAnswered}
-use Rattle.kept_keys.specs.Puts.{noted_put, puts_of, seen, values_of}
+use Rattle.key_outcomes.specs.Puts.{noted_put, puts_of, seen, values_of}
 use Rattle.key_configurations.specs.Views.{KeptView}
 
 -- all calls left are such reads, and none was taken

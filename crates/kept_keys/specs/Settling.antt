@@ -9,7 +9,7 @@ use Rattle.following.specs.rows.Fixed.{SettlesIn}
 use Rattle.past_choices.specs.Positions.{ReachesMoreThan}
 use Rattle.key_configurations.specs.Calls.{AreCallsOf}
 use Rattle.key_configurations.specs.Formed.{IsFormed}
-use Rattle.kept_keys.specs.Puts.{put_behind, puts_of, values_of}
+use Rattle.key_outcomes.specs.Puts.{put_behind, puts_of, values_of}
 use Rattle.key_outcomes.specs.SettleSteps.{calls_begun, names_begun, starts_of}
 use Rattle.key_configurations.specs.Views.{KeptView, state, width}
 

@@ -1,11 +1,11 @@
 // At which past moment a key settles.
 ghost use Rattle.std.specs.Prelude.{◌≡◌, ◌<◌, length, AllPairs, MatchOption, IfSome, ◌⊎◌, ◌/◌, true};
 ghost use Rattle.kept_keys.specs.Cuts.{IsPlaceOf, IsQuietPlace, HasNoQuietPlace, is_past, picked};
-ghost use Rattle.kept_keys.specs.Puts.{later};
 ghost use Rattle.key_configurations.specs.Views.{place_limit, width};
 
 use crate::kept::{KeptKey, WIDTH};
 use events::Operation;
+use key_outcomes::later_answer;
 
 impl KeptKey {
     /// The last place up to `limit` at which no call of the key was open: that of the invocation of
@@ -80,16 +80,6 @@ fn is_past(latest: Option<usize>, number: usize) -> bool
     match latest {
         Some(latest) => latest < number,
         None => true,
-    }
-}
-
-/// The later of two, where there is a first.
-pub(crate) fn later_answer(latest: Option<usize>, answer: usize) -> Option<usize>
-    ensures { result ≡ later latest answer }
-{
-    match latest {
-        Some(latest) => Some(latest.max(answer)),
-        None => Some(answer),
     }
 }
 

@@ -3,10 +3,10 @@ ghost use Rattle.std.specs.Prelude.{◌≡◌, ◌<◌, [], IfOk, OnOk};
 ghost use Rattle.kept_keys.specs.Steps.{with_call};
 ghost use Rattle.key_configurations.specs.Views.{fresh, place_limit, resting};
 
-use crate::puts::note_of;
 use events::{Call, Memory, Operation};
 use key_configurations::Configuration;
 use key_orders::KeptOrder;
+use key_outcomes::note_of;
 use std::alloc::Global;
 use std::marker::Model;
 

@@ -20,10 +20,10 @@ pub use gone::gone_calls_are_answered;
 pub use kept::{KeptKey, PLACE_LIMIT, WIDTH};
 pub use key_configurations::{Ahead, Configuration};
 pub use key_orders::Judged;
+pub use key_outcomes::is_same_value;
 pub use laws::{
     kept_keys_begin, kept_keys_go_on, kept_keys_judge, kept_keys_narrow, kept_keys_retime,
     kept_keys_see_scans, kept_keys_settle, kept_keys_take_answers, kept_keys_take_calls,
     kept_keys_take_scans, kept_reads_go,
 };
-pub use puts::is_same_value;
 pub use reads::is_read_of;

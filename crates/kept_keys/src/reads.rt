@@ -5,10 +5,10 @@ ghost use Rattle.past_choices.specs.Values.{MayBeAnswered};
 ghost use Rattle.kept_keys.specs.Reads.{IsStillKept, IsReadAt, AreReadOff, HasSeen, IsNarrowedByReads};
 
 use crate::kept::KeptKey;
-use crate::puts::{noted_put, puts_left};
 use events::{Memory, Operation};
 use key_configurations::Configuration;
 use key_orders::KeptOrder;
+use key_outcomes::{noted_put, puts_left};
 use past_choices::may_be_answered;
 use quiet_cuts::is_read;
 use std::alloc::Global;

@@ -8,10 +8,9 @@ ghost use Rattle.past_choices.specs.Positions.{ReachesMoreThan};
 ghost use Rattle.past_choices.specs.Values.{IsCallOf};
 
 use crate::kept::{KeptKey, WIDTH};
-use crate::puts::puts_behind;
 use events::{Memory, Operation};
 use key_configurations::Configuration;
-use key_outcomes::{gone_names, join_all, outcomes_of, rest_of, unite_all};
+use key_outcomes::{gone_names, join_all, outcomes_of, puts_behind, rest_of, unite_all};
 use std::alloc::Global;
 
 impl KeptKey {
@@ -45,7 +44,14 @@ impl KeptKey {
         let order = self
             .order
             .left_behind(alloc, &self.names, &self.calls, limit)?;
-        let puts = puts_behind(alloc, &configurations, self, limit)?;
+        let puts = puts_behind(
+            alloc,
+            &configurations,
+            &self.names,
+            &self.calls,
+            &self.puts,
+            limit,
+        )?;
         Ok(Some(KeptKey {
             configurations,
             names: rest.names,

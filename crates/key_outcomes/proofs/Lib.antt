@@ -1,4 +1,5 @@
 mod JoinLemmas
+pub mod PutLemmas
 pub mod SettleChoiceLemmas
 pub mod SettleDueLemmas
 mod SettleOneLemmas

@@ -3,9 +3,9 @@ use Rattle.std.specs.Prelude.{zip}
 use Rattle.list_laws.specs.Lists.{has_number}
 use Rattle.events.specs.declared.operation.Operation.{Operation}
 use Rattle.following.specs.keys.KeyStates.{Configuration}
-use Rattle.kept_keys.specs.Puts.{changed_last, has_put_from, last_of, noted_put, or_before}
+use Rattle.key_outcomes.specs.Puts.{changed_last, has_put_from, last_of, noted_put, or_before}
 use Rattle.key_configurations.specs.Views.{KeptView}
-use Rattle.kept_keys.proofs.PutLemmas.{put_known}
+use Rattle.kept_keys.proofs.PutInLemmas.{put_known}
 use Rattle.kept_keys.proofs.kept.KeptKey.put_in.Goals as goal
 
 pub returns-clause-is : goal.returns-clause-is

@@ -1,6 +1,6 @@
 use Rattle.std.proofs.Common.{◌∙◌, ℕ, List, Option, ap₂, rules}
 use Rattle.following.specs.keys.KeyStates.{Configuration}
-use Rattle.kept_keys.specs.Puts.{noted_put, puts_of, values_of}
+use Rattle.key_outcomes.specs.Puts.{noted_put, puts_of, values_of}
 use Rattle.kept_keys.proofs.ReadKeepLemmas.{narrowed_configurations, read_off_is}
 use Rattle.kept_keys.proofs.kept.KeptKey.read_off.Goals as goal
 

@@ -2,7 +2,7 @@ use Rattle.std.proofs.Common.{◌≡◌, ◌∙◌, refl, ap, subst}
 use Rattle.std.specs.Prelude.{Any, Contains}
 use Rattle.std.proofs.lemmas.Result.{IfOk-weaker}
 use Rattle.following.specs.keys.KeyStates.{Configuration}
-use Rattle.kept_keys.specs.Puts.{noted_put}
+use Rattle.key_outcomes.specs.Puts.{noted_put}
 use Rattle.kept_keys.specs.Reads.{HasSeen}
 use Rattle.key_configurations.specs.Views.{KeptView, resting}
 use Rattle.kept_keys.proofs.ReadKeepLemmas.{seen_some}

@@ -1,6 +1,6 @@
 use Rattle.std.proofs.Common.{◌≡◌, drop}
-use Rattle.kept_keys.specs.Puts as spec
-use Rattle.kept_keys.proofs.puts.noted_put.Given as goal
+use Rattle.key_outcomes.specs.Puts as spec
+use Rattle.key_outcomes.proofs.puts.noted_put.Given as goal
 
 -- none is noted among those so far
 abbrev pub invariant-loop-put : goal.invariant-loop-put

@@ -1,11 +1,11 @@
 use Rattle.std.proofs.Common.{◌∙◌, ◌&&◌, ℕ, Bool, Option, None, cond, ap, get_or, arith, inl, inr, sym, ⊎_elim}
 use Rattle.std.specs.Prelude.{zip}
-use Rattle.kept_keys.specs.Puts.{has_put_from, last_of, later}
+use Rattle.key_outcomes.specs.Puts.{has_put_from, last_of, later}
 use Rattle.key_outcomes.specs.SettleSteps.{ended_by}
 use Rattle.events.specs.declared.operation.Operation.{Operation}
-use Rattle.kept_keys.proofs.PutLemmas.{last_all, last_next}
-use Rattle.kept_keys.proofs.puts.last_ended.Goals as goal
-use Rattle.kept_keys.proofs.puts.last_ended.Goals.{then-has_ended_and_put, else-has_ended_and_put}
+use Rattle.key_outcomes.proofs.PutLemmas.{last_all, last_next}
+use Rattle.key_outcomes.proofs.puts.last_ended.Goals as goal
+use Rattle.key_outcomes.proofs.puts.last_ended.Goals.{then-has_ended_and_put, else-has_ended_and_put}
 
 pub loop-place-preserved : goal.loop-place-preserved
 loop-place-preserved c =

@@ -16,7 +16,6 @@ use Rattle.events.specs.Operations.{operations}
 use Rattle.events.specs.Precedence.{is_before}
 use Rattle.list_laws.specs.Lists.{has_number}
 use Rattle.list_laws.proofs.Lists.{Contains-first, Contains-later}
-use Rattle.map_object.specs.MapObject.{Contents}
 use Rattle.quiet_cuts.specs.Cells.{calls_left}
 use Rattle.quiet_cuts.proofs.LeftLemmas.{from_left}
 use Rattle.following.specs.keys.KeyStates.{Configuration, Timings}
@@ -27,9 +26,8 @@ use Rattle.following.proofs.keys.GrownLemmas.{in_later, same_completed}
 use Rattle.following.proofs.moments.KindLemmas.{IsPart, part_is}
 use Rattle.past_choices.specs.Values.{IsCallOf}
 use Rattle.key_configurations.specs.Calls.{AreCallsOf}
-use Rattle.kept_keys.specs.Kept.{IsKept}
-use Rattle.kept_keys.specs.Puts.{ArePutBy, IsPutBy, WasPutBy, changed_last, has_left_other, has_put, has_put_from, is_same, is_unchanged, last_of, last_put, later, noted_put, or_before}
-use Rattle.kept_keys.specs.Puts.{put_behind, put_in, puts, puts_of, values_of}
+use Rattle.key_outcomes.specs.Puts.{ArePutBy, IsPutBy, WasPutBy, changed_last, has_left_other, has_put, has_put_from, is_same, is_unchanged, last_of, last_put, later, noted_put, or_before}
+use Rattle.key_outcomes.specs.Puts.{put_behind, put_in, puts, puts_of, values_of}
 use Rattle.key_outcomes.specs.SettleSteps.{ended_by}
 use Rattle.key_configurations.specs.Views.{KeptView, note_of, width}
 use Rattle.key_outcomes.proofs.SettleOutcomeLemmas.{take_next}
@@ -331,11 +329,3 @@ pub put_settled : (events : List Event) (key : ℕ) (moment : ℕ → ℕ) (gone
     → ArePutBy events key (puts_of (put_behind limit k) values)
 put_settled events key moment gone k limit values left put =
     put_among events key (put_behind limit k) values (λ value place h. put_ended events key moment gone k left put limit value place h)
-
--- and of a value in a configuration
-pub put_known : (start : Contents) (events : List Event) (allows : Timings) (moment : ℕ → ℕ) (key : ℕ) (gone : List ℕ) (k : KeptView)
-    (c : Configuration) (value found : Option ℕ) → IsKept start events allows moment key gone k → found ≡ put_in k c value
-    → IfSome found (IsPutBy events key value)
-put_known start events allows moment key gone k c value None kept is = tt
-put_known start events allows moment key gone k c value (Some place) kept is =
-    put_last events key moment gone k kept.left kept.put (λ call. has_number c.taken call.0) value place (sym is)

@@ -1,9 +1,9 @@
 use Rattle.std.proofs.Common.{◌≡◌, ◌∙◌, ℕ, Bool, max, cond, ap, arith, inl, inr, rules, sym, ⊎_elim}
-use Rattle.list_laws.specs.Lists.{has_number}
+use Rattle.key_outcomes.specs.SettleSteps.{ended_by}
 use Rattle.events.specs.declared.operation.Operation.{Operation}
-use Rattle.kept_keys.proofs.PutLemmas.{changed_all, changed_next}
-use Rattle.kept_keys.proofs.puts.changed_by_taken.Goals as goal
-use Rattle.kept_keys.proofs.puts.changed_by_taken.Goals.{then-is_taken_and_changed, else-is_taken_and_changed}
+use Rattle.key_outcomes.proofs.PutLemmas.{changed_all, changed_next}
+use Rattle.key_outcomes.proofs.puts.changed_by_ended.Goals as goal
+use Rattle.key_outcomes.proofs.puts.changed_by_ended.Goals.{then-has_ended_and_changed, else-has_ended_and_changed}
 
 pub loop-place-preserved : goal.loop-place-preserved
 loop-place-preserved c =
@@ -12,22 +12,22 @@ loop-place-preserved c =
     let i = c.loop-place.place in
     let a = c.index-calls-place.result in
     let changed = c.loop-place.changed in
-    let is : ℕ × Operation → Bool = λ call. has_number c.args.taken.now call.0 in
+    let is : ℕ × Operation → Bool = ended_by c.args.limit in
     let next : Bool → ℕ = λ b. cond b (max changed a.inv) changed in
-    elim c.if-is_taken_and_changed.branch [
-      | then-is_taken_and_changed w ↦ let most : w.max-changed.result ≡ max changed a.inv = search rules in
+    elim c.if-has_ended_and_changed.branch [
+      | then-has_ended_and_changed w ↦ let most : w.max-changed.result ≡ max changed a.inv = search rules in
           changed_next is c.args.value names calls i a 0 changed _
           (omega (arith, c.loop-place-test.true, c.pairs_of-place-end.ensures.names)) (omega (arith, c.loop-place-test.true, c.pairs_of-place-end.ensures.calls))
           c.index-calls-place.is
-          (w.changed-is ∙ most ∙ ap next (sym w.if-is_taken_and_changed.true ∙ c.is_taken_and_changed.ensures)) c.loop-place.invariant
-      | else-is_taken_and_changed w ↦ changed_next is c.args.value names calls i a 0 changed _
+          (w.changed-is ∙ most ∙ ap next (sym w.if-has_ended_and_changed.true ∙ c.has_ended_and_changed.ensures)) c.loop-place.invariant
+      | else-has_ended_and_changed w ↦ changed_next is c.args.value names calls i a 0 changed _
           (omega (arith, c.loop-place-test.true, c.pairs_of-place-end.ensures.names)) (omega (arith, c.loop-place-test.true, c.pairs_of-place-end.ensures.calls))
           c.index-calls-place.is
-          (w.changed-is ∙ ap next (sym w.if-is_taken_and_changed.false ∙ c.is_taken_and_changed.ensures)) c.loop-place.invariant
+          (w.changed-is ∙ ap next (sym w.if-has_ended_and_changed.false ∙ c.has_ended_and_changed.ensures)) c.loop-place.invariant
     ]
 
 pub returns : goal.returns
 returns c =
-    changed_all (λ (call : ℕ × Operation). has_number c.args.taken.now call.0) c.args.value c.args.names.now c.args.calls.now c.loop-place.place 0 _
+    changed_all (ended_by c.args.limit) c.args.value c.args.names.now c.args.calls.now c.loop-place.place 0 _
     (⊎_elim (λ same. inl (omega (arith, same, c.loop-place-test.false))) (λ same. inr (omega (arith, same, c.loop-place-test.false)))
     c.pairs_of-place-end.ensures.all) c.loop-place.invariant

@@ -49,7 +49,7 @@ abbrev pub is_sure : Call → Option Response → Bool
 is_sure call None = false
 is_sure call (Some response) = not (is_replace call) || is_told response.reply
 
--- whether a call surely left another value at its key, or none
+-- whether a call surely left another value at its key than this one; after a remove that is none
 abbrev pub has_left_other : Option ℕ → Operation → Bool
 has_left_other value a = is_sure a.call a.response && (not (is_unchanged a.call a.response) && not (puts value a.call))
 
@@ -90,10 +90,14 @@ abbrev pub noted_put : List (Option ℕ × ℕ) → Option ℕ → Option ℕ
 noted_put [] value = None
 noted_put (put ∷ puts) value = if is_same put.0 value then Some put.1 else noted_put puts value
 
--- which call put a value, behind those that ended before a moment: one of these, or else the one
--- that is noted
+-- which call put a value, behind those of calls, each with its name, that ended before a moment: one
+-- of these, or else the one that is noted
+abbrev pub ended_put : ℕ → List ℕ → List Operation → List (Option ℕ × ℕ) → Option ℕ → Option ℕ
+ended_put limit names calls puts value = last_put (ended_by limit) value (zip names calls) (noted_put puts value)
+
+-- the same of a key
 abbrev pub put_behind : ℕ → KeptView → Option ℕ → Option ℕ
-put_behind limit k value = last_put (ended_by limit) value (zip k.names k.calls) (noted_put k.puts value)
+put_behind limit k = ended_put limit k.names k.calls k.puts
 
 -- which call put it in a configuration: one of those taken there, or else the one that is noted
 abbrev pub put_in : KeptView → Configuration → Option ℕ → Option ℕ

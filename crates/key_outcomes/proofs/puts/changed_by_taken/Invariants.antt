@@ -1,8 +1,8 @@
 use Rattle.std.proofs.Common.{◌≡◌, take}
 use Rattle.std.specs.Prelude.{zip}
-use Rattle.kept_keys.specs.Puts.{changed_last}
+use Rattle.key_outcomes.specs.Puts.{changed_last}
 use Rattle.list_laws.specs.Lists.{has_number}
-use Rattle.kept_keys.proofs.puts.changed_by_taken.Given as goal
+use Rattle.key_outcomes.proofs.puts.changed_by_taken.Given as goal
 
 -- the last one of those so far
 abbrev pub invariant-loop-place : goal.invariant-loop-place

@@ -1,8 +1,8 @@
 use Rattle.std.proofs.Common.{◌≡◌, ◌&&◌, None, take}
 use Rattle.std.specs.Prelude.{zip}
-use Rattle.kept_keys.specs.Puts.{has_put_from, last_of}
+use Rattle.key_outcomes.specs.Puts.{has_put_from, last_of}
 use Rattle.list_laws.specs.Lists.{has_number}
-use Rattle.kept_keys.proofs.puts.last_taken.Given as goal
+use Rattle.key_outcomes.proofs.puts.last_taken.Given as goal
 
 -- the last of those so far
 abbrev pub invariant-loop-place : goal.invariant-loop-place

@@ -1,8 +1,8 @@
 use Rattle.std.proofs.Common.{◌∙◌, ◌++◌, ℕ, List, Option, ap}
 use Rattle.following.specs.keys.KeyStates.{Configuration}
-use Rattle.kept_keys.specs.Puts.{noted_put, puts_of}
-use Rattle.kept_keys.proofs.PutLemmas.{notes_next}
-use Rattle.kept_keys.proofs.puts.puts_left.Goals as goal
+use Rattle.key_outcomes.specs.Puts.{noted_put, puts_of}
+use Rattle.key_outcomes.proofs.PutLemmas.{notes_next}
+use Rattle.key_outcomes.proofs.puts.puts_left.Goals as goal
 
 pub loop-c-preserved : goal.loop-c-preserved
 loop-c-preserved c =

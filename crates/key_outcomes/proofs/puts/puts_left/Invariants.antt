@@ -1,6 +1,6 @@
 use Rattle.std.proofs.Common.{◌≡◌, take}
-use Rattle.kept_keys.specs.Puts.{noted_put, puts_of, values_of}
-use Rattle.kept_keys.proofs.puts.puts_left.Given as goal
+use Rattle.key_outcomes.specs.Puts.{noted_put, puts_of, values_of}
+use Rattle.key_outcomes.proofs.puts.puts_left.Given as goal
 
 -- those so far
 abbrev pub invariant-loop-c : goal.invariant-loop-c

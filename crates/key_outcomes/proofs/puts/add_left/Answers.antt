@@ -1,8 +1,8 @@
 use Rattle.std.proofs.Common.{get_or, None}
 use Rattle.std.proofs.lemmas.List.{get_or_default}
-use Rattle.kept_keys.specs.Puts.{noted_put}
-use Rattle.kept_keys.proofs.PutLemmas.{note_next}
-use Rattle.kept_keys.proofs.puts.add_left.Goals as goal
+use Rattle.key_outcomes.specs.Puts.{noted_put}
+use Rattle.key_outcomes.proofs.PutLemmas.{note_next}
+use Rattle.key_outcomes.proofs.puts.add_left.Goals as goal
 
 pub loop-value-preserved : goal.loop-value-preserved
 loop-value-preserved c =

@@ -1,14 +1,14 @@
 use Rattle.std.proofs.Common.{get_or, None}
 use Rattle.std.proofs.lemmas.List.{get_or_default}
-use Rattle.kept_keys.specs.Puts.{put_behind}
-use Rattle.kept_keys.proofs.PutLemmas.{note_next}
-use Rattle.kept_keys.proofs.puts.add_behind.Goals as goal
+use Rattle.key_outcomes.specs.Puts.{ended_put}
+use Rattle.key_outcomes.proofs.PutLemmas.{note_next}
+use Rattle.key_outcomes.proofs.puts.add_behind.Goals as goal
 
 pub loop-value-preserved : goal.loop-value-preserved
 loop-value-preserved c =
     let values = c.args.values.now in
     let i = c.loop-value.value-index in
     let v = get_or values i None in
-    note_next (put_behind c.args.limit c.args.kept.now) values i v c.args.puts.now.items c.loop-value.puts.items c.add_note.new.puts.items _
+    note_next (ended_put c.args.limit c.args.names.now c.args.calls.now c.args.noted.now) values i v c.args.puts.now.items c.loop-value.puts.items c.add_note.new.puts.items _
     c.loop-value-test.true (get_or_default values i None v c.loop-value-test.true) c.loop-value.invariant c.in_ok-add_note.ensures
-    c.behind-put.ensures
+    c.ended_put-put.ensures
