@@ -22,7 +22,7 @@ use Rattle.art_shared.specs.declared.view.Setup.{Setup}
 use Rattle.art_shared.specs.declared.view.View.{View}
 use Rattle.art_shared.specs.Views.{Numbered, numbers_of}
 use Rattle.art_shared.specs.Ends.{HasOwnEvents}
-use Rattle.drives.specs.Drives.{HasFinished, HasStopped, longest}
+use Rattle.drives.specs.Drives.{HasFinished, HasStopped, most_calls}
 use Rattle.drives.specs.Drives as drives
 use Rattle.running.specs.declared.arena.Arena.{Arena}
 use Rattle.running.specs.declared.pass.Pass.{Pass}
@@ -70,11 +70,11 @@ numbered-at xs n k d numbers within =
 
 module _ (WasPassed : ℕ → Type 0) (shape : Shape) (variant : Variant) (limit : ℕ) (scripts : List (List Call)) (v : View)
     (history : HistoryView)
-    (gives : IsHistoryOf (setup_with shape variant (length scripts) (longest scripts)) v history)
-    (own : HasOwnEvents (setup_with shape variant (length scripts) (longest scripts)) v history.events)
-    (done : All (HasDoneOwn WasPassed (setup_with shape variant (length scripts) (longest scripts)) limit scripts) v.processes)
+    (gives : IsHistoryOf (setup_with shape variant (length scripts) (most_calls scripts)) v history)
+    (own : HasOwnEvents (setup_with shape variant (length scripts) (most_calls scripts)) v history.events)
+    (done : All (HasDoneOwn WasPassed (setup_with shape variant (length scripts) (most_calls scripts)) limit scripts) v.processes)
     (small : limit < 2 ^ 32)
-    (order : IsLinearizableIn (setup_with shape variant (length scripts) (longest scripts)) v history) where
+    (order : IsLinearizableIn (setup_with shape variant (length scripts) (most_calls scripts)) v history) where
   many : length v.processes ≡ length scripts
   many = omega (arith, ap length own.numbers, length-map v.processes (λ (x : Numbered). x.0), length-range_with_len 0 (length scripts))
 
@@ -83,7 +83,7 @@ module _ (WasPassed : ℕ → Type 0) (shape : Shape) (variant : Variant) (limit
 
   -- the process at a place did the script there
   did : (k : ℕ) (d : Numbered) (script : List Call) → k < length v.processes → slice_get scripts k ≡ Some script
-      → HasDone (setup_with shape variant (length scripts) (longest scripts)) (slice_index_or v.processes k d).0 limit script
+      → HasDone (setup_with shape variant (length scripts) (most_calls scripts)) (slice_index_or v.processes k d).0 limit script
       (slice_index_or v.processes k d).1
   did k d script within at = (done k d within).did script (ap (slice_get scripts) (number k d within) ∙ at)
 
@@ -93,11 +93,11 @@ module _ (WasPassed : ℕ → Type 0) (shape : Shape) (variant : Variant) (limit
       let within : p < length v.processes = omega (arith, many, slice_get_within scripts p script at) in
       let x = slice_index_or v.processes p (0, idle) in
       let its = own.each p (0, idle) within in
-      ended-in (setup_with shape variant (length scripts) (longest scripts)) history.events p x.0 limit x.1 script
+      ended-in (setup_with shape variant (length scripts) (most_calls scripts)) history.events p x.0 limit x.1 script
       (ap (λ n. events_of n history.events) (sym (number p (0, idle) within)) ∙ its)
       (did p (0, idle) script within at)
 
-  limited : All (IsLimited (setup_with shape variant (length scripts) (longest scripts)) limit) v.processes
+  limited : All (IsLimited (setup_with shape variant (length scripts) (most_calls scripts)) limit) v.processes
   limited k d within =
       let script = slice_get-below scripts k (omega (arith, many, within)) in
       (did k d script.0 within script.1).limited
@@ -115,7 +115,7 @@ module _ (WasPassed : ℕ → Type 0) (shape : Shape) (variant : Variant) (limit
     gives = gives;
     limited = limited;
     linearizable = λ is. order is
-        (λ words. few-steps (setup_with shape variant (length scripts) (longest scripts)) limit v words small gives.within limited);
+        (λ words. few-steps (setup_with shape variant (length scripts) (most_calls scripts)) limit v words small gives.within limited);
     processes = own.known;
     ended = ended;
   }

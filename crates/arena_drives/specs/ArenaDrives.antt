@@ -11,7 +11,7 @@ use Rattle.art_core.specs.Core.{begun, idle}
 use Rattle.art_shared.specs.declared.view.Setup.{Setup}
 use Rattle.art_shared.specs.declared.view.View.{View}
 use Rattle.art_shared.specs.Views.{Numbered, view}
-use Rattle.drives.specs.Drives.{HasFinished, HasStopped, HaveScripts, longest}
+use Rattle.drives.specs.Drives.{HasFinished, HasStopped, HaveScripts, most_calls}
 use Rattle.running.specs.Passes.{setup_with}
 use Rattle.running.specs.Closing.{IsHistoryOf}
 use Rattle.running.specs.Steps.{HasInvoked, Ran}
@@ -50,8 +50,8 @@ pub record IsLimited (setup : Setup) (limit : ℕ) (x : Numbered) : Type 0 where
 pub record IsArenaDriveOf (shape : Shape) (variant : Variant) (limit : ℕ) (scripts : List (List Call))
     (history : HistoryView) : Type 0 where
   pub view : View
-  pub gives : IsHistoryOf (setup_with shape variant (length scripts) (longest scripts)) view history
-  pub limited : All (IsLimited (setup_with shape variant (length scripts) (longest scripts)) limit) view.processes
+  pub gives : IsHistoryOf (setup_with shape variant (length scripts) (most_calls scripts)) view history
+  pub limited : All (IsLimited (setup_with shape variant (length scripts) (most_calls scripts)) limit) view.processes
   pub processes : HaveScripts scripts history.events
   pub ended : (p : ℕ) (script : List Call) → slice_get scripts p ≡ Some script → HasFinished history.events p script
       ⊎ HasStopped history.events p script

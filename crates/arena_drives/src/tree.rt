@@ -9,7 +9,7 @@ ghost use Rattle.arena_drives.specs.Passes.{IsReady, IsPassAfter, WantsMemory};
 use crate::parts::{join_all, part_all};
 use crate::script::{do_script, enter};
 use art::{Shape, TreeCall, Variant};
-use drives::longest;
+use drives::most_calls;
 use events::{History, Memory};
 use plans::Plan;
 use pool::Gate;
@@ -39,7 +39,7 @@ pub fn drive_arena<R: Threads + Sync, G: Gate + Sync>(
 {
     let scripts = plan.scripts();
     let processes = scripts.len() as u8;
-    let (arena, pass) = Arena::open(alloc, shape, variant, processes, longest(scripts) as u32)?;
+    let (arena, pass) = Arena::open(alloc, shape, variant, processes, most_calls(scripts) as u32)?;
     let passes = part_all(alloc, &arena, pass, processes)?;
     let done = do_scripts(rt, alloc, &arena, passes, scripts, limit, gate)?;
     let pass = join_all(&arena, done)?;

@@ -9,24 +9,24 @@ use Rattle.list_laws.specs.Lists.{greatest}
 use Rattle.list_laws.proofs.NumberLemmas.{greatest_bound}
 use Rattle.events.specs.declared.event.Call.{Call}
 use Rattle.plans.specs.Plans.{AreFew}
-use Rattle.drives.specs.Drives.{longest}
+use Rattle.drives.specs.Drives.{most_calls}
 
-pub longest-within : (scripts : List (List Call)) → longest scripts ≤ sum (map (λ script. length script) scripts)
+pub longest-within : (scripts : List (List Call)) → most_calls scripts ≤ sum (map (λ script. length script) scripts)
 longest-within [] = omega arith
 longest-within (script ∷ scripts) =
     omega (arith, longest-within scripts, sum_by-cons (λ (n : ℕ). n) (length script) (map (λ script. length script) scripts))
 
 -- a plan has at most 64 scripts, each of at most 4,096 calls
-pub room-within : (scripts : List (List Call)) → AreFew scripts → length scripts * longest scripts ≤ 262144
+pub room-within : (scripts : List (List Call)) → AreFew scripts → length scripts * most_calls scripts ≤ 262144
 room-within scripts few =
     let l = longest-within scripts in
-    let m : longest scripts ≤ 4096 = let k = few.few_calls in omega arith in
+    let m : most_calls scripts ≤ 4096 = let k = few.few_calls in omega arith in
     let product = mul-le-mul few.few_scripts m in
     omega (arith, product)
 
 -- no script is longer than the longest
 pub longest-bound : {X : Type 0} (script_of : X → List Call) (xs : List X) (k : ℕ) (d : X) → k < length xs
-    → length (script_of (slice_index_or xs k d)) ≤ longest (map script_of xs)
+    → length (script_of (slice_index_or xs k d)) ≤ most_calls (map script_of xs)
 longest-bound script_of xs k d within =
     let bound = greatest_bound (λ x. length (script_of x)) xs (slice_index_or xs k d)
     (k, within, get_or_default xs k (slice_index_or xs k d) d within) in
@@ -34,7 +34,7 @@ longest-bound script_of xs k d within =
 
 -- the greatest length among all scripts is that of the longest
 pub longest-found : {X : Type 0} (script_of : X → List Call) (xs : List X) (i most : ℕ) → take i xs ≡ xs
-    → most ≡ greatest (map (λ x. length (script_of x)) (take i xs)) → most ≡ longest (map script_of xs)
+    → most ≡ greatest (map (λ x. length (script_of x)) (take i xs)) → most ≡ most_calls (map script_of xs)
 longest-found script_of xs i most all is =
     is
     ∙ (ap (λ ys. greatest (map (λ x. length (script_of x)) ys)) all ∙ ap greatest (sym (map-map (λ script. length script) script_of xs)))

@@ -50,9 +50,9 @@ pub record IsDriveOf (may_answer : Call → Reply → Type 0) (scripts : List (L
   pub answered : AreAnswered may_answer history.events
 
 -- how many calls the longest script has
-abbrev pub longest : List (List Call) → ℕ
-longest scripts = greatest (map (λ script. length script) scripts)
+abbrev pub most_calls : List (List Call) → ℕ
+most_calls scripts = greatest (map (λ script. length script) scripts)
 
 -- there is room for as many calls of each process as the longest script has
 abbrev pub IsDrivable : List (List Call) → Type 0
-IsDrivable scripts = length scripts * longest scripts ≤ call_limit
+IsDrivable scripts = length scripts * most_calls scripts ≤ call_limit

@@ -5,5 +5,5 @@ mod room;
 mod script;
 mod subject;
 
-pub use room::{is_drivable, longest};
+pub use room::{is_drivable, most_calls};
 pub use subject::drive_subject;

@@ -1,6 +1,6 @@
 // Whether there is room for what a drive records.
 ghost use Rattle.std.specs.Prelude.{◌≡◌, ◌↔◌, ◌≤◌, IsTrue, map, All, vec_len};
-ghost use Rattle.drives.specs.Drives.{IsDrivable, longest};
+ghost use Rattle.drives.specs.Drives.{IsDrivable, most_calls};
 
 use art_steps::TreeCall;
 use events::MAX_CALLS;
@@ -12,12 +12,12 @@ pub fn is_drivable(plan: &Plan) -> bool
     ensures { IsTrue result ↔ IsDrivable plan.now }
 {
     let scripts = plan.scripts();
-    scripts.len() * longest(scripts) <= MAX_CALLS
+    scripts.len() * most_calls(scripts) <= MAX_CALLS
 }
 
 /// How many calls the longest script has.
-pub fn longest(scripts: &[Vec<TreeCall>]) -> usize
-    ensures longest { result ≡ longest (map (λ script. script.items) scripts.now) }
+pub fn most_calls(scripts: &[Vec<TreeCall>]) -> usize
+    ensures longest { result ≡ most_calls (map (λ script. script.items) scripts.now) }
     ensures bound { All (λ script. vec_len script ≤ result) scripts.now }
 {
     let mut most = 0;

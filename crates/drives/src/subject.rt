@@ -8,7 +8,7 @@ ghost use Rattle.recorder.specs.Closing.{WantsMemory};
 ghost use Rattle.drives.specs.Drives.{IsDrivable, IsDriveOf};
 ghost use Rattle.drives.specs.Passes.{IsReady, IsPassAfter, EachIsAfter, AreAfter};
 
-use crate::room::longest;
+use crate::room::most_calls;
 use crate::script::do_script;
 use art_steps::TreeCall;
 use events::{History, Memory};
@@ -33,7 +33,11 @@ pub fn drive_subject<R: Threads + Sync, S: Subject + Sync>(
     ensures { IfOk result (λ h. IsDriveOf (S.may_answer subject.now) plan.now h) }
 {
     let scripts = plan.scripts();
-    let (recorder, passes) = Recorder::open(alloc, scripts.len() as u8, longest(scripts) as u32)?;
+    let (recorder, passes) = Recorder::open(
+        alloc,
+        scripts.len() as u8,
+        most_calls(scripts) as u32,
+    )?;
     let passes = passes_after(rt, alloc, &recorder, subject, passes, scripts)?;
     match recorder.close(alloc, passes) {
         Ok(history) => Ok(history),

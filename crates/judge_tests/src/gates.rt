@@ -75,7 +75,7 @@ impl Rounds {
     }
 
     /// How many times a worker stood inside with all others of its round; none where more than a round ever were inside at once.
-    pub(crate) fn met(&self) -> u64 {
+    pub(crate) fn count_met(&self) -> u64 {
         if self.was_crowded.load(Ordering::SeqCst) {
             return 0;
         }

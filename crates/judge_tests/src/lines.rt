@@ -127,7 +127,7 @@ static EVENTS: [(&'static str, u16, &'static str); 12] = [
 ];
 
 /// The process of an event, and its call or its reply as it is written.
-fn told(alloc: Global, event: &StreamEvent) -> Result<(u16, String), Fail> {
+fn process_and_words(alloc: Global, event: &StreamEvent) -> Result<(u16, String), Fail> {
     Ok(match event {
         StreamEvent::Invoke { process, call } => (
             *process,
@@ -144,7 +144,7 @@ fn told(alloc: Global, event: &StreamEvent) -> Result<(u16, String), Fail> {
 fn events_are_read_from_lines(rt: HostRuntime) -> Result<(), Fail> {
     for (line, process, done) in &EVENTS {
         let event = read_event_line(rt.alloc(), TextVersion::Three, line.as_bytes())?;
-        let (by, text) = told(rt.alloc(), &event)?;
+        let (by, text) = process_and_words(rt.alloc(), &event)?;
         assert_eq!(rt; by, *process, "{line}");
         assert!(rt; text.as_str() == *done, "{line}");
     }

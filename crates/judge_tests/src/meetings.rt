@@ -26,7 +26,7 @@ fn met_behind<R: Threads + Sync + Abort>(
     let gate = Rounds::of(u64::from(workers));
     let text = inserts(alloc, segments)?;
     pass(rt, alloc, text.as_bytes(), workers, &gate)?;
-    Ok(gate.met())
+    Ok(gate.count_met())
 }
 
 fn pass<R: Threads + Sync + Abort>(

@@ -23,11 +23,11 @@ fn is_judged(alloc: Global, text: &[u8], budget: u32, want: &str) -> Result<bool
     requires { (1 ≤ budget) × (budget ≤ MAX_BUDGET) }
 {
     let history = read_history(alloc, text)?;
-    let line = reported(alloc, &history, budget)?;
+    let line = judge_and_report(alloc, &history, budget)?;
     Ok(line.as_str() == want)
 }
 
-fn reported(alloc: Global, history: &History, budget: u32) -> Result<String, Memory>
+fn judge_and_report(alloc: Global, history: &History, budget: u32) -> Result<String, Memory>
     requires { (1 ≤ budget) × (budget ≤ MAX_BUDGET) }
 {
     let verdict = judge_alone(alloc, history, budget)?;
@@ -98,7 +98,7 @@ fn each_segment_is_entered_once(rt: HostRuntime) -> Result<(), Fail> {
     assert_eq!(rt; entered_alone(&rt, rt.alloc(), &segments)?, (1, 1));
     for workers in [1, 2, 64] {
         assert_eq!(rt;
-            entered(&rt, rt.alloc(), &segments, workers)?,
+            entered_by_workers(&rt, rt.alloc(), &segments, workers)?,
             (1, 1),
             "{workers} workers"
         );
@@ -118,7 +118,7 @@ fn entered_alone<R: Abort>(
 }
 
 /// The same by so many workers.
-fn entered<R: Threads + Sync + Abort>(
+fn entered_by_workers<R: Threads + Sync + Abort>(
     rt: &R,
     alloc: Global,
     segments: &[Segment],

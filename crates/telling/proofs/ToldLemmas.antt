@@ -20,7 +20,7 @@ use Rattle.list_laws.proofs.NumberLemmas.{slice_get-below, some_at}
 use Rattle.list_laws.proofs.ZipLemmas.{zip_left, zip_right}
 use Rattle.list_laws.proofs.FilterLemmas.{AreRelatedAs, AllPairs-filter_map, AllPairs-from_filter_map, AllPairs-weaker}
 use Rattle.telling.specs.Tellings.{IsToldAs, IsToldCall, AreToldCalls}
-use Rattle.telling.specs.Laws.{Telling}
+use Rattle.telling.specs.Laws.{OrdersAreThoseOfToldCalls}
 
 -- a whole answer comes at the same event
 before_told : (call : Call) (r t : Option Response) (place : ℕ) → IsToldAs call r t → is_before t place ≡ is_before r place
@@ -283,7 +283,7 @@ order_to_told start calls order h =
       },
     )
 
-pub same_orders : Telling
+pub same_orders : OrdersAreThoseOfToldCalls
 same_orders start calls = (
   λ order. (order_to_told start calls order, λ h. order_from_told start calls h.0 order h.1 h.2),
   (

@@ -25,8 +25,8 @@ abbrev pub AnswersThatTellLess : Type 0
 AnswersThatTellLess = (m : Contents) (call : Call) → TellByValue m call
 
 -- calls have an order exactly where they have it with some whole answers in the place of those that tell less
-abbrev pub Telling : Type 0
-Telling =
+abbrev pub OrdersAreThoseOfToldCalls : Type 0
+OrdersAreThoseOfToldCalls =
     (start : Contents) (calls : List Operation)
     → ((order : List ℕ) → IsOrder start calls order ↔ ((told : List Operation) × AreToldCalls calls told × IsOrder start told order))
     × (IsLinearizable start calls ↔ ((told : List Operation) × AreToldCalls calls told × IsLinearizable start told))

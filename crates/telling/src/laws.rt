@@ -1,5 +1,5 @@
 // Laws of answers that tell less, each the contract of a function that does nothing.
-ghost use Rattle.telling.specs.Laws.{AnswersDoCalls, AnswersThatTellLess, Telling};
+ghost use Rattle.telling.specs.Laws.{AnswersDoCalls, AnswersThatTellLess, OrdersAreThoseOfToldCalls};
 
 /// A legal answer that is not `refused` does the call, however little it tells.
 pub fn answers_do_calls()
@@ -13,6 +13,6 @@ pub fn answers_that_tell_less()
 {}
 
 /// Calls whose answers tell less have an order exactly where they have it with some whole answers in their place.
-pub fn telling()
-    ensures { Telling }
+pub fn orders_are_those_of_told_calls()
+    ensures { OrdersAreThoseOfToldCalls }
 {}

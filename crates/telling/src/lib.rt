@@ -3,4 +3,4 @@
 
 mod laws;
 
-pub use laws::{answers_do_calls, answers_that_tell_less, telling};
+pub use laws::{answers_do_calls, answers_that_tell_less, orders_are_those_of_told_calls};

@@ -53,7 +53,7 @@ fn make_steps(
 
 /// The report on what is recorded where the two processes make these steps: which of them, the call that it begins before, and
 /// how many.
-fn interleaved(
+fn report_interleaved(
     alloc: Global,
     variant: Variant,
     parts: &[(u8, Option<Call>, u32)],
@@ -116,7 +116,7 @@ fn what_a_check_left_out_makes_of_a_call_is_refuted(rt: HostRuntime) -> Result<(
             "{\"order\":[0,1,2],\"verdict\":\"yes\"}",
         ),
     ] {
-        assert!(rt; interleaved(rt.alloc(), variant, parts)?.as_str() == wanted);
+        assert!(rt; report_interleaved(rt.alloc(), variant, parts)?.as_str() == wanted);
     }
     Ok(())
 }
@@ -156,9 +156,9 @@ fn a_get_that_stops_while_it_holds_a_lock_holds_up_an_insert(rt: HostRuntime) ->
             (0, Some(Call::Get(5)), steps as u32),
             (1, Some(Call::Insert(3, 30)), WHOLE),
         ];
-        let told = interleaved(rt.alloc(), Variant::Optimistic, &parts)?;
+        let told = report_interleaved(rt.alloc(), Variant::Optimistic, &parts)?;
         assert!(rt; told.as_str() == *optimistic, "{steps} steps");
-        let told = interleaved(rt.alloc(), Variant::Coupled, &parts)?;
+        let told = report_interleaved(rt.alloc(), Variant::Coupled, &parts)?;
         assert!(rt; told.as_str() == *coupled, "{steps} steps");
     }
     Ok(())

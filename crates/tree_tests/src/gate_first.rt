@@ -2,7 +2,7 @@
 // gate, so this goes by the clock.
 ghost use Rattle.std.specs.Prelude.{⊤};
 
-use crate::meetings::driven;
+use crate::meetings::drive_text;
 use history_text::write_history;
 use pool::Gate;
 use std::test::Fail;
@@ -61,7 +61,7 @@ fn a_process_enters_the_gate_before_its_calls(rt: HostRuntime) -> Result<(), Fai
             clock: &rt,
             start: Instant::now(&rt)?,
         };
-        let history = driven(&rt, alloc, PLAN, &gate)?;
+        let history = drive_text(&rt, alloc, PLAN, &gate)?;
         if write_history(alloc, &history)?.as_str() == HELD_LAST {
             last = last.saturating_add(1);
         }

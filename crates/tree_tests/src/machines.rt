@@ -9,14 +9,14 @@ use std::process::Abort;
 use std::test::Fail;
 
 /// A machine for the plan that a text spells.
-fn opened(alloc: Global, text: &str) -> Result<Machine, Fail> {
+fn open_machine(alloc: Global, text: &str) -> Result<Machine, Fail> {
     let plan = read_plan(alloc, text.as_bytes())?;
     let scripts = plan.into_scripts();
     Ok(Machine::open(alloc, eights(), Variant::Optimistic, scripts, 100_000)?)
 }
 
 /// The text, so many times, with commas between.
-fn repeated(alloc: Global, text: &str, count: usize) -> Result<String, AllocError> {
+fn repeat_text(alloc: Global, text: &str, count: usize) -> Result<String, AllocError> {
     let mut all = String::from_str(alloc, text)?;
     for _ in 1..count {
         all.push_str(",")?;
@@ -27,12 +27,12 @@ fn repeated(alloc: Global, text: &str, count: usize) -> Result<String, AllocErro
 
 /// How many events a machine has recorded before its first turn, for a plan of so many scripts of so many gets each.
 fn recorded_of_gets(alloc: Global, scripts: usize, gets: usize) -> Result<usize, Fail> {
-    let script = format!(in alloc; "[{}]", repeated(alloc, "[\"get\",5]", gets)?)?;
+    let script = format!(in alloc; "[{}]", repeat_text(alloc, "[\"get\",5]", gets)?)?;
     let text = format!(in alloc;
         "{{\"scripts\":[{}],\"version\":1}}",
-        repeated(alloc, &script, scripts)?
+        repeat_text(alloc, &script, scripts)?
     )?;
-    let machine = opened(alloc, &text)?;
+    let machine = open_machine(alloc, &text)?;
     Ok(machine.history(alloc)?.events().len())
 }
 
@@ -88,7 +88,7 @@ fn check_grown<R: Abort>(rt: &R, words: &[u64]) {
 
 #[test]
 fn a_row_grows_from_4_to_16_to_48_children(rt: HostRuntime) -> Result<(), Fail> {
-    let mut machine = opened(rt.alloc(), INSERTS)?;
+    let mut machine = open_machine(rt.alloc(), INSERTS)?;
     make_all_turns(&rt, rt.alloc(), &mut machine);
     check_grown(&rt, machine.words());
     Ok(())

@@ -29,7 +29,7 @@ pub(crate) fn wait_for(noted: &AtomicBool, met: &AtomicU64) {
 }
 
 /// What is recorded when the plan that a text spells is driven on an optimistic tree.
-pub(crate) fn driven<R: Threads + Sync, G: Gate + Sync>(
+pub(crate) fn drive_text<R: Threads + Sync, G: Gate + Sync>(
     rt: &R,
     alloc: Global,
     text: &str,
@@ -95,7 +95,7 @@ fn two_arena_processes(rt: HostRuntime) -> Result<(), Fail> {
             entered: AtomicU64::new(0),
             numbers: AtomicU64::new(0),
         };
-        let history = driven(&rt, alloc, text, &gate)?;
+        let history = drive_text(&rt, alloc, text, &gate)?;
         let told = (
             gate.met.load(Ordering::SeqCst),
             gate.entered.load(Ordering::SeqCst),

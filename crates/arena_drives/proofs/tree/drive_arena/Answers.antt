@@ -2,7 +2,7 @@ use Rattle.std.proofs.Common.{◌≡◌, length, map, sym, ap, subst, ◌∙◌,
 use Rattle.std.specs.Prelude.{All, EachIndex}
 use Rattle.std.proofs.lemmas.List.{length-map}
 use Rattle.art_shared.specs.Ends.{HasOwnEvents}
-use Rattle.drives.specs.Drives.{longest}
+use Rattle.drives.specs.Drives.{most_calls}
 use Rattle.running.specs.Passes.{shows, opened_for, setup_with}
 use Rattle.running.specs.Closing.{HoldsAll, IsHistoryOf}
 use Rattle.running.specs.Linearizable.{IsLinearizableIn}
@@ -16,12 +16,12 @@ use Rattle.arena_drives.proofs.tree.drive_arena.Goals.{In_ok-pass}
 -- what the arena was opened for
 opened : (g : _) (c : In_ok-pass g) → opened_for c.in_ok-arena.arena
     ≡ setup_with c.args.shape c.args.variant (length (map (λ script. script.items) c.scripts-scripts.result.now))
-    (longest (map (λ script. script.items) c.scripts-scripts.result.now))
+    (most_calls (map (λ script. script.items) c.scripts-scripts.result.now))
 opened g c =
     let scripts = c.scripts-scripts.result.now in
     c.in_ok-arena.ensures.setup
-    ∙ (ap (λ n. setup_with c.args.shape c.args.variant n c.longest.result) (sym (length-map scripts (λ script. script.items)))
-    ∙ ap (setup_with c.args.shape c.args.variant (length (map (λ script. script.items) scripts))) c.longest.ensures.longest)
+    ∙ (ap (λ n. setup_with c.args.shape c.args.variant n c.most_calls.result) (sym (length-map scripts (λ script. script.items)))
+    ∙ ap (setup_with c.args.shape c.args.variant (length (map (λ script. script.items) scripts))) c.most_calls.ensures.longest)
 
 -- all processes did their scripts
 done : (g : _) (c : In_ok-pass g)
@@ -35,7 +35,7 @@ done g c =
 
 pub do_scripts-requires-clause-room : goal.do_scripts-requires-clause-room
 do_scripts-requires-clause-room g c = λ κs fits k d within.
-    omega (arith, c.longest.ensures.bound k d within, ap (λ s. s.calls_each) c.in_ok-arena.ensures.setup)
+    omega (arith, c.most_calls.ensures.bound k d within, ap (λ s. s.calls_each) c.in_ok-arena.ensures.setup)
 
 pub want_of_memory-requires : goal.want_of_memory-requires
 want_of_memory-requires g c =

@@ -1,6 +1,6 @@
 use Rattle.std.proofs.Common.{◌≡◌, ◌*◌, length, refl, sym, ap, ◌∙◌, arith}
 use Rattle.std.proofs.lemmas.List.{length-map}
-use Rattle.drives.specs.Drives.{longest}
+use Rattle.drives.specs.Drives.{most_calls}
 use Rattle.drives.proofs.RoomLemmas.{room-within}
 use Rattle.drives.proofs.room.is_drivable.Goals as goal
 
@@ -10,6 +10,6 @@ overflow_mul-result c =
     let scripts = c.scripts-scripts.result.now in
     let same = c.scripts-scripts.ensures.same in
     let many : length scripts ≡ length plan = sym (length-map scripts (λ script. script.items)) ∙ ap length same in
-    let most : c.longest.result ≡ longest plan = c.longest.ensures.longest ∙ ap longest same in
-    let product : length scripts * c.longest.result ≡ length plan * longest plan = rw (many, most) refl in
+    let most : c.most_calls.result ≡ most_calls plan = c.most_calls.ensures.longest ∙ ap most_calls same in
+    let product : length scripts * c.most_calls.result ≡ length plan * most_calls plan = rw (many, most) refl in
     omega (arith, product, room-within plan c.scripts-scripts.ensures.within.few)

@@ -14,7 +14,7 @@ passes-many g c = c.in_ok-passes.ensures.many ∙ sym (length-map c.scripts-scri
 
 pub passes_after-requires-clause-room : goal.passes_after-requires-clause-room
 passes_after-requires-clause-room g c = λ κs fits k d within.
-    omega (arith, c.longest.ensures.bound k d within, c.in_ok-recorder.ensures.recorder.1)
+    omega (arith, c.most_calls.ensures.bound k d within, c.in_ok-recorder.ensures.recorder.1)
 
 pub close-requires : goal.close-requires
 close-requires g c = record {

@@ -1,6 +1,6 @@
 use Rattle.std.proofs.Common.{◌≡◌, map, take, length}
 use Rattle.list_laws.specs.Lists.{greatest}
-use Rattle.drives.proofs.room.longest.Given as goal
+use Rattle.drives.proofs.room.most_calls.Given as goal
 
 abbrev pub invariant-loop-script : goal.invariant-loop-script
 invariant-loop-script l = l.most ≡ greatest (map (λ script. length script.items) (take l.script-index l.scripts))
