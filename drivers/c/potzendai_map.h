@@ -24,9 +24,9 @@ struct potzendai_map {
     const char *name;
     void *map;
     unsigned value_bits; /* how many bits a value may have, or 0 for 64: values from 1 up are put */
-    void *(*open)(void *map, unsigned thread); /* in the thread itself, a session of its own; NULL where it fails, with errno ENOMEM where
-                                                  that is for want of memory. The run has one too, for gets at rest, behind the last
-                                                  thread's number. Or no function: it is the map */
+    void *(*open)(void *map, unsigned thread); /* in the thread itself, its own handle on the map, as a connection; NULL where it fails, with
+                                                  errno ENOMEM where that is for want of memory. The run has one too, for gets at
+                                                  rest, behind the last thread's number. Or no function: it is the map */
     void (*close)(void *session);
     enum map_said (*get)(void *session, uint64_t key, uint64_t *found);
     enum map_said (*put)(void *session, uint64_t key, uint64_t value, uint64_t *found);

@@ -22,7 +22,8 @@
  *     map_said ceiling(uint64_t key, recording_pair &pair);
  *     map_said pop_first(recording_pair &pair);
  *
- * Where it has a type `session`, made of the object and the number of a thread, each thread calls the methods of a session of its own.
+ * Where it has a nested type `session`, a thread's own handle on the map, as a connection, made of the object and the thread's number, each
+ * thread makes one for itself, and calls its methods.
  * A method that throws has said MAP_UNKNOWN: nobody knows whether it was done. README.md says what the words and the statuses are. */
 #ifndef POTZENDAI_TEST_HPP
 #define POTZENDAI_TEST_HPP

@@ -69,7 +69,8 @@ impl Said {
     }
 }
 
-/// What one thread calls: any function but `get` and `put` may be left out. Nothing else changes the map.
+/// A thread's own handle on the map, as a connection, whose functions it calls: any but `get` and `put` may be left out. Nothing else
+/// changes the map.
 pub trait Session {
     /// The value.
     fn get(&mut self, key: u64) -> Said;
@@ -105,7 +106,7 @@ pub trait Session {
     }
 }
 
-/// A map, of which each thread opens a session of its own.
+/// A map, on which each thread opens a handle of its own.
 pub trait Map: Sync {
     fn open(&self) -> Box<dyn Session + '_>;
 }
