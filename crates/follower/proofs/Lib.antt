@@ -1,8 +1,9 @@
-mod FaultLemmas
+pub mod AnewLemmas
+pub mod FaultLemmas
 mod FollowLemmas
-mod JudgeLemmas
+pub mod JudgeLemmas
 mod NextLemmas
-mod OpenLemmas
+pub mod OpenLemmas
 mod PairLemmas
 mod RowLemmas
 mod ScanLemmas

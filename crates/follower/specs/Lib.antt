@@ -2,5 +2,6 @@ pub mod Calls
 pub mod Faults
 pub mod FollowerView
 pub mod Following
+pub mod Lone
 pub mod Outcomes
 pub mod Steps

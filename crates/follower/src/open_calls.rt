@@ -1,6 +1,7 @@
 // The open calls of processes.
 ghost use Rattle.std.specs.Prelude.{◌≡◌};
 ghost use Rattle.follower.specs.FollowerView.{known_call};
+ghost use Rattle.follower.specs.Lone.{only_of};
 
 use events::Call;
 use std::collections::BTreeMap;
@@ -19,4 +20,17 @@ pub(crate) fn open_call(calls: &BTreeMap<u16, OpenCall>, process: u16) -> Option
     ensures { result ≡ known_call calls.now.entries process }
 {
     calls.get(&process).copied()
+}
+
+/// The only open call, with its process.
+pub(crate) fn only_call(calls: &BTreeMap<u16, OpenCall>) -> Option<(u16, OpenCall)>
+    ensures { result ≡ only_of calls.now.entries }
+{
+    if calls.len() != 1 {
+        return None;
+    }
+    match calls.first_key_value() {
+        Some((process, known)) => Some((*process, *known)),
+        None => None,
+    }
 }

@@ -1,0 +1,5 @@
+pub mod Hushed
+pub mod Laws
+pub mod LoneReads
+pub mod WiderLoneReads
+pub mod Windows

@@ -1,0 +1,3 @@
+mod CloseLemmas
+mod StandLemmas
+mod StretchLemmas
