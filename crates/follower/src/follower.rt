@@ -93,6 +93,13 @@ impl Follower {
         self.events
     }
 
+    /// How many rows there are: in how many ways the scans so far may have taken effect.
+    pub fn row_count(&self) -> usize
+        ensures { result ≡ length self.now.rows.rows }
+    {
+        self.rows.count()
+    }
+
     /// The open call of a process.
     pub fn call_of(&self, process: u16) -> Option<OpenCall>
         ensures { result ≡ known_call self.now.open_calls process }

@@ -20,6 +20,9 @@ use prefixes::prefixes_have_orders;
 use std::alloc::Global;
 use std::marker::Model;
 
+/// How many rows are many: with as many, what came before is put aside where it may be.
+const MANY_ROWS: usize = 16;
+
 /// Follows a stream of events: what is followed, the windows that were put aside while a get or a
 /// scan was open, and the process of that call.
 #[derive(Drop)]
@@ -208,6 +211,9 @@ impl WindowFollower {
         ensures { (start : Contents) (events : List Event) → IsFollowed start events self
             → IfOk result (IsFollowed start events) }
     {
+        if self.current.row_count() < MANY_ROWS {
+            return Ok(self);
+        }
         let Some(process) = self.current.lone_read() else {
             return Ok(self);
         };
