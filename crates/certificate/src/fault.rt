@@ -15,7 +15,7 @@ pub enum OrderFault {
     Reply { place: usize },
     /// The least completed call whose number is absent.
     Missing { call: usize },
-    /// Want of memory, which says nothing of the list.
+    /// Memory ran out, which says nothing of the list.
     Memory,
 }
 

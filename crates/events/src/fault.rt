@@ -27,7 +27,7 @@ pub enum HistoryFault {
     /// or a response while it has none.
     #[error("6 NotWellFormed at event {event}")]
     NotWellFormed { event: usize },
-    /// Want of memory.
+    /// Memory ran out.
     #[error("7 Memory")]
     Memory,
     /// The starting pair at this place is no pair of numbers, or its key is not above the one before.

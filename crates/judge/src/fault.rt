@@ -6,7 +6,7 @@ use events::{HistoryFault, Memory};
 pub enum JudgeFault {
     /// The text spells no history. This is never the reader's want of memory.
     History(HistoryFault),
-    /// Want of memory, in reading or in judging.
+    /// Memory ran out, in reading or in judging.
     Memory,
 }
 

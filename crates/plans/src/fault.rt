@@ -10,7 +10,7 @@ pub enum PlanFault {
     BadRange,
     /// No script, more than `PROCESSES` of them, or more than `MAX_CALLS` calls in all.
     TooMany,
-    /// Want of memory.
+    /// Memory ran out.
     Memory,
     /// The text has more bytes than a text may have.
     TooLong,

@@ -9,7 +9,7 @@ pub enum RecorderFault {
     OutOfTurn,
     /// An invocation after all calls of the process, or a reply of more than `MAX_PAIRS` pairs.
     TooMany,
-    /// Want of memory for one event more.
+    /// Memory ran out for one event more.
     Memory,
 }
 
@@ -18,6 +18,6 @@ pub enum RecorderFault {
 pub enum CloseFault {
     /// A process, or a part of the draws, is not in the passes that were handed in.
     StillOut(Recorder, Vec<Pass>),
-    /// Want of memory for the history.
+    /// Memory ran out for the history.
     Memory(Recorder, Vec<Pass>),
 }

@@ -8,6 +8,6 @@ pub enum ReplayFault {
     Replay(MachineFault),
     /// The schedule stops at this item, for a cause that is not `MachineFault::Memory`.
     Schedule(RunFault),
-    /// Want of memory.
+    /// Memory ran out.
     Memory,
 }

@@ -7,6 +7,6 @@ use crate::pass::Pass;
 pub enum ArenaClose {
     /// The pass does not hold all processes.
     StillOut(Arena, Pass),
-    /// Want of memory for the history.
+    /// Memory ran out for the history.
     Memory(Arena, Pass),
 }

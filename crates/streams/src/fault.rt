@@ -12,7 +12,7 @@ pub struct Failed;
 pub enum ReadFault {
     /// A read failed.
     Failed,
-    /// Want of memory: a growth was refused.
+    /// Memory ran out: a growth was refused.
     Memory,
 }
 
