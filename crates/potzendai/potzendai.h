@@ -1,6 +1,7 @@
 /* Potzendai's library: judges, locates, explains and draws histories of a concurrent ordered map, and follows streams of their
  * events, as `bench judge`, `bench locate`, `bench explain`, `bench draw --calls 0` and `bench follow` do; potzendai_draw_part draws
- * what `bench draw` shows, of a no few calls. Link libpotzendai.a; docs/LIBRARY.md says how it is built, and what each call promises.
+ * what `bench draw` shows: few calls of a no, and of an undecided where such are found. Link libpotzendai.a; docs/LIBRARY.md says how it
+ * is built, and what each call promises.
  *
  *     char report[POTZENDAI_REPORT] = "";
  *     size_t length;
