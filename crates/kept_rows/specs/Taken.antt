@@ -8,6 +8,7 @@ use Rattle.row_parting.specs.ScanAnswers.{ScanAnswer, IsInRange}
 use Rattle.kept_rows.specs.Seeing.{HaveSeen, IsUnseen}
 use Rattle.row_parting.specs.Parting.{AreParted}
 use Rattle.row_parting.specs.Placed.{IsPlacedInRows}
+use Rattle.row_parting.specs.Spending.{IsSpentAmong}
 use Rattle.scan_rows.specs.RowView.{RowView}
 use Rattle.kept_rows.specs.Rows.{RowsView}
 use Rattle.kept_rows.specs.declared.outcomes.AnsweredRows.{AnsweredRows}
@@ -43,9 +44,9 @@ IsTakenAs s limit budget columns v (Lost losses) = NoneIsLeft s limit columns v 
 IsTakenAs s limit budget columns v (Spent loss) = IsInRange s loss.key × IsBeyond budget loss.key loss.kept × IsPlacedInRows s v.rows loss
 IsTakenAs s limit budget columns v Crowded = ⊤
 
--- how many they then are
+-- how many they then are, or at which of them the search was that is beyond the budget
 abbrev pub AreFewOr : ScanAnswer → (ℕ → ℕ) → List RowView → AnsweredRows → Type 0
 AreFewOr s limit rows (Going w) = AreTooMany w.rows → ⊥
 AreFewOr s limit rows (Lost losses) = ⊤
-AreFewOr s limit rows (Spent loss) = ⊤
+AreFewOr s limit rows (Spent loss) = IsSpentAmong s limit rows loss
 AreFewOr s limit rows Crowded = AreCrowding s limit rows

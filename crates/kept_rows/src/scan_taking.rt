@@ -15,6 +15,7 @@ ghost use Rattle.scan_rows.specs.RowView.{RowView};
 ghost use Rattle.kept_rows.specs.Rows.{RowsView};
 ghost use Rattle.scan_rows.specs.Entries.{entry_at, or_fresh};
 ghost use Rattle.row_parting.specs.Scannable.{IsSoundRow};
+ghost use Rattle.row_parting.specs.Spending.{IsSpentAmong};
 ghost use Rattle.row_parting.specs.Steps.{IsHalt, IfCrowded};
 ghost use Rattle.kept_rows.specs.Taken.{IsTakenAs, AreFewOr};
 
@@ -63,6 +64,7 @@ fn answer_halt(halt: Halt) -> Result<AnsweredRows, Memory>
         → IfOk result (IsTakenAs s limit budget columns v) }
     ensures few { (s : ScanAnswer) (limit : ℕ → ℕ) (rows : List RowView)
         → IfCrowded (AreCrowding s limit rows) halt
+        → WasPlaced (IsSpentAmong s limit rows) halt
         → IfOk result (AreFewOr s limit rows) }
 {
     match halt {

@@ -8,7 +8,7 @@ ghost use Rattle.map_object.specs.MapObject.{Contents};
 ghost use Rattle.following.specs.moments.Timings.{ArePairsOf};
 ghost use Rattle.kept_keys.specs.Steps.{IsOpenCall};
 ghost use Rattle.kept_keys.specs.Views.{place_limit};
-ghost use Rattle.kept_rows.specs.Crowding.{AreCountedAs, told_of};
+ghost use Rattle.kept_rows.specs.Crowding.{AreCountedAs, IsTakenBy, told_of};
 ghost use Rattle.kept_rows.specs.Followed.{AreFollowed};
 ghost use Rattle.kept_rows.specs.Outcomes.{IsScanAnswered, AreOpenScans};
 ghost use Rattle.kept_rows.specs.Sound.{IsScanAnswerable};
@@ -51,6 +51,8 @@ impl Rows {
             → AreOpenScans (events ++ Answer process (replies.Pairs pairs.now) ∷ []) still_open.now
             → IfOk result (IsScanAnswered start
             (events ++ Answer process (replies.Pairs pairs.now) ∷ []) budget scan.low scan.high) }
+        ensures taken { IfOk result (IsTakenBy (told_of place scan pairs.now still_open.now) budget
+            self) }
         ensures counted { IfOk result (AreCountedAs (told_of place scan pairs.now still_open.now)
             self) }
     {

@@ -6,4 +6,5 @@ pub mod ScanGapLemmas
 pub mod ScanPlaceLemmas
 pub mod ScanTryLemmas
 pub mod ScanWayLemmas
+mod SpentLemmas
 pub use Rattle.scan_gaps.proofs.ToldLemmas

@@ -1,7 +1,9 @@
 -- A key whose search is beyond the budget was placed with the scan in a way of a row.
-use Rattle.std.proofs.Common.{◌≡◌, ℕ, ◌≤◌, List, [], ◌∷◌, ◌++◌, refl, sym, subst}
-use Rattle.std.specs.Prelude.{◌⊎◌, Contains}
-use Rattle.std.proofs.lemmas.List.Elements.{Contains-append_left, Contains-append_right}
+use Rattle.std.proofs.Common.{◌≡◌, ℕ, ◌+◌, ◌<◌, ◌≤◌, List, [], ◌∷◌, ◌++◌, length, take, drop, get_or, Option, Some, None, refl, sym, ap, ◌∙◌, subst}
+use Rattle.std.specs.List.{AllZip}
+use Rattle.std.specs.Prelude.{◌⊎◌, All, Contains}
+use Rattle.std.proofs.lemmas.List.{drop_more, take-append-drop}
+use Rattle.std.proofs.lemmas.List.Elements.{All-cons, All-nil, Contains-append_left, Contains-append_right}
 use Rattle.list_laws.proofs.Lists.{Contains-first}
 use Rattle.list_laws.proofs.FilterLemmas.{Contains-from_map}
 use Rattle.following.proofs.keys.ChoiceLemmas.{any_from}
@@ -10,7 +12,8 @@ use Rattle.scan_gaps.specs.Candidates.{ArePlacesWithin}
 use Rattle.scan_gaps.specs.Moments.{AreTimed}
 use Rattle.scan_gaps.specs.ScanAnswers.{ScanAnswer, IsInRange}
 use Rattle.row_parting.specs.Parting.{Way, choices_among, HasPlacedGet}
-use Rattle.row_parting.specs.Placed.{IsPlacedAmong, IsPlacedBy, IsPlacedByOne, IsPlacedInGap, IsPlacedInRow, IsPlacedInRows, WasPlaced}
+use Rattle.row_parting.specs.Placed.{IsOrderedWith, IsPlacedAmong, IsNextAmong, IsPlacedBy, IsPlacedByOne, IsPlacedInGap, IsPlacedInRow, IsPlacedInRows, WasPlaced}
+use Rattle.row_parting.specs.Placing.{IsPlaced}
 use Rattle.scan_gaps.specs.RowView.{RowView}
 use Rattle.row_parting.specs.Trying.{IsScanOf, ways_with}
 use Rattle.row_parting.specs.declared.halt.Halt.{Halt}
@@ -24,15 +27,48 @@ placed_weaker P Q weaker Memory h = tt
 placed_weaker P Q weaker (Spent loss) h = weaker loss h
 placed_weaker P Q weaker Crowded h = tt
 
--- one of some keys, by its place
-pub placed_among : (s : ScanAnswer) (scans : List KeptScan) (keys : List (ℕ × KeptView)) (key : ℕ) (old : KeptView) → Contains keys (key, old) → IsInRange s key
-    → (loss : KeyLoss) → (loss.key ≡ key) × HasPlacedGet s key scans old loss.kept → IsPlacedAmong s scans keys loss
-placed_among s scans keys key old own range loss is = record {
+-- keys that are placed have an order
+one_ordered : (s : ScanAnswer) (scans : List KeptScan) (entry : ℕ × KeptView) (placed : Option KeptView) → IsPlaced s scans entry placed
+    → IsOrderedWith s scans entry
+one_ordered s scans entry None outside = λ range. absurd (outside range)
+one_ordered s scans entry (Some kept) is = λ range. (kept, is.1, is.3)
+
+all_ordered : (s : ScanAnswer) (scans : List KeptScan) (keys : List (ℕ × KeptView)) (placed : List (Option KeptView)) → AllZip (IsPlaced s scans) keys placed
+    → All (IsOrderedWith s scans) keys
+all_ordered s scans [] [] h = All-nil (IsOrderedWith s scans)
+all_ordered s scans [] (x ∷ placed) h = absurd h
+all_ordered s scans (entry ∷ keys) [] h = absurd h
+all_ordered s scans (entry ∷ keys) (x ∷ placed) h =
+    All-cons (IsOrderedWith s scans) entry keys (one_ordered s scans entry x h.0) (all_ordered s scans keys placed h.1)
+
+-- the one behind those
+pub next_among : (s : ScanAnswer) (scans : List KeptScan) (keys : List (ℕ × KeptView)) (placed : List (Option KeptView)) (i key : ℕ) (old : KeptView)
+    → i < length keys → (key, old) ≡ get_or keys i (key, old) → AllZip (IsPlaced s scans) (take i keys) placed → IsInRange s key
+    → (loss : KeyLoss) → (loss.key ≡ key) × HasPlacedGet s key scans old loss.kept → IsNextAmong s scans keys loss
+next_among s scans keys placed i key old within at before range loss is = record {
+  front = take i keys;
   old = old;
-  own = subst (λ (k : ℕ). Contains keys (k, old)) (sym is.0) own;
+  back = drop (i + 1) keys;
+  keys_are = subst (λ (k : ℕ). keys ≡ take i keys ++ (k, old) ∷ drop (i + 1) keys) (sym is.0) (sym (take-append-drop i keys)
+      ∙ ap (λ (l : List (ℕ × KeptView)). take i keys ++ l)
+      (drop_more keys i (key, old) within ∙ ap (λ (entry : ℕ × KeptView). entry ∷ drop (i + 1) keys) (sym at)));
+  ordered = all_ordered s scans (take i keys) placed before;
   in_range = subst (IsInRange s) (sym is.0) range;
   placed = subst (λ (k : ℕ). HasPlacedGet s k scans old loss.kept) (sym is.0) is.1;
 }
+
+-- is one of them
+pub among_next : (s : ScanAnswer) (scans : List KeptScan) (keys : List (ℕ × KeptView)) (loss : KeyLoss) → IsNextAmong s scans keys loss
+    → IsPlacedAmong s scans keys loss
+among_next s scans keys loss next =
+    let entry : ℕ × KeptView = (loss.key, next.old) in
+    record {
+      old = next.old;
+      own = subst (λ (l : List (ℕ × KeptView)). Contains l entry) (sym next.keys_are)
+          (Contains-append_right next.front (entry ∷ next.back) entry (Contains-first entry next.back));
+      in_range = next.in_range;
+      placed = next.placed;
+    }
 
 -- no rival is left to choose a turn with
 pub placed_last : (s : ScanAnswer) (r : RowView) (scan : KeptScan) (scans : List KeptScan) (chosen : List (ℕ × ℕ)) (loss : KeyLoss) → IsScanOf s scan

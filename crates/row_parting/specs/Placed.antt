@@ -1,6 +1,7 @@
 -- A key with an answered scan as a get, in a way of a row: what is told of a key that has no order
 -- then, or of one whose search is beyond the budget.
-use Rattle.std.specs.Prelude.{◌⊎◌, ℕ, ◌≤◌, List, Any, Contains, ⊤}
+use Rattle.std.specs.Prelude.{◌≡◌, ◌⊎◌, ℕ, ◌≤◌, List, ◌∷◌, ◌++◌, All, Any, Contains, ⊤}
+use Rattle.scan_gaps.specs.Judging.{HasOrder}
 use Rattle.scan_gaps.specs.Views.{KeptView}
 use Rattle.scan_gaps.specs.Candidates.{ArePlacesWithin}
 use Rattle.scan_gaps.specs.ScanAnswers.{ScanAnswer, IsInRange}
@@ -18,11 +19,30 @@ pub record IsPlacedAmong (s : ScanAnswer) (scans : List KeptScan) (keys : List (
   pub in_range : IsInRange s loss.key
   pub placed : HasPlacedGet s loss.key scans old loss.kept
 
+-- a key has an order with it, if it is in the range
+abbrev pub IsOrderedWith : ScanAnswer → List KeptScan → ℕ × KeptView → Type 0
+IsOrderedWith s scans entry = IsInRange s entry.0 → (kept : KeptView) × HasPlacedGet s entry.0 scans entry.1 kept × HasOrder entry.0 kept
+
+-- one of some keys so, and those before it have an order
+pub record IsNextAmong (s : ScanAnswer) (scans : List KeptScan) (keys : List (ℕ × KeptView)) (loss : KeyLoss) : Type 0 where
+  pub front : List (ℕ × KeptView)
+  pub old : KeptView
+  pub back : List (ℕ × KeptView)
+  pub keys_are : keys ≡ front ++ (loss.key, old) ∷ back
+  pub ordered : All (IsOrderedWith s scans) front
+  pub in_range : IsInRange s loss.key
+  pub placed : HasPlacedGet s loss.key scans old loss.kept
+
 -- one of a row's own, in a way of it
 pub record IsPlacedBy (s : ScanAnswer) (r : RowView) (way : Way) (loss : KeyLoss) : Type 0 where
   pub scans : List KeptScan
   pub timed : IsTimedWay s way r scans
   pub here : IsPlacedAmong s scans r.keys loss
+
+pub record IsNextBy (s : ScanAnswer) (r : RowView) (way : Way) (loss : KeyLoss) : Type 0 where
+  pub scans : List KeptScan
+  pub timed : IsTimedWay s way r scans
+  pub here : IsNextAmong s scans r.keys loss
 
 -- in one of some ways
 abbrev pub IsPlacedByOne : ScanAnswer → RowView → List Way → KeyLoss → Type 0

@@ -4,6 +4,8 @@ use Rattle.row_parting.specs.Crowding.{IsPartedUpTo, HasNoRoom}
 use Rattle.row_parting.specs.Crowds.{AreTooMany, rows_size}
 use Rattle.scan_gaps.specs.ScanAnswers.{ScanAnswer}
 use Rattle.row_parting.specs.Parting.{Way, choices_among, AreRivals, ways_by, AreTried, IsParted, AreParted}
+use Rattle.row_parting.specs.Placed.{IsNextBy}
+use Rattle.row_parting.specs.Spending.{IsSpentIn}
 use Rattle.scan_gaps.specs.Passing.{IsLeftOut}
 use Rattle.scan_gaps.specs.RowView.{RowView}
 use Rattle.scan_gaps.specs.KeyLoss.{KeyLoss}
@@ -49,6 +51,16 @@ pub record HaveCrowded (s : ScanAnswer) (limit : ℕ → ℕ) (r : RowView) (way
   pub tried : HaveTried s limit r done old new
   pub too_many : AreTooMany new.next.items
 
+-- to them come those of the first ones of some ways, and a key was placed in the next one
+pub record HaveSpent (s : ScanAnswer) (limit : ℕ → ℕ) (r : RowView) (ways : List Way) (old new : Parted) (loss : KeyLoss) : Type 0 where
+  pub done : List Way
+  pub way : Way
+  pub left : List Way
+  pub ways_are : ways ≡ done ++ way ∷ left
+  pub tried : HaveTried s limit r done old new
+  pub few : AreTooMany new.next.items → ⊥
+  pub here : IsNextBy s r way loss
+
 -- both scans of a turn are among some
 abbrev pub IsTurnAmong : List ℕ → ℕ × ℕ → Type 0
 IsTurnAmong names turn = Contains names turn.0 × Contains names turn.1
@@ -69,6 +81,11 @@ pub record HasCrowdedGap (s : ScanAnswer) (limit : ℕ → ℕ) (r : RowView) (b
   pub are_rivals : AreRivals s behind before r rivals
   pub crowded : HaveCrowded s limit r (ways_by s behind before rivals) old new
 
+pub record HasSpentGap (s : ScanAnswer) (limit : ℕ → ℕ) (r : RowView) (behind before : ℕ) (old new : Parted) (loss : KeyLoss) : Type 0 where
+  pub rivals : List ℕ
+  pub are_rivals : AreRivals s behind before r rivals
+  pub spent : HaveSpent s limit r (ways_by s behind before rivals) old new loss
+
 -- those of one that need be tried, or it need not
 abbrev pub HasTriedIfNeeded : ScanAnswer → (ℕ → ℕ) → RowView → ℕ → ℕ → Parted → Parted → Type 0
 HasTriedIfNeeded s limit r behind before old new =
@@ -77,6 +94,10 @@ HasTriedIfNeeded s limit r behind before old new =
 abbrev pub HasCrowdedIfNeeded : ScanAnswer → (ℕ → ℕ) → RowView → ℕ → ℕ → Parted → Parted → Type 0
 HasCrowdedIfNeeded s limit r behind before old new =
     (IsLeftOut s r behind before → ⊥) × HasCrowdedGap s limit r behind before old new
+
+abbrev pub HasSpentIfNeeded : ScanAnswer → (ℕ → ℕ) → RowView → ℕ → ℕ → Parted → Parted → KeyLoss → Type 0
+HasSpentIfNeeded s limit r behind before old new loss =
+    (IsLeftOut s r behind before → ⊥) × HasSpentGap s limit r behind before old new loss
 
 -- those of a row that parts
 pub record HasPartedRow (s : ScanAnswer) (limit : ℕ → ℕ) (r : RowView) (old new : Parted) : Type 0 where
@@ -93,6 +114,14 @@ pub record HasCrowdedRow (s : ScanAnswer) (limit : ℕ → ℕ) (r : RowView) (o
   pub next_are : new.next.items ≡ old.next.items ++ next
   pub parted : IsPartedUpTo s limit r next losses
   pub too_many : AreTooMany new.next.items
+
+-- those of a row up to a way in which the key was placed
+pub record HasSpentRow (s : ScanAnswer) (limit : ℕ → ℕ) (r : RowView) (old new : Parted) (loss : KeyLoss) : Type 0 where
+  pub room : HasNoRoom r → ⊥
+  pub next : List RowView
+  pub next_are : new.next.items ≡ old.next.items ++ next
+  pub spent : IsSpentIn s limit r next loss
+  pub few : AreTooMany new.next.items → ⊥
 
 abbrev pub IsRowFull : ScanAnswer → (ℕ → ℕ) → RowView → Parted → Parted → Type 0
 IsRowFull s limit r old new = HasNoRoom r ⊎ HasCrowdedRow s limit r old new

@@ -9,8 +9,9 @@ ghost use Rattle.scan_gaps.specs.ScanAnswers.{ScanAnswer};
 ghost use Rattle.row_parting.specs.Placed.{IsPlacedByOne, IsPlacedInGap, IsPlacedInRow, IsPlacedInRows, WasPlaced};
 ghost use Rattle.scan_gaps.specs.RowView.{names_of};
 ghost use Rattle.row_parting.specs.Scannable.{IsSoundRow};
+ghost use Rattle.row_parting.specs.Spending.{IsSpentAmong};
 ghost use Rattle.row_parting.specs.Steps.{IsHalt, IfCrowded, HaveOthers};
-ghost use Rattle.row_parting.specs.Trying.{AreFew, HasSize, HaveCrowded, HasCrowdedGap, HasCrowdedIfNeeded, IsRowFull, IsAddedAs, HaveTried, HasTriedGap, HasTriedIfNeeded, HasPartedRow, HaveParted, IsScanOf, IsTurnAmong, ways_with};
+ghost use Rattle.row_parting.specs.Trying.{AreFew, HasSize, HaveCrowded, HasCrowdedGap, HasCrowdedIfNeeded, IsRowFull, HaveSpent, HasSpentGap, HasSpentIfNeeded, HasSpentRow, IsAddedAs, HaveTried, HasTriedGap, HasTriedIfNeeded, HasPartedRow, HaveParted, IsScanOf, IsTurnAmong, ways_with};
 
 use crate::halt::Halt;
 use crate::placing::{Tried, try_way};
@@ -38,6 +39,19 @@ pub struct Parted {
 }
 
 impl Parted {
+    /// Before any row has parted.
+    fn new(alloc: Global) -> Parted
+        ensures rows { result.next.items ≡ [] }
+        ensures losses { result.losses.items ≡ [] }
+        ensures few { AreFew result }
+    {
+        Parted {
+            next: Vec::new(alloc),
+            size: 0,
+            losses: Vec::new(alloc),
+        }
+    }
+
     /// Whether too many rows are there, or too much is kept of them.
     fn are_too_many(&self) -> bool
         requires { HasSize self.now }
@@ -150,6 +164,9 @@ fn try_turns(
         (ways_with told.now scan rivals.now chosen.now) into.old into.new)) }
     ensures spent { IfErr result (WasPlaced
         (IsPlacedByOne told.now row.now (ways_with told.now scan rivals.now chosen.now))) }
+    ensures reached { IfErr result (WasPlaced
+        (HaveSpent told.now (limit_of still_open.now (suc told.now.place)) row.now
+        (ways_with told.now scan rivals.now chosen.now) into.old into.new)) }
 {
     let turns = with_turns(alloc, &row.turns, chosen)?;
     let numbered = match time_scans(alloc, scans, &turns)? {
@@ -200,6 +217,9 @@ fn try_gap(
         (HasCrowdedGap told.now (limit_of still_open.now (suc told.now.place)) row.now behind
         before into.old into.new)) }
     ensures spent { IfErr result (WasPlaced (IsPlacedInGap told.now row.now behind before)) }
+    ensures reached { IfErr result (WasPlaced
+        (HasSpentGap told.now (limit_of still_open.now (suc told.now.place)) row.now behind
+        before into.old into.new)) }
 {
     let rivals = names_meeting(alloc, others, behind, before)?;
     let scan = KeptScan {
@@ -254,6 +274,9 @@ fn try_if_needed(
         (HasCrowdedIfNeeded told.now (limit_of still_open.now (suc told.now.place)) row.now behind
         before into.old into.new)) }
     ensures spent { IfErr result (WasPlaced (IsPlacedInGap told.now row.now behind before)) }
+    ensures reached { IfErr result (WasPlaced
+        (HasSpentIfNeeded told.now (limit_of still_open.now (suc told.now.place)) row.now behind
+        before into.old into.new)) }
 {
     if is_left_out(told, row, behind, before) {
         return Ok(());
@@ -289,6 +312,9 @@ fn part_row(
         (IsRowFull told.now (limit_of still_open.now (suc told.now.place)) row.now into.old
         into.new)) }
     ensures spent { IfErr result (WasPlaced (IsPlacedInRow told.now row.now)) }
+    ensures reached { IfErr result (WasPlaced
+        (HasSpentRow told.now (limit_of still_open.now (suc told.now.place)) row.now into.old
+        into.new)) }
 {
     if row.scans.len() >= WIDTH - 1 {
         return Err(Halt::Crowded);
@@ -333,12 +359,10 @@ pub fn part_rows(
     ensures crowded { IfErr result (IfCrowded
         (AreCrowding told.now (limit_of still_open.now (suc told.now.place)) rows.now)) }
     ensures spent { IfErr result (WasPlaced (IsPlacedInRows told.now rows.now)) }
+    ensures reached { IfErr result (WasPlaced
+        (IsSpentAmong told.now (limit_of still_open.now (suc told.now.place)) rows.now)) }
 {
-    let mut into = Parted {
-        next: Vec::new(alloc),
-        size: 0,
-        losses: Vec::new(alloc),
-    };
+    let mut into = Parted::new(alloc);
     for row in rows {
         part_row(alloc, told, row, still_open, budget, &mut into)?;
     }

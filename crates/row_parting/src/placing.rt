@@ -8,7 +8,7 @@ ghost use Rattle.scan_gaps.specs.Views.{KeptView, place_limit};
 ghost use Rattle.scan_gaps.specs.Limits.{limit_of};
 ghost use Rattle.scan_gaps.specs.ScanAnswers.{IsInRange};
 ghost use Rattle.row_parting.specs.Parting.{IsEntryPlaced, Way, HasPlacedGet, IsTimedWay};
-ghost use Rattle.row_parting.specs.Placed.{IsPlacedAmong, WasPlaced};
+ghost use Rattle.row_parting.specs.Placed.{IsNextAmong, WasPlaced};
 ghost use Rattle.row_parting.specs.Placing.{IsPlaced, IsPlacedAs, ArePlacedAs, IsTriedAs};
 ghost use Rattle.scan_gaps.specs.RowView as rows;
 ghost use Rattle.row_parting.specs.Scannable as spec;
@@ -113,7 +113,7 @@ fn place_keys(
     ensures placed { IfOk result (ArePlacedAs told.now scans.now keys.now) }
     ensures halt { IfErr result (IsHalt told.now budget) }
     ensures crowded { IfErr result (IfCrowded ⊥) }
-    ensures spent { IfErr result (WasPlaced (IsPlacedAmong told.now scans.now keys.now)) }
+    ensures spent { IfErr result (WasPlaced (IsNextAmong told.now scans.now keys.now)) }
 {
     let mut all = Vec::with_capacity(alloc, keys.len())?;
     for (key, kept) in keys {
@@ -211,7 +211,7 @@ pub(crate) fn try_way(
         → IsTriedAs told.now (limit_of still_open.now (suc told.now.place)) way row.now tried) }
     ensures halt { IfErr result (IsHalt told.now budget) }
     ensures crowded { IfErr result (IfCrowded ⊥) }
-    ensures spent { IfErr result (WasPlaced (IsPlacedAmong told.now scans.items row.now.keys)) }
+    ensures spent { IfErr result (WasPlaced (IsNextAmong told.now scans.items row.now.keys)) }
 {
     let numbers = numbers_of(alloc, &scans)?;
     match place_keys(alloc, told, &row.keys, &scans, &numbers, budget)? {

@@ -9,6 +9,7 @@ use Rattle.row_parting.specs.Parting.{AreParted}
 use Rattle.row_parting.specs.Placed.{IsPlacedInRows, WasPlaced}
 use Rattle.scan_rows.specs.RowView.{RowView}
 use Rattle.row_parting.specs.Scannable.{IsSoundRow}
+use Rattle.row_parting.specs.Spending.{IsSpentAmong}
 use Rattle.row_parting.specs.Steps.{IfCrowded}
 use Rattle.scan_rows.specs.declared.key_loss.KeyLoss.{KeyLoss}
 use Rattle.kept_rows.proofs.ScanSoundLemmas.{first_rises}
@@ -59,6 +60,7 @@ returns-in-Err-clause-few c =
     let limit = limit_of c.args.still_open.now (suc s.place) in
     c.answer_halt.ensures.few s limit c.args.rows.items
     (subst (λ (l : List RowView). IfCrowded (AreCrowding s limit l) c.in-Err.halt) c.deref-in-None.ensures.value c.in-Err.ensures.crowded)
+    (subst (λ (l : List RowView). WasPlaced (IsSpentAmong s limit l) c.in-Err.halt) c.deref-in-None.ensures.value c.in-Err.ensures.reached)
 
 pub returns-in-Ok-clause-few : goal.returns-in-Ok-clause-few
 returns-in-Ok-clause-few c =

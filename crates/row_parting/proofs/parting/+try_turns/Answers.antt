@@ -3,13 +3,14 @@ use Rattle.std.specs.Prelude.{All, Contains}
 use Rattle.std.proofs.lemmas.Result.{err_from_is_err_and, IfErr-weaker}
 use Rattle.scan_gaps.specs.Limits.{limit_of}
 use Rattle.scan_gaps.specs.Moments.{AreTimed, HaveNoMoments}
-use Rattle.row_parting.specs.Placed.{IsPlacedAmong, IsPlacedByOne, WasPlaced}
+use Rattle.row_parting.specs.Placed.{IsNextAmong, IsPlacedByOne, WasPlaced}
 use Rattle.scan_gaps.specs.RowView.{RowView, names_of}
-use Rattle.row_parting.specs.Trying.{HaveTried, HaveCrowded, IsTurnAmong, ways_with}
+use Rattle.row_parting.specs.Trying.{HaveTried, HaveCrowded, HaveSpent, IsTurnAmong, ways_with}
 use Rattle.scan_gaps.specs.KeptScan.{KeptScan}
 use Rattle.row_parting.proofs.CrowdLemmas.{if_crowded, err_crowded, last_crowded, first_turns_crowded, second_turns_crowded}
-use Rattle.row_parting.proofs.PlacedLemmas.{placed_weaker, placed_last, placed_first, placed_second}
+use Rattle.row_parting.proofs.PlacedLemmas.{placed_weaker, among_next, placed_last, placed_first, placed_second}
 use Rattle.row_parting.proofs.ScanTryLemmas.{turns_among, firsts, seconds, gets_timed, first_among, second_among, others_known, ok_map, void_turns, last_turns, both_turns, none_left}
+use Rattle.row_parting.proofs.SpentLemmas.{last_spent, first_turns_spent, second_turns_spent}
 use Rattle.row_parting.proofs.parting.+try_turns.Goals as goal
 
 pub time_scans-requires-clause-turns : goal.time_scans-requires-clause-turns
@@ -229,9 +230,10 @@ returns-in_err-try_way-in-None-split_last-clause-spent t c =
     let none = none_left c.args.rivals.now (sym c.in-None-split_last.ensures.cases) in
     let p = err_from_is_err_and c.from_residual-in_err-try_way-in-None-split_last.result
     c.from_residual-in_err-try_way-in-None-split_last.ensures.1 in
-    rw (p.1, p.2) (placed_weaker (IsPlacedAmong s c.in-Some.numbered.items r.keys) (IsPlacedByOne s r (ways_with s c.args.scan c.args.rivals.now chosen))
+    rw (p.1, p.2) (placed_weaker (IsNextAmong s c.in-Some.numbered.items r.keys) (IsPlacedByOne s r (ways_with s c.args.scan c.args.rivals.now chosen))
     (λ loss here. subst (λ (rivals : List ℕ). IsPlacedByOne s r (ways_with s c.args.scan rivals chosen) loss) (sym none)
-    (placed_last s r c.args.scan c.in-Some.numbered.items chosen loss c.requires.scan timed here))
+    (placed_last s r c.args.scan c.in-Some.numbered.items chosen loss c.requires.scan timed
+    (among_next s c.in-Some.numbered.items r.keys loss here)))
     c.in_err-try_way-in-None-split_last.field-0.0 c.in_err-try_way-in-None-split_last.ensures.spent)
 
 pub returns-in_err-try_turns-in-Some-split_last-clause-spent : goal.returns-in_err-try_turns-in-Some-split_last-clause-spent
@@ -269,3 +271,72 @@ returns-in_ok-second-in-Some-split_last-clause-spent t c =
     IfErr-weaker c.try_turns-in-Some-split_last.result (WasPlaced Old) (WasPlaced New) (placed_weaker Old New
     (λ loss here. placed_second s r scan rivals others last chosen loss c.in-Some-split_last.ensures.cases.0 turns second here))
     c.try_turns-in-Some-split_last.ensures.spent
+
+pub returns-in_err-try_way-in-None-split_last-clause-reached : goal.returns-in_err-try_way-in-None-split_last-clause-reached
+returns-in_err-try_way-in-None-split_last-clause-reached t c =
+    let s = c.args.told.now in
+    let r = c.args.row.now in
+    let into = c.args.into.now in
+    let limit = limit_of c.args.still_open.now (suc s.place) in
+    let chosen = c.args.chosen.now in
+    let own = c.deref.ensures.value ∙ ap (λ (r : RowView). r.turns) c.row.view_is in
+    let turns_are : c.in_ok-turns.turns.items ≡ r.turns ++ chosen = c.in_ok-turns.ensures ∙ ap (λ (l : List (ℕ × ℕ)). l ++ chosen) own in
+    let lent : c.deref-2.result.now ≡ r.turns ++ chosen = c.deref-2.ensures.value ∙ turns_are in
+    let found = rw c.in-Some.is at c.in_ok-numbered.ensures in
+    let timed = subst (λ (l : List KeptScan). AreTimed (r.turns ++ chosen) l c.in-Some.numbered.items) c.requires.scans
+    (subst (λ (l : List (ℕ × ℕ)). AreTimed l c.args.scans.now c.in-Some.numbered.items) lent found) in
+    let none = none_left c.args.rivals.now (sym c.in-None-split_last.ensures.cases) in
+    let p = err_from_is_err_and c.from_residual-in_err-try_way-in-None-split_last.result
+    c.from_residual-in_err-try_way-in-None-split_last.ensures.1 in
+    rw (p.1, p.2) (placed_weaker (IsNextAmong s c.in-Some.numbered.items r.keys)
+    (HaveSpent s limit r (ways_with s c.args.scan c.args.rivals.now chosen) into into)
+    (λ loss here. subst (λ (rivals : List ℕ). HaveSpent s limit r (ways_with s c.args.scan rivals chosen) into into loss) (sym none)
+    (last_spent s limit r loss c.args.scan c.in-Some.numbered.items chosen into c.requires.scan timed c.requires.few_rows.few here))
+    c.in_err-try_way-in-None-split_last.field-0.0 c.in_err-try_way-in-None-split_last.ensures.spent)
+
+pub returns-in_err-try_turns-in-Some-split_last-clause-reached : goal.returns-in_err-try_turns-in-Some-split_last-clause-reached
+returns-in_err-try_turns-in-Some-split_last-clause-reached t c =
+    let s = c.args.told.now in
+    let r = c.args.row.now in
+    let scan = c.args.scan in
+    let rivals = c.args.rivals.now in
+    let chosen = c.args.chosen.now in
+    let old = c.args.into.now in
+    let new = c.try_turns.new.into in
+    let last = c.in-Some-split_last.last.now in
+    let others = c.in-Some-split_last.others.now in
+    let turns = c.deref-in-Some-split_last.result.now in
+    let limit = limit_of c.args.still_open.now (suc s.place) in
+    let first = c.deref-in-Some-split_last.ensures.value ∙ c.in_ok-first-in-Some-split_last.ensures
+    ∙ ap (λ (n : ℕ). (n, last) ∷ chosen) c.requires.scan.name in
+    let p = err_from_is_err_and c.from_residual-in_err-try_turns-in-Some-split_last.result
+    c.from_residual-in_err-try_turns-in-Some-split_last.ensures.1 in
+    rw (p.1, p.2) (placed_weaker (HaveSpent s limit r (ways_with s scan others turns) old new)
+    (HaveSpent s limit r (ways_with s scan rivals chosen) old new)
+    (λ loss spent. first_turns_spent s limit r loss scan rivals others last chosen turns old new c.in-Some-split_last.ensures.cases.0 first spent)
+    c.in_err-try_turns-in-Some-split_last.field-0.0 c.in_err-try_turns-in-Some-split_last.ensures.reached)
+
+pub returns-in_ok-second-in-Some-split_last-clause-reached : goal.returns-in_ok-second-in-Some-split_last-clause-reached
+returns-in_ok-second-in-Some-split_last-clause-reached t c =
+    let s = c.args.told.now in
+    let r = c.args.row.now in
+    let scan = c.args.scan in
+    let rivals = c.args.rivals.now in
+    let chosen = c.args.chosen.now in
+    let old = c.args.into.now in
+    let middle = c.try_turns.new.into in
+    let new = c.try_turns-in-Some-split_last.new.into in
+    let last = c.in-Some-split_last.last.now in
+    let others = c.in-Some-split_last.others.now in
+    let turns = c.deref-in-Some-split_last.result.now in
+    let more = c.deref-in-Some-split_last-2.result.now in
+    let limit = limit_of c.args.still_open.now (suc s.place) in
+    let first = c.deref-in-Some-split_last.ensures.value ∙ c.in_ok-first-in-Some-split_last.ensures
+    ∙ ap (λ (n : ℕ). (n, last) ∷ chosen) c.requires.scan.name in
+    let second = c.deref-in-Some-split_last-2.ensures.value ∙ c.in_ok-second-in-Some-split_last.ensures
+    ∙ ap (λ (n : ℕ). (last, n) ∷ chosen) c.requires.scan.name in
+    let Old = HaveSpent s limit r (ways_with s scan others more) middle new in
+    let New = HaveSpent s limit r (ways_with s scan rivals chosen) old new in
+    IfErr-weaker c.try_turns-in-Some-split_last.result (WasPlaced Old) (WasPlaced New) (placed_weaker Old New
+    (λ loss spent. second_turns_spent s limit r loss scan rivals others last chosen turns more old middle new c.in-Some-split_last.ensures.cases.0
+    first second c.in_ok-try_turns-in-Some-split_last.ensures.tried spent)) c.try_turns-in-Some-split_last.ensures.reached

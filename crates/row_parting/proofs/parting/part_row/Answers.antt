@@ -1,14 +1,17 @@
-use Rattle.std.proofs.Common.{◌≡◌, ℕ, suc, List, get_or, ap, sym, ◌∙◌, subst, arith, inr, ◌≤◌, length, inl}
+use Rattle.std.proofs.Common.{◌≡◌, ℕ, suc, List, get_or, ap, sym, ◌∙◌, subst, arith, inr, ◌-◌, ◌<◌, ◌≤◌, length, inl}
 use Rattle.std.specs.Prelude.{Contains}
 use Rattle.std.proofs.lemmas.List.{get_or_default}
 use Rattle.std.proofs.lemmas.Result.{err_from_is_err_and, IfErr-weaker}
-use Rattle.scan_gaps.specs.Views.{KeptView}
+use Rattle.scan_gaps.specs.KeptScan.{KeptScan}
+use Rattle.scan_gaps.specs.Views.{KeptView, width}
 use Rattle.scan_gaps.specs.Candidates.{ArePlacesWithin}
 use Rattle.scan_gaps.specs.Limits.{limit_of}
 use Rattle.scan_gaps.specs.ScanAnswers.{ScanAnswer}
+use Rattle.row_parting.specs.Crowding.{HasNoRoom}
 use Rattle.row_parting.specs.Placed.{IsPlacedInGap, IsPlacedInRow, WasPlaced}
 use Rattle.scan_gaps.specs.RowView.{RowView}
 use Rattle.row_parting.specs.Trying.{HasTriedIfNeeded, HasPartedRow, HasCrowdedGap, HasCrowdedIfNeeded, IsRowFull, HasTriedGap}
+use Rattle.row_parting.specs.Trying.{HasSpentGap, HasSpentIfNeeded, HasSpentRow}
 use Rattle.row_parting.proofs.CrowdLemmas.{if_crowded, err_crowded, row_crowded, row_crowded_last}
 use Rattle.row_parting.proofs.ScanGapLemmas.{AreTriedUpTo, tried_none, more_if_needed, all_if_needed, place_within, tried_all, gap_parts, HasNotGrown, grown_by, none_by}
 use Rattle.scan_gaps.proofs.ScanListLemmas.{here_is, take_whole}
@@ -16,6 +19,7 @@ use Rattle.scan_gaps.specs.KeyLoss.{KeyLoss}
 use Rattle.row_parting.specs.declared.parting.Parted.{Parted}
 use Rattle.row_parting.proofs.PlacedLemmas.{placed_weaker, placed_in_row}
 use Rattle.row_parting.proofs.ScanTryLemmas.{ok_map}
+use Rattle.row_parting.proofs.SpentLemmas.{row_spent, row_spent_last}
 use Rattle.row_parting.proofs.parting.part_row.Goals as goal
 
 pub loop-before-init : goal.loop-before-init
@@ -229,3 +233,83 @@ returns-then-has-clause-crowded c =
     (λ gap. inr (row_crowded_last s limit r places c.loop-before.before-index behind c.args.into.now c.loop-before.into c.try_gap.new.into
     c.loop-before-test.false are upto (inr (none_by s limit r places c.loop-before.before-index behind into c.loop-before.into upto same))
     (subst (λ p. HasCrowdedGap s limit r behind p c.loop-before.into c.try_gap.new.into) place gap))) c.try_gap.ensures.crowded
+
+-- it has room for a scan more
+has_room : (r : RowView) (scans : List KeptScan) (count : ℕ) → count ≡ length scans → scans ≡ r.scans → count < width - 1 → HasNoRoom r → ⊥
+has_room r scans count count_is same less none =
+    let long = ap (λ (l : List KeptScan). length l) same in
+    absurd (omega (arith, count_is, long, less, none))
+
+pub returns-in_err-try_if_needed-clause-reached : goal.returns-in_err-try_if_needed-clause-reached
+returns-in_err-try_if_needed-clause-reached c =
+    let s = c.args.told.now in
+    let r = c.args.row.now in
+    let limit = limit_of c.args.still_open.now (suc s.place) in
+    let places = c.deref-before-items.result.now in
+    let i = c.loop-before.before-index in
+    let behind = c.loop-before.behind in
+    let old = c.args.into.now in
+    let middle = c.loop-before.into in
+    let keys : c.deref-3.result.now ≡ r.keys = c.deref-3.ensures.value ∙ ap (λ (r : RowView). r.keys) c.row.view_is in
+    let are = are_places s r c.deref-3.result.now places c.in_ok-places.places.items c.deref-before-items.ensures.value keys c.in_ok-places.ensures in
+    let upto = c.loop-before.invariant.upto in
+    let scans = ap (λ (r : RowView). r.scans) c.row.view_is in
+    let room = has_room r c.row.inside.scans.items c.len.result (c.len.ensures ∙ c.row.inside.scans.ok.0) scans c.if-len.false in
+    let before = get_or places i 0 in
+    let new = c.try_if_needed.new.into in
+    let is = get_or_default places i 0 before c.loop-before-test.true in
+    let p = err_from_is_err_and c.from_residual-in_err-try_if_needed.result c.from_residual-in_err-try_if_needed.ensures.1 in
+    rw (p.1, p.2) (placed_weaker (HasSpentIfNeeded s limit r behind before middle new) (HasSpentRow s limit r old new)
+    (λ loss gap. row_spent s limit r places i behind before old middle new loss room c.loop-before-test.true is are upto gap)
+    c.in_err-try_if_needed.field-0.0 c.in_err-try_if_needed.ensures.reached)
+
+pub returns-then-has-clause-reached : goal.returns-then-has-clause-reached
+returns-then-has-clause-reached c =
+    let s = c.args.told.now in
+    let r = c.args.row.now in
+    let limit = limit_of c.args.still_open.now (suc s.place) in
+    let places = c.deref-before-items.result.now in
+    let i = c.loop-before.before-index in
+    let behind = c.loop-before.behind in
+    let old = c.args.into.now in
+    let middle = c.loop-before.into in
+    let keys : c.deref-3.result.now ≡ r.keys = c.deref-3.ensures.value ∙ ap (λ (r : RowView). r.keys) c.row.view_is in
+    let are = are_places s r c.deref-3.result.now places c.in_ok-places.places.items c.deref-before-items.ensures.value keys c.in_ok-places.ensures in
+    let upto = c.loop-before.invariant.upto in
+    let scans = ap (λ (r : RowView). r.scans) c.row.view_is in
+    let room = has_room r c.row.inside.scans.items c.len.result (c.len.ensures ∙ c.row.inside.scans.ok.0) scans c.if-len.false in
+    let new = c.try_gap.new.into in
+    let place = ap (λ (s : ScanAnswer). s.place) c.told.view_is in
+    let same = not_grown old middle c.len-rows.result c.len-losses.result (c.len-rows.ensures ∙ old.next.ok.0)
+    (c.len-losses.ensures ∙ old.losses.ok.0) (c.has.ensures.0 c.if-has.true) in
+    let Old = HasSpentGap s limit r behind c.told.inside.place middle new in
+    let New = HasSpentRow s limit r old new in
+    IfErr-weaker c.try_gap.result (WasPlaced Old) (WasPlaced New) (placed_weaker Old New
+    (λ loss gap. row_spent_last s limit r places i behind old middle new loss room c.loop-before-test.false are upto
+    (inr (none_by s limit r places i behind old middle upto same))
+    (subst (λ p. HasSpentGap s limit r behind p middle new loss) place gap))) c.try_gap.ensures.reached
+
+pub returns-clause-reached : goal.returns-clause-reached
+returns-clause-reached c =
+    let s = c.args.told.now in
+    let r = c.args.row.now in
+    let limit = limit_of c.args.still_open.now (suc s.place) in
+    let places = c.deref-before-items.result.now in
+    let i = c.loop-before.before-index in
+    let behind = c.loop-before.behind in
+    let old = c.args.into.now in
+    let middle = c.loop-before.into in
+    let keys : c.deref-3.result.now ≡ r.keys = c.deref-3.ensures.value ∙ ap (λ (r : RowView). r.keys) c.row.view_is in
+    let are = are_places s r c.deref-3.result.now places c.in_ok-places.places.items c.deref-before-items.ensures.value keys c.in_ok-places.ensures in
+    let upto = c.loop-before.invariant.upto in
+    let scans = ap (λ (r : RowView). r.scans) c.row.view_is in
+    let room = has_room r c.row.inside.scans.items c.len.result (c.len.ensures ∙ c.row.inside.scans.ok.0) scans c.if-len.false in
+    let new = c.try_if_needed-2.new.into in
+    let place = ap (λ (s : ScanAnswer). s.place) c.told.view_is in
+    let Old = HasSpentIfNeeded s limit r behind c.told.inside.place middle new in
+    let New = HasSpentRow s limit r old new in
+    IfErr-weaker c.try_if_needed-2.result (WasPlaced Old) (WasPlaced New) (placed_weaker Old New
+    (λ loss gap.
+    let here = subst (λ p. HasSpentIfNeeded s limit r behind p middle new loss) place gap in
+    row_spent_last s limit r places i behind old middle new loss room c.loop-before-test.false are upto (inl here.0) here.1))
+    c.try_if_needed-2.ensures.reached

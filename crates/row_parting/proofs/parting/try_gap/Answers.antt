@@ -5,12 +5,13 @@ use Rattle.scan_gaps.specs.Limits.{limit_of}
 use Rattle.row_parting.specs.Placed.{IsPlacedByOne, IsPlacedInGap, WasPlaced}
 use Rattle.scan_gaps.specs.RowView.{names_of}
 use Rattle.row_parting.specs.Steps.{AreMeeting}
-use Rattle.row_parting.specs.Trying.{HasTriedGap, HasCrowdedGap, ways_with}
+use Rattle.row_parting.specs.Trying.{HasTriedGap, HasCrowdedGap, HaveSpent, HasSpentGap, ways_with}
 use Rattle.scan_gaps.specs.KeptScan.{KeptScan}
 use Rattle.row_parting.proofs.CrowdLemmas.{err_crowded, gap_crowded}
 use Rattle.row_parting.proofs.ScanGapLemmas.{are_rivals, rivals_known, gap_tried, gap_placed}
 use Rattle.row_parting.proofs.PlacedLemmas.{placed_weaker}
 use Rattle.row_parting.proofs.ScanTryLemmas.{ok_map}
+use Rattle.row_parting.proofs.SpentLemmas.{gap_spent}
 use Rattle.row_parting.proofs.parting.try_gap.Goals as goal
 
 pub try_turns-requires-clause-rivals : goal.try_turns-requires-clause-rivals
@@ -62,3 +63,21 @@ returns-clause-spent c =
     (λ loss placed. gap_placed s r c.args.others.now scan rivals loss c.requires.sound.named c.requires.others
     (subst (AreMeeting c.args.behind c.args.before c.args.others.now) (sym c.deref-3.ensures.value) c.in_ok-rivals.ensures) placed))
     c.try_turns.ensures.spent
+
+pub returns-clause-reached : goal.returns-clause-reached
+returns-clause-reached c =
+    let s = c.args.told.now in
+    let r = c.args.row.now in
+    let limit = limit_of c.args.still_open.now (suc s.place) in
+    let own = c.told.inside.scan in
+    let scan : KeptScan =
+    record { name = own.name; low = own.low; high = own.high; behind = c.args.behind; before = c.args.before; number = 0 } in
+    let rivals = c.deref-3.result.now in
+    let old = c.args.into.now in
+    let new = c.try_turns.new.into in
+    let Old = HaveSpent s limit r (ways_with s scan rivals []) old new in
+    let New = HasSpentGap s limit r c.args.behind c.args.before old new in
+    IfErr-weaker c.try_turns.result (WasPlaced Old) (WasPlaced New) (placed_weaker Old New
+    (λ loss spent. gap_spent s limit r c.args.others.now scan rivals old new loss c.requires.sound.named c.requires.others
+    (subst (AreMeeting c.args.behind c.args.before c.args.others.now) (sym c.deref-3.ensures.value) c.in_ok-rivals.ensures) spent))
+    c.try_turns.ensures.reached

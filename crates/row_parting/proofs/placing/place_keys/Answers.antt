@@ -8,12 +8,12 @@ use Rattle.scan_gaps.specs.Retiming.{IsRetimed}
 use Rattle.scan_gaps.specs.Views.{KeptView}
 use Rattle.scan_gaps.specs.ScanAnswers.{IsInRange}
 use Rattle.row_parting.specs.Parting.{HasPlacedGet}
-use Rattle.row_parting.specs.Placed.{IsPlacedAmong}
+use Rattle.row_parting.specs.Placed.{IsNextAmong}
 use Rattle.row_parting.specs.Placing.{IsPlaced}
 use Rattle.scan_gaps.specs.RowView.{number_of}
 use Rattle.row_parting.specs.Scannable.{MayTakeGet, numbers_of}
 use Rattle.scan_gaps.specs.KeyLoss.{KeyLoss}
-use Rattle.row_parting.proofs.PlacedLemmas.{placed_among, placed_weaker}
+use Rattle.row_parting.proofs.PlacedLemmas.{next_among, placed_weaker}
 use Rattle.scan_gaps.proofs.ScanListLemmas.{here_is}
 use Rattle.row_parting.proofs.placing.place_keys.Goals as goal
 
@@ -61,8 +61,8 @@ returns-in_err-placed-clause-spent c =
     let scans = c.args.scans.now in
     let keys = c.args.keys.now in
     let x = c.loop-key-item.result in
-    let entry : ℕ × KeptView = (x.0, x.1) in
     let p = err_from_is_err_and c.from_residual-in_err-placed.result c.from_residual-in_err-placed.ensures.1 in
-    rw (p.1, p.2) (placed_weaker (λ (loss : KeyLoss). (loss.key ≡ x.0) × HasPlacedGet s x.0 scans x.1 loss.kept) (IsPlacedAmong s scans keys)
-    (placed_among s scans keys x.0 x.1 (here_is keys c.loop-key.key-index entry c.loop-key-test.true c.loop-key-item.is) (c.if-not-covers.ensures.0 refl))
+    rw (p.1, p.2) (placed_weaker (λ (loss : KeyLoss). (loss.key ≡ x.0) × HasPlacedGet s x.0 scans x.1 loss.kept) (IsNextAmong s scans keys)
+    (next_among s scans keys c.loop-key.all.items c.loop-key.key-index x.0 x.1 c.loop-key-test.true c.loop-key-item.is c.loop-key.invariant
+    (c.if-not-covers.ensures.0 refl))
     c.in_err-placed.field-0.0 c.in_err-placed.ensures.spent)

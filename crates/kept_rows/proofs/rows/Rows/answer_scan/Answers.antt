@@ -8,7 +8,7 @@ use Rattle.events.specs.declared.event.Call.TheVariants.{Scan}
 use Rattle.events.specs.declared.event.Event.TheVariants.{Answer, Invoke}
 use Rattle.kept_keys.specs.Views.{KeptView}
 use Rattle.kept_rows.specs.Beginning.{first_keys}
-use Rattle.kept_rows.specs.Crowding.{AreCountedAs, told_of}
+use Rattle.kept_rows.specs.Crowding.{AreCountedAs, IsTakenBy, told_of}
 use Rattle.row_parting.specs.Limits.{limit_of}
 use Rattle.kept_rows.specs.Outcomes.{IsScanAnswered}
 use Rattle.kept_rows.specs.Reaching.{IsReachOf, reaching}
@@ -18,7 +18,7 @@ use Rattle.scan_rows.specs.Entries.{entry_at}
 use Rattle.row_parting.specs.Scannable.{IsSoundRow}
 use Rattle.kept_rows.specs.Taken.{AreFewOr, IsTakenAs}
 use Rattle.kept_rows.proofs.AnsweredScanLemmas.{lent_ready, ready_sound, ready_parted, ready_names, ready_calls, ready_comes_to}
-use Rattle.kept_rows.proofs.CountedLemmas.{followed_counted}
+use Rattle.kept_rows.proofs.CountedLemmas.{followed_counted, followed_taken}
 use Rattle.kept_rows.proofs.rows.Rows.answer_scan.Goals as goal
 
 pub reach_of-requires-clause-rest : goal.reach_of-requires-clause-rest
@@ -129,3 +129,26 @@ returns-clause-counted c =
     (c.own_keys.ensures ∙ ap first_keys (c.deref.ensures.value ∙ items)) c.in_ok-reach.ensures)
     answered few)
     (subst (λ (l : List RowView). IfOk c.take_scan.result (AreFewOr (reaching s reach) limit l)) items c.take_scan.ensures.few)
+
+pub returns-clause-taken : goal.returns-clause-taken
+returns-clause-taken c =
+    let s = told_of c.args.place c.args.scan c.args.pairs.now c.args.still_open.now in
+    let may = c.requires.answerable in
+    let v : RowsView = record { base = c.self.inside.base; rows = c.deref_mut.result.now } in
+    let w : RowsView = record { base = c.open_range.new.base; rows = c.open_range.new.rows } in
+    let is = lent_ready c.opened_rows_follow.ensures may.start may.events may.process s c.args.self w c.self.inside.base c.self.inside.rows.items
+    c.deref_mut.result.now c.self.view_is c.deref_mut.ensures.value may.followed may.place_is may.is_open c.in_ok-open_range.ensures in
+    let items = with_items_is c.self.inside.rows w.rows (is.many ∙ c.deref_mut.ensures.len) in
+    let limit = limit_of c.args.still_open.now (suc c.args.place) in
+    let lent : v ≡ c.args.self =
+    ap (λ (l : List RowView). let x : RowsView = record { base = c.self.inside.base; rows = l } in x) c.deref_mut.ensures.value ∙ c.self.view_is in
+    let reach = c.in_ok-reach.reach in
+    let budget = c.args.budget in
+    let Taken : List RowView → Type 0 = λ l. IfOk c.take_scan.result
+    (IsTakenAs (reaching s reach) limit budget (map (λ e. e.0) (first_keys l)) (record { base = c.open_range.new.base; rows = l })) in
+    IfOk-weaker c.take_scan.result (IsTakenAs (reaching s reach) limit budget (map (λ e. e.0) (first_keys w.rows)) w) (IsTakenBy s budget c.args.self)
+    (λ answered taken. followed_taken may.start may.events s budget c.args.self v w reach may.followed lent c.in_ok-open_range.ensures
+    (subst (λ (l : List (ℕ × KeptView)). IsReachOf s.low s.high s.still_open l w.base reach)
+    (c.own_keys.ensures ∙ ap first_keys (c.deref.ensures.value ∙ items)) c.in_ok-reach.ensures)
+    answered taken)
+    (subst Taken items c.take_scan.ensures.taken)
