@@ -12,6 +12,6 @@ pub enum AnsweredRows {
     Lost(Vec<KeyLoss>),
     /// A search at a key reaches more positions than the budget.
     Spent(KeyLoss),
-    /// More rows have an order than are kept.
+    /// Rows come to too many, by their number or by what they keep.
     Crowded,
 }

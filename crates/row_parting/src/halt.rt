@@ -10,7 +10,7 @@ pub enum Halt {
     Memory,
     /// A search at a key reaches more positions than the budget.
     Spent(KeyLoss),
-    /// More rows have an order than are kept.
+    /// Rows come to too many, by their number or by what they keep.
     Crowded,
 }
 
