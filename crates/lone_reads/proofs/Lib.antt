@@ -1,0 +1,11 @@
+mod ReadLemmas
+mod AlongLemmas
+mod CallLemmas
+mod PartLemmas
+mod MoveLemmas
+mod DoneLemmas
+mod OpenLemmas
+mod LoneLemmas
+mod WindowLemmas
+mod WiderLemmas
+mod PendingLemmas

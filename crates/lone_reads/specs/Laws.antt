@@ -1,0 +1,105 @@
+-- Laws of lone reads, and of windows that are put aside.
+use Rattle.events.specs.declared.event.Reply.TheVariants as replies
+use Rattle.std.specs.Prelude.{◌≡◌, ◌↔◌, ◌≢◌, ℕ, List, [], ◌∷◌, ◌++◌, Some, None, slice_get, Any}
+use Rattle.events.specs.declared.event.Call.{Call}
+use Rattle.events.specs.declared.event.Event.{Event}
+use Rattle.events.specs.declared.event.Event.TheVariants.{Invoke, Answer}
+use Rattle.events.specs.declared.event.Reply.{Reply}
+use Rattle.events.specs.Events.{process_of, IsWellFormed}
+use Rattle.events.specs.Operations.{operations}
+use Rattle.map_object.specs.MapObject.{Contents}
+use Rattle.lone_reads.specs.LoneReads.{HasNoEvent, IsOpenAt, IsOnlyOpen, LeavesOnly}
+use Rattle.lone_reads.specs.Windows.{AreLinearizable, Window, TakesAnswer, StandsAlone, StandFor}
+use Rattle.lone_reads.specs.WiderLoneReads.{PartsUnanswered, PartsAnswered, IsReading, IsAnyCall, LeavesAmongOthers}
+
+-- a call is open at its place where its operation is pending
+abbrev pub OpenCallsArePending : Type 0
+OpenCallsArePending =
+    (events : List Event) (p : ℕ) (call : Call) (place : ℕ) → IsWellFormed events → slice_get events place ≡ Some (Invoke p call)
+    → IsOpenAt events p call place ↔ Any (λ a. (a.inv ≡ place) × (a.call ≡ call) × (a.response ≡ None)) (operations events)
+
+-- at a moment at which a read is the only open call, and what the calls may leave is one map, the
+-- events before it are put aside
+abbrev pub LoneReadsWait : Type 0
+LoneReadsWait = PartsUnanswered IsReading LeavesOnly
+
+abbrev pub LoneReadsPart : Type 0
+LoneReadsPart = PartsAnswered IsReading LeavesOnly
+
+-- an open read may always be told to have been done: what follows has an order then, where it has
+-- one behind another answer
+abbrev pub DoneTellsLess : Type 0
+DoneTellsLess =
+    (m : Contents) (events before behind : List Event) (p : ℕ) (call : Call) (place : ℕ) (reply : Reply)
+    → IsWellFormed (events ++ (before ++ Answer p reply ∷ behind)) → IsOpenAt events p call place → IsReading call → HasNoEvent p before
+    → AreLinearizable m (events ++ (before ++ Answer p reply ∷ behind))
+    → AreLinearizable m (events ++ (before ++ Answer p replies.Done ∷ behind))
+
+-- all events stand for themselves, and go on to do so
+abbrev pub AloneBegins : Type 0
+AloneBegins = (start : Contents) (all : List Event) → IsWellFormed all → StandsAlone start all start all
+
+abbrev pub AloneGoesOn : Type 0
+AloneGoesOn =
+    (start m : Contents) (all now : List Event) (e : Event) → StandsAlone start all m now → IsWellFormed (all ++ e ∷ [])
+    → StandsAlone start (all ++ e ∷ []) m (now ++ e ∷ [])
+
+-- so all events have an order where these have one
+abbrev pub AloneJudges : Type 0
+AloneJudges = (start m : Contents) (all now : List Event) → StandsAlone start all m now → AreLinearizable start all ↔ AreLinearizable m now
+
+-- at an open read windows may be put aside, none so far
+abbrev pub WindowsBegin : Type 0
+WindowsBegin =
+    (start m : Contents) (all now : List Event) (p : ℕ) (call : Call) (place : ℕ) → StandsAlone start all m now → IsOpenAt now p call place
+    → IsReading call → StandFor start all p call [] m now
+
+-- all events have an order where the events that are followed have one
+abbrev pub WindowsJudge : Type 0
+WindowsJudge =
+    (start m : Contents) (all now : List Event) (p : ℕ) (call : Call) (asides : List Window) → StandFor start all p call asides m now
+    → AreLinearizable start all ↔ AreLinearizable m now
+
+-- where the read is the only open call, and the events that are followed have an order and leave
+-- one map, they are put aside, and the read goes on from that map alone
+abbrev pub WindowsClose : Type 0
+WindowsClose =
+    (start m k : Contents) (all now : List Event) (p : ℕ) (call : Call) (place : ℕ) (asides : List Window)
+    → StandFor start all p call asides m now → IsOnlyOpen now p call place → LeavesOnly m now k → AreLinearizable m now
+    → StandFor start all p call (asides ++ record { start = m; events = now } ∷ []) k (Invoke p call ∷ [])
+
+-- an event of another process goes to the events that are followed
+abbrev pub WindowsGoOn : Type 0
+WindowsGoOn =
+    (start m : Contents) (all now : List Event) (p : ℕ) (call : Call) (asides : List Window) (e : Event)
+    → StandFor start all p call asides m now → process_of e ≢ p → IsWellFormed (all ++ e ∷ [])
+    → StandFor start (all ++ e ∷ []) p call asides m (now ++ e ∷ [])
+
+-- the windows may become others that take the same answers
+abbrev pub WindowsMayChange : Type 0
+WindowsMayChange =
+    (start m : Contents) (all now : List Event) (p : ℕ) (call : Call) (asides others : List Window) → StandFor start all p call asides m now
+    → ((reply : Reply) → Any (TakesAnswer p reply) asides ↔ Any (TakesAnswer p reply) others) → StandFor start all p call others m now
+
+-- where one of the windows takes the read's answer, the events that are followed go on as if it had
+-- told nothing
+abbrev pub WindowsTakeAnswers : Type 0
+WindowsTakeAnswers =
+    (start m : Contents) (all now : List Event) (p : ℕ) (call : Call) (asides : List Window) (reply : Reply)
+    → StandFor start all p call asides m now → Any (TakesAnswer p reply) asides
+    → StandsAlone start (all ++ Answer p reply ∷ []) m (now ++ Answer p replies.Done ∷ [])
+
+-- and where none takes it, the answer belongs to these
+abbrev pub WindowsPassAnswers : Type 0
+WindowsPassAnswers =
+    (start m : Contents) (all now : List Event) (p : ℕ) (call : Call) (asides : List Window) (reply : Reply)
+    → StandFor start all p call asides m now → (Any (TakesAnswer p reply) asides → ⊥)
+    → StandsAlone start (all ++ Answer p reply ∷ []) m (now ++ Answer p reply ∷ [])
+
+-- an open call that may change the map does not part so, be it answered or not
+abbrev pub LoneWritesLoseOrders : Type 0
+LoneWritesLoseOrders = (PartsUnanswered IsAnyCall LeavesOnly → ⊥) × (PartsAnswered IsAnyCall LeavesOnly → ⊥)
+
+-- nor does a read from one of several maps that may be left
+abbrev pub OtherMapsLoseOrders : Type 0
+OtherMapsLoseOrders = (PartsUnanswered IsReading LeavesAmongOthers → ⊥) × (PartsAnswered IsReading LeavesAmongOthers → ⊥)

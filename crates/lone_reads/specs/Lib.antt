@@ -1,0 +1,4 @@
+pub mod Laws
+pub mod LoneReads
+pub mod WiderLoneReads
+pub mod Windows
