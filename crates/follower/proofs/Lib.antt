@@ -4,5 +4,6 @@ mod JudgeLemmas
 mod NextLemmas
 mod OpenLemmas
 mod PairLemmas
+mod RestLemmas
 mod RowLemmas
 mod ScanLemmas

@@ -1,10 +1,11 @@
 // The follower of a stream.
-ghost use Rattle.std.specs.Prelude.{◌≡◌, ℕ, ◌<◌, ◌≤◌, ◌++◌, ◌∷◌, [], List, length, None, Some, IfOk, IfErr};
+ghost use Rattle.std.specs.Prelude.{◌≡◌, ℕ, ◌<◌, ◌≤◌, ◌++◌, ◌∷◌, [], List, length, None, Some, IfOk, IfErr, IfSome, MatchOption};
 ghost use Rattle.events.specs.declared.event.Event.{Event};
 ghost use Rattle.events.specs.declared.event.Event.TheVariants.{Invoke};
 ghost use Rattle.events.specs.Keys.{low_key, high_key};
 ghost use Rattle.events.specs.Operations.{operations};
 ghost use Rattle.map_object.specs.MapObject.{Contents, IsRising};
+ghost use Rattle.follower.specs.AtRest.{IsAtRest, IsInMotion, LeavesOneMap};
 ghost use Rattle.follower.specs.Faults.{event_limit, invocation_fault, shown};
 ghost use Rattle.follower.specs.FollowerView.{known_call};
 ghost use Rattle.follower.specs.Following.{IsFollowing};
@@ -12,11 +13,13 @@ ghost use Rattle.follower.specs.Outcomes.{IsAnswered, IsCountedAs};
 
 use crate::answered::{AnsweredStream, Doubt, Loss};
 use crate::fault::FollowFault;
-use crate::open_calls::{OpenCall, open_call};
+use crate::open_calls::{OpenCall, may_change, open_call};
 use crate::open_scans::{begin_scan, end_scan};
 use crate::taking::{take_answer, take_call};
 use events::{Call, Memory, Reply};
-use kept_rows::{AnsweredRows as Taken, OpenScan, Rows, followed_rows_have_orders};
+use kept_rows::{
+    AnsweredRows as Taken, OpenScan, Rows, followed_rows_have_orders, rests_leave_one_map,
+};
 use std::alloc::Global;
 use std::collections::BTreeMap;
 use std::marker::Model;
@@ -81,6 +84,30 @@ impl Follower {
             → result ≡ length (operations events) }
     {
         self.calls
+    }
+
+    /// The one map that the calls so far may leave, pending ones too, as pairs by rising key, where
+    /// the follower can tell: no open call may change the map, and at each key, once all its calls
+    /// that ended have taken effect, no call is left, so none that is open, and it is certain what
+    /// it has, the same in each way that the scans may have taken effect. An open scan does not
+    /// matter. At a key with calls up to `budget` positions are met; where it has more, and after
+    /// 2^44 - 2 events, there is none. Costs a look at the open calls, and a look-up of each key that
+    /// has a value or a call, up to the first that is not at rest, and copies of the pairs; and to
+    /// settle each key with calls, at which these ways may differ once in each of them.
+    pub fn map_at_rest(&self, alloc: Global, budget: u32) -> Result<Option<Vec<(u64, u64)>>, Memory>
+        ensures one { IfOk result (λ found. IfSome found (λ m. LeavesOneMap self.now m.items)) }
+        ensures found { IfOk result (λ found. MatchOption found (IsInMotion budget self.now)
+            (λ m. IsAtRest m.items self.now)) }
+    {
+        if may_change(&self.open_calls) {
+            return Ok(None);
+        }
+        if self.events >= EVENT_LIMIT {
+            return Ok(None);
+        }
+        rests_leave_one_map();
+        let found = self.rows.map_at_rest(alloc, self.events, budget)?;
+        Ok(found)
     }
 
     /// Takes an invocation. The fault is the first of these, and the follower is lost then: `Shape`

@@ -1,5 +1,6 @@
 // The open calls of processes.
-ghost use Rattle.std.specs.Prelude.{◌≡◌};
+ghost use Rattle.std.specs.Prelude.{◌≡◌, ◌↔◌, IsTrue};
+ghost use Rattle.follower.specs.AtRest.{MayChange};
 ghost use Rattle.follower.specs.FollowerView.{known_call};
 
 use events::Call;
@@ -19,4 +20,11 @@ pub(crate) fn open_call(calls: &BTreeMap<u16, OpenCall>, process: u16) -> Option
     ensures { result ≡ known_call calls.now.entries process }
 {
     calls.get(&process).copied()
+}
+
+/// Whether one of them may change the map: one that is no get and no scan.
+pub(crate) fn may_change(calls: &BTreeMap<u16, OpenCall>) -> bool
+    ensures { IsTrue result ↔ MayChange calls.now.entries }
+{
+    calls.values().any(|open_call| open_call.call.may_change())
 }
