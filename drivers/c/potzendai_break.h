@@ -19,10 +19,10 @@ struct potzendai_broken {
 /* What was once got at a key. */
 struct potzendai_once { bool is_there; enum map_said said; uint64_t found; };
 
-/* A session of the broken map: that of the true one, a put that still comes, and what the puts of the true map say. */
+/* A connection of the broken map: that of the true one, a put that still comes, and what the puts of the true map say. */
 struct potzendai_wrong {
     struct potzendai_broken *broken;
-    void *session;
+    void *connection;
     uint64_t state, late_key, late_value;
     bool is_late, is_known;
     enum map_said style;
@@ -34,11 +34,11 @@ static inline bool potzendai_goes_wrong(struct potzendai_wrong *w, enum potzenda
     return w->broken->how == how && potzendai_draw_below(&w->state, POTZENDAI_SELDOM) == 0;
 }
 
-static inline void potzendai_wrong_close(void *session)
+static inline void potzendai_wrong_close(void *connection)
 {
-    struct potzendai_wrong *w = (struct potzendai_wrong *)session;
+    struct potzendai_wrong *w = (struct potzendai_wrong *)connection;
     if (w->broken->truly->close)
-        w->broken->truly->close(w->session);
+        w->broken->truly->close(w->connection);
     free(w->once);
     free(w);
 }
@@ -49,8 +49,8 @@ static inline void *potzendai_wrong_open(void *map, unsigned thread)
     struct potzendai_wrong *w = (struct potzendai_wrong *)calloc(1, sizeof *w);
     struct potzendai_once *once = (struct potzendai_once *)calloc((size_t)broken->keys, sizeof *once);
     bool has_room = w && once;
-    void *session = has_room && broken->truly->open ? broken->truly->open(broken->truly->map, thread) : broken->truly->map;
-    if (!has_room || (broken->truly->open && !session)) {
+    void *connection = has_room && broken->truly->open ? broken->truly->open(broken->truly->map, thread) : broken->truly->map;
+    if (!has_room || (broken->truly->open && !connection)) {
         int why = has_room ? errno : ENOMEM;
         free(w);
         free(once);
@@ -58,7 +58,7 @@ static inline void *potzendai_wrong_open(void *map, unsigned thread)
         return NULL;
     }
     w->broken = broken;
-    w->session = session;
+    w->connection = connection;
     uint64_t seed = broken->seed, round = *broken->round;
     w->state = thread ^ potzendai_mix(&seed) ^ potzendai_mix(&round);
     w->once = once;
@@ -67,7 +67,7 @@ static inline void *potzendai_wrong_open(void *map, unsigned thread)
 
 static inline enum map_said potzendai_true_put(struct potzendai_wrong *w, uint64_t key, uint64_t value, uint64_t *found)
 {
-    enum map_said said = w->broken->truly->put(w->session, key, value, found);
+    enum map_said said = w->broken->truly->put(w->connection, key, value, found);
     if (said == MAP_TOLD || said == MAP_DONE || said == MAP_FOUND) {
         w->style = said;
         w->is_known = true;
@@ -76,13 +76,13 @@ static inline enum map_said potzendai_true_put(struct potzendai_wrong *w, uint64
 }
 
 /* Does the put that still comes, soon. */
-static inline struct potzendai_wrong *potzendai_catch_up(void *session)
+static inline struct potzendai_wrong *potzendai_catch_up(void *connection)
 {
-    struct potzendai_wrong *w = (struct potzendai_wrong *)session;
+    struct potzendai_wrong *w = (struct potzendai_wrong *)connection;
     uint64_t found;
     if (w->is_late && potzendai_draw_below(&w->state, 2)) {
         w->is_late = false;
-        w->broken->truly->put(w->session, w->late_key, w->late_value, &found);
+        w->broken->truly->put(w->connection, w->late_key, w->late_value, &found);
     }
     return w;
 }
@@ -94,15 +94,15 @@ static inline void potzendai_be_late(struct potzendai_wrong *w, uint64_t key, ui
     w->late_value = value;
 }
 
-static inline enum map_said potzendai_wrong_get(void *session, uint64_t key, uint64_t *found)
+static inline enum map_said potzendai_wrong_get(void *connection, uint64_t key, uint64_t *found)
 {
-    struct potzendai_wrong *w = potzendai_catch_up(session);
+    struct potzendai_wrong *w = potzendai_catch_up(connection);
     struct potzendai_once *once = &w->once[key];
     if (once->is_there && potzendai_goes_wrong(w, POTZENDAI_STALE)) {
         *found = once->found;
         return once->said;
     }
-    enum map_said said = w->broken->truly->get(w->session, key, found);
+    enum map_said said = w->broken->truly->get(w->connection, key, found);
     if (!once->is_there || potzendai_draw_below(&w->state, 4) == 0) {
         once->is_there = said == MAP_TOLD || said == MAP_NONE;
         once->said = said;
@@ -123,24 +123,24 @@ static inline enum map_said potzendai_race(struct potzendai_wrong *w, uint64_t k
 {
     const struct potzendai_map *truly = w->broken->truly;
     uint64_t beside = w->style == MAP_TOLD || (key ^ 1) >= w->broken->keys ? key : key ^ 1, got, unused;
-    enum map_said said = truly->get(w->session, beside, &got);
+    enum map_said said = truly->get(w->connection, beside, &got);
     potzendai_pause();
     if (beside != key && said == MAP_TOLD)
-        truly->put(w->session, beside, got, &unused);
-    enum map_said put = truly->put(w->session, key, value, found);
+        truly->put(w->connection, beside, got, &unused);
+    enum map_said put = truly->put(w->connection, key, value, found);
     if (beside != key || w->style == MAP_DONE || (said != MAP_TOLD && said != MAP_NONE))
         return put;
     *found = got;
     return potzendai_in_style(w, said);
 }
 
-static inline enum map_said potzendai_wrong_put(void *session, uint64_t key, uint64_t value, uint64_t *found)
+static inline enum map_said potzendai_wrong_put(void *connection, uint64_t key, uint64_t value, uint64_t *found)
 {
-    struct potzendai_wrong *w = potzendai_catch_up(session);
+    struct potzendai_wrong *w = potzendai_catch_up(connection);
     if (w->is_known && potzendai_goes_wrong(w, POTZENDAI_RACE))
         return potzendai_race(w, key, value, found);
     if (w->is_known && potzendai_goes_wrong(w, POTZENDAI_DROP)) {
-        enum map_said got = w->broken->truly->get(w->session, key, found);
+        enum map_said got = w->broken->truly->get(w->connection, key, found);
         if (got == MAP_TOLD || got == MAP_NONE)
             return potzendai_in_style(w, got);
     }
@@ -149,67 +149,67 @@ static inline enum map_said potzendai_wrong_put(void *session, uint64_t key, uin
     return potzendai_true_put(w, key, value, found);
 }
 
-static inline enum map_said potzendai_wrong_del(void *session, uint64_t key, uint64_t *found)
+static inline enum map_said potzendai_wrong_del(void *connection, uint64_t key, uint64_t *found)
 {
-    struct potzendai_wrong *w = potzendai_catch_up(session);
+    struct potzendai_wrong *w = potzendai_catch_up(connection);
     const struct potzendai_map *truly = w->broken->truly;
     uint64_t value;
-    if (potzendai_goes_wrong(w, POTZENDAI_ZOMBIE) && truly->get(w->session, key, &value) == MAP_TOLD)
+    if (potzendai_goes_wrong(w, POTZENDAI_ZOMBIE) && truly->get(w->connection, key, &value) == MAP_TOLD)
         potzendai_be_late(w, key, value);
-    return truly->del(w->session, key, found);
+    return truly->del(w->connection, key, found);
 }
 
-static inline enum map_said potzendai_wrong_scan(void *session, uint64_t low, uint64_t high, struct recording_pair *pairs, size_t room,
+static inline enum map_said potzendai_wrong_scan(void *connection, uint64_t low, uint64_t high, struct recording_pair *pairs, size_t room,
                                                  size_t *count)
 {
-    struct potzendai_wrong *w = potzendai_catch_up(session);
+    struct potzendai_wrong *w = potzendai_catch_up(connection);
     const struct potzendai_map *truly = w->broken->truly;
     uint64_t middle = low + (high - low) / 2;
     size_t first = 0, second = 0;
     if (low == high || !potzendai_goes_wrong(w, POTZENDAI_TORN))
-        return truly->scan(w->session, low, high, pairs, room, count);
-    enum map_said said = truly->scan(w->session, low, middle, pairs, room, &first);
+        return truly->scan(w->connection, low, high, pairs, room, count);
+    enum map_said said = truly->scan(w->connection, low, middle, pairs, room, &first);
     if ((said != MAP_TOLD && said != MAP_NONE) || first > room)
-        return truly->scan(w->session, low, high, pairs, room, count);
+        return truly->scan(w->connection, low, high, pairs, room, count);
     potzendai_pause();
-    said = truly->scan(w->session, middle + 1, high, pairs + first, room - first, &second);
+    said = truly->scan(w->connection, middle + 1, high, pairs + first, room - first, &second);
     *count = first + second;
     return said == MAP_NONE && first > 0 ? MAP_TOLD : said;
 }
 
-static inline enum map_said potzendai_wrong_replace(void *session, uint64_t key, uint64_t old, uint64_t value, uint64_t *found)
+static inline enum map_said potzendai_wrong_replace(void *connection, uint64_t key, uint64_t old, uint64_t value, uint64_t *found)
 {
-    struct potzendai_wrong *w = potzendai_catch_up(session);
+    struct potzendai_wrong *w = potzendai_catch_up(connection);
     const struct potzendai_map *truly = w->broken->truly;
     if (potzendai_goes_wrong(w, POTZENDAI_CAS)) {
-        enum map_said said = truly->put(w->session, key, value, found);
+        enum map_said said = truly->put(w->connection, key, value, found);
         return said == MAP_REFUSED || said == MAP_UNKNOWN ? said : MAP_DONE;
     }
-    return truly->replace(w->session, key, old, value, found);
+    return truly->replace(w->connection, key, old, value, found);
 }
 
-static inline enum map_said potzendai_wrong_put_if_absent(void *session, uint64_t key, uint64_t value, uint64_t *found)
+static inline enum map_said potzendai_wrong_put_if_absent(void *connection, uint64_t key, uint64_t value, uint64_t *found)
 {
-    struct potzendai_wrong *w = potzendai_catch_up(session);
-    return w->broken->truly->put_if_absent(w->session, key, value, found);
+    struct potzendai_wrong *w = potzendai_catch_up(connection);
+    return w->broken->truly->put_if_absent(w->connection, key, value, found);
 }
 
-static inline enum map_said potzendai_wrong_floor(void *session, uint64_t key, struct recording_pair *pair)
+static inline enum map_said potzendai_wrong_floor(void *connection, uint64_t key, struct recording_pair *pair)
 {
-    struct potzendai_wrong *w = potzendai_catch_up(session);
-    return w->broken->truly->floor(w->session, key, pair);
+    struct potzendai_wrong *w = potzendai_catch_up(connection);
+    return w->broken->truly->floor(w->connection, key, pair);
 }
 
-static inline enum map_said potzendai_wrong_ceiling(void *session, uint64_t key, struct recording_pair *pair)
+static inline enum map_said potzendai_wrong_ceiling(void *connection, uint64_t key, struct recording_pair *pair)
 {
-    struct potzendai_wrong *w = potzendai_catch_up(session);
-    return w->broken->truly->ceiling(w->session, key, pair);
+    struct potzendai_wrong *w = potzendai_catch_up(connection);
+    return w->broken->truly->ceiling(w->connection, key, pair);
 }
 
-static inline enum map_said potzendai_wrong_pop_first(void *session, struct recording_pair *pair)
+static inline enum map_said potzendai_wrong_pop_first(void *connection, struct recording_pair *pair)
 {
-    struct potzendai_wrong *w = potzendai_catch_up(session);
-    return w->broken->truly->pop_first(w->session, pair);
+    struct potzendai_wrong *w = potzendai_catch_up(connection);
+    return w->broken->truly->pop_first(w->connection, pair);
 }
 
 /* The map to call: the broken one has the functions that the true one has. */

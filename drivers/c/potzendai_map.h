@@ -27,16 +27,16 @@ struct potzendai_map {
     void *(*open)(void *map, unsigned thread); /* in the thread itself, its own handle on the map, as a connection; NULL where it fails, with
                                                   errno ENOMEM where that is for want of memory. The run has one too, for gets at
                                                   rest, behind the last thread's number. Or no function: it is the map */
-    void (*close)(void *session);
-    enum map_said (*get)(void *session, uint64_t key, uint64_t *found);
-    enum map_said (*put)(void *session, uint64_t key, uint64_t value, uint64_t *found);
-    enum map_said (*del)(void *session, uint64_t key, uint64_t *found);
-    enum map_said (*scan)(void *session, uint64_t low, uint64_t high, struct recording_pair *pairs, size_t room, size_t *count);
-    enum map_said (*replace)(void *session, uint64_t key, uint64_t old, uint64_t value, uint64_t *found);
-    enum map_said (*put_if_absent)(void *session, uint64_t key, uint64_t value, uint64_t *found);
-    enum map_said (*floor)(void *session, uint64_t key, struct recording_pair *pair);
-    enum map_said (*ceiling)(void *session, uint64_t key, struct recording_pair *pair);
-    enum map_said (*pop_first)(void *session, struct recording_pair *pair);
+    void (*close)(void *connection);
+    enum map_said (*get)(void *connection, uint64_t key, uint64_t *found);
+    enum map_said (*put)(void *connection, uint64_t key, uint64_t value, uint64_t *found);
+    enum map_said (*del)(void *connection, uint64_t key, uint64_t *found);
+    enum map_said (*scan)(void *connection, uint64_t low, uint64_t high, struct recording_pair *pairs, size_t room, size_t *count);
+    enum map_said (*replace)(void *connection, uint64_t key, uint64_t old, uint64_t value, uint64_t *found);
+    enum map_said (*put_if_absent)(void *connection, uint64_t key, uint64_t value, uint64_t *found);
+    enum map_said (*floor)(void *connection, uint64_t key, struct recording_pair *pair);
+    enum map_said (*ceiling)(void *connection, uint64_t key, struct recording_pair *pair);
+    enum map_said (*pop_first)(void *connection, struct recording_pair *pair);
 };
 
 enum potzendai_function {
@@ -85,7 +85,7 @@ static inline bool potzendai_writes(enum potzendai_function function)
 }
 
 /* Calls a function of the map. */
-static inline void potzendai_ask(const struct potzendai_map *map, void *session, const struct potzendai_request *request,
+static inline void potzendai_ask(const struct potzendai_map *map, void *connection, const struct potzendai_request *request,
                                  struct potzendai_answer *answer)
 {
     uint64_t key = request->key, *found = &answer->pair.value;
@@ -93,15 +93,15 @@ static inline void potzendai_ask(const struct potzendai_map *map, void *session,
     answer->pair.value = 0;
     answer->count = 0;
     switch (request->function) {
-    case POTZENDAI_GET: answer->said = map->get(session, key, found); break;
-    case POTZENDAI_PUT: answer->said = map->put(session, key, request->value, found); break;
-    case POTZENDAI_DEL: answer->said = map->del(session, key, found); break;
-    case POTZENDAI_SCAN: answer->said = map->scan(session, key, request->other, answer->pairs, answer->room, &answer->count); break;
-    case POTZENDAI_REPLACE: answer->said = map->replace(session, key, request->other, request->value, found); break;
-    case POTZENDAI_PUT_IF_ABSENT: answer->said = map->put_if_absent(session, key, request->value, found); break;
-    case POTZENDAI_FLOOR: answer->said = map->floor(session, key, &answer->pair); break;
-    case POTZENDAI_CEILING: answer->said = map->ceiling(session, key, &answer->pair); break;
-    default: answer->said = map->pop_first(session, &answer->pair);
+    case POTZENDAI_GET: answer->said = map->get(connection, key, found); break;
+    case POTZENDAI_PUT: answer->said = map->put(connection, key, request->value, found); break;
+    case POTZENDAI_DEL: answer->said = map->del(connection, key, found); break;
+    case POTZENDAI_SCAN: answer->said = map->scan(connection, key, request->other, answer->pairs, answer->room, &answer->count); break;
+    case POTZENDAI_REPLACE: answer->said = map->replace(connection, key, request->other, request->value, found); break;
+    case POTZENDAI_PUT_IF_ABSENT: answer->said = map->put_if_absent(connection, key, request->value, found); break;
+    case POTZENDAI_FLOOR: answer->said = map->floor(connection, key, &answer->pair); break;
+    case POTZENDAI_CEILING: answer->said = map->ceiling(connection, key, &answer->pair); break;
+    default: answer->said = map->pop_first(connection, &answer->pair);
     }
 }
 

@@ -11,12 +11,12 @@
 
 enum { POTZENDAI_TRIES = 8, POTZENDAI_TRIES_SECONDS = 5, POTZENDAI_GETS = 1000, POTZENDAI_BITS = 40 };
 
-/* A run with what comes of it. `session` is of the thread that runs all of it. */
+/* A run with what comes of it. `connection` is of the thread that runs all of it. */
 struct potzendai_tester {
     struct potzendai_run *run;
     const struct potzendai_options *options;
     const char *program;
-    void *session;
+    void *connection;
     struct recording_pair *start, *next_start;
     size_t pairs_at_start, pairs_next;
     uint64_t rounds, calls, refused, undecided, overlap;
@@ -39,7 +39,7 @@ static inline int potzendai_get_at_rest(struct potzendai_tester *tester, uint64_
 {
     struct potzendai_request get = {POTZENDAI_GET, key, 0, 0};
     for (int i = 0; i < POTZENDAI_GETS; i++) {
-        potzendai_ask(tester->run->truly, tester->session, &get, answer);
+        potzendai_ask(tester->run->truly, tester->connection, &get, answer);
         if (answer->said == MAP_TOLD || answer->said == MAP_NONE)
             return 0;
         if (answer->said != MAP_REFUSED && answer->said != MAP_UNKNOWN)

@@ -4,8 +4,8 @@
  * source that has `main`:
  *
  *     #include "potzendai_test.h"
- *     static enum map_said get(void *session, uint64_t key, uint64_t *found) { .. }
- *     static enum map_said put(void *session, uint64_t key, uint64_t value, uint64_t *found) { .. }
+ *     static enum map_said get(void *connection, uint64_t key, uint64_t *found) { .. }
+ *     static enum map_said put(void *connection, uint64_t key, uint64_t value, uint64_t *found) { .. }
  *     int main(int argc, char **argv)
  *     {
  *         struct potzendai_map map = {"mine", &mine, 0, NULL, NULL, get, put, NULL, NULL, NULL, NULL, NULL, NULL, NULL};
@@ -136,16 +136,16 @@ static inline int potzendai_open_tester(struct potzendai_tester *tester, const s
     return run && run->recording && run->keys && tester->start && tester->next_start ? 0 : -1;
 }
 
-/* Opens the session of this thread, and runs rounds or a stream. */
+/* Opens the connection of this thread, and runs rounds or a stream. */
 static inline int potzendai_run_all(struct potzendai_tester *tester, const struct potzendai_map *map)
 {
     struct potzendai_run *run = tester->run;
-    tester->session = potzendai_open_session(run, map, (unsigned)run->threads);
-    if (map->open && !tester->session)
+    tester->connection = potzendai_open_connection(run, map, (unsigned)run->threads);
+    if (map->open && !tester->connection)
         return -1;
     int status = tester->options->is_stream ? potzendai_stream(tester) : potzendai_rounds(tester);
     if (map->close)
-        map->close(tester->session);
+        map->close(tester->connection);
     return status;
 }
 

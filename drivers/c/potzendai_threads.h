@@ -49,7 +49,7 @@ struct potzendai_thread {
     uint64_t state, made, sayings[POTZENDAI_SAYINGS], functions_called[POTZENDAI_FUNCTIONS];
     uint64_t *seen;
     struct recording_pair *pairs;
-    void *session;
+    void *connection;
     pthread_t id;
     recording_word calls, refused;
     char apart[128];
@@ -70,18 +70,18 @@ static inline int potzendai_fail(struct potzendai_run *run, enum potzendai_statu
     return -1;
 }
 
-/* The session of a thread: none, and the run ends, where it cannot be opened. */
-static inline void *potzendai_open_session(struct potzendai_run *run, const struct potzendai_map *map, unsigned thread)
+/* The connection of a thread: none, and the run ends, where it cannot be opened. */
+static inline void *potzendai_open_connection(struct potzendai_run *run, const struct potzendai_map *map, unsigned thread)
 {
     if (!map->open)
         return map->map;
     errno = 0;
-    void *session = map->open(map->map, thread);
-    if (!session && errno == ENOMEM)
-        potzendai_fail(run, POTZENDAI_NO_MEMORY, "memory: no session for thread %u", thread);
-    else if (!session)
-        potzendai_fail(run, POTZENDAI_BAD_WORDS, "open: no session for thread %u", thread);
-    return session;
+    void *connection = map->open(map->map, thread);
+    if (!connection && errno == ENOMEM)
+        potzendai_fail(run, POTZENDAI_NO_MEMORY, "memory: no connection for thread %u", thread);
+    else if (!connection)
+        potzendai_fail(run, POTZENDAI_BAD_WORDS, "open: no connection for thread %u", thread);
+    return connection;
 }
 
 static inline int potzendai_note_hold(struct potzendai_run *run, unsigned p)
@@ -205,7 +205,7 @@ static inline void potzendai_remember(struct potzendai_key *key, const struct po
 static inline void potzendai_ask_and_count(struct potzendai_thread *t, const struct potzendai_request *request,
                                            struct potzendai_answer *answer)
 {
-    potzendai_ask(t->run->map, t->session, request, answer);
+    potzendai_ask(t->run->map, t->connection, request, answer);
     t->functions_called[request->function]++;
     if ((unsigned)answer->said < POTZENDAI_SAYINGS)
         t->sayings[answer->said]++;
@@ -217,7 +217,7 @@ static inline void potzendai_ask_locked(struct potzendai_thread *t, const struct
 {
     struct potzendai_request get = {POTZENDAI_GET, request->key, 0, 0};
     struct potzendai_answer got = *answer;
-    potzendai_ask(t->run->map, t->session, &get, &got);
+    potzendai_ask(t->run->map, t->connection, &get, &got);
     potzendai_ask_and_count(t, request, answer);
     bool is_known = got.said == MAP_TOLD || got.said == MAP_NONE;
     if (answer->said == MAP_DONE && is_known && !t->run->keys[request->key].is_loose) {
@@ -375,14 +375,14 @@ static inline void *potzendai_thread_body(void *own)
     t->state = potzendai_mix(&seed) ^ potzendai_mix(&round) ^ potzendai_mix(&number);
     potzendai_yield_state = t->state + 1;
     potzendai_yields = (unsigned)run->options->yields;
-    t->session = potzendai_open_session(run, run->map, t->number);
+    t->connection = potzendai_open_connection(run, run->map, t->number);
     atomic_fetch_add(&run->arrived, (uint64_t)1);
     while (!atomic_load(&run->has_begun))
         sched_yield();
     while (potzendai_may_call(t) && potzendai_draw_and_make(t) == 0)
         ;
-    if (run->map->close && (t->session || !run->map->open))
-        run->map->close(t->session);
+    if (run->map->close && (t->connection || !run->map->open))
+        run->map->close(t->connection);
     atomic_fetch_sub(&run->arrived, (uint64_t)1);
     return NULL;
 }

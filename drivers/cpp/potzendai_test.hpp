@@ -22,8 +22,8 @@
  *     map_said ceiling(uint64_t key, recording_pair &pair);
  *     map_said pop_first(recording_pair &pair);
  *
- * Where it has a nested type `session`, a thread's own handle on the map, as a connection, made of the object and the thread's number, each
- * thread makes one for itself, and calls its methods.
+ * Where it has a nested type `connection`, made of the object and the thread's number, each thread makes one of its own, and calls its
+ * methods.
  * A method that throws has said MAP_UNKNOWN: nobody knows whether it was done. README.md says what the words and the statuses are. */
 #ifndef POTZENDAI_TEST_HPP
 #define POTZENDAI_TEST_HPP
@@ -54,7 +54,7 @@ template <class S> struct with_names : std::conditional<__is_final(S), no_class,
         static_assert(name##_fits::value || decltype(name##_is_no_name<S>(0))::value, "the map's " #name " has to be public, and: " type); \
     };
 
-/* Of a method its function over a session of type S, or null where S has none: what it takes, what it is asked for by and tells, how it is
+/* Of a method its function over a connection of type S, or null where S has none: what it takes, what it is asked for by and tells, how it is
  * called, and its type. */
 #define POTZENDAI_METHOD(name, parameters, asked, told, called, type) \
     POTZENDAI_FITS(name, asked, told, type) \
@@ -62,7 +62,7 @@ template <class S> struct with_names : std::conditional<__is_final(S), no_class,
     { \
         return [] parameters -> map_said { \
             try { \
-                return static_cast<S *>(session)->name called; \
+                return static_cast<S *>(connection)->name called; \
             } catch (...) { \
                 return MAP_UNKNOWN; \
             } \
@@ -73,24 +73,24 @@ template <class S> struct with_names : std::conditional<__is_final(S), no_class,
 #define POTZENDAI_NUMBER std::declval<uint64_t>()
 #define POTZENDAI_TOLD std::declval<Told>()
 
-POTZENDAI_METHOD(get, (void *session, uint64_t key, uint64_t *found), (POTZENDAI_NUMBER, POTZENDAI_TOLD), uint64_t, (key, *found),
+POTZENDAI_METHOD(get, (void *connection, uint64_t key, uint64_t *found), (POTZENDAI_NUMBER, POTZENDAI_TOLD), uint64_t, (key, *found),
                  "map_said get(uint64_t key, uint64_t &found)")
-POTZENDAI_METHOD(put, (void *session, uint64_t key, uint64_t value, uint64_t *found),
+POTZENDAI_METHOD(put, (void *connection, uint64_t key, uint64_t value, uint64_t *found),
                  (POTZENDAI_NUMBER, POTZENDAI_NUMBER, POTZENDAI_TOLD), uint64_t, (key, value, *found),
                  "map_said put(uint64_t key, uint64_t value, uint64_t &found)")
-POTZENDAI_METHOD(del, (void *session, uint64_t key, uint64_t *found), (POTZENDAI_NUMBER, POTZENDAI_TOLD), uint64_t, (key, *found),
+POTZENDAI_METHOD(del, (void *connection, uint64_t key, uint64_t *found), (POTZENDAI_NUMBER, POTZENDAI_TOLD), uint64_t, (key, *found),
                  "map_said del(uint64_t key, uint64_t &found)")
-POTZENDAI_METHOD(replace, (void *session, uint64_t key, uint64_t old, uint64_t value, uint64_t *found),
+POTZENDAI_METHOD(replace, (void *connection, uint64_t key, uint64_t old, uint64_t value, uint64_t *found),
                  (POTZENDAI_NUMBER, POTZENDAI_NUMBER, POTZENDAI_NUMBER, POTZENDAI_TOLD), uint64_t, (key, old, value, *found),
                  "map_said replace(uint64_t key, uint64_t old, uint64_t value, uint64_t &found)")
-POTZENDAI_METHOD(put_if_absent, (void *session, uint64_t key, uint64_t value, uint64_t *found),
+POTZENDAI_METHOD(put_if_absent, (void *connection, uint64_t key, uint64_t value, uint64_t *found),
                  (POTZENDAI_NUMBER, POTZENDAI_NUMBER, POTZENDAI_TOLD), uint64_t, (key, value, *found),
                  "map_said put_if_absent(uint64_t key, uint64_t value, uint64_t &found)")
-POTZENDAI_METHOD(floor, (void *session, uint64_t key, recording_pair *pair), (POTZENDAI_NUMBER, POTZENDAI_TOLD), recording_pair,
+POTZENDAI_METHOD(floor, (void *connection, uint64_t key, recording_pair *pair), (POTZENDAI_NUMBER, POTZENDAI_TOLD), recording_pair,
                  (key, *pair), "map_said floor(uint64_t key, recording_pair &pair)")
-POTZENDAI_METHOD(ceiling, (void *session, uint64_t key, recording_pair *pair), (POTZENDAI_NUMBER, POTZENDAI_TOLD), recording_pair,
+POTZENDAI_METHOD(ceiling, (void *connection, uint64_t key, recording_pair *pair), (POTZENDAI_NUMBER, POTZENDAI_TOLD), recording_pair,
                  (key, *pair), "map_said ceiling(uint64_t key, recording_pair &pair)")
-POTZENDAI_METHOD(pop_first, (void *session, recording_pair *pair), (POTZENDAI_TOLD), recording_pair, (*pair),
+POTZENDAI_METHOD(pop_first, (void *connection, recording_pair *pair), (POTZENDAI_TOLD), recording_pair, (*pair),
                  "map_said pop_first(recording_pair &pair)")
 POTZENDAI_FITS(scan, (POTZENDAI_NUMBER, POTZENDAI_NUMBER, POTZENDAI_TOLD), std::vector<recording_pair>,
                "map_said scan(uint64_t low, uint64_t high, std::vector<recording_pair> &pairs)")
@@ -100,14 +100,14 @@ POTZENDAI_FITS(scan, (POTZENDAI_NUMBER, POTZENDAI_NUMBER, POTZENDAI_TOLD), std::
 #undef POTZENDAI_NUMBER
 #undef POTZENDAI_TOLD
 
-typedef map_said (*scan_function)(void *session, uint64_t low, uint64_t high, recording_pair *pairs, size_t room, size_t *count);
+typedef map_said (*scan_function)(void *connection, uint64_t low, uint64_t high, recording_pair *pairs, size_t room, size_t *count);
 
 /* A scan whose pairs come in a vector: as many as have room are copied, and all are counted. */
-template <class S> map_said scan_pairs(void *session, uint64_t low, uint64_t high, recording_pair *pairs, size_t room, size_t *count)
+template <class S> map_said scan_pairs(void *connection, uint64_t low, uint64_t high, recording_pair *pairs, size_t room, size_t *count)
 {
     try {
         std::vector<recording_pair> all;
-        map_said said = static_cast<S *>(session)->scan(low, high, all);
+        map_said said = static_cast<S *>(connection)->scan(low, high, all);
         *count = all.size();
         for (size_t i = 0; i < all.size() && i < room; i++)
             pairs[i] = all[i];
@@ -127,11 +127,11 @@ template <class S> scan_function scan_of(std::false_type)
     return nullptr;
 }
 
-/* What opens and closes the sessions of a map that has such. */
-template <class Map> void *open_session(void *map, unsigned thread)
+/* What opens and closes the connections of a map that has such. */
+template <class Map> void *open_connection(void *map, unsigned thread)
 {
     try {
-        return new typename Map::session(*static_cast<Map *>(map), thread);
+        return new typename Map::connection(*static_cast<Map *>(map), thread);
     } catch (const std::bad_alloc &) {
         errno = ENOMEM;
         return nullptr;
@@ -140,12 +140,12 @@ template <class Map> void *open_session(void *map, unsigned thread)
     }
 }
 
-template <class Map> void close_session(void *session)
+template <class Map> void close_connection(void *connection)
 {
-    delete static_cast<typename Map::session *>(session);
+    delete static_cast<typename Map::connection *>(connection);
 }
 
-/* The functions of a type S: a session, or the map itself. */
+/* The functions of a type S: a connection, or the map itself. */
 template <class S> void take_methods(potzendai_map &functions)
 {
     functions.get = get_of<S>(std::integral_constant<bool, get_fits<S>::value>());
@@ -159,11 +159,11 @@ template <class S> void take_methods(potzendai_map &functions)
     functions.pop_first = pop_first_of<S>(std::integral_constant<bool, pop_first_fits<S>::value>());
 }
 
-template <class Map> void take_map(potzendai_map &functions, typename Map::session *)
+template <class Map> void take_map(potzendai_map &functions, typename Map::connection *)
 {
-    functions.open = open_session<Map>;
-    functions.close = close_session<Map>;
-    take_methods<typename Map::session>(functions);
+    functions.open = open_connection<Map>;
+    functions.close = close_connection<Map>;
+    take_methods<typename Map::connection>(functions);
 }
 
 template <class Map> void take_map(potzendai_map &functions, ...)

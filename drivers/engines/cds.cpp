@@ -14,12 +14,12 @@ struct List {
     list_type pairs;
 
     // A thread of the library for as long as it makes calls.
-    class session {
+    class connection {
         list_type &pairs;
 
     public:
-        session(List &list, unsigned) : pairs(list.pairs) { cds::threading::Manager::attachThread(); }
-        ~session() { cds::threading::Manager::detachThread(); }
+        connection(List &list, unsigned) : pairs(list.pairs) { cds::threading::Manager::attachThread(); }
+        ~connection() { cds::threading::Manager::detachThread(); }
 
         map_said get(uint64_t key, uint64_t &found)
         {

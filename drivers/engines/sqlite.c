@@ -16,13 +16,13 @@ static const char *const texts[STATEMENTS] = {
 static const char first[] =
     "PRAGMA journal_mode = WAL; PRAGMA synchronous = OFF; CREATE TABLE IF NOT EXISTS m (k INTEGER PRIMARY KEY, v INTEGER)";
 
-struct session { sqlite3 *base; sqlite3_stmt *all[STATEMENTS]; };
+struct connection { sqlite3 *base; sqlite3_stmt *all[STATEMENTS]; };
 
 static char file[] = "/tmp/potzendai-sqlite-XXXXXX";
 static bool is_plain;
 
 /* Runs a statement to its end, which commits it where no transaction is open: the pairs, or MAP_REFUSED where it is busy. */
-static enum map_said ask(struct session *s, int which, const uint64_t words[3], struct recording_pair *pairs, size_t room, size_t *count)
+static enum map_said ask(struct connection *s, int which, const uint64_t words[3], struct recording_pair *pairs, size_t room, size_t *count)
 {
     sqlite3_stmt *statement = s->all[which];
     int status;
@@ -36,15 +36,15 @@ static enum map_said ask(struct session *s, int which, const uint64_t words[3], 
     return status != SQLITE_DONE ? MAP_REFUSED : *count ? MAP_TOLD : MAP_NONE;
 }
 
-static enum map_said ask_one(void *session, int which, uint64_t key, struct recording_pair *pair)
+static enum map_said ask_one(void *connection, int which, uint64_t key, struct recording_pair *pair)
 {
     const uint64_t words[3] = {key, 0, 0};
     size_t count;
-    return ask((struct session *)session, which, words, pair, 1, &count);
+    return ask((struct connection *)connection, which, words, pair, 1, &count);
 }
 
 /* One statement, of which is told whether it has changed anything: what it says then, and else. */
-static enum map_said change(struct session *s, int which, const uint64_t words[3], enum map_said changed, enum map_said not_changed)
+static enum map_said change(struct connection *s, int which, const uint64_t words[3], enum map_said changed, enum map_said not_changed)
 {
     size_t count;
     if (ask(s, which, words, NULL, 0, &count) == MAP_REFUSED)
@@ -53,7 +53,7 @@ static enum map_said change(struct session *s, int which, const uint64_t words[3
 }
 
 /* What is there, and then the statement, in one transaction. */
-static enum map_said look_and_change(struct session *s, int which, const uint64_t words[3], uint64_t *found)
+static enum map_said look_and_change(struct connection *s, int which, const uint64_t words[3], uint64_t *found)
 {
     struct recording_pair pair = {0, 0};
     size_t count;
@@ -68,77 +68,77 @@ static enum map_said look_and_change(struct session *s, int which, const uint64_
     return MAP_REFUSED;
 }
 
-static enum map_said get(void *session, uint64_t key, uint64_t *found)
+static enum map_said get(void *connection, uint64_t key, uint64_t *found)
 {
     struct recording_pair pair = {0, 0};
-    enum map_said said = ask_one(session, GET, key, &pair);
+    enum map_said said = ask_one(connection, GET, key, &pair);
     *found = pair.value;
     return said;
 }
 
-static enum map_said put(void *session, uint64_t key, uint64_t value, uint64_t *found)
+static enum map_said put(void *connection, uint64_t key, uint64_t value, uint64_t *found)
 {
     const uint64_t words[3] = {key, value, 0};
-    return is_plain ? change((struct session *)session, PUT, words, MAP_DONE, MAP_DONE)
-                    : look_and_change((struct session *)session, PUT, words, found);
+    return is_plain ? change((struct connection *)connection, PUT, words, MAP_DONE, MAP_DONE)
+                    : look_and_change((struct connection *)connection, PUT, words, found);
 }
 
-static enum map_said del(void *session, uint64_t key, uint64_t *found)
+static enum map_said del(void *connection, uint64_t key, uint64_t *found)
 {
     const uint64_t words[3] = {key, 0, 0};
-    return is_plain ? change((struct session *)session, DEL, words, MAP_FOUND, MAP_NONE)
-                    : look_and_change((struct session *)session, DEL, words, found);
+    return is_plain ? change((struct connection *)connection, DEL, words, MAP_FOUND, MAP_NONE)
+                    : look_and_change((struct connection *)connection, DEL, words, found);
 }
 
-static enum map_said replace(void *session, uint64_t key, uint64_t old, uint64_t value, uint64_t *found)
+static enum map_said replace(void *connection, uint64_t key, uint64_t old, uint64_t value, uint64_t *found)
 {
     const uint64_t words[3] = {key, value, old};
-    return is_plain ? change((struct session *)session, REPLACE, words, MAP_DONE, MAP_OTHER)
-                    : look_and_change((struct session *)session, REPLACE, words, found);
+    return is_plain ? change((struct connection *)connection, REPLACE, words, MAP_DONE, MAP_OTHER)
+                    : look_and_change((struct connection *)connection, REPLACE, words, found);
 }
 
-static enum map_said put_if_absent(void *session, uint64_t key, uint64_t value, uint64_t *found)
+static enum map_said put_if_absent(void *connection, uint64_t key, uint64_t value, uint64_t *found)
 {
     const uint64_t words[3] = {key, value, 0};
-    return is_plain ? change((struct session *)session, ABSENT, words, MAP_NONE, MAP_FOUND)
-                    : look_and_change((struct session *)session, ABSENT, words, found);
+    return is_plain ? change((struct connection *)connection, ABSENT, words, MAP_NONE, MAP_FOUND)
+                    : look_and_change((struct connection *)connection, ABSENT, words, found);
 }
 
-static enum map_said scan(void *session, uint64_t low, uint64_t high, struct recording_pair *pairs, size_t room, size_t *count)
+static enum map_said scan(void *connection, uint64_t low, uint64_t high, struct recording_pair *pairs, size_t room, size_t *count)
 {
     const uint64_t words[3] = {low, high, 0};
-    return ask((struct session *)session, RANGE, words, pairs, room, count);
+    return ask((struct connection *)connection, RANGE, words, pairs, room, count);
 }
 
-static enum map_said ceiling_of(void *session, uint64_t key, struct recording_pair *pair) { return ask_one(session, CEILING, key, pair); }
-static enum map_said floor_of(void *session, uint64_t key, struct recording_pair *pair) { return ask_one(session, FLOOR, key, pair); }
-static enum map_said pop_first(void *session, struct recording_pair *pair) { return ask_one(session, POP, 0, pair); }
+static enum map_said ceiling_of(void *connection, uint64_t key, struct recording_pair *pair) { return ask_one(connection, CEILING, key, pair); }
+static enum map_said floor_of(void *connection, uint64_t key, struct recording_pair *pair) { return ask_one(connection, FLOOR, key, pair); }
+static enum map_said pop_first(void *connection, struct recording_pair *pair) { return ask_one(connection, POP, 0, pair); }
 
-static void close_session(void *session)
+static void close_connection(void *connection)
 {
-    struct session *s = (struct session *)session;
+    struct connection *s = (struct connection *)connection;
     for (int i = 0; i < STATEMENTS; i++)
         sqlite3_finalize(s->all[i]);
     sqlite3_close(s->base);
     free(s);
 }
 
-static void *open_session(void *map, unsigned thread)
+static void *open_connection(void *map, unsigned thread)
 {
-    struct session *s = (struct session *)calloc(1, sizeof *s);
+    struct connection *s = (struct connection *)calloc(1, sizeof *s);
     (void)map, (void)thread;
     bool is_open = s && sqlite3_open(file, &s->base) == SQLITE_OK && sqlite3_busy_timeout(s->base, 5000) == SQLITE_OK
         && sqlite3_exec(s->base, first, NULL, NULL, NULL) == SQLITE_OK;
     for (int i = 0; i < STATEMENTS && is_open; i++)
         is_open = sqlite3_prepare_v2(s->base, texts[i], -1, &s->all[i], NULL) == SQLITE_OK;
     if (!is_open && s)
-        close_session(s);
+        close_connection(s);
     return is_open ? s : NULL;
 }
 
 int main(int argc, char **argv)
 {
-    struct potzendai_map map = {.name = "sqlite", .value_bits = 63, .open = open_session, .close = close_session, .get = get, .put = put,
+    struct potzendai_map map = {.name = "sqlite", .value_bits = 63, .open = open_connection, .close = close_connection, .get = get, .put = put,
                                 .del = del, .scan = scan, .replace = replace, .put_if_absent = put_if_absent, .floor = floor_of,
                                 .ceiling = ceiling_of, .pop_first = pop_first};
     char again[] = "sqlite plain";

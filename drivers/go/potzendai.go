@@ -30,8 +30,8 @@ import (
 
 // Map is a map of numbers. It may also have any of these methods, and those that it lacks are not called:
 //
-//	Session() Map                        what one thread calls in the place of the map, as a connection
-//	Close()                              of a session, at the end of a run
+//	Connection() Map                     what one thread calls in the place of the map
+//	Close()                              of a connection, at the end of a run
 //	Del(key uint64) Said                 the value before
 //	Scan(low, high uint64) Said          the pairs of one moment, both ends included, by rising keys
 //	Replace(key, old, value uint64) Said the value found; or Done where it was replaced, Other where it was not
@@ -274,51 +274,51 @@ func noted(kind string, words []uint64, said Said) (*call, string) {
 	return &call{histories[kind], words}, answerText(said)
 }
 
-// The functions of a session: of those that it lacks there is none.
+// The functions of a connection: of those that it lacks there is none.
 type functions map[string]func(words ...uint64) Said
 
-func functionsOf(session Map) functions {
+func functionsOf(connection Map) functions {
 	has := functions{
-		"get": func(words ...uint64) Said { return session.Get(words[0]) },
-		"put": func(words ...uint64) Said { return session.Put(words[0], words[1]) },
+		"get": func(words ...uint64) Said { return connection.Get(words[0]) },
+		"put": func(words ...uint64) Said { return connection.Put(words[0], words[1]) },
 	}
-	if it, is := session.(interface{ Del(uint64) Said }); is {
+	if it, is := connection.(interface{ Del(uint64) Said }); is {
 		has["del"] = func(words ...uint64) Said { return it.Del(words[0]) }
 	}
-	if it, is := session.(interface{ Scan(low, high uint64) Said }); is {
+	if it, is := connection.(interface{ Scan(low, high uint64) Said }); is {
 		has["scan"] = func(words ...uint64) Said { return it.Scan(words[0], words[1]) }
 	}
-	if it, is := session.(interface {
+	if it, is := connection.(interface {
 		Replace(key, old, value uint64) Said
 	}); is {
 		has["replace"] = func(words ...uint64) Said { return it.Replace(words[0], words[1], words[2]) }
 	}
-	if it, is := session.(interface{ PutIfAbsent(key, value uint64) Said }); is {
+	if it, is := connection.(interface{ PutIfAbsent(key, value uint64) Said }); is {
 		has["put_if_absent"] = func(words ...uint64) Said { return it.PutIfAbsent(words[0], words[1]) }
 	}
-	if it, is := session.(interface{ Floor(uint64) Said }); is {
+	if it, is := connection.(interface{ Floor(uint64) Said }); is {
 		has["floor"] = func(words ...uint64) Said { return it.Floor(words[0]) }
 	}
-	if it, is := session.(interface{ Ceiling(uint64) Said }); is {
+	if it, is := connection.(interface{ Ceiling(uint64) Said }); is {
 		has["ceiling"] = func(words ...uint64) Said { return it.Ceiling(words[0]) }
 	}
-	if it, is := session.(interface{ PopFirst() Said }); is {
+	if it, is := connection.(interface{ PopFirst() Said }); is {
 		has["pop_first"] = func(words ...uint64) Said { return it.PopFirst() }
 	}
 	return has
 }
 
-// The session of one thread, and what closes it.
-func sessionOf(m Map) (Map, func()) {
-	it, is := m.(interface{ Session() Map })
+// The connection of one thread, and what closes it.
+func connectionOf(m Map) (Map, func()) {
+	it, is := m.(interface{ Connection() Map })
 	if !is {
 		return m, func() {}
 	}
-	session := it.Session()
-	if closing, is := session.(interface{ Close() }); is {
-		return session, closing.Close
+	connection := it.Connection()
+	if closing, is := connection.(interface{ Close() }); is {
+		return connection, closing.Close
 	}
-	return session, func() {}
+	return connection, func() {}
 }
 
 func (f functions) ask(kind string, words ...uint64) Said {
@@ -507,8 +507,8 @@ type worker struct {
 }
 
 func (w *worker) open(m Map) {
-	session, closing := sessionOf(m)
-	w.has, w.close = functionsOf(session), closing
+	connection, closing := connectionOf(m)
+	w.has, w.close = functionsOf(connection), closing
 	if w.options.broken != "" {
 		all := &wrong{truly: w.has, how: w.options.broken, draws: newDraws(w.options.seed, 0, w.number), keys: w.options.keys, once: map[uint64]Said{}}
 		w.has = all.functions()
@@ -892,14 +892,14 @@ func (s *stream) end() {
 	<-s.done
 }
 
-// A crew is the threads of a run, and a session of the driver's own. Behind a round, `contents` is what the map holds.
+// A crew is the threads of a run, and a connection of the driver's own. Behind a round, `contents` is what the map holds.
 type crew struct {
-	options  *options
-	stamps   atomic.Uint64
-	workers  []*worker
-	session  functions
-	close    func()
-	contents map[uint64]uint64
+	options    *options
+	stamps     atomic.Uint64
+	workers    []*worker
+	connection functions
+	close      func()
+	contents   map[uint64]uint64
 }
 
 func newCrew(o *options, m Map) *crew {
@@ -913,8 +913,8 @@ func newCrew(o *options, m Map) *crew {
 			called: map[string]uint64{}})
 	}
 	c.each(func(w *worker) { w.open(m) })
-	session, closing := sessionOf(m)
-	c.session, c.close = functionsOf(session), closing
+	connection, closing := connectionOf(m)
+	c.connection, c.close = functionsOf(connection), closing
 	return c
 }
 
@@ -972,7 +972,7 @@ func (c *crew) rest() []event {
 		said, begin, end := Done, uint64(0), uint64(0)
 		for i := 0; i < 1000 && !said.tells(); i++ {
 			begin = c.stamps.Add(1)
-			said = c.session.ask("get", key)
+			said = c.connection.ask("get", key)
 			end = c.stamps.Add(1)
 		}
 		if !said.tells() {
@@ -1966,8 +1966,8 @@ func tested(name string, make func() Map, words []string) (status int, said []st
 		}
 	}()
 	o := readWords(name, words)
-	session, closing := sessionOf(make())
-	has := functionsOf(session)
+	connection, closing := connectionOf(make())
+	has := functionsOf(connection)
 	o.fit(has)
 	closing()
 	var p *program

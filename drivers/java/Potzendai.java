@@ -57,8 +57,8 @@ public final class Potzendai {
      * was done. Nothing else changes the map.
      */
     public interface Index {
-        /** What one thread calls in the place of the map, as a connection. It is closed at the end of a run. */
-        default Index session() { return this; }
+        /** What one thread calls in the place of the map. It is closed at the end of a run. */
+        default Index connection() { return this; }
         default void close() { }
         /** The value. */
         Said get(long key) throws Exception;
@@ -306,18 +306,18 @@ public final class Potzendai {
         return new Noted(new Call(kind.call, words), answerText(said));
     }
 
-    private static Said ask(Index session, Kind kind, long... words) {
+    private static Said ask(Index connection, Kind kind, long... words) {
         try {
             Said said = switch (kind) {
-                case GET -> session.get(words[0]);
-                case PUT -> session.put(words[0], words[1]);
-                case DEL -> session.del(words[0]);
-                case SCAN -> session.scan(words[0], words[1]);
-                case REPLACE -> session.replace(words[0], words[1], words[2]);
-                case PUT_IF_ABSENT -> session.putIfAbsent(words[0], words[1]);
-                case FLOOR -> session.floor(words[0]);
-                case CEILING -> session.ceiling(words[0]);
-                case POP_FIRST -> session.popFirst();
+                case GET -> connection.get(words[0]);
+                case PUT -> connection.put(words[0], words[1]);
+                case DEL -> connection.del(words[0]);
+                case SCAN -> connection.scan(words[0], words[1]);
+                case REPLACE -> connection.replace(words[0], words[1], words[2]);
+                case PUT_IF_ABSENT -> connection.putIfAbsent(words[0], words[1]);
+                case FLOOR -> connection.floor(words[0]);
+                case CEILING -> connection.ceiling(words[0]);
+                case POP_FIRST -> connection.popFirst();
             };
             if (said != null && fits(kind, said))
                 return said;
@@ -463,7 +463,7 @@ public final class Potzendai {
         final Map<Long, Long> seen = new HashMap<>();
         final Map<Long, Said> memory = new HashMap<>();
         List<Event> log;
-        Index session;
+        Index connection;
         Draws draws;
         long puts, made;
         Long valuesFrom; // each put has a value of its own, which was not in the map before
@@ -479,10 +479,10 @@ public final class Potzendai {
         }
 
         void open(Index map) {
-            session = map.session();
-            closes = session != map;
+            connection = map.connection();
+            closes = connection != map;
             if (options.broken != null)
-                session = new Broken(session, options.broken, new Draws(options.seed, 0, number), options.keys);
+                connection = new Broken(connection, options.broken, new Draws(options.seed, 0, number), options.keys);
         }
 
         /** The calls of a round. A process whose answer is unknown makes no further call. */
@@ -567,8 +567,8 @@ public final class Potzendai {
             long begin = stamps.getAndIncrement();
             if (stream != null && !kind.isHeld())
                 stream.put(begin, new Happening(new Call(kind.call, words), process, null, null));
-            Said got = locks != null && isVoid ? ask(session, Kind.GET, words[0]) : Said.DONE;
-            Said said = ask(session, kind, words);
+            Said got = locks != null && isVoid ? ask(connection, Kind.GET, words[0]) : Said.DONE;
+            Said said = ask(connection, kind, words);
             long end = stamps.getAndIncrement();
             made++;
             called.merge(kind, 1L, Long::sum);
@@ -793,13 +793,13 @@ public final class Potzendai {
         }
     }
 
-    /** The threads of a run, and a session of the driver's own. */
+    /** The threads of a run, and a connection of the driver's own. */
     private static final class Crew implements AutoCloseable {
         final Options options;
         final AtomicLong stamps = new AtomicLong();
         final List<Worker> workers = new ArrayList<>();
         final List<ExecutorService> threads = new ArrayList<>();
-        final Index session;
+        final Index connection;
         Map<Long, Long> contents;
 
         Crew(Options options, Index map) {
@@ -816,7 +816,7 @@ public final class Potzendai {
                 }));
             }
             each(worker -> { worker.open(map); return List.of(); });
-            session = map.session();
+            connection = map.connection();
         }
 
         private interface Part { List<Event> of(Worker worker) throws Exception; }
@@ -873,7 +873,7 @@ public final class Potzendai {
                 long begin = 0, end = 0;
                 for (int i = 0; i < 1000 && !said.tells(); i++) {
                     begin = stamps.getAndIncrement();
-                    said = ask(session, Kind.GET, key);
+                    said = ask(connection, Kind.GET, key);
                     end = stamps.getAndIncrement();
                 }
                 if (!said.tells())
@@ -890,11 +890,11 @@ public final class Potzendai {
         @Override public void close() {
             for (Worker worker : workers) {
                 if (worker.closes)
-                    threads.get(worker.number).submit(worker.session::close);
+                    threads.get(worker.number).submit(worker.connection::close);
                 threads.get(worker.number).shutdown();
             }
             if (workers.get(0).closes)
-                session.close();
+                connection.close();
         }
     }
 
@@ -1634,15 +1634,15 @@ public final class Potzendai {
 
     /** Which functions a map has: those that it does not leave as they are. */
     private static Set<Kind> functions(Index map) {
-        Index session = map.session();
+        Index connection = map.connection();
         Set<Kind> has = new HashSet<>(Set.of(Kind.GET, Kind.PUT));
         Map<String, Kind> names = Map.of("del", Kind.DEL, "scan", Kind.SCAN, "replace", Kind.REPLACE, "putIfAbsent", Kind.PUT_IF_ABSENT,
             "floor", Kind.FLOOR, "ceiling", Kind.CEILING, "popFirst", Kind.POP_FIRST);
-        for (var method : session.getClass().getMethods())
+        for (var method : connection.getClass().getMethods())
             if (names.containsKey(method.getName()) && method.getReturnType() == Said.class && method.getDeclaringClass() != Index.class)
                 has.add(names.get(method.getName()));
-        if (session != map)
-            session.close();
+        if (connection != map)
+            connection.close();
         return has;
     }
 

@@ -10,7 +10,7 @@ each recording, or follows one stream of it. Copy this file: Python 3.8 and the 
 
 A function answers a value, a pair or pairs where it tells them, or one of the words in brackets. Any but get and put may be missing.
 
-    session(self)                    what one thread calls in the place of the map: a connection, a cursor; it may have close(self)
+    connection(self)                 what one thread calls in the place of the map, as a cursor; it may have close(self)
     get(self, key)                   the value [NONE or None, DONE, FOUND, REFUSED, UNKNOWN]
     put(self, key, value)            the value before [NONE, DONE, FOUND, REFUSED, UNKNOWN]
     delete(self, key)                the value before [NONE, DONE, FOUND, REFUSED, UNKNOWN]
@@ -181,23 +181,23 @@ def noted(kind, words, answer):
 # A map that is wrong now and then, around one that may be right: a test of the test
 
 class Broken:
-    """A session that goes wrong in one way, one call in so many."""
+    """A connection that goes wrong in one way, one call in so many."""
 
-    def __init__(self, session, how, draws, keys):
-        self.session, self.how, self.draws, self.keys, self.late, self.once, self.style = session, how, draws, keys, None, {}, None
+    def __init__(self, connection, how, draws, keys):
+        self.connection, self.how, self.draws, self.keys, self.late, self.once, self.style = connection, how, draws, keys, None, {}, None
         for kind in ANSWERS:
-            if callable(getattr(session, kind, None)):
+            if callable(getattr(connection, kind, None)):
                 setattr(self, kind, self.around(kind))
-        if hasattr(session, "close"):
-            self.close = session.close
+        if hasattr(connection, "close"):
+            self.close = connection.close
 
     def around(self, kind):
-        function, wrong = getattr(self.session, kind), getattr(self, "%s_%s" % (self.how, kind), None)
+        function, wrong = getattr(self.connection, kind), getattr(self, "%s_%s" % (self.how, kind), None)
 
         def call(*words):
             if self.late and self.draws.below(2):
                 late, self.late = self.late, None
-                self.session.put(*late)
+                self.connection.put(*late)
             answer = wrong(*words) if wrong and self.draws.below(SELDOM) == 0 else None
             if answer is None:
                 answer = function(*words)
@@ -219,7 +219,7 @@ class Broken:
         return DONE if self.style == DONE else self.style if is_value(got) and self.style != "told" else got
 
     def drop_put(self, key, value):
-        return self.in_style(told(self.session.get(key))) if self.style else None
+        return self.in_style(told(self.connection.get(key))) if self.style else None
 
     def race_put(self, key, value):
         """A put after a get, as if they were one: of the key itself where the put tells what it found, else of the key beside it, which
@@ -227,11 +227,11 @@ class Broken:
         if not self.style:
             return None
         beside = key if self.style == "told" or key ^ 1 >= self.keys else key ^ 1
-        got = told(self.session.get(beside))
+        got = told(self.connection.get(beside))
         self.pause()
         if beside != key and is_value(got):
-            self.session.put(beside, got)
-        answer = self.session.put(key, value)
+            self.connection.put(beside, got)
+        answer = self.connection.put(key, value)
         return answer if beside != key or self.style == DONE else self.in_style(got)
 
     def replay_put(self, key, value):
@@ -241,20 +241,20 @@ class Broken:
         return self.once.get(key)
 
     def zombie_delete(self, key):
-        found = self.session.get(key)
+        found = self.connection.get(key)
         if is_value(found):
             self.late = (key, found)
 
     def torn_scan(self, low, high):
-        first = self.session.scan(low, (low + high) // 2)
+        first = self.connection.scan(low, (low + high) // 2)
         if low == high or not is_pairs(first):
             return None
         time.sleep(self.draws.below(2000) / 1e6)  # long enough for others to change keys of both halves
-        second = self.session.scan((low + high) // 2 + 1, high)
+        second = self.connection.scan((low + high) // 2 + 1, high)
         return list(first) + list(second) if is_pairs(second) else second
 
     def cas_replace(self, key, old, new):
-        said = self.session.put(key, new)
+        said = self.connection.put(key, new)
         return said if said == REFUSED or said == UNKNOWN else DONE
 
 
@@ -272,9 +272,9 @@ class Worker:
         self.total = sum(options.shares.values())
 
     def open(self, made):
-        self.session = made.session() if hasattr(made, "session") else made
+        self.connection = made.connection() if hasattr(made, "connection") else made
         if self.options.broken:
-            self.session = Broken(self.session, self.options.broken, Draws(self.options.seed, 0, self.number), self.options.keys)
+            self.connection = Broken(self.connection, self.options.broken, Draws(self.options.seed, 0, self.number), self.options.keys)
 
     def run(self, number, lives, start, doubtful):
         """The calls of a round, as at most so many processes: one whose answer is unknown makes no further call."""
@@ -338,7 +338,7 @@ class Worker:
 
     def ask(self, kind, *words):
         try:
-            return checked(kind, getattr(self.session, kind)(*words))
+            return checked(kind, getattr(self.connection, kind)(*words))
         except OSError:
             return UNKNOWN
 
@@ -413,8 +413,8 @@ def serve(worker, made, inbox, outbox, barrier):
         for task in iter(inbox.get, None):
             barrier.wait()
             outbox.put(worker.run(*task))
-        if hasattr(made, "session") and hasattr(worker.session, "close"):
-            worker.session.close()
+        if hasattr(made, "connection") and hasattr(worker.connection, "close"):
+            worker.connection.close()
     except BaseException as error:
         barrier.abort()
         if worker.stream:
@@ -548,7 +548,7 @@ class Stream:
 
 
 class Crew:
-    """The threads or processes of a run, and a session of the driver's own."""
+    """The threads or processes of a run, and a connection of the driver's own."""
 
     def __init__(self, options, made):
         self.options, self.stamp = options, stamps(options.processes)
@@ -565,7 +565,7 @@ class Crew:
         for one in self.members:
             one.start()
         self.taken()
-        self.made, self.session = made, made.session() if hasattr(made, "session") else made
+        self.made, self.connection = made, made.connection() if hasattr(made, "connection") else made
 
     def taken(self):
         """What each member puts out. Where one has met an error, the run ends."""
@@ -600,7 +600,7 @@ class Crew:
             for _ in range(1000):
                 begin = self.stamp()
                 try:
-                    answer = checked("get", self.session.get(key))
+                    answer = checked("get", self.connection.get(key))
                 except OSError:
                     answer = UNKNOWN
                 end = self.stamp()
@@ -620,8 +620,8 @@ class Crew:
             inbox.put(None)
         for one in self.members:
             one.join(1)
-        if hasattr(self.made, "session") and hasattr(self.session, "close"):
-            self.session.close()
+        if hasattr(self.made, "connection") and hasattr(self.connection, "close"):
+            self.connection.close()
 
 
 # Histories
@@ -1210,10 +1210,10 @@ def words_again(options, rounds):
 def functions(make):
     """Those of a map."""
     made = make()
-    session = made.session() if hasattr(made, "session") else made
-    has = {kind for kind in ANSWERS if callable(getattr(session, kind, None))}
-    if session is not made and hasattr(session, "close"):
-        session.close()
+    connection = made.connection() if hasattr(made, "connection") else made
+    has = {kind for kind in ANSWERS if callable(getattr(connection, kind, None))}
+    if connection is not made and hasattr(connection, "close"):
+        connection.close()
     return has
 
 

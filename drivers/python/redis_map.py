@@ -64,12 +64,12 @@ class Told(Connection):
 
 class Redis:
     """An empty database; each thread has a connection of its own."""
-    session = Told
+    connection = Told
 
     def __init__(self):
         Connection().ask("FLUSHDB")
 
 
 if __name__ == "__main__":
-    Redis.session = Untold if sys.argv[1:2] == ["untold"] else Told
+    Redis.connection = Untold if sys.argv[1:2] == ["untold"] else Told
     potzendai.main(Redis, sys.argv[2:])

@@ -1,14 +1,14 @@
 //! A map under a lock, tested: README.md says how it is run.
 mod potzendai;
 
-use potzendai::{Map, Said, Session};
+use potzendai::{Map, Said, Connection};
 use std::collections::BTreeMap;
 use std::sync::Mutex;
 
 #[derive(Default)]
 struct LockedMap(Mutex<BTreeMap<u64, u64>>);
 
-impl Session for &LockedMap {
+impl Connection for &LockedMap {
     fn get(&mut self, key: u64) -> Said {
         self.0.lock().unwrap().get(&key).copied().into()
     }
@@ -30,7 +30,7 @@ impl Session for &LockedMap {
 }
 
 impl Map for LockedMap {
-    fn open(&self) -> Box<dyn Session + '_> {
+    fn open(&self) -> Box<dyn Connection + '_> {
         Box::new(self)
     }
 }

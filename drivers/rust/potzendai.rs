@@ -69,9 +69,8 @@ impl Said {
     }
 }
 
-/// A thread's own handle on the map, as a connection, whose functions it calls: any but `get` and `put` may be left out. Nothing else
-/// changes the map.
-pub trait Session {
+/// What one thread calls, as a reference to the map: any function but `get` and `put` may be left out. Nothing else changes the map.
+pub trait Connection {
     /// The value.
     fn get(&mut self, key: u64) -> Said;
     /// The value before.
@@ -108,7 +107,7 @@ pub trait Session {
 
 /// A map, on which each thread opens a handle of its own.
 pub trait Map: Sync {
-    fn open(&self) -> Box<dyn Session + '_>;
+    fn open(&self) -> Box<dyn Connection + '_>;
 }
 
 const SAYINGS: [&str; 8] = ["told", "none", "done", "found", "other", "refused", "unknown", "that it is missing"];
@@ -316,22 +315,22 @@ fn noted(kind: Kind, words: &[u64], said: &Said) -> Option<(Call, Option<String>
     })
 }
 
-fn ask_any(session: &mut dyn Session, kind: Kind, words: &[u64]) -> Said {
+fn ask_any(connection: &mut dyn Connection, kind: Kind, words: &[u64]) -> Said {
     match kind {
-        Get => session.get(words[0]),
-        Put => session.put(words[0], words[1]),
-        Del => session.del(words[0]),
-        Scan => session.scan(words[0], words[1]),
-        Replace => session.replace(words[0], words[1], words[2]),
-        PutIfAbsent => session.put_if_absent(words[0], words[1]),
-        Floor => session.floor(words[0]),
-        Ceiling => session.ceiling(words[0]),
-        PopFirst => session.pop_first(),
+        Get => connection.get(words[0]),
+        Put => connection.put(words[0], words[1]),
+        Del => connection.del(words[0]),
+        Scan => connection.scan(words[0], words[1]),
+        Replace => connection.replace(words[0], words[1], words[2]),
+        PutIfAbsent => connection.put_if_absent(words[0], words[1]),
+        Floor => connection.floor(words[0]),
+        Ceiling => connection.ceiling(words[0]),
+        PopFirst => connection.pop_first(),
     }
 }
 
-fn ask(session: &mut dyn Session, kind: Kind, words: &[u64]) -> Result<Said, Stop> {
-    let said = ask_any(session, kind, words);
+fn ask(connection: &mut dyn Connection, kind: Kind, words: &[u64]) -> Result<Said, Stop> {
+    let said = ask_any(connection, kind, words);
     if kind.fits(&said) {
         return Ok(said);
     }
@@ -340,14 +339,14 @@ fn ask(session: &mut dyn Session, kind: Kind, words: &[u64]) -> Result<Said, Sto
 
 /// Which functions a map has: they are called once each, of a map that is not used any more.
 fn functions<M: Map>(map: M) -> [bool; 9] {
-    let mut session = map.open();
-    KINDS.map(|kind| matches!(kind, Get | Put) || ask_any(&mut *session, kind, &[0, 1, 2]) != Said::Missing)
+    let mut connection = map.open();
+    KINDS.map(|kind| matches!(kind, Get | Put) || ask_any(&mut *connection, kind, &[0, 1, 2]) != Said::Missing)
 }
 
 // A map that is wrong now and then, around one that may be right: a test of the test
 
 struct Broken<'a> {
-    truly: Box<dyn Session + 'a>,
+    truly: Box<dyn Connection + 'a>,
     how: String,
     draws: Draws,
     keys: u64,
@@ -362,7 +361,7 @@ impl<'a> Broken<'a> {
     }
 
     /// Does the put that still comes, soon.
-    fn caught_up(&mut self) -> &mut Box<dyn Session + 'a> {
+    fn caught_up(&mut self) -> &mut Box<dyn Connection + 'a> {
         if let Some((key, value)) = self.late {
             if self.draws.below(2) == 1 {
                 self.late = None;
@@ -399,7 +398,7 @@ impl<'a> Broken<'a> {
     }
 }
 
-impl Session for Broken<'_> {
+impl Connection for Broken<'_> {
     fn get(&mut self, key: u64) -> Said {
         self.caught_up();
         let once = self.once.get(&key).cloned();
@@ -611,7 +610,7 @@ struct Worker<'a> {
     number: u64,
     options: &'a Options,
     shared: &'a Shared,
-    session: Box<dyn Session + 'a>,
+    connection: Box<dyn Connection + 'a>,
     draws: Draws,
     counts: Counts,
     seen: HashMap<u64, u64>,
@@ -628,15 +627,15 @@ struct Worker<'a> {
 
 impl<'a> Worker<'a> {
     fn new(number: u64, options: &'a Options, shared: &'a Shared, map: &'a dyn Map) -> Worker<'a> {
-        let mut session = map.open();
+        let mut connection = map.open();
         if let Some(how) = options.broken.clone() {
             let draws = Draws::new(options.seed, 0, number);
-            session = Box::new(Broken { truly: session, how, draws, keys: options.keys, once: HashMap::new(), late: None, style: None });
+            connection = Box::new(Broken { truly: connection, how, draws, keys: options.keys, once: HashMap::new(), late: None, style: None });
         }
         let (seen, memory) = (HashMap::new(), HashMap::new());
         let (draws, values_from, log, counts, process) = (Draws(0), None, vec![], Counts::default(), number as usize);
         Worker {
-            number, options, shared, session, draws, counts, seen, memory, log, puts: 0, values_from, made: 0, life: 0, lives: 0, process,
+            number, options, shared, connection, draws, counts, seen, memory, log, puts: 0, values_from, made: 0, life: 0, lives: 0, process,
         }
     }
 
@@ -733,8 +732,8 @@ impl<'a> Worker<'a> {
     /// A get and a call that writes its key, as one.
     fn make_locked(&mut self, kind: Kind, words: &[u64], is_doubtful: &mut bool) -> Result<(), Stop> {
         let begin = self.begin(kind, words);
-        let got = if matches!(kind, Put | Del) { ask(&mut *self.session, Get, &words[..1])? } else { Said::Done };
-        let said = ask(&mut *self.session, kind, words)?;
+        let got = if matches!(kind, Put | Del) { ask(&mut *self.connection, Get, &words[..1])? } else { Said::Done };
+        let said = ask(&mut *self.connection, kind, words)?;
         let end = self.shared.stamp();
         *is_doubtful |= said == Said::Unknown;
         self.made_one(kind, words, said, if *is_doubtful { Said::Done } else { got }, begin, end).map(|_| ())
@@ -743,7 +742,7 @@ impl<'a> Worker<'a> {
     /// Makes a call between two stamps, and notes it.
     fn make(&mut self, kind: Kind, words: &[u64]) -> Result<Said, Stop> {
         let begin = self.begin(kind, words);
-        let said = ask(&mut *self.session, kind, words)?;
+        let said = ask(&mut *self.connection, kind, words)?;
         let end = self.shared.stamp();
         self.made_one(kind, words, said, Said::Done, begin, end)
     }
@@ -836,7 +835,7 @@ impl<'a> Worker<'a> {
 
 type Outcome = Result<(Vec<Event>, Counts), Stop>;
 
-/// What a thread does: it opens a session and puts out nothing, and then one task after another, each of which puts out what it has
+/// What a thread does: it opens a connection and puts out nothing, and then one task after another, each of which puts out what it has
 /// recorded, or why the run ends.
 fn serve(number: u64, options: &Options, shared: &Shared, map: &dyn Map, tasks: &Receiver<Task>, out: &Sender<Outcome>) {
     let done = catch_unwind(AssertUnwindSafe(|| {
@@ -861,14 +860,14 @@ fn serve(number: u64, options: &Options, shared: &Shared, map: &dyn Map, tasks: 
 }
 
 /// Gets of all keys at rest, and what they told: the last calls of a round.
-fn rest(session: &mut dyn Session, options: &Options, shared: &Shared) -> Result<(Vec<Event>, BTreeMap<u64, u64>), Stop> {
+fn rest(connection: &mut dyn Connection, options: &Options, shared: &Shared) -> Result<(Vec<Event>, BTreeMap<u64, u64>), Stop> {
     let (mut events, mut contents) = (vec![], BTreeMap::new());
     let thread = options.threads as usize;
     for key in 0..options.keys {
         let (mut said, mut begin, mut end) = (Said::Done, 0, 0);
         for _ in 0..1000 {
             begin = shared.stamp();
-            said = ask(session, Get, &[key])?;
+            said = ask(connection, Get, &[key])?;
             end = shared.stamp();
             if said.tells() {
                 break;
@@ -1373,8 +1372,8 @@ impl Run {
         for one in taken() {
             one.map_err(named)?;
         }
-        let (mut session, options) = (map.open(), self.options.clone());
-        let (_, contents) = rest(&mut *session, &options, shared).map_err(named)?;
+        let (mut connection, options) = (map.open(), self.options.clone());
+        let (_, contents) = rest(&mut *connection, &options, shared).map_err(named)?;
         let (mut start, mut pending) = (Arc::new(contents), vec![]);
         while self.failed.is_none() && !self.is_over() {
             let named = |stop: Stop| Stop(stop.0, format!("{}: {}", options.name, stop.1));
@@ -1396,7 +1395,7 @@ impl Run {
                 events.extend(log);
                 counts.add(&more);
             }
-            let (gets, left) = rest(&mut *session, &options, shared).map_err(named)?;
+            let (gets, left) = rest(&mut *connection, &options, shared).map_err(named)?;
             events.extend(gets);
             let round = Round::new(events, start, &pending);
             (start, pending, self.sayings, self.called) = (Arc::new(left), round.pending.clone(), counts.sayings, counts.called);
