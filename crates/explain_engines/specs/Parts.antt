@@ -9,7 +9,7 @@ use Rattle.own_parts.specs.OwnParts.{OwnPart}
 use Rattle.explain_engines.specs.Origins.{writer_data}
 
 -- the call that put it, by the event of its invocation, with its process; none where it was there
--- at the start, and beside none
+-- when what was followed began, and beside none
 abbrev pub put_data : List Event → Option ℕ → Data
 put_data events None = null
 put_data events (Some place) = writer_data events place

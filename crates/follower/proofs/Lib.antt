@@ -1,8 +1,10 @@
-mod FaultLemmas
+pub mod AnewLemmas
+pub mod FaultLemmas
 mod FollowLemmas
-mod JudgeLemmas
+pub mod JudgeLemmas
 mod NextLemmas
-mod OpenLemmas
+pub mod OpenLemmas
 mod PairLemmas
+mod RestLemmas
 mod RowLemmas
 mod ScanLemmas

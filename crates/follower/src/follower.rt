@@ -1,22 +1,27 @@
 // The follower of a stream.
-ghost use Rattle.std.specs.Prelude.{◌≡◌, ℕ, ◌<◌, ◌≤◌, ◌++◌, ◌∷◌, [], List, length, None, Some, IfOk, IfErr};
+ghost use Rattle.std.specs.Prelude.{◌≡◌, ℕ, ◌<◌, ◌≤◌, ◌++◌, ◌∷◌, [], List, length, None, Some, IfOk, IfErr, IfSome, MatchOption};
 ghost use Rattle.events.specs.declared.event.Event.{Event};
 ghost use Rattle.events.specs.declared.event.Event.TheVariants.{Invoke};
 ghost use Rattle.events.specs.Keys.{low_key, high_key};
 ghost use Rattle.events.specs.Operations.{operations};
 ghost use Rattle.map_object.specs.MapObject.{Contents, IsRising};
-ghost use Rattle.follower.specs.Faults.{event_limit, invocation_fault, shown};
+ghost use Rattle.follower.specs.AtRest.{IsAtRest, IsInMotion, LeavesOneMap};
+ghost use Rattle.follower.specs.Faults.{answer_fault, event_limit, invocation_fault, shown};
 ghost use Rattle.follower.specs.FollowerView.{known_call};
 ghost use Rattle.follower.specs.Following.{IsFollowing};
+ghost use Rattle.follower.specs.Lone.{lone_read, HasBegunAnew};
 ghost use Rattle.follower.specs.Outcomes.{IsAnswered, IsCountedAs};
 
 use crate::answered::{AnsweredStream, Doubt, Loss};
 use crate::fault::FollowFault;
-use crate::open_calls::{OpenCall, open_call};
+use crate::open_calls::{OpenCall, may_change, only_call, open_call};
 use crate::open_scans::{begin_scan, end_scan};
 use crate::taking::{take_answer, take_call};
 use events::{Call, Memory, Reply};
-use kept_rows::{AnsweredRows as Taken, OpenScan, Rows, followed_rows_have_orders};
+use kept_rows::{
+    AnsweredRows as Taken, OpenScan, Rows, followed_rows_have_orders, rests_leave_one_map,
+    rows_pass_by,
+};
 use std::alloc::Global;
 use std::collections::BTreeMap;
 use std::marker::Model;
@@ -81,6 +86,120 @@ impl Follower {
             → result ≡ length (operations events) }
     {
         self.calls
+    }
+
+    /// How many events were taken.
+    pub fn events(&self) -> usize
+        ensures { (start : Contents) (events : List Event) → IsFollowing start events self.now
+            → result ≡ length events }
+    {
+        self.events
+    }
+
+    /// How many rows there are: in how many ways the scans so far may have taken effect.
+    pub fn row_count(&self) -> usize
+        ensures { result ≡ length self.now.rows.rows }
+    {
+        self.rows.count()
+    }
+
+    /// The open call of a process.
+    pub fn call_of(&self, process: u16) -> Option<OpenCall>
+        ensures { result ≡ known_call self.now.open_calls process }
+    {
+        open_call(&self.open_calls, process)
+    }
+
+    /// Why an answer of a process would be refused.
+    pub fn answer_fault(&self, process: u16) -> Option<FollowFault>
+        ensures { (start : Contents) (events : List Event) → IsFollowing start events self.now
+            → result ≡ answer_fault events process }
+    {
+        let Some(_) = open_call(&self.open_calls, process) else {
+            return Some(FollowFault::NotWellFormed);
+        };
+        if self.events >= EVENT_LIMIT {
+            return Some(FollowFault::TooMany);
+        }
+        None
+    }
+
+    /// The process of the only open call, where that is a get or a scan. (No follower has taken
+    /// more events than may be taken.)
+    pub fn lone_read(&self) -> Option<u16>
+        ensures { result ≡ lone_read self.now }
+    {
+        if EVENT_LIMIT < self.events {
+            return None;
+        }
+        match only_call(&self.open_calls) {
+            Some((process, known)) => if known.call.may_change() {
+                None
+            } else {
+                Some(process)
+            },
+            None => None,
+        }
+    }
+
+    /// A follower at pairs by rising key, which are copied, with the only open call, a get or a
+    /// scan of this process, as the only one of which anything is known: the others so far keep
+    /// their places and numbers, and tell nothing. Where the pairs are the only ones that the calls
+    /// may leave, it goes on as this one would, but for what that read may have found before
+    /// (`lone_reads`). Who put a value is not known there.
+    pub fn begin_anew(
+        &self,
+        alloc: Global,
+        process: u16,
+        pairs: &[(u64, u64)],
+    ) -> Result<Follower, Memory>
+        requires lone { lone_read self.now ≡ Some process }
+        requires rising { IsRising pairs.now }
+        ensures { (start : Contents) (events : List Event) → IsFollowing start events self.now
+            → IfOk result (HasBegunAnew events process pairs.now) }
+    {
+        followed_rows_have_orders();
+        rows_pass_by();
+        let Some(known) = open_call(&self.open_calls, process) else {
+            unreachable!();
+        };
+        let rows = Rows::new(alloc, pairs)?;
+        let rows = take_call(alloc, rows, known.place, known.call)?;
+        let mut open_calls = BTreeMap::new(alloc);
+        open_calls.insert(process, known)?;
+        let mut open_scans = Vec::new(alloc);
+        begin_scan(&mut open_scans, known.place, known.call)?;
+        Ok(Follower {
+            rows,
+            open_calls,
+            open_scans,
+            events: self.events,
+            calls: self.calls,
+        })
+    }
+
+    /// The one map that the calls so far may leave, pending ones too, as pairs by rising key, where
+    /// the follower can tell: no open call may change the map, and at each key, once all its calls
+    /// that ended have taken effect, no call is left, so none that is open, and it is certain what
+    /// it has, the same in each way that the scans may have taken effect. An open scan does not
+    /// matter. At a key with calls up to `budget` positions are met; where it has more, and after
+    /// 2^44 - 2 events, there is none. Costs a look at the open calls, and a look-up of each key
+    /// that has a value or a call, up to the first that is not at rest, and copies of the pairs;
+    /// and to settle each key with calls, once in each of these ways where they may differ at it.
+    pub fn map_at_rest(&self, alloc: Global, budget: u32) -> Result<Option<Vec<(u64, u64)>>, Memory>
+        ensures one { IfOk result (λ found. IfSome found (λ m. LeavesOneMap self.now m.items)) }
+        ensures found { IfOk result (λ found. MatchOption found (IsInMotion budget self.now)
+            (λ m. IsAtRest m.items self.now)) }
+    {
+        if may_change(&self.open_calls) {
+            return Ok(None);
+        }
+        if self.events >= EVENT_LIMIT {
+            return Ok(None);
+        }
+        rests_leave_one_map();
+        let found = self.rows.map_at_rest(alloc, self.events, budget)?;
+        Ok(found)
     }
 
     /// Takes an invocation. The fault is the first of these, and the follower is lost then: `Shape`

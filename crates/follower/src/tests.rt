@@ -72,6 +72,31 @@ fn with_open_scan(alloc: Global) -> Result<Follower, Memory> {
     after_answer(follower, alloc, 1, Reply::None)
 }
 
+/// Whether one map may be left, and it has these pairs.
+fn leaves(follower: &Follower, alloc: Global, wanted: &[(u64, u64)]) -> Result<bool, Memory> {
+    match follower.map_at_rest(alloc, 1000)? {
+        Some(pairs) => Ok(pairs.as_slice() == wanted),
+        None => Ok(false),
+    }
+}
+
+#[test]
+fn keys_at_rest_are_the_map(rt: HostRuntime) -> Result<(), Fail> {
+    let alloc = rt.alloc();
+    let follower = Follower::new(alloc, &[(4, 9), (6, 2)])?;
+    assert!(rt; leaves(&follower, alloc, &[(4, 9), (6, 2)])?);
+    let follower = after_invocation(follower, alloc, 0, Call::Insert(5, 1))?;
+    assert!(rt; follower.map_at_rest(alloc, 1000)?.is_none());
+    let follower = after_answer(follower, alloc, 0, Reply::None)?;
+    let follower = after_invocation(follower, alloc, 1, Call::Scan(0, 9))?;
+    assert!(rt; leaves(&follower, alloc, &[(4, 9), (5, 1), (6, 2)])?);
+    let follower = after_invocation(follower, alloc, 0, Call::Remove(4))?;
+    assert!(rt; follower.map_at_rest(alloc, 1000)?.is_none());
+    let follower = after_answer(follower, alloc, 0, Reply::Some(9))?;
+    assert!(rt; leaves(&follower, alloc, &[(5, 1), (6, 2)])?);
+    Ok(())
+}
+
 #[test]
 fn a_value_that_was_overwritten_is_lost(rt: HostRuntime) -> Result<(), Fail> {
     let alloc = rt.alloc();

@@ -3,6 +3,7 @@ pub mod AnsweredScanLemmas
 pub mod BecomeLemmas
 pub mod BeginLemmas
 pub mod ClosedLemmas
+mod ClosedScanLemmas
 pub mod ClosingLemmas
 pub mod CountedLemmas
 pub mod DeadBeginLemmas
@@ -26,6 +27,9 @@ pub mod PartedLemmas
 pub mod PassLemmas
 pub mod PassingLemmas
 mod ReachLemmas
+mod RestCoreLemmas
+mod RestLawLemmas
+mod RestLemmas
 pub mod RowEntryLemmas
 pub mod ScanEndLemmas
 pub mod ScanKeyLemmas

@@ -49,7 +49,7 @@ module _ (start : Contents) (events : List Event) (scans : List KeptScan) (turns
       sym h.told ∙ (ap (λ (b : Operation). kind_of b.call b.response) same ∙ told) in (cc, cc)
 
   -- comparisons part each scan that is left from a place that none of them is around
-  parted_at : (place : ℕ) → IsClear key seen place → (a : Operation) (low high : ℕ) (pairs : Contents)
+  pub parted_at : (place : ℕ) → IsClear key seen place → (a : Operation) (low high : ℕ) (pairs : Contents)
       → Contains (calls_left gone (operations events)) a → kind_of a.call a.response ≡ Told low high pairs → low ≤ key → key ≤ high
       → IsParted kept a place
   parted_at place clear a low high pairs a_is told from to =

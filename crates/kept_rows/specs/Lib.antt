@@ -1,3 +1,4 @@
+pub mod AtRest
 pub mod Beginning
 pub mod Closing
 pub mod Crowding

@@ -1,5 +1,6 @@
 // Laws of rows as they are kept.
 pub mod parts;
+pub mod rests;
 pub mod tells;
 pub mod tidies;
 pub mod turns;

@@ -4,6 +4,7 @@
 #![tactic(auto)]
 
 mod answering;
+mod at_rest;
 mod closing;
 mod laws;
 mod opening;
@@ -20,6 +21,7 @@ mod turning;
 mod turning_rows;
 
 pub use laws::parts::{opened_rows_follow, rows_take_scans, unseen_scans_are_lost};
+pub use laws::rests::rests_leave_one_map;
 pub use laws::tells::{parted_rows_tell_keys, placed_keys_were_kept, unseen_keys_were_kept};
 pub use laws::tidies::{closed_keys_follow, forgotten_scans_follow, joined_rows_follow};
 pub use laws::turns::{base_is_lost, base_takes_answers, rows_take_answers};

@@ -1,5 +1,5 @@
 // Rows.
-ghost use Rattle.std.specs.Prelude.{[], IfOk};
+ghost use Rattle.std.specs.Prelude.{◌≡◌, [], IfOk, length};
 ghost use Rattle.map_object.specs.MapObject.{IsRising};
 ghost use Rattle.kept_rows.specs.Followed.{AreFollowed};
 
@@ -39,5 +39,11 @@ impl Rows {
             keys: Vec::new(alloc),
         })?;
         Ok(Rows { base, rows })
+    }
+    /// How many rows there are: in how many ways the scans so far may have taken effect.
+    pub fn count(&self) -> usize
+        ensures { result ≡ length self.now.rows }
+    {
+        self.rows.len()
     }
 }

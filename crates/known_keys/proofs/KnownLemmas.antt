@@ -1,5 +1,5 @@
 -- Entries of a map, by key.
-use Rattle.std.proofs.Common.{◌≡◌, ◌≢◌, ℕ, ◌+◌, get_or, drop, ◌<◌, ◌==◌, Bool, true, false, cond, List, [], ◌∷◌, ◌++◌, length, take, map}
+use Rattle.std.proofs.Common.{◌≡◌, ◌≢◌, ℕ, ◌+◌, get_or, drop, ◌<◌, ◌==◌, Bool, true, false, cond, List, [], ◌∷◌, ◌++◌, length, take}
 use Rattle.std.proofs.Common.{Bor, refl, sym, ap, ◌∙◌, subst, ⊎_elim, arith, Option, Some, None, Result, Ok, Err, OnOk}
 use Rattle.std.specs.Prelude.{if◌then◌else◌, MatchOption, All, AllPairs, option_map}
 use Rattle.std.specs.Option.{option_copied}
@@ -45,7 +45,7 @@ apart_swap j w k v key found apart = ⊎_elim
     (cases_Bool (key == k))
 
 -- the value at each key with a pair more
-value_at-push : (m : Contents) (k v key : ℕ) → value_at m k ≡ None
+pub value_at-push : (m : Contents) (k v key : ℕ) → value_at m k ≡ None
     → value_at (m ++ (k, v) ∷ []) key ≡ (if key == k then Some v else value_at m key)
 value_at-push [] k v key none = ap (λ b. cond b (Some v) None) (grind arith)
 value_at-push ((j, w) ∷ m) k v key none = ⊎_elim

@@ -103,6 +103,16 @@ impl Known {
         Ok(())
     }
 
+    /// The keys of which something is kept, by rising key.
+    pub fn all(&self, alloc: Global) -> Result<Vec<u64>, Memory>
+        ensures rising { IfOk result (λ keys. AllPairs (λ k l. k < l) keys.items) }
+        ensures each { IfOk result (λ keys. (key : ℕ) → Contains keys.items key
+            ↔ IsSome (entry_at self.now key)) }
+    {
+        let keys = self.keys.keys(alloc)?;
+        Ok(keys)
+    }
+
     /// The keys of a range of which something is kept, by rising key.
     pub fn within(&self, alloc: Global, low: u64, high: u64) -> Result<Vec<u64>, Memory>
         requires { low ≤ high }

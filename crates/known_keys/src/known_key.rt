@@ -4,7 +4,7 @@ ghost use Rattle.kept_keys.specs.Steps.{with_call};
 ghost use Rattle.kept_keys.specs.Puts.{noted_put, seen};
 ghost use Rattle.kept_keys.specs.Views.{fresh, note_of, place_limit, resting};
 ghost use Rattle.known_keys.specs.Entries.{MayHave};
-ghost use Rattle.known_keys.specs.Resting.{certain, kept_of, IsAtRest, IsLight};
+ghost use Rattle.known_keys.specs.Resting.{certain, kept_of, IsAtRest, IsLight, IsUnrested, IsUnrestedAt, MaySettle, Rests, RestsAt};
 
 use events::{Call, Memory};
 use kept_keys::{Configuration, KeptKey, is_same_value};
@@ -109,6 +109,29 @@ impl KnownKey {
         }
     }
 
+    /// What the key has, if it is at rest, or is once it has settled at a place of the stream: no
+    /// call is left of it then, and it is certain what it has, whoever put that. It is kept as it
+    /// was. None, too, where to settle it is beyond the budget.
+    pub fn rest_at(
+        &self,
+        alloc: Global,
+        key: u64,
+        place: usize,
+        budget: u32,
+    ) -> Result<Option<Option<u64>>, Memory>
+        requires place { place < place_limit }
+        requires settles { MaySettle key self.now }
+        ensures { IfOk result (λ found. MatchOption found (IsUnrestedAt budget place key self.now)
+            (λ value. RestsAt place key value self.now)) }
+    {
+        match &self.held {
+            Held::Nothing => Ok(Some(None)),
+            Held::Value(value) => Ok(Some(Some(*value))),
+            Held::Put(value, _) => Ok(Some(Some(*value))),
+            Held::Whole(kept) => rest_at(alloc, kept, key, place, budget),
+        }
+    }
+
     /// The call that put this value, as it is noted.
     pub fn noted_put(&self, value: Option<u64>) -> Option<usize>
         ensures { result ≡ noted_put self.now.puts value }
@@ -174,6 +197,56 @@ fn held_of(alloc: Global, kept: KeptKey) -> Result<Held, Memory>
         Some((value, put)) => Ok(held_at_rest(value, put)),
         None => Ok(Held::Whole(Box::new(alloc, kept)?)),
     }
+}
+
+/// What a key has, if it is at rest, or is once it has settled at a place of the stream.
+pub fn rest_at(
+    alloc: Global,
+    kept: &KeptKey,
+    key: u64,
+    place: usize,
+    budget: u32,
+) -> Result<Option<Option<u64>>, Memory>
+    requires place { place < place_limit }
+    requires settles { MaySettle key kept.now }
+    ensures { IfOk result (λ found. MatchOption found (IsUnrestedAt budget place key kept.now)
+        (λ value. RestsAt place key value kept.now)) }
+{
+    match rest_of(kept) {
+        Some(value) => Ok(Some(value)),
+        None => rest_settled(alloc, kept, key, place, budget),
+    }
+}
+
+/// The same, of a key that is not at rest as it is kept.
+fn rest_settled(
+    alloc: Global,
+    kept: &KeptKey,
+    key: u64,
+    place: usize,
+    budget: u32,
+) -> Result<Option<Option<u64>>, Memory>
+    requires place { place < place_limit }
+    requires settles { MaySettle key kept.now }
+    requires unrested { IsUnrested kept.now }
+    ensures { IfOk result (λ found. MatchOption found (IsUnrestedAt budget place key kept.now)
+        (λ value. RestsAt place key value kept.now)) }
+{
+    let found = kept.settle(alloc, key, place, budget)?;
+    match found {
+        Some(settled) => Ok(rest_of(&settled)),
+        None => Ok(None),
+    }
+}
+
+/// What a key has, if it is at rest: no call is left of it, and it is certain what it has.
+fn rest_of(kept: &KeptKey) -> Option<Option<u64>>
+    ensures { MatchOption result (IsUnrested kept.now) (λ value. Rests value kept.now) }
+{
+    if !kept.names.is_empty() || kept.configurations.len() != 1 {
+        return None;
+    }
+    certain_value(&kept.configurations[0])
 }
 
 /// The value, or none, that a key has at rest, and the call that put it, if any did.

@@ -4,9 +4,10 @@
 
 mod known;
 mod known_key;
+mod resting;
 
 pub use known::Known;
-pub use known_key::KnownKey;
+pub use known_key::{KnownKey, rest_at};
 
 // What crates above name through this one.
 pub use kept_keys::{Configuration, Judged, KeptKey, WIDTH, is_read_of};

@@ -1,8 +1,8 @@
 -- What shows a location.
-use Rattle.std.proofs.Common.{◌≡◌, ℕ, List, [], ◌∷◌, ◌++◌, take, Some}
+use Rattle.std.proofs.Common.{◌≡◌, ℕ, List, Some}
 use Rattle.events.specs.declared.event.Event.{Event}
-use Rattle.events.specs.declared.event.Event.TheVariants.{Answer}
 use Rattle.events.specs.HistoryView.{HistoryView}
+use Rattle.map_object.specs.MapObject.{Contents}
 use Rattle.follower.specs.declared.answered.Loss.{Loss}
 use Rattle.locating.specs.Locations.{IsLostAt}
 use Rattle.own_parts.specs.Laws.{IsOwnPartOf, OwnPartsHaveNoOrder}
@@ -11,14 +11,12 @@ use Rattle.located_calls.specs.declared.evidence.Evidence.{Evidence}
 use Rattle.located_calls.specs.declared.evidence.Evidence.TheVariants.{OfEvents, OfKey, Missing}
 use Rattle.located_calls.specs.Evidences.{IsLossEvidence, IsOwnEvidence, ShowsNoneUpTo}
 
--- what goes wrong by itself at a loss is of the events up to there
+-- what goes wrong by itself at a loss is of what was followed of the events up to there
 pub own_of : OwnPartsHaveNoOrder → (budget : ℕ) (history : HistoryView) (loss : Loss) (part : OwnPart) → IsLostAt budget history loss
-    → own_part loss ≡ Some part → (events : List Event) × IsOwnPartOf history.start events part
+    → own_part loss ≡ Some part → (m : Contents) × ((events : List Event) × IsOwnPartOf m events part)
 own_of law budget history loss part lost is =
-    let followed = lost.followed in
-    let answered = followed.answered_is in
-    let events = take loss.event history.events ++ Answer followed.process followed.reply ∷ [] in
-    (events, law history.start events answered.call loss part answered.keys is)
+    let answered = lost.followed.answered_is in
+    (answered.m, (answered.now, law answered.m answered.now answered.call loss part answered.keys is))
 
 -- where the last calls show nothing, it shows the loss
 pub of_loss : (budget : ℕ) (history : HistoryView) (loss : Loss) (evidence : Evidence) → ShowsNoneUpTo budget history loss.event

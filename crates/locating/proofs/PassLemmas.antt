@@ -1,5 +1,5 @@
--- What an event of a history makes of a follower that has taken the events before it: it is not refused, and where the follower ends, the history is
--- located.
+-- What an event of a history makes of a follower that has taken the events before it: it is not
+-- refused, and where the follower ends, the history is located.
 use Rattle.std.proofs.Common.{◌≡◌, ℕ, suc, ◌+◌, ◌*◌, ◌<◌, ◌≤◌, Bool, true, false, not, ◌||◌, cond, List, [], ◌∷◌, ◌++◌, length, take, drop, Some, None}
 use Rattle.std.proofs.Common.{refl, sym, ap, ◌∙◌, subst, arith}
 use Rattle.std.specs.Prelude.{slice_get}
@@ -26,13 +26,13 @@ use Rattle.orders.specs.Orders.{IsLinearizable}
 use Rattle.prefixes.specs.Laws.{HistoriesHaveFewEvents}
 use Rattle.prefixes.specs.Prefixes.{GoesWrongAt, IsAnswerOf}
 use Rattle.follower.specs.Faults.{event_limit, invocation_fault, answer_fault}
-use Rattle.follower.specs.FollowerView.{FollowerView}
-use Rattle.follower.specs.Following.{IsFollowing}
-use Rattle.follower.specs.Outcomes.{IsLost, IsSpent, IsAnswered, IsDoubtOf, IsCountedAs}
-use Rattle.follower.specs.declared.answered.AnsweredStream.{AnsweredStream}
-use Rattle.follower.specs.declared.answered.AnsweredStream.TheVariants.{Lost, Spent}
 use Rattle.follower.specs.declared.answered.Doubt.{Doubt}
 use Rattle.follower.specs.declared.answered.Loss.{Loss}
+use Rattle.windows.specs.Followed.{IsFollowed}
+use Rattle.windows.specs.Outcomes.{IsLost, IsSpent, IsAnswered, IsDoubtOfOne, IsCountedAs}
+use Rattle.windows.specs.WindowsView.{WindowsView}
+use Rattle.windows.specs.declared.answered.AnsweredWindows.{AnsweredWindows}
+use Rattle.windows.specs.declared.answered.AnsweredWindows.TheVariants.{Lost, Spent}
 use Rattle.locating.specs.Locations.{IsAnswerFollowed, IsLostAt, IsUndecidedAt}
 
 -- what an event that is sound is: it has its range, and comes in turn
@@ -104,9 +104,9 @@ fine_answer history place process reply here few is =
     rw (turn, lt-leb event_limit (length (take place history.events)) space) refl
 
 module _ (history : HistoryView) (place process : ℕ) (reply : Reply) (here : slice_get history.events place ≡ Some (Answer process reply))
-    (budget : ℕ) (f : FollowerView) (follows : IsFollowing history.start (take place history.events) f) where
+    (budget : ℕ) (f : WindowsView) (follows : IsFollowed history.start (take place history.events) f) where
   -- what an answer makes of the follower, said of the event where it stands
-  followed : (event : ℕ) (answered : AnsweredStream) → event ≡ length (take place history.events)
+  followed : (event : ℕ) (answered : AnsweredWindows) → event ≡ length (take place history.events)
       → IsAnswered history.start (take place history.events) f process reply budget answered → IsCountedAs f process reply answered
       → IsAnswerFollowed budget history event answered
   followed event answered event_is is counted =
@@ -129,7 +129,7 @@ module _ (history : HistoryView) (place process : ℕ) (reply : Reply) (here : s
   }
 
   pub spent : (event number : ℕ) (doubt : Doubt) → IsSpent history.start (take place history.events) process reply budget event number doubt
-      → IsDoubtOf f process reply doubt → IsUndecidedAt budget history event number doubt
+      → IsDoubtOfOne f process reply doubt → IsUndecidedAt budget history event number doubt
   spent event number doubt is counted = record {
     before = subst (λ (n : ℕ). IsLinearizable history.start (operations (take n history.events)))
         (sym (is.told.event_is ∙ size history place (Answer process reply) here)) follows.linearizable;

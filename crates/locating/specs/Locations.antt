@@ -5,24 +5,24 @@ use Rattle.events.specs.declared.event.Reply.{Reply}
 use Rattle.events.specs.HistoryView.{HistoryView}
 use Rattle.orders.specs.Orders.{IsLinearizableHistory}
 use Rattle.prefixes.specs.Prefixes.{prefix_of, IsAnswerOf, GoesWrongAt}
-use Rattle.follower.specs.FollowerView.{FollowerView}
-use Rattle.follower.specs.Following.{IsFollowing}
-use Rattle.follower.specs.Outcomes.{IsAnswered, IsCountedAs}
-use Rattle.follower.specs.declared.answered.AnsweredStream.{AnsweredStream}
-use Rattle.follower.specs.declared.answered.AnsweredStream.TheVariants as outcomes
 use Rattle.follower.specs.declared.answered.Doubt.{Doubt}
 use Rattle.follower.specs.declared.answered.Loss.{Loss}
+use Rattle.windows.specs.Followed.{IsFollowed}
+use Rattle.windows.specs.Outcomes.{IsAnswered, IsCountedAs}
+use Rattle.windows.specs.WindowsView.{WindowsView}
+use Rattle.windows.specs.declared.answered.AnsweredWindows.{AnsweredWindows}
+use Rattle.windows.specs.declared.answered.AnsweredWindows.TheVariants as outcomes
 use Rattle.locating.specs.declared.location.Location.{Location}
 use Rattle.locating.specs.declared.location.Location.TheVariants.{Yes, No, Undecided}
 
 -- the event at a place is an answer, and this is what it makes of a follower that has taken the
 -- events before it
-pub record IsAnswerFollowed (budget : ℕ) (history : HistoryView) (place : ℕ) (answered : AnsweredStream) : Type 0 where
+pub record IsAnswerFollowed (budget : ℕ) (history : HistoryView) (place : ℕ) (answered : AnsweredWindows) : Type 0 where
   pub process : ℕ
   pub reply : Reply
   pub event_is : slice_get history.events place ≡ Some (Answer process reply)
-  pub follower : FollowerView
-  pub follows : IsFollowing history.start (take place history.events) follower
+  pub follower : WindowsView
+  pub follows : IsFollowed history.start (take place history.events) follower
   pub answered_is : IsAnswered history.start (take place history.events) follower process reply budget answered
   pub counted : IsCountedAs follower process reply answered
 

@@ -3,21 +3,21 @@ ghost use Rattle.std.specs.Prelude.{◌≡◌, ◌+◌, ◌<◌, length, take, I
 ghost use Rattle.events.specs.declared.event.Event.TheVariants as events;
 ghost use Rattle.events.specs.Histories.{IsHistory};
 ghost use Rattle.follower.specs.Faults.{shown};
-ghost use Rattle.follower.specs.Following.{IsFollowing};
 ghost use Rattle.locating.specs.Locations.{IsLocated};
 ghost use Rattle.locating.specs.Passing.{IsPassed};
+ghost use Rattle.windows.specs.Followed.{IsFollowed};
 
 use crate::location::Location;
 use events::{Call, Event, History, Memory, Reply};
-use follower::{AnsweredStream, FollowFault, Follower};
 use prefixes::histories_have_few_events;
 use std::alloc::Global;
+use windows::{AnsweredWindows, FollowFault, WindowFollower};
 
 /// What an event makes of the pass.
 #[derive(Drop)]
 pub(crate) enum Passed {
     /// It goes on.
-    Going(Follower),
+    Going(WindowFollower),
     /// It ends: this is where the history goes wrong, as far as the budget tells.
     Ended(Location),
 }
@@ -30,7 +30,7 @@ pub(crate) enum Passed {
 pub fn locate(alloc: Global, history: &History, budget: u32) -> Result<Location, Memory>
     ensures { IfOk result (IsLocated budget history.now) }
 {
-    let mut follower = Follower::new(alloc, history.start())?;
+    let mut follower = WindowFollower::new(alloc, history.start())?;
     for place in 0..history.events().len() {
         match pass(alloc, follower, history, place, budget)? {
             Passed::Going(next) => follower = next,
@@ -43,13 +43,13 @@ pub fn locate(alloc: Global, history: &History, budget: u32) -> Result<Location,
 /// Passes the event at this place to a follower of those before it.
 fn pass(
     alloc: Global,
-    follower: Follower,
+    follower: WindowFollower,
     history: &History,
     place: usize,
     budget: u32,
 ) -> Result<Passed, Memory>
     requires place { place < length history.now.events }
-    requires follows { IsFollowing history.now.start (take place history.now.events) follower }
+    requires follows { IsFollowed history.now.start (take place history.now.events) follower }
     ensures { IfOk result (IsPassed budget history.now place) }
 {
     match &history.events()[place] {
@@ -67,16 +67,16 @@ fn pass(
 /// Passes an invocation, which no history has where it could be refused.
 fn pass_invocation(
     alloc: Global,
-    follower: Follower,
+    follower: WindowFollower,
     history: &History,
     place: usize,
     process: u8,
     call: Call,
-) -> Result<Follower, Memory>
-    requires follows { IsFollowing history.now.start (take place history.now.events) follower }
+) -> Result<WindowFollower, Memory>
+    requires follows { IsFollowed history.now.start (take place history.now.events) follower }
     requires history { IsHistory history.now }
     requires event { slice_get history.now.events place ≡ Some (events.Invoke process call) }
-    ensures { IfOk result (IsFollowing history.now.start (take (place + 1) history.now.events)) }
+    ensures { IfOk result (IsFollowed history.now.start (take (place + 1) history.now.events)) }
 {
     histories_have_few_events();
     match follower.invoke(alloc, process as u16, call) {
@@ -98,23 +98,23 @@ fn memory_of(fault: FollowFault) -> Memory
 /// Passes an answer, which no history has where it could be refused.
 fn pass_answer(
     alloc: Global,
-    follower: Follower,
+    follower: WindowFollower,
     history: &History,
     place: usize,
     process: u8,
     reply: Reply,
     budget: u32,
 ) -> Result<Passed, Memory>
-    requires follows { IsFollowing history.now.start (take place history.now.events) follower }
+    requires follows { IsFollowed history.now.start (take place history.now.events) follower }
     requires history { IsHistory history.now }
     requires event { slice_get history.now.events place ≡ Some (events.Answer process reply) }
     ensures { IfOk result (IsPassed budget history.now place) }
 {
     histories_have_few_events();
     match follower.answer(alloc, process as u16, reply, budget)? {
-        AnsweredStream::Going(next) => Ok(Passed::Going(next)),
-        AnsweredStream::Lost(loss) => Ok(Passed::Ended(Location::No(loss))),
-        AnsweredStream::Spent {
+        AnsweredWindows::Going(next) => Ok(Passed::Going(next)),
+        AnsweredWindows::Lost(loss) => Ok(Passed::Ended(Location::No(loss))),
+        AnsweredWindows::Spent {
             event,
             number,
             doubt,
@@ -123,6 +123,6 @@ fn pass_answer(
             number,
             doubt,
         })),
-        AnsweredStream::Refused(..) => unreachable!(),
+        AnsweredWindows::Refused(..) => unreachable!(),
     }
 }

@@ -15,7 +15,7 @@ use Rattle.events.specs.Events.{process_of, is_invocation, events_of, takes_turn
 use Rattle.events.specs.HistoryFaults.{ends_waiting, has_open_call}
 use Rattle.events.specs.Operations.{response_from, operation_of, operations_from, operations}
 use Rattle.events.specs.Precedence.{is_completed}
-use Rattle.quiet_cuts.proofs.EventLemmas.{none_of, response_found, some_left, turns_later}
+use Rattle.quiet_cuts.proofs.EventLemmas.{none_of, some_left, turns_later}
 use Rattle.events.specs.declared.event.Reply.TheVariants as replies
 
 -- a call by its parts
@@ -58,6 +58,27 @@ response_stays p i (Answer q reply ∷ xs) ys some = by_test (q == p) some (resp
         ≡ cond t (Some (record { res = i; reply = reply })) (response_from p (suc i) xs)
     by_test true some rest = refl
     by_test false some rest = rest some
+
+-- where the events of a process take turns, and some are left, an open call has a response
+pub response_is : (p i : ℕ) (xs : List Event) → takes_turns true (events_of p xs) ≡ true → (events_of p xs ≡ [] → ⊥)
+    → is_some (response_from p i xs) ≡ true
+response_is p i [] turns some = absurd (some refl)
+response_is p i (Invoke q call ∷ xs) turns some = by_test (q == p) turns some (response_is p (suc i) xs)
+  where
+    by_test : (t : Bool) → takes_turns true (cond t (Invoke q call ∷ events_of p xs) (events_of p xs)) ≡ true
+        → (cond t (Invoke q call ∷ events_of p xs) (events_of p xs) ≡ [] → ⊥)
+        → (takes_turns true (events_of p xs) ≡ true → (events_of p xs ≡ [] → ⊥) → is_some (response_from p (suc i) xs) ≡ true)
+        → is_some (response_from p (suc i) xs) ≡ true
+    by_test true turns some rest = absurd (false≢true turns)
+    by_test false turns some rest = rest turns some
+response_is p i (Answer q reply ∷ xs) turns some = by_test (q == p) turns some (response_is p (suc i) xs)
+  where
+    by_test : (t : Bool) → takes_turns true (cond t (Answer q reply ∷ events_of p xs) (events_of p xs)) ≡ true
+        → (cond t (Answer q reply ∷ events_of p xs) (events_of p xs) ≡ [] → ⊥)
+        → (takes_turns true (events_of p xs) ≡ true → (events_of p xs ≡ [] → ⊥) → is_some (response_from p (suc i) xs) ≡ true)
+        → is_some (cond t (Some (record { res = i; reply = reply })) (response_from p (suc i) xs)) ≡ true
+    by_test true turns some rest = refl
+    by_test false turns some rest = rest turns some
 
 -- ---- processes without an open call
 
@@ -122,8 +143,7 @@ heads_stay i [] ys zs turns up = (refl, All-nil (λ a. is_completed a ≡ true))
 heads_stay i (Answer p reply ∷ xs) ys zs turns up = heads_stay (suc i) xs ys zs (turns_behind (Answer p reply) (xs ++ ys) turns) up
 heads_stay i (Invoke p call ∷ xs) ys zs turns up =
     let (same, completed) = heads_stay (suc i) xs ys zs (turns_behind (Invoke p call) (xs ++ ys) turns) up.1 in
-    let (r, answered) = response_found p (suc i) (xs ++ ys) (turns_open p call (xs ++ ys) turns) up.0 in
-    let some = ap is_some answered in
+    let some = response_is p (suc i) (xs ++ ys) (turns_open p call (xs ++ ys) turns) up.0 in
     let stays = ap (response_from p (suc i)) (sym (append_assoc xs ys zs)) ∙ response_stays p (suc i) (xs ++ ys) zs some in (
       ap₂ (λ (o : Option Response) (l : List Operation). operation call i o ∷ l) stays same,
       All-cons (λ a. is_completed a ≡ true) (operation_of p call i (xs ++ ys)) (heads (suc i) xs ys) some completed,
@@ -160,7 +180,7 @@ module _ (p : ℕ) (call : Call) where
         followed_behind xs (λ r apart. closed_later (Invoke q other) xs r (closed r apart)) parts.1,
       )
 
-pub turns_of_back : (xs ys : List Event) → TakeTurns (xs ++ ys) → TakeTurns ys
+turns_of_back : (xs ys : List Event) → TakeTurns (xs ++ ys) → TakeTurns ys
 turns_of_back [] ys turns = turns
 turns_of_back (e ∷ xs) ys turns = turns_of_back xs ys (turns_behind e (xs ++ ys) turns)
 

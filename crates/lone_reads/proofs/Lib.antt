@@ -1,11 +1,13 @@
 mod ReadLemmas
 mod AlongLemmas
-mod CallLemmas
+pub mod CallLemmas
 mod PartLemmas
 mod MoveLemmas
-mod DoneLemmas
-mod OpenLemmas
+pub mod DoneLemmas
+pub mod OpenLemmas
 mod LoneLemmas
-mod WindowLemmas
+pub mod WindowLemmas
 mod WiderLemmas
-mod PendingLemmas
+pub mod AlikeLemmas
+pub mod HushLemmas
+pub mod PendingLemmas

@@ -63,14 +63,14 @@ takes_all start calls k completed (order, h, is) = (
 )
 
 -- what does not come before a place does not before an earlier one
-still_waits : (o : Option Response) (x y : ℕ) → is_before o x ≡ false → y ≤ x → is_before o y ≡ false
+pub still_waits : (o : Option Response) (x y : ℕ) → is_before o x ≡ false → y ≤ x → is_before o y ≡ false
 still_waits None x y waits less = refl
 still_waits (Some r) x y waits less = let behind = ltb-false r.res x waits in le-ltb r.res y (omega (arith, behind, less))
 
 -- ---- the only open call
 
 -- the events before and behind it
-only_parts : (front : List Event) (p : ℕ) (call : Call) (place : ℕ) → IsWellFormed front → IsOnlyOpen front p call place
+pub only_parts : (front : List Event) (p : ℕ) (call : Call) (place : ℕ) → IsWellFormed front → IsOnlyOpen front p call place
     → (early : List Operation) × ((late : List Operation) × ArePartedBy front p call place early late)
 only_parts front p call place well only =
     let (before, (between, parts, long, silent)) = open_parts front p call place only.is_open in
@@ -170,10 +170,10 @@ module _ (start m : Contents) (front : List Event) (p : ℕ) (call : Call) (plac
     abbrev rest : List Operation
     rest = operations_from n more
 
-    whole_is : operations (front ++ more) ≡ early ++ lone o ∷ (late ++ rest)
+    pub whole_is : operations (front ++ more) ≡ early ++ lone o ∷ (late ++ rest)
     whole_is = parted.whole more ∙ ap (λ (o : Option Response). early ++ lone o ∷ (late ++ rest)) o_is
 
-    whole_rises : InvocationsRise (early ++ lone o ∷ (late ++ rest))
+    pub whole_rises : InvocationsRise (early ++ lone o ∷ (late ++ rest))
     whole_rises = subst InvocationsRise whole_is (inv_rises (front ++ more))
 
     none_precedes : NonePrecedesItself (early ++ lone o ∷ (late ++ rest))
@@ -187,7 +187,7 @@ module _ (start m : Contents) (front : List Event) (p : ℕ) (call : Call) (plac
         let R = λ (a b : Operation). a.inv < b.inv in
         AllPairs-back R late rest (AllPairs-tail R (lone o) (late ++ rest) (AllPairs-back R early (lone o ∷ (late ++ rest)) whole_rises))
 
-    lone_rises : (r : Option Response) → InvocationsRise (lone r ∷ rest)
+    pub lone_rises : (r : Option Response) → InvocationsRise (lone r ∷ rest)
     lone_rises r =
         let R = λ (a b : Operation). a.inv < b.inv in
         AllPairs-cons R (lone r) rest (All-from_contains (R (lone r)) rest (λ a is.
@@ -225,10 +225,10 @@ module _ (start m : Contents) (front : List Event) (p : ℕ) (call : Call) (plac
           (response_moves n 1 p n 1 more (omega arith) (omega arith));
     }
 
-    begins : IsLinearizable m (lone o ∷ rest) → AreLinearizable m (Invoke p call ∷ more)
+    pub begins : IsLinearizable m (lone o ∷ rest) → AreLinearizable m (Invoke p call ∷ more)
     begins h = moves m n 1 (lone o) (operation_of p call 0 more) more moved h
 
-    begun_before : AreLinearizable m (Invoke p call ∷ more) → IsLinearizable m (lone o ∷ rest)
+    pub begun_before : AreLinearizable m (Invoke p call ∷ more) → IsLinearizable m (lone o ∷ rest)
     begun_before h = moves m 1 n (operation_of p call 0 more) (lone o) more (moved_back n 1 (lone o) (operation_of p call 0 more) moved) h
 
     module _ (o_waits : is_before o n ≡ false) where
@@ -244,7 +244,7 @@ module _ (start m : Contents) (front : List Event) (p : ℕ) (call : Call) (plac
           inr (subst (Leaves start (early ++ lone o ∷ late)) same before, here, subst (λ (k : Contents). IsLinearizable k rest) same behind))
           (split start n early late rest (lone o) whole_rises none_precedes ended parted.begun o_waits later (subst (IsLinearizable start) whole_is h))
 
-      joins_behind : AreLinearizable start front → AreLinearizable m (Invoke p call ∷ more) → AreLinearizable start (front ++ more)
+      pub joins_behind : AreLinearizable start front → AreLinearizable m (Invoke p call ∷ more) → AreLinearizable start (front ++ more)
       joins_behind here behind =
           subst (IsLinearizable start) (sym whole_is)
           (join_behind start n early late rest (lone o) whole_rises none_precedes ended parted.begun o_waits later m (filled here, begun_before behind))

@@ -1,69 +1,78 @@
--- An open call and its operation, which is pending.
-use Rattle.std.proofs.Common.{◌≡◌, ℕ, suc, ◌+◌, false, List, [], ◌∷◌, ◌++◌, length, None, drop, refl, sym, ap, ◌∙◌, subst, arith}
-use Rattle.std.specs.Prelude.{Contains}
-use Rattle.std.proofs.lemmas.List.Elements.{Contains-append_right}
-use Rattle.std.proofs.lemmas.Option.{none-some}
+-- Open calls among events, by their places and by the calls that have no response.
+use Rattle.std.proofs.Common.{◌≡◌, ℕ, suc, ◌+◌, true, false, List, [], ◌∷◌, ◌++◌, length, drop, Option, None, is_some, refl, sym, ap, ◌∙◌}
+use Rattle.std.proofs.Common.{subst, arith, ⊎_elim}
+use Rattle.std.specs.Prelude.{Some, Contains, slice_get}
+use Rattle.std.proofs.lemmas.Bool.{false≢true}
+use Rattle.std.proofs.lemmas.List.Elements.{All-contains, Contains-append_right}
 use Rattle.events.specs.declared.event.Call.{Call}
 use Rattle.events.specs.declared.event.Event.{Event}
 use Rattle.events.specs.declared.event.Event.TheVariants.{Invoke}
 use Rattle.events.specs.declared.operation.Operation.{Operation}
-use Rattle.events.specs.Events.{events_of, IsWellFormed}
-use Rattle.events.specs.Operations.{operation_of, operations_from, operations}
+use Rattle.events.specs.declared.operation.Response.{Response}
+use Rattle.events.specs.Events.{events_of, takes_turns, IsWellFormed}
+use Rattle.events.specs.HistoryFaults.{has_open_call}
+use Rattle.events.specs.Operations.{response_from, operation_of, operations_from, operations}
+use Rattle.events.specs.Precedence.{is_completed}
 use Rattle.events.proofs.TimeLemmas.{inv_rises}
-use Rattle.list_laws.proofs.Lists.{Contains-first}
-use Rattle.quiet_cuts.proofs.AroundLemmas.{any_of, found}
-use Rattle.quiet_cuts.proofs.EventLemmas.{response_found}
+use Rattle.list_laws.proofs.Lists.{Contains-around, Contains-first}
 use Rattle.quiet_cuts.proofs.SetLemmas.{same_call}
-use Rattle.lone_reads.specs.Laws.{OpenCallsArePending}
-use Rattle.lone_reads.proofs.CallLemmas.{heads, joined, none_answers, TakeTurns, turns_of_back, turns_open}
+use Rattle.lone_reads.specs.LoneReads.{IsOpenAt, IsOnlyOpen}
+use Rattle.lone_reads.proofs.CallLemmas.{operation, none_answers, joined, heads, response_is, turns_open}
 use Rattle.lone_reads.proofs.DoneLemmas.{split_at, open_parts}
+use Rattle.lone_reads.proofs.LoneLemmas.{only_parts}
+use Rattle.lone_reads.proofs.OpenLemmas.{well_parts}
 
--- an operation that is pending, invoked at a place
-abbrev IsPending : ℕ → Call → Operation → Type 0
-IsPending place call a = (a.inv ≡ place) × (a.call ≡ call) × (a.response ≡ None)
+-- the call of an invocation among events
+call_there : (front : List Event) (p : ℕ) (call : Call) (back : List Event)
+    → Contains (operations (front ++ Invoke p call ∷ back)) (operation_of p call (length front) back)
+call_there front p call back =
+    let from_zero : 0 + length front ≡ length front = omega arith in
+    subst (λ (l : List Operation). Contains l (operation_of p call (length front) back)) (sym (joined 0 front (Invoke p call ∷ back)))
+    (Contains-append_right (heads 0 front (Invoke p call ∷ back)) (operations_from (0 + length front) (Invoke p call ∷ back))
+    (operation_of p call (length front) back)
+    (subst (λ (k : ℕ). Contains (operations_from k (Invoke p call ∷ back)) (operation_of p call (length front) back)) (sym from_zero)
+    (Contains-first (operation_of p call (length front) back) (operations_from (suc (length front)) back))))
 
--- the operation of an invocation
-own_call : (p : ℕ) (call : Call) (front back : List Event)
-    → Contains (operations (front ++ Invoke p call ∷ back)) (operation_of p call (0 + length front) back)
-own_call p call front back =
-    let k = 0 + length front in
-    let own = operation_of p call k back in
-    subst (λ (l : List Operation). Contains l own) (sym (joined 0 front (Invoke p call ∷ back)))
-    (Contains-append_right (heads 0 front (Invoke p call ∷ back)) (operations_from k (Invoke p call ∷ back)) own
-    (Contains-first own (operations_from (suc k) back)))
+-- an open call is among the calls, without a response
+pub pending_of : (events : List Event) (p : ℕ) (call : Call) (place : ℕ) → IsOpenAt events p call place
+    → Contains (operations events) (operation call place None)
+pending_of events p call place h =
+    let (front, (back, parts, long, silent)) = open_parts events p call place h in
+    let pending : operation_of p call (length front) back ≡ operation call place None =
+    ap (λ (o : Option Response). operation call (length front) o) (none_answers p (suc (length front)) back silent)
+    ∙ ap (λ (k : ℕ). operation call k None) long in
+    subst (λ (l : List Event). Contains (operations l) (operation call place None)) (sym parts)
+    (subst (Contains (operations (front ++ Invoke p call ∷ back))) pending (call_there front p call back))
 
--- where it is pending, no event of its process comes behind it
-none_behind : (p : ℕ) (call : Call) (front back : List Event) (a : Operation) → IsWellFormed (front ++ Invoke p call ∷ back)
-    → Contains (operations (front ++ Invoke p call ∷ back)) a → a.inv ≡ length front → a.response ≡ None → events_of p back ≡ []
-none_behind p call front back a well a_is place pending = by_events (events_of p back) refl
+-- and a call without a response is open where it was invoked
+pub open_at_of : (events : List Event) (p : ℕ) (call : Call) (place : ℕ) → IsWellFormed events → slice_get events place ≡ Some (Invoke p call)
+    → (a : Operation) → Contains (operations events) a → a.inv ≡ place → a.response ≡ None → IsOpenAt events p call place
+open_at_of events p call place well invoked a a_is at pending =
+    let back = drop (suc place) events in
+    let (front, parts, long) = split_at events place (Invoke p call) invoked in
+    let turns = turns_open p call back
+    (λ q. (has_open_call q front, (well_parts front (Invoke p call ∷ back) (subst IsWellFormed parts well)).1 q)) in
+    let there : Contains (operations events) (operation_of p call (length front) back) =
+    subst (λ (l : List Event). Contains (operations l) (operation_of p call (length front) back)) (sym parts) (call_there front p call back) in
+    let one : operation_of p call (length front) back ≡ a =
+    same_call (operations events) (operation_of p call (length front) back) a (inv_rises events) there a_is (long ∙ sym at) in
+    let none : response_from p (suc (length front)) back ≡ None = ap (λ (b : Operation). b.response) one ∙ pending in
+    record { invoked = invoked; silent = by_events p back (suc (length front)) turns none (events_of p back) refl }
   where
-    by_events : (l : List Event) → events_of p back ≡ l → events_of p back ≡ []
-    by_events [] e = e
-    by_events (x ∷ l) e =
-        let whole = front ++ Invoke p call ∷ back in
-        let k = 0 + length front in
-        let turns : TakeTurns whole = λ q. (false, well q) in
-        let own_turns = turns_open p call back (turns_of_back front (Invoke p call ∷ back) turns) in
-        let (r, answered) = response_found p (suc k) back own_turns (λ none. let f : x ∷ l ≡ [] = sym e ∙ none in cc) in
-        let own = operation_of p call k back in
-        let same : a ≡ own = same_call (operations whole) a own (inv_rises whole) a_is (own_call p call front back) (omega (arith, place)) in
-        absurd (none-some r (sym pending ∙ (ap (λ (b : Operation). b.response) same ∙ answered)))
+    by_events : (p : ℕ) (back : List Event) (i : ℕ) → takes_turns true (events_of p back) ≡ true → response_from p i back ≡ None
+        → (l : List Event) → events_of p back ≡ l → events_of p back ≡ []
+    by_events p back i turns none [] e = e
+    by_events p back i turns none (x ∷ l) e =
+        absurd (false≢true (sym (ap is_some none)
+        ∙ response_is p i back turns (λ nothing. let wrong : x ∷ l ≡ [] = sym e ∙ nothing in cc)))
 
-pub pending_open : OpenCallsArePending
-pending_open events p call place well here = (
-  λ h.
-      let (front, (back, parts, long, silent)) = open_parts events p call place h in
-      let own = operation_of p call (0 + length front) back in
-      let at : own.inv ≡ place = omega (arith, long) in
-      any_of (IsPending place call) (operations events) own
-      (subst (λ (l : List Event). Contains (operations l) own) (sym parts) (own_call p call front back))
-      (at, refl, none_answers p (suc (0 + length front)) back silent),
-  λ h.
-      let (a, a_is, (at, asks, pending)) = found (IsPending place call) (operations events) h in
-      let (front, parts, long) = split_at events place (Invoke p call) here in
-      record {
-        invoked = here;
-        silent = none_behind p call front (drop (suc place) events) a (subst IsWellFormed parts well)
-            (subst (λ (l : List Event). Contains (operations l) a) parts a_is) (at ∙ sym long) pending;
-      },
-)
+-- where one call alone is open, each other one has a response
+pub only_pending : (events : List Event) (p : ℕ) (call : Call) (place : ℕ) → IsWellFormed events → IsOnlyOpen events p call place
+    → (a : Operation) → Contains (operations events) a → a.response ≡ None → a ≡ operation call place None
+only_pending events p call place well only a a_is pending =
+    let (early, (late, parted)) = only_parts events p call place well only in
+    ⊎_elim
+    (λ same. sym same)
+    (λ other.
+    absurd (false≢true (sym (ap is_some pending) ∙ All-contains (λ a. is_completed a ≡ true) (early ++ late) a parted.completed other)))
+    (Contains-around early (operation call place None) late a (subst (λ (l : List Operation). Contains l a) parted.now a_is))

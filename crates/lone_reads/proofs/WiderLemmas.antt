@@ -29,10 +29,6 @@ holding value = (0, value) ∷ []
 abbrev found_by : ℕ → Reply → List Event
 found_by p reply = Invoke p (Get 0) ∷ Answer p reply ∷ []
 
--- an insert that is done
-abbrev insert_at : ℕ → ℕ → ℕ → Operation
-insert_at value inv res = record { call = Insert 0 value; inv = inv; response = Some (record { res = res; reply = replies.Done }) }
-
 -- a get that finds nothing is not legal where a value is, nor one that finds another
 not_none : IsLegalReply (holding 1) (Get 0) replies.None → ⊥
 not_none (inl refused) = cc
@@ -115,68 +111,11 @@ insert_not_done (suc zero ∷ order) legal is = not_none legal.0
 insert_not_done (suc (suc n) ∷ order) legal is =
     insert_not_done order legal (⊎_elim (λ same. absurd (omega arith)) (λ later. later) (Contains-cases (suc (suc n)) order 1 is))
 
--- ---- and the insert is done behind the get
-
-abbrev insert_ends : List Event
-insert_ends = found_by 1 replies.None ++ Answer 0 replies.Done ∷ []
-
-ended_well : IsWellFormed (insert_open ++ insert_ends)
-ended_well zero = refl
-ended_well (suc zero) = refl
-ended_well (suc (suc q)) = rw (ne_eqb 0 (suc (suc q)) (λ e. omega (arith, e)), ne_eqb 1 (suc (suc q)) (λ e. omega (arith, e))) refl
-
--- the get comes first
-insert_behind : AreLinearizable [] (insert_open ++ insert_ends)
-insert_behind = (
-  1 ∷ 0 ∷ [],
-  record {
-    legal_order = record {
-      known = All-cons (λ n. n < 2) 1 (0 ∷ []) (omega arith) (All-cons (λ n. n < 2) 0 [] (omega arith) (All-nil (λ n. n < 2)));
-      distinct = AllPairs-cons (λ m n. m ≢ n) 1 (0 ∷ []) (All-cons (λ n. 1 ≢ n) 0 [] (λ e. absurd (omega arith)) (All-nil (λ n. 1 ≢ n)))
-          (AllPairs-cons (λ m n. m ≢ n) 0 [] (All-nil (λ n. 0 ≢ n)) (AllPairs-nil (λ m n. m ≢ n)));
-      precedence = two_keep got_none (insert_at 1 0 3) refl;
-      legal = (inr refl, (inr tt, tt));
-    };
-    complete = complete;
-  },
-)
-  where
-    got_none : Operation
-    got_none = record { call = Get 0; inv = 1; response = Some (record { res = 2; reply = replies.None }) }
-
-    two_keep : (a b : Operation) → precedes b a ≡ false → KeepsPrecedence (a ∷ b ∷ [])
-    two_keep a b b_a =
-        let R = λ (x y : Operation). precedes y x ≡ false in
-        AllPairs-cons R a (b ∷ []) (All-cons (R a) b [] b_a (All-nil (R a))) (AllPairs-cons R b [] (All-nil (R b)) (AllPairs-nil R))
-
-    complete : (n : ℕ) → IsCompletedAt (operations (insert_open ++ insert_ends)) n → Contains (1 ∷ 0 ∷ []) n
-    complete zero done = Contains-later 1 (0 ∷ []) 0 (Contains-first 0 [])
-    complete (suc zero) done = Contains-first 1 (0 ∷ [])
-    complete (suc (suc n)) done = absurd done
-
-ended_not_done : (order : List ℕ) → IsLegal (holding 1) (calls_at (operations (insert_open ++ insert_ends)) order) → Contains order 1 → ⊥
-ended_not_done [] legal is = Contains-nil 1 is
-ended_not_done (zero ∷ order) legal is =
-    ended_not_done order legal.1 (⊎_elim (λ same. absurd (omega arith)) (λ later. later) (Contains-cases 0 order 1 is))
-ended_not_done (suc zero ∷ order) legal is = not_none legal.0
-ended_not_done (suc (suc n) ∷ order) legal is =
-    ended_not_done order legal (⊎_elim (λ same. absurd (omega arith)) (λ later. later) (Contains-cases (suc (suc n)) order 1 is))
-
-never_done : AreLinearizable (holding 1) (insert_open ++ insert_ends) → ⊥
-never_done (order, h) = ended_not_done order h.legal_order.legal (h.complete 1 refl)
-
 pub writes_lose : LoneWritesLoseOrders
-writes_lose = (
-  λ rule.
-      let (here, (order, h)) = (rule [] (holding 1) insert_open (found_by 1 replies.None) 0 (Insert 0 1) 0 insert_well insert_only tt insert_leaves refl).0
-      insert_waits in
-      insert_not_done order h.legal_order.legal (h.complete 1 refl),
-  λ rule. ⊎_elim
-      (λ (here, behind). never_done behind)
-      (λ (here, behind). never_done behind)
-      ((rule [] (holding 1) insert_open (found_by 1 replies.None) [] 0 (Insert 0 1) 0 replies.Done ended_well insert_only tt insert_leaves refl).0
-      insert_behind),
-)
+writes_lose rule =
+    let (here, (order, h)) = (rule [] (holding 1) insert_open (found_by 1 replies.None) 0 (Insert 0 1) 0 insert_well insert_only tt insert_leaves refl).0
+    insert_waits in
+    insert_not_done order h.legal_order.legal (h.complete 1 refl)
 
 -- ---- two inserts overlap, and a get behind them finds the value of one
 
@@ -202,12 +141,12 @@ get_only = record { is_open = record { invoked = refl; silent = refl }; others =
     others (suc (suc zero)) apart = refl
     others (suc (suc (suc q))) apart = rw (ne_eqb 0 (suc (suc (suc q))) (λ e. omega (arith, e)), ne_eqb 1 (suc (suc (suc q))) (λ e. omega (arith, e)), ne_eqb 2 (suc (suc (suc q))) (λ e. omega (arith, e))) refl
 
--- a get, open, done, and told the value of the second
+-- a call of a process, answered or open
+abbrev insert_at : ℕ → ℕ → ℕ → Operation
+insert_at value inv res = record { call = Insert 0 value; inv = inv; response = Some (record { res = res; reply = replies.Done }) }
+
 abbrev open_get : Operation
 open_get = record { call = Get 0; inv = 4; response = None }
-
-abbrev done_get : Operation
-done_get = record { call = Get 0; inv = 4; response = Some (record { res = 7; reply = replies.Done }) }
 
 abbrev told_two : Operation
 told_two = record { call = Get 0; inv = 5; response = Some (record { res = 6; reply = replies.Some 2 }) }
@@ -279,77 +218,7 @@ second_not_found (suc zero ∷ order) legal is = not_two legal.0
 second_not_found (suc (suc n) ∷ order) legal is =
     second_not_found order legal (⊎_elim (λ same. absurd (omega arith)) (λ later. later) (Contains-cases (suc (suc n)) order 1 is))
 
--- ---- and the read is done behind the get
-
-abbrev read_ends : List Event
-read_ends = two_found ++ Answer 0 replies.Done ∷ []
-
-read_well : IsWellFormed (both_inserted ++ read_ends)
-read_well zero = refl
-read_well (suc zero) = refl
-read_well (suc (suc zero)) = refl
-read_well (suc (suc (suc q))) =
-    rw (
-      ne_eqb 0 (suc (suc (suc q))) (λ e. omega (arith, e)),
-      ne_eqb 1 (suc (suc (suc q))) (λ e. omega (arith, e)),
-      ne_eqb 2 (suc (suc (suc q))) (λ e. omega (arith, e)),
-    ) refl
-
--- it comes behind the inserts, told nothing
-read_is_done : AreLinearizable [] (both_inserted ++ read_ends)
-read_is_done = (
-  0 ∷ 1 ∷ 2 ∷ 3 ∷ [],
-  record {
-    legal_order = record {
-      known = All-cons (λ n. n < 4) 0 (1 ∷ 2 ∷ 3 ∷ []) (omega arith)
-          (All-cons (λ n. n < 4) 1 (2 ∷ 3 ∷ []) (omega arith)
-          (All-cons (λ n. n < 4) 2 (3 ∷ []) (omega arith) (All-cons (λ n. n < 4) 3 [] (omega arith) (All-nil (λ n. n < 4)))));
-      distinct = AllPairs-cons (λ m n. m ≢ n) 0 (1 ∷ 2 ∷ 3 ∷ [])
-          (All-cons (λ n. 0 ≢ n) 1 (2 ∷ 3 ∷ []) (λ e. absurd (omega arith))
-          (All-cons (λ n. 0 ≢ n) 2 (3 ∷ []) (λ e. absurd (omega arith)) (All-cons (λ n. 0 ≢ n) 3 [] (λ e. absurd (omega arith)) (All-nil (λ n. 0 ≢ n)))))
-          (distinct_three 1 2 3 (λ e. absurd (omega arith)) (λ e. absurd (omega arith)) (λ e. absurd (omega arith)));
-      precedence = keeps;
-      legal = (inr tt, (inr tt, (inr tt, (inr refl, tt))));
-    };
-    complete = complete;
-  },
-)
-  where
-    keeps : KeepsPrecedence (insert_at 1 0 2 ∷ insert_at 2 1 3 ∷ done_get ∷ told_two ∷ [])
-    keeps =
-        let R = λ (x y : Operation). precedes y x ≡ false in
-        let a = insert_at 1 0 2 in
-        AllPairs-cons R a (insert_at 2 1 3 ∷ done_get ∷ told_two ∷ [])
-        (All-cons (R a) (insert_at 2 1 3) (done_get ∷ told_two ∷ []) refl
-        (All-cons (R a) done_get (told_two ∷ []) refl (All-cons (R a) told_two [] refl (All-nil (R a)))))
-        (keep_three (insert_at 2 1 3) done_get told_two refl refl refl)
-
-    complete : (n : ℕ) → IsCompletedAt (operations (both_inserted ++ read_ends)) n → Contains (0 ∷ 1 ∷ 2 ∷ 3 ∷ []) n
-    complete zero done = Contains-first 0 (1 ∷ 2 ∷ 3 ∷ [])
-    complete (suc zero) done = Contains-later 0 (1 ∷ 2 ∷ 3 ∷ []) 1 (Contains-first 1 (2 ∷ 3 ∷ []))
-    complete (suc (suc zero)) done = Contains-later 0 (1 ∷ 2 ∷ 3 ∷ []) 2 (Contains-later 1 (2 ∷ 3 ∷ []) 2 (Contains-first 2 (3 ∷ [])))
-    complete (suc (suc (suc zero))) done =
-        Contains-later 0 (1 ∷ 2 ∷ 3 ∷ []) 3 (Contains-later 1 (2 ∷ 3 ∷ []) 3 (Contains-later 2 (3 ∷ []) 3 (Contains-first 3 [])))
-    complete (suc (suc (suc (suc n)))) done = absurd done
-
-ended_not_found : (order : List ℕ) → IsLegal (holding 1) (calls_at (operations (Invoke 0 (Get 0) ∷ read_ends)) order) → Contains order 1 → ⊥
-ended_not_found [] legal is = Contains-nil 1 is
-ended_not_found (zero ∷ order) legal is =
-    ended_not_found order legal.1 (⊎_elim (λ same. absurd (omega arith)) (λ later. later) (Contains-cases 0 order 1 is))
-ended_not_found (suc zero ∷ order) legal is = not_two legal.0
-ended_not_found (suc (suc n) ∷ order) legal is =
-    ended_not_found order legal (⊎_elim (λ same. absurd (omega arith)) (λ later. later) (Contains-cases (suc (suc n)) order 1 is))
-
-never_found : AreLinearizable (holding 1) (Invoke 0 (Get 0) ∷ read_ends) → ⊥
-never_found (order, h) = ended_not_found order h.legal_order.legal (h.complete 1 refl)
-
 pub others_lose : OtherMapsLoseOrders
-others_lose = (
-  λ rule.
-      let (here, (order, h)) = (rule [] (holding 1) both_inserted two_found 0 (Get 0) 4 both_well get_only refl first_is_left refl).0 second_is_found in
-      second_not_found order h.legal_order.legal (h.complete 1 refl),
-  λ rule. ⊎_elim
-      (λ (here, behind). never_found behind)
-      (λ (here, behind). never_found behind)
-      ((rule [] (holding 1) both_inserted two_found [] 0 (Get 0) 4 replies.Done read_well get_only refl first_is_left refl).0 read_is_done),
-)
+others_lose rule =
+    let (here, (order, h)) = (rule [] (holding 1) both_inserted two_found 0 (Get 0) 4 both_well get_only refl first_is_left refl).0 second_is_found in
+    second_not_found order h.legal_order.legal (h.complete 1 refl)

@@ -2,9 +2,8 @@
 use Rattle.events.specs.declared.event.Reply.TheVariants as replies
 use Rattle.std.proofs.Common.{◌≡◌, ◌⊎◌, ℕ, suc, ◌==◌, Bool, true, false, not, ◌&&◌, cond, List, [], ◌∷◌, ◌++◌, length, drop, append_assoc}
 use Rattle.std.proofs.Common.{refl, sym, ap, ◌∙◌, subst, inl, inr, ⊎_elim}
-use Rattle.std.specs.Prelude.{◌↔◌, ◌≢◌, Any}
+use Rattle.std.specs.Prelude.{◌≢◌, Any}
 use Rattle.std.proofs.lemmas.Bool.{ne_eqb, eq-eqb, eqb-true, false≢true}
-use Rattle.std.proofs.lemmas.List.{append-nil}
 use Rattle.std.proofs.lemmas.List.Elements.{Contains-append_left, Contains-append_cases}
 use Rattle.events.specs.declared.event.Call.{Call}
 use Rattle.events.specs.declared.event.Event.{Event}
@@ -18,7 +17,7 @@ use Rattle.map_object.specs.MapObject.{Contents}
 use Rattle.quiet_cuts.proofs.AroundLemmas.{found, any_of, middle}
 use Rattle.lone_reads.specs.LoneReads.{IsOpenAt, IsOnlyOpen}
 use Rattle.lone_reads.specs.Windows.{AreLinearizable, Window, TakesAnswer, HaveSameOpen, StandFor}
-use Rattle.lone_reads.specs.Laws.{AloneBegins, AloneGoesOn, AloneJudges, WindowsJudge, WindowsBegin, WindowsClose, WindowsGoOn, WindowsMayChange, WindowsTakeAnswers, WindowsPassAnswers}
+use Rattle.lone_reads.specs.Laws.{AloneBegins, AloneGoesOn, WindowsBegin, WindowsClose, WindowsGoOn, WindowsMayChange, WindowsTakeAnswers, WindowsPassAnswers}
 use Rattle.lone_reads.proofs.DoneLemmas.{open_parts, told_done}
 use Rattle.lone_reads.proofs.LoneLemmas.{reads_wait, reads_part}
 use Rattle.lone_reads.proofs.OpenLemmas.{own_join, GoOn, well_parts, well_from}
@@ -29,7 +28,7 @@ goes_same : (all now more : List Event) → HaveSameOpen all now → GoOn all mo
 goes_same all now more h on q = subst (λ (b : Bool). takes_turns b (events_of q more) ≡ true) (h.same q) (on q)
 
 -- what follows the ones may follow the others
-well_now : (all now more : List Event) → HaveSameOpen all now → IsWellFormed (all ++ more) → IsWellFormed (now ++ more)
+pub well_now : (all now more : List Event) → HaveSameOpen all now → IsWellFormed (all ++ more) → IsWellFormed (now ++ more)
 well_now all now more h well = well_from now more h.now_formed (goes_same all now more h (well_parts all more well).1)
 
 -- and one event more leaves the same open, be it an answer or another
@@ -51,7 +50,7 @@ drop_middle : {X : Type 0} (xs : List X) (y : X) (ys : List X) → drop (suc (le
 drop_middle [] y ys = refl
 drop_middle (x ∷ xs) y ys = drop_middle xs y ys
 
-open_from : (front back : List Event) (p : ℕ) (call : Call) → events_of p back ≡ [] → IsOpenAt (front ++ Invoke p call ∷ back) p call (length front)
+pub open_from : (front back : List Event) (p : ℕ) (call : Call) → events_of p back ≡ [] → IsOpenAt (front ++ Invoke p call ∷ back) p call (length front)
 open_from front back p call silent = record {
   invoked = slice_get-middle front (Invoke p call) back;
   silent = ap (events_of p) (drop_middle front (Invoke p call) back) ∙ silent;
@@ -61,7 +60,7 @@ other_event : (p : ℕ) (e : Event) (events : List Event) → process_of e ≢ p
 other_event p e events apart = rw (ne_eqb (process_of e) p apart) refl
 
 -- it stays open behind an event of another process
-open_on : (events : List Event) (p : ℕ) (call : Call) (place : ℕ) (e : Event) → process_of e ≢ p → IsOpenAt events p call place
+pub open_on : (events : List Event) (p : ℕ) (call : Call) (place : ℕ) (e : Event) → process_of e ≢ p → IsOpenAt events p call place
     → IsOpenAt (events ++ e ∷ []) p call place
 open_on events p call place e apart h =
     let (front, (back, parts, long, silent)) = open_parts events p call place h in
@@ -77,7 +76,7 @@ ends_open w [] p call = refl
 ends_open w (e ∷ own) p call = ends_open (is_invocation e) own p call
 
 -- and its process has an open call
-has_open : (events : List Event) (p : ℕ) (call : Call) (place : ℕ) → IsOpenAt events p call place → has_open_call p events ≡ true
+pub has_open : (events : List Event) (p : ℕ) (call : Call) (place : ℕ) → IsOpenAt events p call place → has_open_call p events ≡ true
 has_open events p call place h =
     let (front, (back, parts, long, silent)) = open_parts events p call place h in
     let own : events_of p (Invoke p call ∷ back) ≡ Invoke p call ∷ [] = rw (eq-eqb p p refl, silent) refl in
@@ -86,7 +85,7 @@ has_open events p call place h =
     ∙ (ap (λ (l : List Event). ends_waiting false (events_of p front ++ l)) own ∙ ends_open false (events_of p front) p call))
 
 -- so an answer may come
-answer_fits : (events : List Event) (p : ℕ) (reply : Reply) → IsWellFormed events → has_open_call p events ≡ true
+pub answer_fits : (events : List Event) (p : ℕ) (reply : Reply) → IsWellFormed events → has_open_call p events ≡ true
     → IsWellFormed (events ++ Answer p reply ∷ [])
 answer_fits events p reply well waits = well_from events (Answer p reply ∷ []) well (λ q. by_test q (p == q) refl)
   where
@@ -155,18 +154,6 @@ alone_on start m all now e h well = record {
       );
 }
 
--- where nothing follows
-none_follows : (start m : Contents) (all now : List Event) → AreLinearizable start (all ++ []) ↔ AreLinearizable m (now ++ [])
-    → AreLinearizable start all ↔ AreLinearizable m now
-none_follows start m all now h = (
-  λ x. subst (AreLinearizable m) (append-nil now) (h.0 (subst (AreLinearizable start) (sym (append-nil all)) x)),
-  λ x. subst (AreLinearizable start) (append-nil all) (h.1 (subst (AreLinearizable m) (sym (append-nil now)) x)),
-)
-
-pub judged_alone : AloneJudges
-judged_alone start m all now h =
-    none_follows start m all now (h.alone [] (subst IsWellFormed (sym (append-nil all)) h.open_calls.all_formed))
-
 -- ---- windows
 
 none_taken : (P : Window → Type 0) → Any P [] → ⊥
@@ -185,10 +172,6 @@ windows_at start m all now p call place h is_open reads = record {
         ⊎_elim (λ (took, later). absurd (none_taken (TakesAnswer p reply) took)) (λ later. here.1 later),
       );
 }
-
-pub judged_beside : WindowsJudge
-judged_beside start m all now p call asides h =
-    none_follows start m all now (h.waits [] (subst IsWellFormed (sym (append-nil all)) h.open_calls.all_formed) refl)
 
 pub windows_on : WindowsGoOn
 windows_on start m all now p call asides e h apart well = record {
@@ -237,7 +220,7 @@ alone_formed p call q = by_test (p == q)
     by_test true = refl
     by_test false = refl
 
-alone_open : (now : List Event) (p : ℕ) (call : Call) (place : ℕ) → IsOnlyOpen now p call place → (q : ℕ)
+pub alone_open : (now : List Event) (p : ℕ) (call : Call) (place : ℕ) → IsOnlyOpen now p call place → (q : ℕ)
     → has_open_call q now ≡ has_open_call q (Invoke p call ∷ [])
 alone_open now p call place only q = by_test (p == q) refl
   where

@@ -1,22 +1,16 @@
 -- Laws of lone reads, and of windows that are put aside.
 use Rattle.events.specs.declared.event.Reply.TheVariants as replies
-use Rattle.std.specs.Prelude.{◌≡◌, ◌↔◌, ◌≢◌, ℕ, List, [], ◌∷◌, ◌++◌, Some, None, slice_get, Any}
+use Rattle.std.specs.Prelude.{◌↔◌, ◌≢◌, ℕ, List, [], ◌∷◌, ◌++◌, Any}
 use Rattle.events.specs.declared.event.Call.{Call}
 use Rattle.events.specs.declared.event.Event.{Event}
 use Rattle.events.specs.declared.event.Event.TheVariants.{Invoke, Answer}
 use Rattle.events.specs.declared.event.Reply.{Reply}
 use Rattle.events.specs.Events.{process_of, IsWellFormed}
-use Rattle.events.specs.Operations.{operations}
 use Rattle.map_object.specs.MapObject.{Contents}
+use Rattle.lone_reads.specs.Hushed.{hushed}
 use Rattle.lone_reads.specs.LoneReads.{HasNoEvent, IsOpenAt, IsOnlyOpen, LeavesOnly}
 use Rattle.lone_reads.specs.Windows.{AreLinearizable, Window, TakesAnswer, StandsAlone, StandFor}
 use Rattle.lone_reads.specs.WiderLoneReads.{PartsUnanswered, PartsAnswered, IsReading, IsAnyCall, LeavesAmongOthers}
-
--- a call is open at its place where its operation is pending
-abbrev pub OpenCallsArePending : Type 0
-OpenCallsArePending =
-    (events : List Event) (p : ℕ) (call : Call) (place : ℕ) → IsWellFormed events → slice_get events place ≡ Some (Invoke p call)
-    → IsOpenAt events p call place ↔ Any (λ a. (a.inv ≡ place) × (a.call ≡ call) × (a.response ≡ None)) (operations events)
 
 -- at a moment at which a read is the only open call, and what the calls may leave is one map, the
 -- events before it are put aside
@@ -44,21 +38,11 @@ AloneGoesOn =
     (start m : Contents) (all now : List Event) (e : Event) → StandsAlone start all m now → IsWellFormed (all ++ e ∷ [])
     → StandsAlone start (all ++ e ∷ []) m (now ++ e ∷ [])
 
--- so all events have an order where these have one
-abbrev pub AloneJudges : Type 0
-AloneJudges = (start m : Contents) (all now : List Event) → StandsAlone start all m now → AreLinearizable start all ↔ AreLinearizable m now
-
 -- at an open read windows may be put aside, none so far
 abbrev pub WindowsBegin : Type 0
 WindowsBegin =
     (start m : Contents) (all now : List Event) (p : ℕ) (call : Call) (place : ℕ) → StandsAlone start all m now → IsOpenAt now p call place
     → IsReading call → StandFor start all p call [] m now
-
--- all events have an order where the events that are followed have one
-abbrev pub WindowsJudge : Type 0
-WindowsJudge =
-    (start m : Contents) (all now : List Event) (p : ℕ) (call : Call) (asides : List Window) → StandFor start all p call asides m now
-    → AreLinearizable start all ↔ AreLinearizable m now
 
 -- where the read is the only open call, and the events that are followed have an order and leave
 -- one map, they are put aside, and the read goes on from that map alone
@@ -81,6 +65,20 @@ WindowsMayChange =
     (start m : Contents) (all now : List Event) (p : ℕ) (call : Call) (asides others : List Window) → StandFor start all p call asides m now
     → ((reply : Reply) → Any (TakesAnswer p reply) asides ↔ Any (TakesAnswer p reply) others) → StandFor start all p call others m now
 
+-- behind events by which all other calls tell nothing, whatever follows has an order exactly where
+-- it has one behind the read alone
+abbrev pub HushedEventsStand : Type 0
+HushedEventsStand =
+    (k : Contents) (now more : List Event) (p : ℕ) (call : Call) (place : ℕ) → IsWellFormed now → IsOnlyOpen now p call place → IsReading call
+    → AreLinearizable k (hushed place now ++ more) ↔ AreLinearizable k (Invoke p call ∷ more)
+
+-- so such events may be followed in place of the read alone, and all places stay
+abbrev pub WindowsHush : Type 0
+WindowsHush =
+    (start k : Contents) (all now : List Event) (p : ℕ) (call : Call) (place : ℕ) (asides : List Window)
+    → StandFor start all p call asides k (Invoke p call ∷ []) → IsWellFormed now → IsOnlyOpen now p call place
+    → StandFor start all p call asides k (hushed place now)
+
 -- where one of the windows takes the read's answer, the events that are followed go on as if it had
 -- told nothing
 abbrev pub WindowsTakeAnswers : Type 0
@@ -96,10 +94,10 @@ WindowsPassAnswers =
     → StandFor start all p call asides m now → (Any (TakesAnswer p reply) asides → ⊥)
     → StandsAlone start (all ++ Answer p reply ∷ []) m (now ++ Answer p reply ∷ [])
 
--- an open call that may change the map does not part so, be it answered or not
+-- an open call that may change the map does not part so
 abbrev pub LoneWritesLoseOrders : Type 0
-LoneWritesLoseOrders = (PartsUnanswered IsAnyCall LeavesOnly → ⊥) × (PartsAnswered IsAnyCall LeavesOnly → ⊥)
+LoneWritesLoseOrders = PartsUnanswered IsAnyCall LeavesOnly → ⊥
 
 -- nor does a read from one of several maps that may be left
 abbrev pub OtherMapsLoseOrders : Type 0
-OtherMapsLoseOrders = (PartsUnanswered IsReading LeavesAmongOthers → ⊥) × (PartsAnswered IsReading LeavesAmongOthers → ⊥)
+OtherMapsLoseOrders = PartsUnanswered IsReading LeavesAmongOthers → ⊥

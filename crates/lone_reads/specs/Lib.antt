@@ -1,3 +1,4 @@
+pub mod Hushed
 pub mod Laws
 pub mod LoneReads
 pub mod WiderLoneReads

@@ -1,13 +1,8 @@
 // Laws of lone reads: each function only carries its clause.
-ghost use Rattle.lone_reads.specs.Laws.{AloneBegins, AloneGoesOn, AloneJudges, DoneTellsLess, LoneReadsPart, LoneReadsWait};
-ghost use Rattle.lone_reads.specs.Laws.{LoneWritesLoseOrders, OpenCallsArePending, OtherMapsLoseOrders, WindowsBegin, WindowsClose, WindowsGoOn};
-ghost use Rattle.lone_reads.specs.Laws.{WindowsJudge, WindowsMayChange, WindowsPassAnswers, WindowsTakeAnswers};
-
-/// A call that was invoked at a place of well-formed events is open there exactly where its
-/// operation has no response.
-pub fn open_calls_are_pending()
-    ensures { OpenCallsArePending }
-{}
+ghost use Rattle.lone_reads.specs.Laws.{AloneBegins, AloneGoesOn, DoneTellsLess, LoneReadsPart, LoneReadsWait};
+ghost use Rattle.lone_reads.specs.Laws.{LoneWritesLoseOrders, OtherMapsLoseOrders, WindowsBegin, WindowsClose, WindowsGoOn};
+ghost use Rattle.lone_reads.specs.Laws.{HushedEventsStand, WindowsHush};
+ghost use Rattle.lone_reads.specs.Laws.{WindowsMayChange, WindowsPassAnswers, WindowsTakeAnswers};
 
 /// At a moment at which a get or a scan is the only open call, and what the calls may leave is one
 /// map, the events before are put aside: while the read is not answered, the whole has an order
@@ -38,20 +33,9 @@ pub fn alone_goes_on()
     ensures { AloneGoesOn }
 {}
 
-/// Where events stand for all, all have an order so far exactly where these have one.
-pub fn alone_judges()
-    ensures { AloneJudges }
-{}
-
 /// Where events stand for all and a read is open, they do so beside windows, none so far.
 pub fn windows_begin()
     ensures { WindowsBegin }
-{}
-
-/// And while the read is open all have an order exactly where the events that are followed have
-/// one.
-pub fn windows_judge()
-    ensures { WindowsJudge }
 {}
 
 /// Where that read is the only open call, and the events have an order and leave one map, they are
@@ -69,6 +53,17 @@ pub fn windows_go_on()
 /// it has one in one of them: so a window goes that takes no answer which the others do not take.
 pub fn windows_may_change()
     ensures { WindowsMayChange }
+{}
+
+/// In place of the read alone, events may be followed by which all calls but it tell nothing:
+/// whatever comes behind has an order exactly where it has one behind the read alone.
+pub fn hushed_events_stand()
+    ensures { HushedEventsStand }
+{}
+
+/// And so beside windows: all events keep their places.
+pub fn windows_hush()
+    ensures { WindowsHush }
 {}
 
 /// Where the read's answer has an order in one of the windows, the events that are followed stand

@@ -5,8 +5,7 @@
 mod laws;
 
 pub use laws::{
-    alone_begins, alone_goes_on, alone_judges, done_tells_less, lone_reads_part, lone_reads_wait,
-    lone_writes_lose_orders, open_calls_are_pending, other_maps_lose_orders, windows_begin,
-    windows_close, windows_go_on, windows_judge, windows_may_change, windows_pass_answers,
-    windows_take_answers,
+    alone_begins, alone_goes_on, done_tells_less, hushed_events_stand, lone_reads_part,
+    lone_reads_wait, lone_writes_lose_orders, other_maps_lose_orders, windows_begin, windows_close,
+    windows_go_on, windows_hush, windows_may_change, windows_pass_answers, windows_take_answers,
 };

@@ -20,8 +20,8 @@ pub struct OwnPart {
     pub key: u64,
     /// The value, or none.
     pub value: Option<u64>,
-    /// The event of the invocation of the call that put the value: none where it was there at the
-    /// start, and where it is none.
+    /// The event of the invocation of the call that put the value: none where it was there when
+    /// what was followed began, and where it is none.
     pub put: Option<usize>,
     /// The pairs that the calls begin with: the key with the value, if it has one.
     pub start: Vec<(u64, u64)>,

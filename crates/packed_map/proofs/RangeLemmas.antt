@@ -88,6 +88,16 @@ between_each {V} low high es key = (
       Contains-map (λ (e : ℕ × V). e.0) (filter p es) (key, v) (Contains-filter p es (key, v) known (between-from low high key h.0 h.1)),
 )
 
+-- all keys rise, and are those that have a value
+pub all_rise : {V : Type 0} (es : List (ℕ × V)) → KeysRise es → AllPairs (λ k l. k < l) (map (λ e. e.0) es)
+all_rise {V} es rising = AllPairs-map (λ k l. k < l) (λ (e : ℕ × V). e.0) es rising
+
+pub all_each : {V : Type 0} (es : List (ℕ × V)) (key : ℕ) → Contains (map (λ e. e.0) es) key ↔ IsSome (value_at es key)
+all_each {V} es key = (
+  λ h. let (e, is, at) = Contains-from_map (λ (e : ℕ × V). e.0) es key h in subst (λ k. IsSome (value_at es k)) at (Contains-value_at es e is),
+  λ h. let (v, known) = value_at-Contains es key h in Contains-map (λ (e : ℕ × V). e.0) es (key, v) known,
+)
+
 -- the keys of leaves before that of a key are lower, and those of leaves behind it higher
 lower_leaves : {V : Type 0} (key i : ℕ) (leaves : List (Leaf V)) → AreLeaves leaves → IsLeafOf key leaves i
     → All (λ e. e.0 < key) (entries_of (take i leaves))

@@ -6,7 +6,7 @@ ghost use Rattle.packed_map.specs.Entries.{value_at};
 
 use crate::leaf::Leaf;
 use crate::leaves::{get_in, remove_in, replace_in};
-use crate::ranges::keys_of;
+use crate::ranges::{all_keys, keys_of};
 use crate::splitting::insert_in;
 use std::alloc::{AllocError, Global};
 use std::marker::Model;
@@ -82,6 +82,15 @@ impl<V: Drop> PackedMap<V> {
             ≡ (if other == key then None else value_at self.old other) }
     {
         remove_in(&mut self.leaves, &mut self.near, key)
+    }
+
+    /// All keys, rising.
+    pub fn keys(&self, alloc: Global) -> Result<Vec<u64>, AllocError>
+        ensures rising { IfOk result (λ keys. AllPairs (λ k l. k < l) keys.items) }
+        ensures each { IfOk result (λ keys. (key : ℕ) → Contains keys.items key
+            ↔ IsSome (value_at self.now key)) }
+    {
+        all_keys(alloc, &self.leaves)
     }
 
     /// The keys of a range, rising.

@@ -1,11 +1,32 @@
 // The keys of a range.
-ghost use Rattle.std.specs.Prelude.{◌≡◌, ◌≤◌, [], ◌∷◌, ◌++◌, IfOk, OnOk, if◌then◌else◌};
+ghost use Rattle.std.specs.Prelude.{◌≡◌, ◌≤◌, [], ◌∷◌, ◌++◌, map, IfOk, OnOk, if◌then◌else◌};
 ghost use Rattle.packed_map.specs.Leaves.{AreLeaves, entries_of};
 ghost use Rattle.packed_map.specs.Ranges.{is_between, keys_between};
 
 use crate::leaf::Leaf;
 use crate::searching::leaf_of;
 use std::alloc::{AllocError, Global};
+
+/// All keys.
+pub(crate) fn all_keys<V>(alloc: Global, leaves: &[Leaf<V>]) -> Result<Vec<u64>, AllocError>
+    ensures { IfOk result (λ keys. keys.items ≡ map (λ e. e.0) (entries_of leaves.now)) }
+{
+    let mut keys = Vec::new(alloc);
+    for leaf in leaves {
+        push_keys(&mut keys, &leaf.entries)?;
+    }
+    Ok(keys)
+}
+
+/// Adds the keys of entries.
+fn push_keys<V>(keys: &mut Vec<u64>, entries: &[(u64, V)]) -> Result<(), AllocError>
+    ensures { OnOk result (keys.new.items ≡ keys.old.items ++ map (λ e. e.0) entries.now) }
+{
+    for entry in entries {
+        keys.push(entry.0)?;
+    }
+    Ok(())
+}
 
 /// The keys of a range.
 pub(crate) fn keys_of<V>(

@@ -8,6 +8,7 @@ pub mod Timing
 pub use Rattle.known_keys.specs.Entries
 pub use Rattle.known_keys.specs.Judging
 pub use Rattle.known_keys.specs.Reads
+pub use Rattle.known_keys.specs.Resting
 pub use Rattle.known_keys.specs.Retiming
 pub use Rattle.known_keys.specs.Steps
 pub use Rattle.known_keys.specs.Views

@@ -19,4 +19,4 @@ pub use row::{KeptScan, OpenScan, Row};
 pub use settling::settle_key;
 
 // What crates above name through this one.
-pub use known_keys::{Judged, KeptKey, Known, KnownKey, WIDTH, is_read_of};
+pub use known_keys::{Judged, KeptKey, Known, KnownKey, WIDTH, is_read_of, rest_at};

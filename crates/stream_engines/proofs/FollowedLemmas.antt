@@ -15,9 +15,9 @@ use Rattle.events.specs.Keys.{low_key, high_key}
 use Rattle.answer_hints.proofs.OverlapLemmas.{pending-room, overlap-room, pending-kept, overlap-kept}
 use Rattle.stream_text.specs.Lines.{SpellsEvent}
 use Rattle.follower.specs.Faults.{event_limit, invocation_fault}
-use Rattle.follower.specs.FollowerView.{FollowerView}
-use Rattle.follower.specs.Following.{IsFollowing}
 use Rattle.follower.specs.declared.fault.FollowFault.{FollowFault}
+use Rattle.windows.specs.Followed.{IsFollowed as IsFollowedBy}
+use Rattle.windows.specs.WindowsView.{WindowsView}
 use Rattle.stream_engines.specs.declared.followed.Followed.{Followed}
 use Rattle.stream_engines.specs.Followed.{IsFollowed}
 use Rattle.stream_engines.proofs.StreamLemmas.{SpellStream-push}
@@ -37,10 +37,10 @@ room events process call h =
     turns.Shape turns.NotWellFormed turns.TooMany h in
     grind (arith, nat_tests)
 
-pub invoked : (read : List (List ℕ)) (line : List ℕ) (f : Followed) (g : FollowerView) (process : ℕ) (call : Call)
+pub invoked : (read : List (List ℕ)) (line : List ℕ) (f : Followed) (g : WindowsView) (process : ℕ) (call : Call)
     (pending overlap : ℕ)
     (followed : IsFollowed read f) → SpellsEvent f.version line (Invoke process call)
-    → IsFollowing followed.stream.start (followed.stream.events ++ Invoke process call ∷ []) g
+    → IsFollowedBy followed.stream.start (followed.stream.events ++ Invoke process call ∷ []) g
     → invocation_fault followed.stream.events process call ≡ None → pending ≡ min (f.pending + 1) (2 ^ 64 - 1)
     → overlap ≡ min (f.overlap + f.pending) (2 ^ 64 - 1)
     → IsFollowed (read ++ line ∷ []) (record { follower = g; version = f.version; pending = pending; overlap = overlap })
@@ -56,9 +56,9 @@ invoked read line f g process call pending overlap followed spelled follows acce
       overlap = overlap_is ∙ overlap-room events process call f.pending f.overlap followed.pending followed.overlap;
     }
 
-pub answered : (read : List (List ℕ)) (line : List ℕ) (f : Followed) (g : FollowerView) (process : ℕ) (reply : Reply) (pending : ℕ)
+pub answered : (read : List (List ℕ)) (line : List ℕ) (f : Followed) (g : WindowsView) (process : ℕ) (reply : Reply) (pending : ℕ)
     (followed : IsFollowed read f) → SpellsEvent f.version line (Answer process reply)
-    → IsFollowing followed.stream.start (followed.stream.events ++ Answer process reply ∷ []) g → pending ≡ f.pending - 1
+    → IsFollowedBy followed.stream.start (followed.stream.events ++ Answer process reply ∷ []) g → pending ≡ f.pending - 1
     → IsFollowed (read ++ line ∷ []) (record { follower = g; version = f.version; pending = pending; overlap = f.overlap })
 answered read line f g process reply pending followed spelled follows pending_is =
     let events = followed.stream.events in

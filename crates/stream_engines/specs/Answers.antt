@@ -17,9 +17,9 @@ use Rattle.stream_text.specs.Cuts.{lines_of}
 use Rattle.stream_text.specs.Lines.{SpellsEvent}
 use Rattle.follower.specs.declared.answered.Doubt.{Doubt}
 use Rattle.follower.specs.declared.answered.Loss.{Loss}
-use Rattle.follower.specs.FollowerView.{FollowerView}
-use Rattle.follower.specs.Following.{IsFollowing}
-use Rattle.follower.specs.Outcomes.{IsLost, IsSpent, IsDoubtOf}
+use Rattle.windows.specs.Followed.{IsFollowed}
+use Rattle.windows.specs.Outcomes.{IsLost, IsSpent, IsDoubtOfOne}
+use Rattle.windows.specs.WindowsView.{WindowsView}
 use Rattle.outcomes.specs.declared.outcome.Answer as outcomes
 use Rattle.outcomes.specs.declared.outcome.Answer.TheVariants as verdicts
 use Rattle.outcomes.specs.Lines.{line}
@@ -62,16 +62,18 @@ pub record IsJudgedAnswer (lines : List (List ℕ)) (IsWhat : Judgement) : Type 
   pub answer : SpellsEvent version next (Answer process reply)
   pub judged : IsWhat stream.start stream.events process reply
 
--- with this answer, and whatever comes behind it, the events go wrong
+-- with this answer, and whatever comes behind it, the events go wrong; what is told of keys is what
+-- was kept of them of what was followed, which is some of the events, as they were or telling
+-- nothing
 abbrev pub GoesWrongHere : List (List ℕ) → Loss → Type 0
 GoesWrongHere lines loss = IsJudgedAnswer lines (λ start events process reply. IsLost start events process reply loss)
 
--- the answer is spent, and where that is for the number of rows, those of a follower of the events
--- come to too many by it
+-- the answer is spent, and where that is for the number of rows, those of one that a follower of
+-- the events has come to too many by it
 abbrev pub IsSpentBy : Contents → List Event → ℕ → Reply → ℕ → ℕ → ℕ → Doubt → Type 0
 IsSpentBy start events process reply budget event number doubt =
     IsSpent start events process reply budget event number doubt
-    × ((f : FollowerView) × IsFollowing start events f × IsDoubtOf f process reply doubt)
+    × ((w : WindowsView) × IsFollowed start events w × IsDoubtOfOne w process reply doubt)
 
 -- it is not known whether they do, at this budget
 abbrev pub IsDoubtedHere : ℕ → List (List ℕ) → ℕ → ℕ → Doubt → Type 0

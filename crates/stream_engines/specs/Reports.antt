@@ -27,8 +27,9 @@ numbers_data numbers = list_data (map number_data numbers)
 abbrev pub values_data : List Configuration → Data
 values_data configurations = list_data (map value_data (flat_map (λ c. c.values) configurations))
 
--- which calls put them, each by the event of its invocation; none where the value was there at the
--- start, and beside none
+-- which calls put them, each by the event of its invocation; none where the value was there when
+-- what is followed began, which is the start or a moment at which what came before was put aside,
+-- and beside none
 abbrev pub puts_data : KeptView → List Configuration → Data
 puts_data kept configurations = list_data (map value_data (flat_map (λ c. map (put_in kept c) c.values) configurations))
 

@@ -11,17 +11,17 @@ ghost use Rattle.stream_engines.specs.StreamTexts.{BeginsWith};
 use crate::refusals::{refused_event, refused_first, refused_line};
 use crate::reports::{lost_outcome, spent_outcome, yes_outcome};
 use events::{Call, Memory, Pairs, Reply};
-use follower::{AnsweredStream, Follower};
 use history_text::TextVersion;
 use outcomes::RunOutcome;
 use std::alloc::Global;
 use stream_text::{FirstLine, StreamEvent, read_event_line, read_first_line};
+use windows::{AnsweredWindows, WindowFollower};
 
 /// A stream, as far as it was followed: its follower, its version, how many calls are open, and how
 /// many other calls were open at the invocations, in all.
 #[derive(Drop)]
 pub struct Followed {
-    pub follower: Follower,
+    pub follower: WindowFollower,
     pub version: TextVersion,
     pub pending: u64,
     pub overlap: u64,
@@ -32,7 +32,7 @@ impl Followed {
     pub fn new(alloc: Global) -> Result<Followed, Memory>
         ensures { IfOk result (IsFollowed []) }
     {
-        let follower = Follower::new(alloc, &[])?;
+        let follower = WindowFollower::new(alloc, &[])?;
         Ok(Followed {
             follower,
             version: TextVersion::One,
@@ -53,7 +53,7 @@ impl Followed {
         ensures stopped { (told : Option (List ℕ)) (budget : ℕ)
             → IfErr result (IsStreamOutcome budget told) }
     {
-        let Ok(follower) = Follower::new(alloc, start.as_slice()) else {
+        let Ok(follower) = WindowFollower::new(alloc, start.as_slice()) else {
             return Err(RunOutcome::Memory);
         };
         Ok(Followed {
@@ -182,21 +182,21 @@ impl Followed {
         let version = self.version;
         let (pending, overlap) = (self.pending, self.overlap);
         match self.follower.answer(alloc, process, reply, budget) {
-            Ok(AnsweredStream::Going(follower)) => Ok(Followed {
+            Ok(AnsweredWindows::Going(follower)) => Ok(Followed {
                 follower,
                 version,
                 pending: pending.saturating_sub(1),
                 overlap,
             }),
-            Ok(AnsweredStream::Lost(loss)) => Err(lost_outcome(alloc, &loss)),
+            Ok(AnsweredWindows::Lost(loss)) => Err(lost_outcome(alloc, &loss)),
             Ok(
-                AnsweredStream::Spent {
+                AnsweredWindows::Spent {
                     event,
                     number: call,
                     doubt,
                 },
             ) => Err(spent_outcome(alloc, event, call, &doubt)),
-            Ok(AnsweredStream::Refused(_, fault)) => Err(refused_event(
+            Ok(AnsweredWindows::Refused(_, fault)) => Err(refused_event(
                 alloc, number, line, &fault,
             )),
             Err(_) => Err(RunOutcome::Memory),

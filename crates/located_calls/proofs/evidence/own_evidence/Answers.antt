@@ -7,16 +7,16 @@ pub explain_part-requires-clause-rising : goal.explain_part-requires-clause-risi
 explain_part-requires-clause-rising c =
     let own = own_of c.own_parts_have_no_order.ensures c.args.budget c.args.history.now c.args.loss.now c.in-Some.part c.requires.lost
     (sym c.in_ok-part.ensures ∙ c.in-Some.is) in
-    own.1.rise
+    own.1.1.rise
 
 pub explain_part-requires-clause-apart : goal.explain_part-requires-clause-apart
 explain_part-requires-clause-apart c =
     let own = own_of c.own_parts_have_no_order.ensures c.args.budget c.args.history.now c.args.loss.now c.in-Some.part c.requires.lost
     (sym c.in_ok-part.ensures ∙ c.in-Some.is) in
-    own.1.apart
+    own.1.1.apart
 
 pub explain_part-requires-clause-none : goal.explain_part-requires-clause-none
 explain_part-requires-clause-none c =
     let own = own_of c.own_parts_have_no_order.ensures c.args.budget c.args.history.now c.args.loss.now c.in-Some.part c.requires.lost
     (sym c.in_ok-part.ensures ∙ c.in-Some.is) in
-    own.1.none
+    own.1.1.none

@@ -1,8 +1,8 @@
 use Rattle.std.proofs.Common.{◌∙◌, take, sym, subst}
 use Rattle.std.proofs.lemmas.Option.{none-some}
 use Rattle.events.specs.declared.event.Event.TheVariants.{Answer}
-use Rattle.follower.specs.Following.{IsFollowing}
-use Rattle.follower.specs.Outcomes.{IsAnswered, IsCountedAs}
+use Rattle.windows.specs.Followed.{IsFollowed}
+use Rattle.windows.specs.Outcomes.{IsAnswered, IsCountedAs}
 use Rattle.locating.proofs.PassLemmas.{fine_answer, lost, next, spent}
 use Rattle.locating.proofs.passing.pass_answer.Goals as goal
 
@@ -21,7 +21,7 @@ returns-in-Going c =
     let before = take c.args.place history.events in
     let is = subst (IsAnswered history.start before c.args.follower c.args.process c.args.reply c.args.budget) c.in-Going.is
     (c.in_ok-next.ensures.answered history.start before c.requires.follows) in
-    subst (λ es. IsFollowing history.start es c.in-Going.next)
+    subst (λ es. IsFollowed history.start es c.in-Going.next)
     (next history c.args.place (Answer c.args.process c.args.reply) c.requires.event) is.1
 
 pub returns-in-Lost : goal.returns-in-Lost

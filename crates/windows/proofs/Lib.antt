@@ -1,0 +1,4 @@
+mod AskingLemmas
+mod CloseLemmas
+mod StandLemmas
+mod StretchLemmas

@@ -1,0 +1,4 @@
+pub mod Asking
+pub mod Followed
+pub mod Outcomes
+pub mod WindowsView
