@@ -25,15 +25,15 @@ use Rattle.art_shared.specs.Ends.{HasOwnEvents}
 use Rattle.drives.specs.Drives.{HasFinished, HasStopped, most_calls}
 use Rattle.drives.specs.Drives as drives
 use Rattle.running.specs.declared.arena.Arena.{Arena}
-use Rattle.running.specs.declared.pass.Pass.{Pass}
-use Rattle.running.specs.Passes.{shows, opened_for, setup_with}
+use Rattle.running.specs.declared.group.ProcessGroup.{ProcessGroup}
+use Rattle.running.specs.Groups.{shows, opened_for, setup_with}
 use Rattle.running.specs.declared.fault.ArenaClose.{ArenaClose}
 use Rattle.running.specs.declared.fault.ArenaClose.TheVariants as faults
 use Rattle.running.specs.Closing.{IsHistoryOf, HoldsAll, IsHandedBack}
 use Rattle.arena_drives.specs.ArenaDrives.{IsArenaDriveOf, IsLimited}
 use Rattle.running.specs.Linearizable.{IsLinearizableIn}
 use Rattle.arena_drives.proofs.StepLemmas.{few-steps}
-use Rattle.arena_drives.specs.Passes.{HasAnsweredAll, HasStoppedIn, HasDone, HasDoneOwn, WantsMemory}
+use Rattle.arena_drives.specs.Groups.{HasAnsweredAll, HasStoppedIn, HasDone, HasDoneOwn, WantsMemory}
 
 -- the calls that are invoked in a log are those that its process began
 calls-logged : (log : List Stamped) → drives.invoked (map (λ e. e.1) log) ≡ filter_map (λ e. invoked e.1) log
@@ -120,8 +120,8 @@ module _ (WasPassed : ℕ → Type 0) (shape : Shape) (variant : Variant) (limit
     ended = ended;
   }
 
--- an arena whose pass holds all processes was not closed only for want of memory
-pub memory-wanted : (a : Arena) (p : Pass) (fault : ArenaClose) → HoldsAll (opened_for a) (shows p) → IsHandedBack a p fault
+-- an arena whose group holds all processes was not closed only for want of memory
+pub memory-wanted : (a : Arena) (p : ProcessGroup) (fault : ArenaClose) → HoldsAll (opened_for a) (shows p) → IsHandedBack a p fault
     → WantsMemory fault
 memory-wanted a p (faults.StillOut back given) all h = absurd (h.1 all)
 memory-wanted a p (faults.Memory back given) all h = tt

@@ -16,7 +16,7 @@ use Rattle.art_shared.specs.declared.view.View.{View}
 use Rattle.art_shared.specs.Views.{Numbered, invoking}
 use Rattle.running.specs.Steps.{is_open, Ran, HasReplied, HasInvoked}
 use Rattle.arena_drives.specs.ArenaDrives.{alone, DoesCall, DoesCalls}
-use Rattle.arena_drives.specs.Passes.{is_pending, HasAnsweredAll, ShowsDone}
+use Rattle.arena_drives.specs.Groups.{is_pending, HasAnsweredAll, ShowsDone}
 use Rattle.arena_drives.proofs.RunLemmas.{ends-logged, ran, ran-open}
 
 -- one call more is one limit more

@@ -12,7 +12,7 @@ use Rattle.art_shared.specs.declared.view.Setup.{Setup}
 use Rattle.art_shared.specs.declared.view.View.{View}
 use Rattle.art_shared.specs.Views.{Numbered, view}
 use Rattle.drives.specs.Drives.{HasFinished, HasStopped, HaveScripts, most_calls}
-use Rattle.running.specs.Passes.{setup_with}
+use Rattle.running.specs.Groups.{setup_with}
 use Rattle.running.specs.Closing.{IsHistoryOf}
 use Rattle.running.specs.Steps.{HasInvoked, Ran}
 

@@ -1,2 +1,2 @@
 pub mod ArenaDrives
-pub mod Passes
+pub mod Groups

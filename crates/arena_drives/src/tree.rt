@@ -2,9 +2,9 @@
 ghost use Rattle.std.specs.Prelude.{◌≡◌, ◌≤◌, map, length, vec_len, All, EachIndex, IfOk, OnOk};
 ghost use Rattle.art_rows.specs.Table.{IsWithinLimits};
 ghost use Rattle.drives.specs.Drives.{IsDrivable};
-ghost use Rattle.running.specs.Passes.{opened_for};
+ghost use Rattle.running.specs.Groups.{opened_for};
 ghost use Rattle.arena_drives.specs.ArenaDrives.{IsArenaDriveOf};
-ghost use Rattle.arena_drives.specs.Passes.{IsReady, IsPassAfter, WantsMemory};
+ghost use Rattle.arena_drives.specs.Groups.{IsReady, IsGroupAfter, WantsMemory};
 
 use crate::parts::{join_all, part_all};
 use crate::script::{do_script, enter};
@@ -13,7 +13,7 @@ use drives::most_calls;
 use events::{History, Memory};
 use plans::Plan;
 use pool::Gate;
-use running::{Arena, ArenaClose, Pass};
+use running::{Arena, ArenaClose, ProcessGroup};
 use std::alloc::{AllocError, Global};
 use std::thread;
 use std::thread::Threads;
@@ -39,38 +39,38 @@ pub fn drive_arena<R: Threads + Sync, G: Gate + Sync>(
 {
     let scripts = plan.scripts();
     let processes = scripts.len() as u8;
-    let (arena, pass) = Arena::open(alloc, shape, variant, processes, most_calls(scripts) as u32)?;
-    let passes = part_all(alloc, &arena, pass, processes)?;
-    let done = do_scripts(rt, alloc, &arena, passes, scripts, limit, gate)?;
-    let pass = join_all(&arena, done)?;
-    match arena.close(alloc, pass) {
+    let (arena, group) = Arena::open(alloc, shape, variant, processes, most_calls(scripts) as u32)?;
+    let groups = part_all(alloc, &arena, group, processes)?;
+    let done = do_scripts(rt, alloc, &arena, groups, scripts, limit, gate)?;
+    let group = join_all(&arena, done)?;
+    match arena.close(alloc, group) {
         Ok(history) => Ok(history),
         Err(fault) => Err(want_of_memory(fault)),
     }
 }
 
 /// All processes do their scripts, each in a thread of its own where one can be made: what each gives back, in the order of
-/// the passes.
+/// the groups.
 fn do_scripts<R: Threads + Sync, G: Gate + Sync>(
     rt: &R,
     alloc: Global,
     arena: &Arena,
-    passes: Vec<Pass>,
+    groups: Vec<ProcessGroup>,
     scripts: &[Vec<TreeCall>],
     limit: u32,
     gate: &G,
-) -> Result<Vec<Result<Pass, Memory>>, AllocError>
-    requires ready { All (IsReady arena.now) passes.items }
+) -> Result<Vec<Result<ProcessGroup, Memory>>, AllocError>
+    requires ready { All (IsReady arena.now) groups.items }
     requires processes { (opened_for arena.now).processes ≡ length scripts.now }
     requires room { All (λ script. vec_len script ≤ (opened_for arena.now).calls_each) scripts.now }
-    ensures many { IfOk result (λ done. vec_len done ≡ vec_len passes) }
-    ensures done { IfOk result (λ done. All (λ d. IfOk d (IsPassAfter (G.was_passed gate.now) arena.now limit
+    ensures many { IfOk result (λ done. vec_len done ≡ vec_len groups) }
+    ensures done { IfOk result (λ done. All (λ d. IfOk d (IsGroupAfter (G.was_passed gate.now) arena.now limit
         (map (λ script. script.items) scripts.now))) done.items) }
 {
     thread::map_vec(
         rt,
-        passes,
-        &|pass| { do_own_script(alloc, arena, pass, scripts, limit, gate) },
+        groups,
+        &|group| { do_own_script(alloc, arena, group, scripts, limit, gate) },
     )
 }
 
@@ -78,18 +78,18 @@ fn do_scripts<R: Threads + Sync, G: Gate + Sync>(
 fn do_own_script<G: Gate>(
     alloc: Global,
     arena: &Arena,
-    pass: Pass,
+    group: ProcessGroup,
     scripts: &[Vec<TreeCall>],
     limit: u32,
     gate: &G,
-) -> Result<Pass, Memory>
-    requires ready { IsReady arena.now pass }
+) -> Result<ProcessGroup, Memory>
+    requires ready { IsReady arena.now group }
     requires processes { (opened_for arena.now).processes ≡ length scripts.now }
     requires room { All (λ script. vec_len script ≤ (opened_for arena.now).calls_each) scripts.now }
-    ensures { IfOk result (IsPassAfter (G.was_passed gate.now) arena.now limit (map (λ script. script.items) scripts.now)) }
+    ensures { IfOk result (IsGroupAfter (G.was_passed gate.now) arena.now limit (map (λ script. script.items) scripts.now)) }
 {
-    let process = usize::from(pass.process());
-    do_script(alloc, arena, enter(gate, pass), &scripts[process], limit)
+    let process = usize::from(group.process());
+    do_script(alloc, arena, enter(gate, group), &scripts[process], limit)
 }
 
 /// An arena was not closed only for want of memory.

@@ -7,4 +7,4 @@ pub mod Words
 pub mod Trees
 pub mod Program
 pub mod Lines
-pub mod LineFaults
+pub mod WordsFaults

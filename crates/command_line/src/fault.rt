@@ -1,7 +1,7 @@
 // Why words ask for nothing.
 ghost use Rattle.std.specs.Prelude.{◌≡◌};
 ghost use Rattle.clap.specs.Words.{kind_of};
-ghost use Rattle.command_line.specs.declared.fault.LineFault.TheVariants.{Memory};
+ghost use Rattle.command_line.specs.declared.fault.WordsFault.TheVariants.{Memory};
 
 use crate::table::{ValueOption, Values};
 use clap::Error;
@@ -11,24 +11,24 @@ use std::fmt;
 
 /// Why the words ask for nothing that can be done.
 #[derive(Debug, Drop)]
-pub enum LineFault {
+pub enum WordsFault {
     /// The words are no line of the program, or ask for help. The text is what the user is shown.
     Line(String),
     /// Memory was wanting.
     Memory,
 }
 
-impl LineFault {
+impl WordsFault {
     /// The fault for an error of `clap`, whose text it keeps.
-    pub(crate) fn of(alloc: Global, error: &Error) -> LineFault
-        ensures { kind_of error.now ≡ ErrorKind.OutOfMemory → result ≡ LineFault.Memory }
+    pub(crate) fn of(alloc: Global, error: &Error) -> WordsFault
+        ensures { kind_of error.now ≡ ErrorKind.OutOfMemory → result ≡ WordsFault.Memory }
     {
         if error.kind() == ErrorKind::OutOfMemory {
-            return LineFault::Memory;
+            return WordsFault::Memory;
         }
         match error.to_string(alloc) {
-            Ok(text) => LineFault::Line(text),
-            Err(_) => LineFault::Memory,
+            Ok(text) => WordsFault::Line(text),
+            Err(_) => WordsFault::Memory,
         }
     }
 
@@ -37,10 +37,10 @@ impl LineFault {
         alloc: Global,
         option: &'o ValueOption<'o>,
         value: &str,
-    ) -> LineFault {
+    ) -> WordsFault {
         match (UnknownWord { option, value }).to_string(alloc) {
-            Ok(text) => LineFault::Line(text),
-            Err(_) => LineFault::Memory,
+            Ok(text) => WordsFault::Line(text),
+            Err(_) => WordsFault::Memory,
         }
     }
 }
@@ -82,18 +82,18 @@ fn write_behind<W: fmt::Write>(f: &mut fmt::Formatter<W>, before: &str, word: &s
     f.write_str(word)
 }
 
-impl From<AllocError> for LineFault {
+impl From<AllocError> for WordsFault {
     ghost from_gives = { λ _ e. e ≡ Memory };
 
-    fn from(_error: AllocError) -> LineFault {
-        LineFault::Memory
+    fn from(_error: AllocError) -> WordsFault {
+        WordsFault::Memory
     }
 }
 
-impl<T: Drop> From<AllocFailed<T>> for LineFault {
+impl<T: Drop> From<AllocFailed<T>> for WordsFault {
     ghost from_gives = { λ _ e. e ≡ Memory };
 
-    fn from(_error: AllocFailed<T>) -> LineFault {
-        LineFault::Memory
+    fn from(_error: AllocFailed<T>) -> WordsFault {
+        WordsFault::Memory
     }
 }

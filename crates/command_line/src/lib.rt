@@ -13,6 +13,6 @@ mod read;
 mod request;
 mod table;
 
-pub use fault::LineFault;
+pub use fault::WordsFault;
 pub use line::{Line, Tree};
 pub use read::read_line;

@@ -14,8 +14,8 @@ use Rattle.explaining.specs.declared.explanation.Reason.TheVariants as reasons
 use Rattle.explaining.specs.declared.explanation.Explanation.{Explanation}
 use Rattle.explaining.specs.declared.leaving.Without.{Without}
 use Rattle.explaining.specs.declared.leaving.Without.TheVariants.{Rest, Kept}
-use Rattle.explaining.specs.declared.lessening.Pass.{Pass}
-use Rattle.explaining.specs.declared.lessening.Pass.TheVariants.{Less, Least}
+use Rattle.explaining.specs.declared.lessening.Reduction.{Reduction}
+use Rattle.explaining.specs.declared.lessening.Reduction.TheVariants.{Less, Least}
 
 -- some of the calls, each as it is or without its answer, that have no order; and none of those
 -- left out could mend that: each order of all would be one of these (the law
@@ -80,6 +80,6 @@ IsWithout start calls places budget (Rest rest) = IsRest start calls places rest
 IsWithout start calls places budget (Kept reason) = IsReasonFor start budget calls places reason
 
 -- what a look at each call kept came to: fewer that are enough, or a reason for each
-abbrev pub IsPass : Contents → List Operation → List Operation → ℕ → Pass → Type 0
-IsPass start calls kept budget (Less rest) = AreEnough start calls rest.items × (length rest.items < length kept)
-IsPass start calls kept budget (Least reasons) = AllZip (IsReasonForOne start budget calls kept) kept reasons.items
+abbrev pub IsReduction : Contents → List Operation → List Operation → ℕ → Reduction → Type 0
+IsReduction start calls kept budget (Less rest) = AreEnough start calls rest.items × (length rest.items < length kept)
+IsReduction start calls kept budget (Least reasons) = AllZip (IsReasonForOne start budget calls kept) kept reasons.items

@@ -5,7 +5,7 @@ ghost use Rattle.orders.specs.Orders.{IsLinearizable};
 ghost use Rattle.explaining.specs.Explained.{AreEnough, IsExplanation, few_configurations};
 
 use crate::explanation::Explanation;
-use crate::lessening::{Pass, lessen, look_at_each};
+use crate::lessening::{Reduction, lessen, look_at_each};
 use crate::windows::{first_calls, last_calls};
 use events::{Memory, Operation};
 use map_object::SortedMap;
@@ -47,8 +47,8 @@ pub(crate) fn least_of(
     let mut kept = kept;
     loop {
         match look_at_each(alloc, map, calls, &kept, budget)? {
-            Pass::Less(rest) => kept = rest,
-            Pass::Least(reasons) => return Ok(Explanation {
+            Reduction::Less(rest) => kept = rest,
+            Reduction::Least(reasons) => return Ok(Explanation {
                 calls: kept,
                 reasons,
             }),

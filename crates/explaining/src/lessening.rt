@@ -1,7 +1,7 @@
 // Calls without order are made fewer.
 ghost use Rattle.std.specs.Prelude.{◌≡◌, ◌<◌, ◌≤◌, AllPairs, IfOk};
 ghost use Rattle.events.specs.Precedence.{NonePrecedesItself};
-ghost use Rattle.explaining.specs.Explained.{AreEnough, IsPass, others_than};
+ghost use Rattle.explaining.specs.Explained.{AreEnough, IsReduction, others_than};
 
 use crate::explanation::Reason;
 use crate::leaving::{Without, leave_out};
@@ -11,7 +11,7 @@ use std::alloc::Global;
 
 /// What a look at each call kept came to.
 #[derive(Drop)]
-pub enum Pass {
+pub enum Reduction {
     /// One of them can be left out, and these are the others.
     Less(Vec<Operation>),
     /// None can be left out, and each has its reason to stay.
@@ -77,20 +77,20 @@ pub(crate) fn look_at_each(
     calls: &[Operation],
     kept: &[Operation],
     budget: u32,
-) -> Result<Pass, Memory>
+) -> Result<Reduction, Memory>
     requires rising { AllPairs (λ a b. a.inv < b.inv) calls.now }
     requires apart { NonePrecedesItself calls.now }
-    ensures { IfOk result (IsPass map.now calls.now kept.now budget) }
+    ensures { IfOk result (IsReduction map.now calls.now kept.now budget) }
 {
     let mut reasons = Vec::new(alloc);
     for call in kept {
         let places = others_than(alloc, kept, call.inv)?;
         match leave_out(alloc, map, calls, &places, budget)? {
-            Without::Rest(rest) => return Ok(Pass::Less(rest)),
+            Without::Rest(rest) => return Ok(Reduction::Less(rest)),
             Without::Kept(reason) => reasons.push(reason)?,
         }
     }
-    Ok(Pass::Least(reasons))
+    Ok(Reduction::Least(reasons))
 }
 
 /// The places of the calls kept but for one.

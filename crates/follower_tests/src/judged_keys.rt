@@ -1,32 +1,9 @@
 // Verdicts on keys, by hand.
-ghost use Rattle.std.specs.Prelude.{◌≡◌, None, Some};
-
-use events::{Call, Memory, Operation, Reply, Response};
+use crate::calls::{answered_call, open_call};
+use events::{Call, Memory, Reply};
 use kept_keys::{Configuration, Judged, KeptKey};
 use std::alloc::Global;
 use std::test::Fail;
-
-/// A call that is answered at a number.
-fn answered_call(call: Call, inv: usize, res: usize, reply: Reply) -> Operation
-    ensures { result ≡ record { call = call; inv = inv; response = Some (record { res = res; reply = reply }) } }
-{
-    Operation {
-        call,
-        inv,
-        response: Some(Response { res, reply }),
-    }
-}
-
-/// A call that is not answered.
-fn open_call(call: Call, inv: usize) -> Operation
-    ensures { result ≡ record { call = call; inv = inv; response = None } }
-{
-    Operation {
-        call,
-        inv,
-        response: None,
-    }
-}
 
 /// A configuration that has taken these calls, with these values.
 fn configuration_with(

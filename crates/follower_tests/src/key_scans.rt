@@ -1,21 +1,11 @@
 // Scans and reads of a key, by hand.
-ghost use Rattle.std.specs.Prelude.{◌≡◌, length, Some, IfOk};
+ghost use Rattle.std.specs.Prelude.{◌≡◌, length, IfOk};
 
-use events::{Call, Memory, Operation, Reply, Response};
+use crate::calls::answered_call;
+use events::{Call, Memory, Reply};
 use kept_keys::{Configuration, KeptKey, WIDTH};
 use std::alloc::Global;
 use std::test::Fail;
-
-/// A call that is answered at a number.
-fn answered_call(call: Call, inv: usize, res: usize, reply: Reply) -> Operation
-    ensures { result ≡ record { call = call; inv = inv; response = Some (record { res = res; reply = reply }) } }
-{
-    Operation {
-        call,
-        inv,
-        response: Some(Response { res, reply }),
-    }
-}
 
 /// A configuration that has taken nothing.
 fn of_values(values: Vec<Option<u64>>, alloc: Global) -> Configuration {

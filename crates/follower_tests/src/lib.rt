@@ -7,6 +7,8 @@
 #[cfg(test)]
 mod answered_rows;
 #[cfg(test)]
+mod calls;
+#[cfg(test)]
 mod judged_keys;
 #[cfg(test)]
 mod kept_once;

@@ -1,32 +1,9 @@
 // Settling, by hand.
-ghost use Rattle.std.specs.Prelude.{◌≡◌, Some, None};
-
-use events::{Call, Memory, Operation, Reply, Response};
+use crate::calls::{answered_call, open_call};
+use events::{Call, Memory, Reply};
 use kept_keys::{Ahead, Configuration, KeptKey, WIDTH};
 use std::alloc::Global;
 use std::test::Fail;
-
-/// A call that is answered.
-fn answered_call(call: Call, inv: usize, res: usize, reply: Reply) -> Operation
-    ensures { result ≡ record { call = call; inv = inv; response = Some (record { res = res; reply = reply }) } }
-{
-    Operation {
-        call,
-        inv,
-        response: Some(Response { res, reply }),
-    }
-}
-
-/// A call that is not answered.
-fn open_call(call: Call, inv: usize) -> Operation
-    ensures { result ≡ record { call = call; inv = inv; response = None } }
-{
-    Operation {
-        call,
-        inv,
-        response: None,
-    }
-}
 
 /// A choice of these calls taken, with these values, and one value noted of one of the calls.
 fn choice(

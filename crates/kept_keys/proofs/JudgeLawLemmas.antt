@@ -24,31 +24,14 @@ use Rattle.following.specs.moments.KeyCalls.{Kind, OfKey, Told, Silent, kind_of,
 use Rattle.following.specs.rows.ExactMoments.{places_by}
 use Rattle.following.proofs.keys.ChoiceLemmas.{any_from, any_to}
 use Rattle.following.proofs.moments.KindLemmas.{IsPart, part_is}
-use Rattle.following.proofs.moments.DistinctLemmas.{InvocationsDiffer, differ_from_rise, one_before, same_invocation, order_from_linearizable}
-use Rattle.following.proofs.moments.DistinctLemmas.{linearizable_from_order}
+use Rattle.following.proofs.moments.DistinctLemmas.{InvocationsDiffer, differ_from_rise, one_before, same_invocation}
+use Rattle.following.proofs.moments.SortedLemmas.{same_calls}
 use Rattle.key_configurations.specs.Calls.{AreCallsOf, calls_but}
 use Rattle.key_orders.specs.Judging.{HasOrderFrom}
 use Rattle.key_configurations.specs.Formed.{IsFormed, IsOpenAhead}
 use Rattle.kept_keys.specs.Laws.{KeptKeysJudge}
 use Rattle.key_configurations.specs.Views.{KeptView, width}
 use Rattle.key_orders.proofs.JudgeLemmas.{calls_but_rise}
-
--- lists of the same calls have the same orders
-same_orders : (start : Contents) (calls others : List Operation) → InvocationsDiffer calls → InvocationsDiffer others
-    → ((a : Operation) → Contains calls a → Contains others a) → ((a : Operation) → Contains others a → Contains calls a)
-    → IsLinearizable start calls → IsLinearizable start others
-same_orders start calls others differ others_differ into back h =
-    let (order, is) = order_from_linearizable start calls differ h in
-    linearizable_from_order start others others_differ (
-      order,
-      record {
-        known = All-from_contains (Contains others) order (λ a a_is. into a (All-contains (Contains calls) order a is.known a_is));
-        distinct = is.distinct;
-        precedence = is.precedence;
-        legal = is.legal;
-        complete = λ a a_is completed. is.complete a (back a a_is) completed;
-      },
-    )
 
 -- a number is not in a whole exactly where it is in neither part
 not_in : (xs ys : List ℕ) (n : ℕ) → not (has_number (xs ++ ys) n) ≡ true ↔ ((not (has_number xs n) ≡ true) × (not (has_number ys n) ≡ true))
@@ -153,8 +136,8 @@ module _ (key : ℕ) (moment : ℕ → ℕ) (ops : List Operation) (gone : List 
     unfolding here_left
     same_left start =
         let left_differ = differ_from_rise (calls_but taken k.names k.calls) (calls_but_rise taken k.names k.calls left.each left.rising) in (
-          same_orders start here_left (calls_but taken k.names k.calls) differ left_differ into back,
-          same_orders start (calls_but taken k.names k.calls) here_left left_differ differ back into,
+          same_calls start here_left (calls_but taken k.names k.calls) differ left_differ into back,
+          same_calls start (calls_but taken k.names k.calls) here_left left_differ differ back into,
         )
 
   -- open calls may have found whatever is noted

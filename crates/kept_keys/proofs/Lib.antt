@@ -28,3 +28,4 @@ pub mod ScanTakeLemmas
 pub mod ScanZipLemmas
 mod FrontAnswerLemmas
 mod SettleJoinLemmas
+pub use Rattle.key_orders.proofs.JudgeLemmas

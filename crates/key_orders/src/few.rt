@@ -7,8 +7,7 @@ ghost use Rattle.past_choices.specs.Values.{IsCallOf};
 ghost use Rattle.key_orders.specs.Few.{AreDone, IsMinimal, MayBegin, HasRest};
 
 use events::{Call, Operation};
-use order_guesses::is_ended;
-use past_choices::{may_be_answered, value_behind};
+use past_choices::{is_ended, may_be_answered, value_behind};
 
 /// The most calls of a key that are few. They are tried in each order, with no memory of positions,
 /// and so with none at all.

@@ -13,8 +13,8 @@ use crate::guessing::{may_follow, order_near_from};
 use crate::kept_order::KeptOrder;
 use events::{Memory, Operation};
 use key_configurations::{Configuration, is_among};
-use order_guesses::{Guess, is_ended};
-use past_choices::value_behind;
+use order_guesses::Guess;
+use past_choices::{is_ended, value_behind};
 use std::alloc::Global;
 use std::mem;
 

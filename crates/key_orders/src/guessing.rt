@@ -14,10 +14,9 @@ use crate::kept_order::KeptOrder;
 use events::{Memory, Operation};
 use key_configurations::{Configuration, calls_but, is_value_among};
 use order_guesses::{
-    Guess, guessed_order, is_ended, mended_order, numbers_of_guess, order_with, places_but,
-    rounds_for,
+    Guess, guessed_order, mended_order, numbers_of_guess, order_with, places_but, rounds_for,
 };
-use past_choices::{may_be_answered, value_behind};
+use past_choices::{is_ended, may_be_answered, value_behind};
 use std::alloc::Global;
 
 impl KeptOrder {

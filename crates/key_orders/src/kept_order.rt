@@ -5,7 +5,8 @@ ghost use Rattle.key_orders.specs.Fronts.{IsApartFrom};
 use crate::few::FEW_CALLS;
 use crate::fronts::{Front, apart_from};
 use events::{Memory, Operation};
-use order_guesses::{Guess, copied_guess, forget, is_ended, make_room, note};
+use order_guesses::{Guess, copied_guess, forget, make_room, note};
+use past_choices::is_ended;
 use std::alloc::Global;
 use std::mem;
 

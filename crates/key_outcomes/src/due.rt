@@ -1,9 +1,9 @@
 // The calls that ended before a past moment, and the others.
 ghost use Rattle.std.specs.Prelude.{◌≡◌, ◌++◌, ◌∷◌, [], not, length, map, filter, zip, IfOk, OnOk};
-ghost use Rattle.events.specs.Precedence.{is_before};
 ghost use Rattle.key_outcomes.specs.SettleSteps.{ended_by, which_ended};
 
 use events::{Memory, Operation};
+use past_choices::is_ended;
 use std::alloc::Global;
 
 /// Some calls, each with its name.
@@ -37,16 +37,6 @@ impl Named {
         self.names.push(name)?;
         self.calls.push(call)?;
         Ok(())
-    }
-}
-
-/// Whether a call ended before a moment.
-pub fn is_ended(call: &Operation, limit: usize) -> bool
-    ensures { result ≡ is_before call.now.response limit }
-{
-    match &call.response {
-        Some(response) => response.res < limit,
-        None => false,
     }
 }
 

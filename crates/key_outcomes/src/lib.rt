@@ -10,7 +10,7 @@ mod puts;
 mod starting;
 mod uniting;
 
-pub use due::{Named, gone_names, is_ended, rest_of};
+pub use due::{Named, gone_names, rest_of};
 pub use joining::join_all;
 pub use outcomes::outcomes_of;
 pub use puts::{

@@ -9,11 +9,13 @@ ghost use Rattle.past_choices.specs.Values.{IsCallOf};
 ghost use Rattle.key_outcomes.specs.SettleSteps.{names_of, found_of, nothing, one_start, starts_from, starts_of, which_ended};
 ghost use Rattle.key_outcomes.specs.SettleSteps.{AreAdded, AreOutcomesOf, HaveGone, IsNotedWith, IsOutcomeOf, IsPlain};
 
-use crate::due::{ended_marks, is_ended};
+use crate::due::ended_marks;
 use crate::starting::{add_starts, are_plain, starts_of};
 use events::{Memory, Operation};
 use key_configurations::{Ahead, Configuration, copied_ahead, is_among};
-use past_choices::{Answer, PastChoice, Start, may_be_answered, past_choices, value_behind};
+use past_choices::{
+    Answer, PastChoice, Start, is_ended, may_be_answered, past_choices, value_behind,
+};
 use std::alloc::Global;
 
 /// The calls taken that have not ended, and the chosen ones, by rising name, each once.

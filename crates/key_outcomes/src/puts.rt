@@ -8,9 +8,9 @@ ghost use Rattle.key_outcomes.specs.Puts.{changed_last, ended_put, has_left_othe
 ghost use Rattle.key_outcomes.specs.SettleSteps.{ended_by};
 ghost use Rattle.key_configurations.specs.Views as view;
 
-use crate::due::is_ended;
 use events::{Call, Memory, Operation, Response};
 use key_configurations::{Configuration, is_among};
+use past_choices::is_ended;
 use quiet_cuts::says_unchanged;
 use std::alloc::Global;
 

@@ -2,9 +2,9 @@
 use Rattle.std.specs.Prelude.{◌≡◌, ⊤, ◌⊎◌, ℕ, List, string_bytes}
 use Rattle.clap.specs.Words.{Text}
 use Rattle.command_line.specs.declared.line.Line.{Line}
-use Rattle.command_line.specs.declared.fault.LineFault.TheVariants as line_faults
+use Rattle.command_line.specs.declared.fault.WordsFault.TheVariants as words_faults
 use Rattle.command_line.specs.Lines.{IsLineOf}
-use Rattle.command_line.specs.LineFaults.{IsAccepted, IsFaultAt}
+use Rattle.command_line.specs.WordsFaults.{IsAccepted, IsFaultAt}
 use Rattle.outcomes.specs.declared.outcome.RunOutcome.{RunOutcome}
 use Rattle.outcomes.specs.declared.outcome.RunOutcome.TheVariants.{Memory, Words}
 use Rattle.outcomes.specs.Ends.{Change, IsSound, IsUnused}
@@ -12,7 +12,7 @@ use Rattle.outcomes.specs.Ends.{Change, IsSound, IsUnused}
 -- the outcome of words that ask for no line: they have a fault, with this text; or memory was
 -- wanting
 abbrev pub IsFaultOutcome : List Text → RunOutcome → Type 0
-IsFaultOutcome words (Words text) = IsFaultAt words (line_faults.Line text)
+IsFaultOutcome words (Words text) = IsFaultAt words (words_faults.Line text)
 IsFaultOutcome words Memory = ⊤
 IsFaultOutcome words outcome = ⊥
 
@@ -27,7 +27,7 @@ pub record IsAskedOutcome (IsLineOutcome : Line → Change → RunOutcome → Ty
 -- the outcome of a run with these words: what they ask for, or the fault that they have; want of
 -- memory may come in reading them, or in doing what they ask
 abbrev pub IsWordsOutcome : (Line → Change → RunOutcome → Type 0) → List Text → Change → RunOutcome → Type 0
-IsWordsOutcome IsLineOutcome words source (Words text) = IsFaultAt words (line_faults.Line text) × IsSound source
+IsWordsOutcome IsLineOutcome words source (Words text) = IsFaultAt words (words_faults.Line text) × IsSound source
 IsWordsOutcome IsLineOutcome words source Memory = IsSound source
 IsWordsOutcome IsLineOutcome words source outcome = IsAskedOutcome IsLineOutcome words source outcome
 

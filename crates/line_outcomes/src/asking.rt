@@ -1,11 +1,11 @@
 // The words of the command line, and what they ask for.
 ghost use Rattle.std.specs.Prelude.{◌≡◌, IfErr, IfOk, map, string_bytes};
 ghost use Rattle.clap.specs.Walk.{texts};
-ghost use Rattle.command_line.specs.LineFaults.{IsAccepted};
+ghost use Rattle.command_line.specs.WordsFaults.{IsAccepted};
 ghost use Rattle.command_line.specs.Lines.{IsLineOf, IsWithinLimits};
 ghost use Rattle.line_outcomes.specs.Outcomes.{IsElsewhereOutcome, IsFaultOutcome};
 
-use command_line::{Line, LineFault, read_line};
+use command_line::{Line, WordsFault, read_line};
 use outcomes::RunOutcome;
 use std::alloc::{Alloc, AllocError, Global};
 use std::env;
@@ -50,8 +50,8 @@ pub fn asked_line(alloc: Global, words: &[&str]) -> Result<Line, RunOutcome>
 {
     match read_line(alloc, words) {
         Ok(line) => Ok(line),
-        Err(LineFault::Line(text)) => Err(RunOutcome::Words(text)),
-        Err(LineFault::Memory) => Err(RunOutcome::Memory),
+        Err(WordsFault::Line(text)) => Err(RunOutcome::Words(text)),
+        Err(WordsFault::Memory) => Err(RunOutcome::Memory),
     }
 }
 

@@ -3,7 +3,7 @@ ghost use Rattle.std.specs.Prelude.{◌≡◌, ◌↔◌, false, IsSomeAnd, IsTr
 ghost use Rattle.events.specs.Precedence.{is_before};
 
 use events::{Memory, Operation};
-use past_choices::value_behind;
+use past_choices::{is_ended, value_behind};
 use std::alloc::Global;
 
 /// An order of the calls left by their places, the calls taken before it by name, and the value, or
@@ -227,16 +227,6 @@ fn is_left(calls: &[Operation], place: usize, limit: usize) -> bool
 {
     match calls.get(place) {
         Some(call) => !is_ended(call, limit),
-        None => false,
-    }
-}
-
-/// Whether a call ended before a place.
-pub fn is_ended(call: &Operation, place: usize) -> bool
-    ensures { result ≡ is_before call.now.response place }
-{
-    match &call.response {
-        Some(response) => response.res < place,
         None => false,
     }
 }

@@ -1,9 +1,9 @@
 // An order that was found before is mended where calls came since: what is found is a guess, to be
 // checked.
-use crate::guess::{is_ended, value_after};
+use crate::guess::value_after;
 use crate::scout::{answer_of, guessed_order, left_by};
 use events::{Memory, Operation};
-use past_choices::{may_be_answered, value_behind};
+use past_choices::{is_ended, may_be_answered, value_behind};
 use quiet_cuts::is_read;
 use std::alloc::Global;
 

@@ -72,7 +72,7 @@ fn scouted_order(
     for _ in 0..rounds {
         scout.take_reads(calls)?;
         if scout.left == 0 {
-            return Ok(Some(places_of(alloc, &scout.turns)?));
+            return Ok(Some(places_of(alloc, &scout.order)?));
         }
         scout.look_on(alloc, calls)?;
         let Some(way) = scout.ways.pop() else {
@@ -89,7 +89,7 @@ const SEEN_DIGESTS: usize = 4096;
 
 /// A call that was taken, and what the key held before it.
 #[derive(Clone, Copy)]
-struct Turn {
+struct TakenCall {
     place: usize,
     value: Option<u64>,
 }
@@ -111,7 +111,7 @@ struct CallValues {
 /// Where a look stands.
 #[derive(Drop)]
 struct Scout {
-    turns: Vec<Turn>,
+    order: Vec<TakenCall>,
     ways: Vec<Way>,
     taken: Vec<bool>,
     /// All calls before it are taken.
@@ -136,7 +136,7 @@ struct Scout {
 fn open(alloc: Global, value: Option<u64>, calls: &[Operation]) -> Result<Scout, Memory> {
     let values = values_told(alloc, calls)?;
     let mut scout = Scout {
-        turns: Vec::new(alloc),
+        order: Vec::new(alloc),
         ways: Vec::new(alloc),
         taken: vec![in alloc; false; calls.len()]?,
         low: 0,
@@ -210,10 +210,10 @@ pub(crate) fn left_by(call: &Operation) -> Option<Option<u64>> {
 }
 
 /// The places of the calls taken.
-fn places_of(alloc: Global, turns: &[Turn]) -> Result<Vec<usize>, Memory> {
-    let mut places = Vec::with_capacity(alloc, turns.len())?;
-    for turn in turns {
-        places.push(turn.place)?;
+fn places_of(alloc: Global, order: &[TakenCall]) -> Result<Vec<usize>, Memory> {
+    let mut places = Vec::with_capacity(alloc, order.len())?;
+    for call in order {
+        places.push(call.place)?;
     }
     Ok(places)
 }
@@ -327,7 +327,7 @@ impl Scout {
             return Ok(());
         };
         let before = self.value;
-        self.turns.push(Turn {
+        self.order.push(TakenCall {
             place,
             value: before,
         })?;
@@ -366,24 +366,24 @@ impl Scout {
 
     /// Goes back to where so many calls were taken.
     fn go_back(&mut self, depth: usize, calls: &[Operation]) {
-        for _ in depth..self.turns.len() {
-            if let Some(turn) = self.turns.pop() {
-                self.put_back(turn, calls);
+        for _ in depth..self.order.len() {
+            if let Some(last) = self.order.pop() {
+                self.put_back(last, calls);
             }
         }
         self.is_lost = false;
     }
 
     /// Puts back the call that was taken last.
-    fn put_back(&mut self, turn: Turn, calls: &[Operation]) {
-        self.mark(turn.place, false);
-        self.value = turn.value;
-        self.digest = self.digest.wrapping_sub(word_of(turn.place));
-        self.low = self.low.min(turn.place);
-        let values = self.call_values(turn.place);
+    fn put_back(&mut self, last: TakenCall, calls: &[Operation]) {
+        self.mark(last.place, false);
+        self.value = last.value;
+        self.digest = self.digest.wrapping_sub(word_of(last.place));
+        self.low = self.low.min(last.place);
+        let values = self.call_values(last.place);
         raise(&mut self.puts, values.put);
         raise(&mut self.tells, values.told);
-        if let Some(call) = calls.get(turn.place) {
+        if let Some(call) = calls.get(last.place) {
             if call.is_completed() {
                 self.left = self.left.saturating_add(1);
             }
@@ -408,9 +408,9 @@ impl Scout {
     /// Takes reads that may come next, until none may.
     fn take_reads(&mut self, calls: &[Operation]) -> Result<(), Memory> {
         for _ in 0..calls.len() {
-            let count = self.turns.len();
+            let count = self.order.len();
             self.take_reads_once(calls)?;
-            if self.turns.len() == count {
+            if self.order.len() == count {
                 return Ok(());
             }
         }
@@ -444,7 +444,7 @@ impl Scout {
         let mut next = self.next_calls(alloc, calls)?;
         next.sort_unstable();
         next.reverse();
-        let depth = self.turns.len();
+        let depth = self.order.len();
         for way in &next {
             self.ways.push(Way {
                 depth,

@@ -1,15 +1,14 @@
 -- The calls of a key that are not taken, and their events.
-use Rattle.std.proofs.Common.{◌≡◌, ℕ, ◌<◌, Bool, false, List, [], ◌∷◌, length, map, filter, sym, ap, ◌∙◌, subst, ⊎_elim, arith}
-use Rattle.std.specs.Prelude.{◌==◌, not, zip, All, AllPairs, Contains}
+use Rattle.std.proofs.Common.{◌≡◌, ℕ, ◌<◌, Bool, List, [], ◌∷◌, length, map, filter, sym, ap, subst, ⊎_elim, arith}
+use Rattle.std.specs.Prelude.{◌==◌, not, zip, AllPairs, Contains}
 use Rattle.std.proofs.lemmas.Bool.{eq-eqb, ne_eqb}
 use Rattle.std.proofs.lemmas.List.Elements.{All-contains}
 use Rattle.std.proofs.lemmas.List.Kept.{AllPairs-filter}
 use Rattle.std.proofs.lemmas.Slice.Zip.{seconds-zip}
 use Rattle.events.specs.declared.operation.Operation.{Operation}
-use Rattle.events.specs.Precedence.{precedes, NonePrecedesItself}
 use Rattle.list_laws.specs.Lists.{has_number}
-use Rattle.list_laws.proofs.Lists.{AllPairs-head, AllPairs-tail, All-from_contains, Contains-cases, Contains-from_filter, Contains-nil}
-use Rattle.list_laws.proofs.FilterLemmas.{AllPairs-map, AllPairs-from_map, Contains-map, Contains-from_map}
+use Rattle.list_laws.proofs.Lists.{AllPairs-head, AllPairs-tail, Contains-cases, Contains-nil}
+use Rattle.list_laws.proofs.FilterLemmas.{AllPairs-from_map, Contains-from_map}
 use Rattle.key_configurations.specs.Calls.{calls_but}
 use Rattle.own_parts.specs.OwnParts.{event_of}
 
@@ -38,27 +37,10 @@ pub left_rise : (taken names : List ℕ) (calls : List Operation) → length nam
 left_rise taken names calls each rising =
     AllPairs-filter IsEarlier (keeps taken) (zip names calls) (named_rise names calls each rising)
 
-pub calls_rise : (taken names : List ℕ) (calls : List Operation) → length names ≡ length calls
-    → AllPairs (λ x y. x.inv < y.inv) calls → AllPairs (λ x y. x.inv < y.inv) (calls_but taken names calls)
-calls_rise taken names calls each rising =
-    AllPairs-map (λ (x y : Operation). x.inv < y.inv) call_in (filter (keeps taken) (zip names calls))
-    (left_rise taken names calls each rising)
-
 -- a call that is left, beside its name
 pub named_of : (taken names : List ℕ) (calls : List Operation) (x : Operation) → Contains (calls_but taken names calls) x
     → (p : Named) × Contains (filter (keeps taken) (zip names calls)) p × (p.1 ≡ x)
 named_of taken names calls x x_is = Contains-from_map call_in (filter (keeps taken) (zip names calls)) x x_is
-
--- it is one of the calls, and so precedes itself no more than these
-pub calls_apart : (taken names : List ℕ) (calls : List Operation) → length names ≡ length calls
-    → NonePrecedesItself calls → NonePrecedesItself (calls_but taken names calls)
-calls_apart taken names calls each apart =
-    All-from_contains (λ a. precedes a a ≡ false) (calls_but taken names calls) (λ a a_is.
-    let (p, p_is, same) = named_of taken names calls a a_is in
-    All-contains (λ a. precedes a a ≡ false) calls a apart
-    (subst (λ (xs : List Operation). Contains xs a) (seconds-zip names calls (sym each))
-    (subst (Contains (map call_in (zip names calls))) same
-    (Contains-map call_in (zip names calls) p (Contains-from_filter (keeps taken) (zip names calls) p p_is).0))))
 
 -- the event of a place
 abbrev pub noted : Named → ℕ × ℕ

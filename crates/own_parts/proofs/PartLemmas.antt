@@ -23,7 +23,8 @@ use Rattle.kept_rows.specs.KeyLoss.{KeyLoss}
 use Rattle.follower.specs.Steps.{IsLostKey}
 use Rattle.own_parts.specs.Laws.{IsOwnPartOf, OwnPartsHaveNoOrder}
 use Rattle.own_parts.specs.OwnParts.{OwnPart, part_from, part_of, part_at as part_among, event_of, events_but}
-use Rattle.own_parts.proofs.LeftLemmas.{keeps, named_of, calls_rise, calls_apart, left_rise, event_at}
+use Rattle.own_parts.proofs.LeftLemmas.{keeps, named_of, left_rise, event_at}
+use Rattle.kept_keys.proofs.JudgeLemmas.{calls_but_rise, calls_but_apart}
 
 module _ (start : Contents) (events : List Event) (key : ℕ) (kept : KeptView) (was : WasKept start events key kept) (c : Configuration) where
   -- what is left of a configuration is of the events
@@ -33,8 +34,8 @@ module _ (start : Contents) (events : List Event) (key : ℕ) (kept : KeptView) 
       let left = was.is_kept.left in
       subst (IsOwnPartOf start events) (same_Some _ part is) (record {
         none = none;
-        rise = calls_rise c.taken kept.names kept.calls left.each left.rising;
-        apart = calls_apart c.taken kept.names kept.calls left.each left.apart;
+        rise = calls_but_rise c.taken kept.names kept.calls left.each left.rising;
+        apart = calls_but_apart c.taken kept.names kept.calls left.each left.apart;
         sorted = one_rises key value;
         kept = kept;
         was = was;

@@ -20,7 +20,7 @@ mod worklist;
 
 pub use answer::{Answer, PastChoice};
 pub use start::Start;
-pub use values::{may_be_answered, value_behind};
+pub use values::{is_ended, may_be_answered, value_behind};
 pub use worklist::past_choices;
 
 #[cfg(test)]

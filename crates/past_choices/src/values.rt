@@ -1,6 +1,7 @@
-// What a call does at its key.
+// What a call does at its key, and whether it is done by a place.
 ghost use Rattle.std.specs.Prelude.{◌≡◌, ◌↔◌, ◌⊎◌, IsTrue, Some, if◌then◌else◌};
 ghost use Rattle.events.specs.declared.event.Reply.TheVariants as replies;
+ghost use Rattle.events.specs.Precedence.{is_before};
 ghost use Rattle.map_object.specs.MapObject as object;
 ghost use Rattle.map_object.specs.MapObject.{is_just, value_reply, TellsOf};
 ghost use Rattle.past_choices.specs.Values as spec;
@@ -47,6 +48,16 @@ fn value_behind_replace(value: Option<u64>, expected: u64, new: u64) -> Option<u
     match value {
         Some(found) if found == expected => Some(new),
         _ => value,
+    }
+}
+
+/// Whether a call ended before a place.
+pub fn is_ended(call: &Operation, place: usize) -> bool
+    ensures { result ≡ is_before call.now.response place }
+{
+    match &call.response {
+        Some(response) => response.res < place,
+        None => false,
     }
 }
 

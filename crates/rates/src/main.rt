@@ -6,7 +6,7 @@
 
 mod rounds;
 
-use rounds::{Work, done_in};
+use rounds::{RoundWork, done_in};
 use std::io::ErrorKind;
 use std::{env, io};
 
@@ -22,7 +22,7 @@ fn main(rt: HostRuntime) -> io::Result<()> {
         return Err(io::Error::from(ErrorKind::InvalidInput));
     };
     let (Some(work), Ok(threads), Ok(rounds)) = (
-        Work::of_name(work),
+        RoundWork::of_name(work),
         threads.parse::<u8>(),
         rounds.parse::<u32>(),
     ) else {

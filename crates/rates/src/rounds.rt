@@ -33,7 +33,7 @@ const LIMIT: u32 = 1_000_000;
 
 /// What a thread does in a round.
 #[derive(Clone, Copy)]
-pub(crate) enum Work {
+pub(crate) enum RoundWork {
     /// It notes calls and their answers at a recorder.
     Recorder,
     /// It does the calls of a script, on one tree for all threads.
@@ -44,15 +44,15 @@ pub(crate) enum Work {
     Neither,
 }
 
-impl Work {
+impl RoundWork {
     /// The work of a name.
-    pub(crate) fn of_name(name: &str) -> Option<Work> {
+    pub(crate) fn of_name(name: &str) -> Option<RoundWork> {
         match name {
-            "recorder" => Some(Work::Recorder),
-            "coupled" => Some(Work::Tree(Variant::Coupled)),
-            "optimistic" => Some(Work::Tree(Variant::Optimistic)),
-            "word" => Some(Work::Word),
-            "neither" => Some(Work::Neither),
+            "recorder" => Some(RoundWork::Recorder),
+            "coupled" => Some(RoundWork::Tree(Variant::Coupled)),
+            "optimistic" => Some(RoundWork::Tree(Variant::Optimistic)),
+            "word" => Some(RoundWork::Word),
+            "neither" => Some(RoundWork::Neither),
             _ => None,
         }
     }
@@ -62,7 +62,7 @@ impl Work {
 pub(crate) fn done_in<R: Threads + Sync>(
     rt: &R,
     alloc: Global,
-    work: Work,
+    work: RoundWork,
     threads: u8,
     rounds: u32,
 ) -> Result<u64, Memory>
@@ -72,15 +72,15 @@ pub(crate) fn done_in<R: Threads + Sync>(
     let mut done: u64 = 0;
     for _ in 0..rounds {
         let by_thread = match work {
-            Work::Recorder => record_rounds(rt, alloc, threads)?,
-            Work::Tree(variant) => drive_tree(rt, alloc, variant, threads)?,
-            Work::Word => thread::map_indices(
+            RoundWork::Recorder => record_rounds(rt, alloc, threads)?,
+            RoundWork::Tree(variant) => drive_tree(rt, alloc, variant, threads)?,
+            RoundWork::Word => thread::map_indices(
                 rt,
                 alloc,
                 usize::from(threads),
                 &|_| add_all(&word),
             )?,
-            Work::Neither => thread::map_indices(rt, alloc, usize::from(threads), &|_| 0)?,
+            RoundWork::Neither => thread::map_indices(rt, alloc, usize::from(threads), &|_| 0)?,
         };
         for by_one in by_thread {
             done = done.wrapping_add(by_one);

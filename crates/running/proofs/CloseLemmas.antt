@@ -8,9 +8,9 @@ use Rattle.art_shared.specs.declared.view.View.{View}
 use Rattle.art_shared.specs.Views.{Numbered}
 use Rattle.art_shared.specs.Ends.{state_of}
 use Rattle.running.specs.declared.arena.Arena.{Arena}
-use Rattle.running.specs.declared.pass.Pass.{Pass}
+use Rattle.running.specs.declared.group.ProcessGroup.{ProcessGroup}
 use Rattle.running.specs.Fitting.{Run, Fit}
-use Rattle.running.specs.Passes.{shows, opened_for, IsPassOf}
+use Rattle.running.specs.Groups.{shows, opened_for, IsGroupOf}
 use Rattle.running.proofs.FitLemmas.{fit-length}
 
 same-logs : (setup : Setup) (xs : List Numbered) (rs : List Run) → Fit setup xs rs
@@ -27,12 +27,12 @@ pub logged-history : (setup : Setup) (words : List ℕ) (v : View) (rs : List Ru
 unfolding history_of
 logged-history setup words v rs fit = ap events_by_stamp (same-logs setup v.processes rs fit)
 
--- a pass has as many processes as it shows, for the arena that it came from
-pub as-many : (a : Arena) (p : Pass) → IsPassOf a p → length (shows p).processes ≡ vec_len p.runners
-as-many a p own = fit-length p.setup (shows p).processes p.runners.items own.pass.fit ∙ sym p.runners.ok.0
+-- a group has as many processes as it shows, for the arena that it came from
+pub as-many : (a : Arena) (p : ProcessGroup) → IsGroupOf a p → length (shows p).processes ≡ vec_len p.runners
+as-many a p own = fit-length p.setup (shows p).processes p.runners.items own.group.fit ∙ sym p.runners.ok.0
 
-pub same-setup : (a : Arena) (p : Pass) → IsPassOf a p → p.setup ≡ opened_for a
-same-setup a p own = sym own.pass.setup ∙ own.place.setup
+pub same-setup : (a : Arena) (p : ProcessGroup) → IsGroupOf a p → p.setup ≡ opened_for a
+same-setup a p own = sym own.group.setup ∙ own.place.setup
 
-pub same-processes : (a : Arena) (p : Pass) → IsPassOf a p → p.setup.processes ≡ (opened_for a).processes
+pub same-processes : (a : Arena) (p : ProcessGroup) → IsGroupOf a p → p.setup.processes ≡ (opened_for a).processes
 same-processes a p own = ap (λ s. s.processes) (same-setup a p own)

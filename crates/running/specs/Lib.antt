@@ -1,5 +1,5 @@
 pub mod Fitting
-pub mod Passes
+pub mod Groups
 pub mod Steps
 pub mod Progressed
 pub mod Closing

@@ -1,14 +1,14 @@
 // An arena ends, and what its processes did becomes a history.
 ghost use Rattle.std.specs.Prelude.{◌≡◌, flat_map, IfOk, IfErr, OnOk};
 ghost use Rattle.art_shared.specs.Ends.{HasOwnEvents};
-ghost use Rattle.running.specs.Passes.{shows, opened_for, IsPassOf};
+ghost use Rattle.running.specs.Groups.{shows, opened_for, IsGroupOf};
 ghost use Rattle.running.specs.Closing.{HoldsAll, IsHistoryOf, IsHandedBack};
 ghost use Rattle.running.specs.Linearizable.{IsLinearizableIn};
 ghost use Rattle.running.specs.ReadMoments.{GetsHaveMoments, ScansHaveMoments};
 
 use crate::arena::Arena;
 use crate::fault::ArenaClose;
-use crate::pass::Pass;
+use crate::group::ProcessGroup;
 use crate::runner::Runner;
 use art_schedules::{coupled_is_linearizable, optimistic_is_linearizable};
 use art_versions::{answered_gets_have_moments, answered_scans_have_moments};
@@ -22,47 +22,47 @@ impl Arena {
     /// linearizable, however the threads interleaved and whoever stopped. Where it is the optimistic one, each scan that was
     /// answered has a moment within it at which all that it read stands still; so has each get, for the last row that it read,
     /// which says its reply. For n events it takes time n log n.
-    pub fn close(self, alloc: Global, pass: Pass) -> Result<History, ArenaClose>
-        requires own { IsPassOf self pass }
-        ensures history { IfOk result (IsHistoryOf (opened_for self) (shows pass)) }
-        ensures own_events { IfOk result (λ h. HasOwnEvents (opened_for self) (shows pass) h.events) }
-        ensures all { OnOk result (HoldsAll (opened_for self) (shows pass)) }
-        ensures moments { OnOk result (ScansHaveMoments (opened_for self) (shows pass)) }
-        ensures gets { OnOk result (GetsHaveMoments (opened_for self) (shows pass)) }
-        ensures linearizable { IfOk result (IsLinearizableIn (opened_for self) (shows pass)) }
-        ensures refused { IfErr result (IsHandedBack self pass) }
+    pub fn close(self, alloc: Global, group: ProcessGroup) -> Result<History, ArenaClose>
+        requires own { IsGroupOf self group }
+        ensures history { IfOk result (IsHistoryOf (opened_for self) (shows group)) }
+        ensures own_events { IfOk result (λ h. HasOwnEvents (opened_for self) (shows group) h.events) }
+        ensures all { OnOk result (HoldsAll (opened_for self) (shows group)) }
+        ensures moments { OnOk result (ScansHaveMoments (opened_for self) (shows group)) }
+        ensures gets { OnOk result (GetsHaveMoments (opened_for self) (shows group)) }
+        ensures linearizable { IfOk result (IsLinearizableIn (opened_for self) (shows group)) }
+        ensures refused { IfErr result (IsHandedBack self group) }
     {
-        if pass.runners.len() != usize::from(pass.setup.processes) {
-            return Err(ArenaClose::StillOut(self, pass));
+        if group.runners.len() != usize::from(group.setup.processes) {
+            return Err(ArenaClose::StillOut(self, group));
         }
-        let mut pass = pass;
-        match self.history(alloc, &mut pass) {
-            Err(_) => Err(ArenaClose::Memory(self, pass)),
+        let mut group = group;
+        match self.history(alloc, &mut group) {
+            Err(_) => Err(ArenaClose::Memory(self, group)),
             Ok(history) => {
-                self.core.close(pass.place);
+                self.core.close(group.place);
                 Ok(history)
             }
         }
     }
 
-    /// The history of a pass that has all processes. It looks at the words once.
-    fn history(&self, alloc: Global, pass: &mut Pass) -> Result<History, Memory>
-        requires own { IsPassOf self.now pass.old }
-        requires all { HoldsAll (opened_for self.now) (shows pass.old) }
-        ensures history { IfOk result (IsHistoryOf (opened_for self.now) (shows pass.old)) }
-        ensures own_events { IfOk result (λ h. HasOwnEvents (opened_for self.now) (shows pass.old) h.events) }
-        ensures moments { ScansHaveMoments (opened_for self.now) (shows pass.old) }
-        ensures gets { GetsHaveMoments (opened_for self.now) (shows pass.old) }
-        ensures linearizable { IfOk result (IsLinearizableIn (opened_for self.now) (shows pass.old)) }
-        ensures own { IsPassOf self.now pass.new }
-        ensures unchanged { shows pass.new ≡ shows pass.old }
+    /// The history of a group that has all processes. It looks at the words once.
+    fn history(&self, alloc: Global, group: &mut ProcessGroup) -> Result<History, Memory>
+        requires own { IsGroupOf self.now group.old }
+        requires all { HoldsAll (opened_for self.now) (shows group.old) }
+        ensures history { IfOk result (IsHistoryOf (opened_for self.now) (shows group.old)) }
+        ensures own_events { IfOk result (λ h. HasOwnEvents (opened_for self.now) (shows group.old) h.events) }
+        ensures moments { ScansHaveMoments (opened_for self.now) (shows group.old) }
+        ensures gets { GetsHaveMoments (opened_for self.now) (shows group.old) }
+        ensures linearizable { IfOk result (IsLinearizableIn (opened_for self.now) (shows group.old)) }
+        ensures own { IsGroupOf self.now group.new }
+        ensures unchanged { shows group.new ≡ shows group.old }
     {
         answered_scans_have_moments();
         answered_gets_have_moments();
         coupled_is_linearizable();
         optimistic_is_linearizable();
-        self.core.look(&mut pass.place);
-        let stamped = all_events(alloc, &pass.runners)?;
+        self.core.look(&mut group.place);
+        let stamped = all_events(alloc, &group.runners)?;
         history_by_stamp(alloc, Vec::new(alloc), stamped)
     }
 }

@@ -1,12 +1,12 @@
 // Why an arena was not closed.
 use crate::arena::Arena;
-use crate::pass::Pass;
+use crate::group::ProcessGroup;
 
-/// Why an arena was not closed. The arena and the pass come back as they were handed in.
+/// Why an arena was not closed. The arena and the group come back as they were handed in.
 #[derive(Drop)]
 pub enum ArenaClose {
-    /// The pass does not hold all processes.
-    StillOut(Arena, Pass),
+    /// The group does not hold all processes.
+    StillOut(Arena, ProcessGroup),
     /// Memory ran out for the history.
-    Memory(Arena, Pass),
+    Memory(Arena, ProcessGroup),
 }

@@ -1,8 +1,8 @@
 //! The trees on shared words: threads run the calls of their processes, and what they log is a history of the core.
 //!
-//! An [`Arena`] has the words of one tree. A [`Pass`] holds some of its processes, and runs the least of them:
-//! [`Arena::begin`] begins a call and [`Arena::advance`] makes steps of it. Passes go to threads of their own:
-//! [`Arena::split`] gives the greatest process of a pass to a pass of its own, and [`Arena::join`] takes a pass in again. Each
+//! An [`Arena`] has the words of one tree. A [`ProcessGroup`] holds some of its processes, and runs the least of them:
+//! [`Arena::begin`] begins a call and [`Arena::advance`] makes steps of it. Groups go to threads of their own:
+//! [`Arena::split`] gives the greatest process of a group to a group of its own, and [`Arena::join`] takes a group in again. Each
 //! step is one atomic step on one word, but for an invocation, which is two, and none waits for another thread. Whoever has all
 //! processes can close the arena, open calls or not, and gets the history of what they did.
 #![tactic(auto)]
@@ -12,9 +12,9 @@ mod calling;
 mod closing;
 mod fault;
 mod gathering;
+mod group;
 mod opening;
 mod parting;
-mod pass;
 mod progress;
 mod runner;
 mod runs;
@@ -22,5 +22,5 @@ mod steps;
 
 pub use arena::Arena;
 pub use fault::ArenaClose;
-pub use pass::Pass;
+pub use group::ProcessGroup;
 pub use progress::CallProgress;

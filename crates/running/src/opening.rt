@@ -1,12 +1,12 @@
-// An arena, and the pass with all its processes.
+// An arena, and the group with all its processes.
 ghost use Rattle.std.specs.Prelude.{◌≡◌, ◌*◌, ◌≤◌, IfOk, vec_len, vec_capacity};
 ghost use Rattle.art_rows.specs.Table.{IsWithinLimits};
 ghost use Rattle.art_shared.specs.Views.{all_idle};
 ghost use Rattle.running.specs.Fitting.{Fit};
-ghost use Rattle.running.specs.Passes.{shows, setup_with, opened_for, IsPassOf};
+ghost use Rattle.running.specs.Groups.{shows, setup_with, opened_for, IsGroupOf};
 
 use crate::arena::Arena;
-use crate::pass::Pass;
+use crate::group::ProcessGroup;
 use crate::runner::Runner;
 use art::{Doing, Shape, Variant};
 use art_shared::{Setup, SharedCore};
@@ -14,19 +14,19 @@ use events::{MAX_CALLS, Memory, PROCESSES};
 use std::alloc::Global;
 
 impl Arena {
-    /// An empty tree for so many processes, each with so many calls, and a pass that holds them all. `Err` is want of memory.
+    /// An empty tree for so many processes, each with so many calls, and a group that holds them all. `Err` is want of memory.
     pub fn open(
         alloc: Global,
         shape: Shape,
         variant: Variant,
         processes: u8,
         calls_each: u32,
-    ) -> Result<(Arena, Pass), Memory>
+    ) -> Result<(Arena, ProcessGroup), Memory>
         requires shape { IsWithinLimits shape }
         requires processes { (1 ≤ processes) × (processes ≤ PROCESSES) }
         requires calls { processes * calls_each ≤ MAX_CALLS }
         ensures setup { IfOk result (λ r. opened_for r.0 ≡ setup_with shape variant processes calls_each) }
-        ensures own { IfOk result (λ r. IsPassOf r.0 r.1) }
+        ensures own { IfOk result (λ r. IsGroupOf r.0 r.1) }
         ensures all { IfOk result (λ r. shows r.1 ≡ all_idle (setup_with shape variant processes calls_each)) }
     {
         let setup = Setup {
@@ -37,12 +37,12 @@ impl Arena {
         };
         let runners = idle_runners(alloc, setup)?;
         let (core, place) = SharedCore::open(alloc, setup)?;
-        let pass = Pass {
+        let group = ProcessGroup {
             place,
             setup,
             runners,
         };
-        Ok((Arena { core }, pass))
+        Ok((Arena { core }, group))
     }
 }
 

@@ -1,55 +1,55 @@
-// Processes go to passes of their own, and come back.
+// Processes go to groups of their own, and come back.
 ghost use Rattle.std.specs.Prelude.{◌≡◌, ◌+◌, ◌≤◌, length, IfOk, OnOk, OnErr};
 ghost use Rattle.art_shared.specs.Views.{without_last, last_alone, merged};
-ghost use Rattle.running.specs.Passes.{shows, IsPassOf};
+ghost use Rattle.running.specs.Groups.{shows, IsGroupOf};
 
 use crate::arena::Arena;
 use crate::gathering::{gather, give_last};
-use crate::pass::Pass;
+use crate::group::ProcessGroup;
 use events::Memory;
 use std::alloc::Global;
 
 impl Arena {
-    /// Gives the pass's greatest process to a pass of its own, with the room that later joins need. It is one load, and no
+    /// Gives the group's greatest process to a group of its own, with the room that later joins need. It is one load, and no
     /// step of a process. `Err` is want of memory, and then nothing has changed.
-    pub fn split(&self, alloc: Global, pass: &mut Pass) -> Result<Pass, Memory>
-        requires own { IsPassOf self.now pass.old }
-        requires several { 2 ≤ length (shows pass.old).processes }
-        ensures own { IsPassOf self.now pass.new }
-        ensures given_own { IfOk result (IsPassOf self.now) }
-        ensures kept { OnOk result (shows pass.new ≡ without_last (shows pass.old)) }
-        ensures given { IfOk result (λ given. shows given ≡ last_alone (shows pass.old)) }
-        ensures unchanged { OnErr result (shows pass.new ≡ shows pass.old) }
+    pub fn split(&self, alloc: Global, group: &mut ProcessGroup) -> Result<ProcessGroup, Memory>
+        requires own { IsGroupOf self.now group.old }
+        requires several { 2 ≤ length (shows group.old).processes }
+        ensures own { IsGroupOf self.now group.new }
+        ensures given_own { IfOk result (IsGroupOf self.now) }
+        ensures kept { OnOk result (shows group.new ≡ without_last (shows group.old)) }
+        ensures given { IfOk result (λ given. shows given ≡ last_alone (shows group.old)) }
+        ensures unchanged { OnErr result (shows group.new ≡ shows group.old) }
     {
-        let setup = pass.setup;
+        let setup = group.setup;
         let mut runners = Vec::with_capacity(alloc, usize::from(setup.processes))?;
-        let place = self.core.split(&mut pass.place);
-        give_last(&mut pass.runners, &mut runners);
-        Ok(Pass {
+        let place = self.core.split(&mut group.place);
+        give_last(&mut group.runners, &mut runners);
+        Ok(ProcessGroup {
             place,
             setup,
             runners,
         })
     }
 
-    /// Takes in the processes of another pass, by their numbers. It is one load, and no step of a process.
-    pub fn join(&self, pass: &mut Pass, other: Pass)
-        requires own { IsPassOf self.now pass.old }
-        requires other { IsPassOf self.now other }
-        ensures own { IsPassOf self.now pass.new }
-        ensures both { shows pass.new ≡ merged (shows pass.old) (shows other) }
+    /// Takes in the processes of another group, by their numbers. It is one load, and no step of a process.
+    pub fn join(&self, group: &mut ProcessGroup, other: ProcessGroup)
+        requires own { IsGroupOf self.now group.old }
+        requires other { IsGroupOf self.now other }
+        ensures own { IsGroupOf self.now group.new }
+        ensures both { shows group.new ≡ merged (shows group.old) (shows other) }
     {
-        let Pass {
+        let ProcessGroup {
             place,
             setup: _,
             runners,
         } = other;
-        self.core.join(&mut pass.place, place);
-        if pass.runners.len() + runners.len() > usize::from(pass.setup.processes) {
-            // It never is so, since each process is in one pass; a look at the words would tell it.
-            self.core.look(&mut pass.place);
+        self.core.join(&mut group.place, place);
+        if group.runners.len() + runners.len() > usize::from(group.setup.processes) {
+            // It never is so, since each process is in one group; a look at the words would tell it.
+            self.core.look(&mut group.place);
             unreachable!()
         }
-        gather(&mut pass.runners, runners);
+        gather(&mut group.runners, runners);
     }
 }

@@ -1,16 +1,16 @@
-// What a pass tells of its least process.
+// What a group tells of its least process.
 ghost use Rattle.std.specs.Prelude.{◌≡◌, not};
 ghost use Rattle.art_shared.specs.Views.{is_idle, calls_left};
 ghost use Rattle.running.specs.Steps.{is_open, least_process};
-ghost use Rattle.running.specs.Passes.{shows, IsPass};
+ghost use Rattle.running.specs.Groups.{shows, IsGroup};
 
-use crate::pass::Pass;
+use crate::group::ProcessGroup;
 use art::Doing;
 
-impl Pass {
+impl ProcessGroup {
     /// The number of the least process, which begins calls and makes their steps.
     pub fn process(&self) -> u8
-        requires pass { IsPass self.now }
+        requires group { IsGroup self.now }
         ensures { result ≡ least_process (shows self.now) }
     {
         self.runners[0].0
@@ -18,7 +18,7 @@ impl Pass {
 
     /// Whether the least process has no open call.
     pub fn is_idle(&self) -> bool
-        requires pass { IsPass self.now }
+        requires group { IsGroup self.now }
         ensures idle { result ≡ is_idle (shows self.now) }
         ensures open { not result ≡ is_open (shows self.now) }
     {
@@ -27,7 +27,7 @@ impl Pass {
 
     /// How many calls the least process may still begin.
     pub fn left(&self) -> u32
-        requires pass { IsPass self.now }
+        requires group { IsGroup self.now }
         ensures { result ≡ calls_left (shows self.now) }
     {
         self.runners[0].1.left

@@ -1,3 +1,4 @@
+pub mod CallLemmas
 pub mod PlaceLemmas
 pub mod ToldLemmas
 pub use Rattle.scan_rows.proofs.NameLemmas

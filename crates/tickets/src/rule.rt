@@ -41,22 +41,22 @@ impl Play<(), Holding> for SetAside {
 }
 
 /// A look at the bound on what a hand holds.
-pub(crate) struct Look;
+pub(crate) struct LookAtBound;
 
-impl Play<(), Holding> for Look {
+impl Play<(), Holding> for LookAtBound {
     ghost then = { StaysWithin };
 }
 
 /// A split gives away what was set aside, and a join puts two holdings together.
-pub(crate) struct Part;
+pub(crate) struct Share;
 
-impl Split<Holding> for Part {
+impl Split<Holding> for Share {
     ghost left = { kept_part };
 
     ghost right = { given_part };
 }
 
-impl Join<Holding> for Part {
+impl Join<Holding> for Share {
     ghost both = { both_parts };
 
     ghost spent = { no_part };

@@ -2,7 +2,7 @@
 ghost use Rattle.std.specs.Prelude.{◌≡◌, ◌+◌, ◌-◌, ◌^◌, ◌<◌, ◌≤◌, ◌↔◌, [], ◌∷◌, ◌++◌, max, All, IfOk, IfErr, IsOk};
 
 use crate::hand::Hand;
-use crate::rule::{Counting, Draw, Holding, Look, Part, SetAside};
+use crate::rule::{Counting, Draw, Holding, LookAtBound, SetAside, Share};
 use atomic_table::Table;
 use std::alloc::{AllocError, Global};
 
@@ -70,7 +70,7 @@ impl Tickets {
         self.table
             .shared
             .compare_exchange::<SetAside>(&mut hand.seat, 0, part, part);
-        let seat = self.table.shared.split_seat::<Part>(&mut hand.seat);
+        let seat = self.table.shared.split_seat::<Share>(&mut hand.seat);
         hand.left -= part;
         Hand {
             seat,
@@ -88,9 +88,9 @@ impl Tickets {
             (max (floor_of hand.old) (floor_of other)) }
     {
         let Hand { seat, left, drawn } = other;
-        self.table.shared.join_seat::<Part>(&mut hand.seat, seat);
+        self.table.shared.join_seat::<Share>(&mut hand.seat, seat);
         // This load shows that what both have together is within the bound, so that the sums fit.
-        self.table.shared.load::<Look>(&mut hand.seat, 0);
+        self.table.shared.load::<LookAtBound>(&mut hand.seat, 0);
         hand.left += left;
         hand.drawn += drawn;
     }

@@ -1,53 +1,53 @@
 // Two processes on an arena, whose steps are interleaved: what leaving out a check makes of a call, which the verdict refutes, what
 // the full trees answer, and whom a process holds up that stops for good within its call.
-ghost use Rattle.running.specs.Passes.{IsPassOf};
+ghost use Rattle.running.specs.Groups.{IsGroupOf};
 
 use crate::shapes::eights;
 use art::{TreeCall, Variant};
 use events::Call;
 use judge::{judge_alone, report};
-use running::{Arena, Pass};
+use running::{Arena, ProcessGroup};
 use std::alloc::Global;
 use std::test::Fail;
 
 /// More steps than any call here has.
 const WHOLE: u32 = 900;
 
-/// The pass's process begins a call.
-fn begin(arena: &Arena, pass: &mut Pass, call: &Call) -> Result<(), Fail>
-    requires { IsPassOf arena.now pass.old }
-    ensures { IsPassOf arena.now pass.new }
+/// The group's process begins a call.
+fn begin(arena: &Arena, group: &mut ProcessGroup, call: &Call) -> Result<(), Fail>
+    requires { IsGroupOf arena.now group.old }
+    ensures { IsGroupOf arena.now group.new }
 {
     let Some(call) = TreeCall::new(call) else {
         return Err(Fail::new("beyond the trees' limits"));
     };
-    if !pass.is_idle() {
+    if !group.is_idle() {
         return Err(Fail::new("a call is open"));
     }
-    if pass.left() == 0 {
+    if group.left() == 0 {
         return Err(Fail::new("no call is left"));
     }
-    Ok(arena.begin(pass, call)?)
+    Ok(arena.begin(group, call)?)
 }
 
-/// The pass's process begins a call where it is told one, and makes so many steps of its open call.
+/// The group's process begins a call where it is told one, and makes so many steps of its open call.
 fn make_steps(
     alloc: Global,
     arena: &Arena,
-    pass: &mut Pass,
+    group: &mut ProcessGroup,
     call: &Option<Call>,
     steps: u32,
 ) -> Result<(), Fail>
-    requires { IsPassOf arena.now pass.old }
-    ensures { IsPassOf arena.now pass.new }
+    requires { IsGroupOf arena.now group.old }
+    ensures { IsGroupOf arena.now group.new }
 {
     if let Some(call) = call {
-        begin(arena, pass, call)?;
+        begin(arena, group, call)?;
     }
-    if pass.is_idle() {
+    if group.is_idle() {
         return Err(Fail::new("no call is open"));
     }
-    arena.advance(alloc, pass, steps)?;
+    arena.advance(alloc, group, steps)?;
     Ok(())
 }
 

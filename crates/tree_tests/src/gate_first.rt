@@ -17,12 +17,12 @@ const TURNS: u32 = 10_000_000;
 
 /// Holds process 0 at the gate, and nobody else.
 #[derive(Drop)]
-struct Held<'a, C> {
+struct HoldingGate<'a, C> {
     clock: &'a C,
     start: Instant,
 }
 
-impl<C: Clock> Held<'_, C> {
+impl<C: Clock> HoldingGate<'_, C> {
     fn is_over(&self) -> bool {
         match self.start.elapsed(self.clock) {
             Ok(passed) => HELD <= passed.as_millis(),
@@ -31,7 +31,7 @@ impl<C: Clock> Held<'_, C> {
     }
 }
 
-impl<C: Clock> Gate for Held<'_, C> {
+impl<C: Clock> Gate for HoldingGate<'_, C> {
     ghost was_passed = { λ _ _. ⊤ };
 
     fn enter(&self, process: usize) {
@@ -57,7 +57,7 @@ fn a_process_enters_the_gate_before_its_calls(rt: HostRuntime) -> Result<(), Fai
     let alloc = rt.alloc();
     let mut last = 0u32;
     for _ in 0..9u32 {
-        let gate = Held {
+        let gate = HoldingGate {
             clock: &rt,
             start: Instant::now(&rt)?,
         };

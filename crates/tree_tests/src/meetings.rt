@@ -53,7 +53,7 @@ pub(crate) fn drive_text<R: Threads + Sync, G: Gate + Sync>(
 /// Holds each of the processes 0 and 2 until the other one came. It counts those that saw the other one, those that came, and adds
 /// up their numbers.
 #[derive(Drop)]
-struct Pair {
+struct MeetingGate {
     first: AtomicBool,
     last: AtomicBool,
     met: AtomicU64,
@@ -61,7 +61,7 @@ struct Pair {
     numbers: AtomicU64,
 }
 
-impl Gate for Pair {
+impl Gate for MeetingGate {
     ghost was_passed = { λ _ _. ⊤ };
 
     fn enter(&self, process: usize) {
@@ -88,7 +88,7 @@ fn two_arena_processes(rt: HostRuntime) -> Result<(), Fail> {
     let text =
         r#"{"scripts":[[["insert",5,7],["get",6]],[],[["insert",6,8],["get",5]]],"version":1}"#;
     for round in 0..100 {
-        let gate = Pair {
+        let gate = MeetingGate {
             first: AtomicBool::new(false),
             last: AtomicBool::new(false),
             met: AtomicU64::new(0),

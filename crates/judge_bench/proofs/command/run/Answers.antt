@@ -4,7 +4,7 @@ use Rattle.clap.specs.Words.{Text}
 use Rattle.command_line.specs.declared.line.Line.{Line}
 use Rattle.command_line.specs.declared.line.Line.TheVariants.{Check, Judge, Locate, Explain, Draw, Follow}
 use Rattle.command_line.specs.Lines.{IsLineOf}
-use Rattle.command_line.specs.LineFaults.{IsAccepted}
+use Rattle.command_line.specs.WordsFaults.{IsAccepted}
 use Rattle.outcomes.specs.declared.outcome.RunOutcome.{RunOutcome}
 use Rattle.outcomes.specs.Ends.{Change, change}
 use Rattle.line_outcomes.proofs.OutcomeLemmas.{fault-words}

@@ -6,7 +6,7 @@ use Rattle.events.specs.HistoryView.{HistoryView, with_no_start}
 use Rattle.logs.specs.Logs.{events_by_stamp}
 use Rattle.art_shared.specs.Ends.{HasOwnEvents}
 use Rattle.running.specs.Fitting.{Run}
-use Rattle.running.specs.Passes.{shows, opened_for}
+use Rattle.running.specs.Groups.{shows, opened_for}
 use Rattle.running.proofs.CloseLemmas.{logged-history}
 use Rattle.running.proofs.ReadMomentLemmas.{scans-have-moments, gets-have-moments, is-linearizable}
 use Rattle.running.proofs.arena.Arena.history.Goals as goal
@@ -15,14 +15,14 @@ pub history_by_stamp-requires-clause-events : goal.history_by_stamp-requires-cla
 history_by_stamp-requires-clause-events c =
     let e = c.look.ensures.all c.requires.all in
     let same = ap events_by_stamp (c.in_ok-stamped.ensures ∙ ap (flat_map (λ (r : Run). r.1.log.items)) c.deref.ensures.value)
-    ∙ sym (logged-history c.args.pass.now.setup e.words (shows c.args.pass.now) c.args.pass.now.runners.items c.requires.own.pass.fit) in
+    ∙ sym (logged-history c.args.group.now.setup e.words (shows c.args.group.now) c.args.group.now.runners.items c.requires.own.group.fit) in
     subst AreHistoryEvents (sym same) e.history
 
 pub returns-clause-history : goal.returns-clause-history
 returns-clause-history c =
     let e = c.look.ensures.all c.requires.all in
     let same = ap events_by_stamp (c.in_ok-stamped.ensures ∙ ap (flat_map (λ (r : Run). r.1.log.items)) c.deref.ensures.value)
-    ∙ sym (logged-history c.args.pass.now.setup e.words (shows c.args.pass.now) c.args.pass.now.runners.items c.requires.own.pass.fit) in
+    ∙ sym (logged-history c.args.group.now.setup e.words (shows c.args.group.now) c.args.group.now.runners.items c.requires.own.group.fit) in
     IfOk-weaker c.history_by_stamp.result _ _ (λ (found : HistoryView) is. record {
       words = e.words;
       schedule = e.schedule;
@@ -36,35 +36,35 @@ pub returns-clause-own_events : goal.returns-clause-own_events
 returns-clause-own_events c =
     let e = c.look.ensures.all c.requires.all in
     let same = ap events_by_stamp (c.in_ok-stamped.ensures ∙ ap (flat_map (λ (r : Run). r.1.log.items)) c.deref.ensures.value)
-    ∙ sym (logged-history c.args.pass.now.setup e.words (shows c.args.pass.now) c.args.pass.now.runners.items c.requires.own.pass.fit) in
+    ∙ sym (logged-history c.args.group.now.setup e.words (shows c.args.group.now) c.args.group.now.runners.items c.requires.own.group.fit) in
     IfOk-weaker c.history_by_stamp.result _ _ (λ (found : HistoryView) is.
-    subst (HasOwnEvents (opened_for c.args.self.now) (shows c.args.pass.now)) (sym (ap (λ (h : HistoryView). h.events) is ∙ same)) e.own)
+    subst (HasOwnEvents (opened_for c.args.self.now) (shows c.args.group.now)) (sym (ap (λ (h : HistoryView). h.events) is ∙ same)) e.own)
     c.history_by_stamp.ensures
 
 pub returns-clause-moments : goal.returns-clause-moments
-returns-clause-moments c = scans-have-moments c.answered_scans_have_moments.ensures (opened_for c.args.self.now) (shows c.args.pass.now)
+returns-clause-moments c = scans-have-moments c.answered_scans_have_moments.ensures (opened_for c.args.self.now) (shows c.args.group.now)
     (c.look.ensures.all c.requires.all)
 
 pub returns-in_err-stamped-clause-moments : goal.returns-in_err-stamped-clause-moments
 returns-in_err-stamped-clause-moments c = scans-have-moments c.answered_scans_have_moments.ensures (opened_for c.args.self.now)
-    (shows c.args.pass.now) (c.look.ensures.all c.requires.all)
+    (shows c.args.group.now) (c.look.ensures.all c.requires.all)
 
 pub returns-clause-gets : goal.returns-clause-gets
-returns-clause-gets c = gets-have-moments c.answered_gets_have_moments.ensures (opened_for c.args.self.now) (shows c.args.pass.now)
+returns-clause-gets c = gets-have-moments c.answered_gets_have_moments.ensures (opened_for c.args.self.now) (shows c.args.group.now)
     (c.look.ensures.all c.requires.all)
 
 pub returns-in_err-stamped-clause-gets : goal.returns-in_err-stamped-clause-gets
 returns-in_err-stamped-clause-gets c = gets-have-moments c.answered_gets_have_moments.ensures (opened_for c.args.self.now)
-    (shows c.args.pass.now) (c.look.ensures.all c.requires.all)
+    (shows c.args.group.now) (c.look.ensures.all c.requires.all)
 
 pub returns-clause-linearizable : goal.returns-clause-linearizable
 returns-clause-linearizable c =
     let e = c.look.ensures.all c.requires.all in
     let same = ap events_by_stamp (c.in_ok-stamped.ensures ∙ ap (flat_map (λ (r : Run). r.1.log.items)) c.deref.ensures.value)
-    ∙ sym (logged-history c.args.pass.now.setup e.words (shows c.args.pass.now) c.args.pass.now.runners.items c.requires.own.pass.fit) in
+    ∙ sym (logged-history c.args.group.now.setup e.words (shows c.args.group.now) c.args.group.now.runners.items c.requires.own.group.fit) in
     IfOk-weaker c.history_by_stamp.result _ _ (λ (found : HistoryView) is.
     is-linearizable c.coupled_is_linearizable.ensures c.optimistic_is_linearizable.ensures (opened_for c.args.self.now)
-    (shows c.args.pass.now) e found
+    (shows c.args.group.now) e found
     (is ∙ (ap (λ start. record { start = start; events = events_by_stamp c.in_ok-stamped.stamped.items }) c.new.ensures.items
     ∙ ap with_no_start same)))
     c.history_by_stamp.ensures

@@ -1,14 +1,14 @@
 use Rattle.std.proofs.Common.{◌≡◌, ◌-◌, length, take, drop, ap, sym, subst, ◌∙◌, arith}
 use Rattle.running.specs.Fitting.{Fit}
-use Rattle.running.specs.Passes.{shows}
+use Rattle.running.specs.Groups.{shows}
 use Rattle.running.proofs.FitLemmas.{fit-cut}
 use Rattle.running.proofs.CloseLemmas.{as-many}
 use Rattle.running.proofs.arena.Arena.split.Goals as goal
 
 pub returns-clause-own : goal.returns-clause-own
 returns-clause-own c =
-    let p = c.args.pass.now in
-    let own = c.requires.own.pass in
+    let p = c.args.group.now in
+    let own = c.requires.own.group in
     let xs = (shows p).processes in
     let kept = c.give_last.new.runners in
     let many = as-many c.args.self.now p c.requires.own in
@@ -20,7 +20,7 @@ returns-clause-own c =
     let more = c.give_last.ensures.capacity in
     record {
       place = c.split-place.ensures.own.0;
-      pass = record {
+      group = record {
         setup = ap (λ v. v.setup) c.split-place.ensures.kept ∙ own.setup;
         limits = own.limits;
         fit = subst (λ v. Fit p.setup v.processes kept.items) (sym c.split-place.ensures.kept)
@@ -32,8 +32,8 @@ returns-clause-own c =
 
 pub returns-clause-given_own : goal.returns-clause-given_own
 returns-clause-given_own c =
-    let p = c.args.pass.now in
-    let own = c.requires.own.pass in
+    let p = c.args.group.now in
+    let own = c.requires.own.group in
     let xs = (shows p).processes in
     let kept = c.give_last.new.runners in
     let other = c.give_last.new.other in
@@ -43,7 +43,7 @@ returns-clause-given_own c =
     let more = c.give_last.ensures.other_capacity in
     record {
       place = c.split-place.ensures.own.1;
-      pass = record {
+      group = record {
         setup = ap (λ v. v.setup) c.split-place.ensures.given ∙ own.setup;
         limits = own.limits;
         fit = subst (λ v. Fit p.setup v.processes other.items) (sym c.split-place.ensures.given)

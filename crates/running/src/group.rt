@@ -4,9 +4,9 @@ use art_shared::{Place, Setup};
 
 /// Some processes of an [`Arena`](crate::Arena), for one thread at a time: each with its number, its open call and its events
 /// with their stamps, by rising number. There is room for all processes of the arena, so that a join takes no memory. Where a
-/// pass is dropped, its arena can't be closed.
+/// group is dropped, its arena can't be closed.
 #[derive(Drop)]
-pub struct Pass {
+pub struct ProcessGroup {
     pub(crate) place: Place,
     pub(crate) setup: Setup,
     pub(crate) runners: Vec<(u8, Runner)>,

@@ -1,4 +1,4 @@
--- Passes of one process each, before and after its script, and the pass of all.
+-- Groups of one process each, before and after its script, and the group of all.
 use Rattle.std.specs.Prelude.{◌≡◌, ◌⊎◌, ⊤, ℕ, ◌<◌, Bool, true, false, List, [], ◌∷◌, ◌++◌, map, length, Option, Some, None, Result, Ok, Err}
 use Rattle.std.specs.Prelude.{slice_get}
 use Rattle.events.specs.declared.event.Call.{Call}
@@ -10,15 +10,15 @@ use Rattle.art_shared.specs.declared.view.Setup.{Setup}
 use Rattle.art_shared.specs.declared.view.View.{View}
 use Rattle.art_shared.specs.Views.{Numbered, merge}
 use Rattle.running.specs.declared.arena.Arena.{Arena}
-use Rattle.running.specs.declared.pass.Pass.{Pass}
+use Rattle.running.specs.declared.group.ProcessGroup.{ProcessGroup}
 use Rattle.running.specs.declared.fault.ArenaClose.{ArenaClose}
 use Rattle.running.specs.declared.fault.ArenaClose.TheVariants as faults
-use Rattle.running.specs.Passes.{shows, opened_for, IsPassOf}
+use Rattle.running.specs.Groups.{shows, opened_for, IsGroupOf}
 use Rattle.arena_drives.specs.ArenaDrives.{alone, IsLimited}
 
--- a pass with one process, which has begun nothing yet
-pub record IsReady (a : Arena) (p : Pass) : Type 0 where
-  pub own : IsPassOf a p
+-- a group with one process, which has begun nothing yet
+pub record IsReady (a : Arena) (p : ProcessGroup) : Type 0 where
+  pub own : IsGroupOf a p
   pub number : ℕ
   pub known : number < (opened_for a).processes
   pub shown : shows p ≡ alone (opened_for a) number idle
@@ -54,22 +54,22 @@ pub record HasDoneOwn (WasPassed : ℕ → Type 0) (setup : Setup) (limit : ℕ)
   pub passed : WasPassed x.0
   pub did : (script : List Call) → slice_get scripts x.0 ≡ Some script → HasDone setup x.0 limit script x.1
 
--- the pass of one process, which did its own of the scripts
-pub record IsPassAfter (WasPassed : ℕ → Type 0) (a : Arena) (limit : ℕ) (scripts : List (List Call)) (p : Pass) : Type 0 where
-  pub own : IsPassOf a p
+-- the group of one process, which did its own of the scripts
+pub record IsGroupAfter (WasPassed : ℕ → Type 0) (a : Arena) (limit : ℕ) (scripts : List (List Call)) (p : ProcessGroup) : Type 0 where
+  pub own : IsGroupOf a p
   pub process : Numbered
   pub is : (shows p).processes ≡ process ∷ []
   pub known : process.0 < length scripts
   pub done : HasDoneOwn WasPassed (opened_for a) limit scripts process
 
--- the processes of some passes, and then those of others, each at its place; none where a process wanted memory
-abbrev pub gathered : List Numbered → List (Result Pass Memory) → Option (List Numbered)
+-- the processes of some groups, and then those of others, each at its place; none where a process wanted memory
+abbrev pub gathered : List Numbered → List (Result ProcessGroup Memory) → Option (List Numbered)
 gathered xs [] = Some xs
 gathered xs (Ok p ∷ done) = gathered (merge xs (shows p).processes) done
 gathered xs (Err e ∷ done) = None
 
--- the processes of all passes
-abbrev pub joined : List (Result Pass Memory) → Option (List Numbered)
+-- the processes of all groups
+abbrev pub joined : List (Result ProcessGroup Memory) → Option (List Numbered)
 joined [] = None
 joined (Ok p ∷ done) = gathered (shows p).processes done
 joined (Err e ∷ done) = None

@@ -1,4 +1,4 @@
--- What a clause says of an arena and a pass.
+-- What a clause says of an arena and a group.
 use Rattle.std.specs.Prelude.{◌≡◌, ℕ, ◌<◌, ◌≤◌, vec_len, vec_capacity}
 use Rattle.art_rows.specs.declared.table.Shape.{Shape}
 use Rattle.art_steps.specs.declared.variant.Variant.{Variant}
@@ -7,7 +7,7 @@ use Rattle.art_shared.specs.declared.view.View.{View}
 use Rattle.art_shared.specs.Places.{setup_of, shown, IsPlaceOf}
 use Rattle.art_shared.specs.Setups.{IsSetup}
 use Rattle.running.specs.declared.arena.Arena.{Arena}
-use Rattle.running.specs.declared.pass.Pass.{Pass}
+use Rattle.running.specs.declared.group.ProcessGroup.{ProcessGroup}
 use Rattle.running.specs.Fitting.{Fit}
 
 abbrev pub setup_with : Shape → Variant → ℕ → ℕ → Setup
@@ -17,19 +17,19 @@ setup_with shape variant processes calls_each = record { shape = shape; variant 
 abbrev pub opened_for : Arena → Setup
 opened_for a = setup_of a.core
 
--- what a pass shows: its processes with their numbers, the least first
-abbrev pub shows : Pass → View
+-- what a group shows: its processes with their numbers, the least first
+abbrev pub shows : ProcessGroup → View
 shows p = shown p.place
 
--- What each pass of an arena keeps: its processes, as a thread runs them, fit those that it shows, and there is room for all.
-pub record IsPass (p : Pass) : Type 0 where
+-- What each group of an arena keeps: its processes, as a thread runs them, fit those that it shows, and there is room for all.
+pub record IsGroup (p : ProcessGroup) : Type 0 where
   pub setup : (shows p).setup ≡ p.setup
   pub limits : IsSetup p.setup
   pub fit : Fit p.setup (shows p).processes p.runners.items
   pub some : 0 < vec_len p.runners
   pub room : p.setup.processes ≤ vec_capacity p.runners
 
--- a pass that came from the arena
-pub record IsPassOf (a : Arena) (p : Pass) : Type 0 where
+-- a group that came from the arena
+pub record IsGroupOf (a : Arena) (p : ProcessGroup) : Type 0 where
   pub place : IsPlaceOf a.core p.place
-  pub pass : IsPass p
+  pub group : IsGroup p
