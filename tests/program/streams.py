@@ -14,6 +14,12 @@ Then streams are followed in which processes die: each stops inside an insert, a
 others call the map at its key thousands of times, one of them for long within a call now and then. Into half of these streams come wrong
 answers. What is expected of them a model in this file works out: it keeps, key by key, each value that the key may have, with the open calls
 that were done by then.
+
+And streams in which one call, mostly a scan, is held up while others go on (`held_streams.py`): drawn ones, of half of which an answer is
+changed, often that of what was held up; rows that were worked out by hand, most of them with so many ways that what came so far may be put aside
+as a window before the scan is answered; and recordings of which the first thing known was that ways grew without end, whole and with a scan that
+tells what nobody put. Of drawn ones and rows a model (`stream_model.py`) keeps all maps that there may be, with the open calls that were done
+by then. Rows and recordings have to be decided, and each recording within five seconds of a processor.
 The last line counts what passed and failed.
 """
 
@@ -22,13 +28,16 @@ import itertools
 import json
 import os
 import random
+import resource
 import subprocess
 import sys
 
 TOP = os.path.dirname(os.path.dirname(os.path.dirname(os.path.abspath(__file__))))
 sys.dont_write_bytecode = True
 sys.path.insert(0, os.path.join(TOP, "drivers", "python"))
+import held_streams  # noqa: E402
 import stream_of  # noqa: E402
+from stream_model import LESS, READS, agrees, answer_of, lost_by_states, tell_less  # noqa: E402
 
 PROGRAM = os.path.join(TOP, "crates", "bench", "out", "bench")
 EXAMPLES = os.path.join(TOP, "examples")
@@ -42,10 +51,14 @@ MOST_SMALL = 7
 # With many open calls a search of a whole segment may meet millions of configurations.
 BUDGET = ["--budget", "20000"]
 REFUSED = 3
-LESS = ("done", "found", "other")
 # Streams with processes that die, one for each 125 others, and their calls.
 DEAD_SHARE = 125
 DEAD_CALLS = 3000
+# Streams with a call that is held up, one for so many others; and the seconds of a processor that a recording of such may take.
+HELD_SHARE = 10
+HELD_SECONDS = 5
+# All orders of a row of so few events are tried.
+SHORT_ROW = 70
 
 
 def text_of(history):
@@ -55,20 +68,6 @@ def text_of(history):
 def lines_of(history):
     """The stream of a history."""
     return "".join(stream_of.lines_of(history)).encode()
-
-
-def answer_of(held, name, key, *others):
-    """Does a call on the pairs held, and gives its answer."""
-    if name == "scan":
-        return [[at, held[at]] for at in sorted(held) if key <= at <= others[0]]
-    answer = held.get(key)
-    if name == "insert":
-        held[key] = others[0]
-    elif name == "remove":
-        held.pop(key, None)
-    elif name == "replace" and answer == others[0]:
-        held[key] = others[1]
-    return answer
 
 
 def drawn_call(chance, keys, kinds):
@@ -101,26 +100,6 @@ def drawn_events(chance, held, processes, keys, kinds, calls):
             opened[process] = drawn_call(chance, keys, kinds)
             events.append({"invoke": opened[process], "process": process})
     return events
-
-
-def agrees(call, found, answer):
-    """Whether a call that found this is answered so, or by less."""
-    if answer == "found":
-        return call[0] != "scan" and found is not None
-    if answer == "other":
-        return call[0] == "replace" and found != call[2]
-    return answer == "done" or answer == found
-
-
-def tell_less(chance, events):
-    """Changes half of the answers to some that tell less."""
-    opened = {}
-    for event in events:
-        if "invoke" in event:
-            opened[event["process"]] = event["invoke"]
-        elif event["answer"] != "refused" and chance.randrange(2):
-            call = opened[event["process"]]
-            event["answer"] = chance.choice([less for less in LESS if agrees(call, event["answer"], less)])
 
 
 def damage(chance, events, others):
@@ -367,17 +346,31 @@ def is_overwritten(events, event, kept, place, value):
     return False
 
 
+def last_alone(events, event):
+    """The last event before another one behind which a get or a scan is the only open call, or -1: there a window may have ended."""
+    opened, last = {}, -1
+    for place in range(event):
+        if "invoke" in events[place]:
+            opened[events[place]["process"]] = events[place]["invoke"]
+        else:
+            del opened[events[place]["process"]]
+            if [call[0] in READS for call in opened.values()] == [True]:
+                last = place
+    return last
+
+
 def wrong_with_puts(history, report):
-    """What is wrong with who put the values of the keys that are named: a call of the key that puts that, and that none overwrote that is gone, or nobody,
-    where it was there at the start."""
-    start = dict(history.get("start", []))
+    """What is wrong with who put the values of the keys that are named: a call of the key that puts that, and that none overwrote that is gone,
+    or nobody, where it was there at the start, or may have been before a window ended."""
+    start, alone = dict(history.get("start", [])), last_alone(history["events"], report["event"])
     for kept in report["keys"]:
         puts = set(puts_before(history["events"], report["event"], kept["key"]))
+        older = {None, start.get(kept["key"]), *(value for place, value in puts if place < alone)}
         for value, place in zip(kept["values"], kept["put"], strict=True):
             if place is not None and is_overwritten(history["events"], report["event"], kept, place, value):
                 return f"{report}, where what {place} put at key {kept['key']} was overwritten"
         for value, place in zip(kept["values"], kept["put"], strict=True):
-            if value not in (None, start.get(kept["key"])) if place is None else (place, value) not in puts:
+            if value not in older if place is None else (place, value) not in puts:
                 return f"{report}, where {place} did not put {value} at key {kept['key']}"
     return None
 
@@ -469,6 +462,43 @@ def verdict(history, lost=None):
     return report["verdict"], wrong and f"follow says {wrong}: {text.decode()}"
 
 
+def decided(history, lost):
+    """The same where the answer has to be yes, or no at this event."""
+    found, wrong = verdict(history, lambda _: lost)
+    if wrong is None and found != ("yes" if lost is None else "no"):
+        wrong = f"{found} of a stream that {'has an order' if lost is None else f'goes wrong at event {lost}'}: {text_of(history).decode()}"
+    return found, wrong
+
+
+def row_verdict(row):
+    """The same of a row of streams with calls that are held up, of which `locate` and the model have to say the same, and all orders of a short
+    one; and the keys that a no tells, if these are given."""
+    name, history, lost, *keys = row
+    found, wrong = decided(history, lost)
+    models = [lost_by_states, lost_by_all_orders][: 1 + (len(history["events"]) <= SHORT_ROW)]
+    if any(model(history) != lost for model in models):
+        wrong = f"a model says that it goes wrong at another event than {lost}"
+    (located,) = said("locate", text_of(history))[1]
+    if (located["verdict"], located.get("event")) != (found, lost):
+        wrong = wrong or f"follow says {found}, and locate {located}"
+    if wrong is None and keys:
+        report = run("follow", lines_of(history))[1][0]
+        wrong = None if report["keys"] == keys[0] else f"{report}, and wanted are the keys {keys[0]}"
+    return found, wrong and f"{name}: {wrong}"
+
+
+def recording_verdict(recording):
+    """The same of a recording, or of one whose scan that is held up tells something else."""
+    history = recording
+    lost = lost_by_states(history)
+    before = sum(resource.getrusage(resource.RUSAGE_CHILDREN)[:2])
+    found, wrong = decided(history, lost)
+    seconds = sum(resource.getrusage(resource.RUSAGE_CHILDREN)[:2]) - before
+    if wrong is None and seconds > HELD_SECONDS:
+        wrong = f"{found} after {seconds:.1f} seconds"
+    return found, wrong and f"a recording with a scan that is held up: {wrong[:600]}"
+
+
 def examples():
     """The histories of the examples that are not refused."""
     for name in sorted(os.listdir(EXAMPLES)):
@@ -500,9 +530,13 @@ def main():
         judged = [*examples(), *(drawn_history(SEED + number, False) for number in range(count) if number % SMALL_SHARE == 0)]
         small = [drawn_history(SEED + number, True) for number in range(count) if number % SMALL_SHARE]
         deaths = [drawn_deaths(SEED + number) for number in range(count // DEAD_SHARE)]
+        held = [held_streams.drawn_held(SEED + number) for number in range(count // HELD_SHARE)]
+        rows = [*held_streams.rows(), *held_streams.rows_of_keys()]
+        recordings = list(held_streams.recordings())
         for found, wrong in itertools.chain(
             runs.map(verdict, judged), runs.map(verdict, small, itertools.repeat(lost_by_all_orders)),
-            runs.map(verdict, deaths, itertools.repeat(lost_by_deaths)),
+            runs.map(verdict, deaths, itertools.repeat(lost_by_deaths)), runs.map(verdict, held, itertools.repeat(lost_by_states)),
+            runs.map(row_verdict, rows), runs.map(recording_verdict, recordings),
         ):
             verdicts[found] += 1
             if wrong is not None:
