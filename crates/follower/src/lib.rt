@@ -9,8 +9,6 @@ mod open_calls;
 mod open_scans;
 mod pairs;
 mod taking;
-#[cfg(test)]
-mod tests;
 
 pub use answered::{AnsweredStream, Doubt, Loss};
 pub use fault::FollowFault;

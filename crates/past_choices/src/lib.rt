@@ -22,6 +22,3 @@ pub use answer::{Answer, PastChoice};
 pub use start::Start;
 pub use values::{is_ended, may_be_answered, value_behind};
 pub use worklist::past_choices;
-
-#[cfg(test)]
-mod tests;

@@ -20,3 +20,9 @@ explain_part-requires-clause-none c =
     let own = own_of c.own_parts_have_no_order.ensures c.args.budget c.args.history.now c.args.loss.now c.in-Some.part c.requires.lost
     (sym c.in_ok-part.ensures ∙ c.in-Some.is) in
     own.1.1.none
+
+pub returns-in_ok-few-in-Some-clause-refutes : goal.returns-in_ok-few-in-Some-clause-refutes
+returns-in_ok-few-in-Some-clause-refutes c =
+    let own = own_of c.own_parts_have_no_order.ensures c.args.budget c.args.history.now c.args.loss.now c.in-Some.part c.requires.lost
+    (sym c.in_ok-part.ensures ∙ c.in-Some.is) in
+    (own.1.1.sorted, c.in_ok-few-in-Some.ensures.enough.none)

@@ -19,7 +19,7 @@ returns-then-eq-clause-answered c = λ start events h.
     let w : WindowsView = record { current = c.self.inside.current; asides = c.self.inside.asides.items; lone = c.self.inside.lone } in
     let seen : IsFollowed start events w = subst (IsFollowed start events) (sym c.self.view_is) h in
     let fine : answer_fault events c.args.process ≡ None = answer_same start events w seen c.args.process
-        ∙ (sym (c.answer_fault.ensures seen.m seen.now seen.follows) ∙ c.in_default.is) in
+    ∙ (sym (c.answer_fault.ensures seen.m seen.now seen.follows) ∙ c.in_default.is) in
     c.answer_read.ensures.answered start events h fine
 
 pub returns-clause-answered : goal.returns-clause-answered
@@ -27,5 +27,5 @@ returns-clause-answered c = λ start events h.
     let w : WindowsView = record { current = c.self.inside.current; asides = c.self.inside.asides.items; lone = c.self.inside.lone } in
     let seen : IsFollowed start events w = subst (IsFollowed start events) (sym c.self.view_is) h in
     let fine : answer_fault events c.args.process ≡ None = answer_same start events w seen c.args.process
-        ∙ (sym (c.answer_fault.ensures seen.m seen.now seen.follows) ∙ c.in_default.is) in
+    ∙ (sym (c.answer_fault.ensures seen.m seen.now seen.follows) ∙ c.in_default.is) in
     c.answer_other.ensures.answered start events h fine

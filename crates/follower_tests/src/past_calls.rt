@@ -2,10 +2,8 @@
 ghost use Rattle.std.specs.Prelude.{◌≡◌, length, None, Some, All, IfOk};
 ghost use Rattle.events.specs.declared.event.Reply.TheVariants as replies;
 
-use crate::answer::{Answer, PastChoice};
-use crate::start::Start;
-use crate::worklist::past_choices;
 use events::{Call, Memory, Operation, Reply, Response};
+use past_choices::{Answer, PastChoice, Start, past_choices};
 use std::alloc::Global;
 use std::test::Fail;
 

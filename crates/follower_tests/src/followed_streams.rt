@@ -1,8 +1,6 @@
 // Streams, by hand.
-use crate::answered::AnsweredStream;
-use crate::fault::FollowFault;
-use crate::follower::Follower;
 use events::{Call, Memory, Pairs, Reply};
+use follower::{AnsweredStream, FollowFault, Follower};
 use std::alloc::Global;
 use std::test::Fail;
 
