@@ -221,9 +221,6 @@ def rows_of_keys():
         yield f"{count} windows, lost", *lost_behind(*held), keys_lost(value, None, end)
         history, event = lost_behind(*held, *done(1, value, "insert", 0, 5))
         yield f"{count} windows, lost behind an insert", history, event, keys_lost(value, None, end, end + 2)
-    for pairs in TOLD:
-        history, event = lost_behind(*told(pairs, True)[0]["events"])
-        yield f"told {pairs}, lost behind", history, event, keys_lost(40, 1 + len(windows(1, 3)), event - 1)
 
 
 def rows():
@@ -238,6 +235,7 @@ def rows():
             yield f"ways differ, {count} pauses, {found}, {pairs}", *ways_differ(pauses(count), found, pairs, is_right)
     for pairs in TOLD:
         yield f"told {pairs}", *told(pairs, True, *done(2, 40, "get", 0))
+        yield f"told {pairs}, lost behind", *lost_behind(*told(pairs, True)[0]["events"])
     for pairs in UNTOLD:
         yield f"told {pairs}", *told(pairs, False)
     for count in (1, 3):

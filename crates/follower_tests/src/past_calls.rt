@@ -65,19 +65,27 @@ fn open_calls_come_at_each_place_or_not_at_all(rt: HostRuntime) -> Result<(), Fa
         panic!(rt; "more positions than there are");
     };
     assert!(rt; choices.len() == 10);
-    assert!(rt; has_choice(&choices, &[], Some(1), &[]));
-    for found in [None, Some(1)] {
-        assert!(rt; has_choice(&choices, &[1], Some(1), &[(1, found)]));
-    }
-    assert!(rt; has_choice(&choices, &[2], Some(1), &[(2, None)]));
-    assert!(rt; has_choice(&choices, &[2], Some(2), &[(2, Some(1))]));
-    for found in [None, Some(1)] {
-        assert!(rt; has_choice(&choices, &[1, 2], Some(1), &[(1, found), (2, None)]));
-    }
-    for found in [None, Some(1), Some(2)] {
-        assert!(rt; has_choice(&choices, &[1, 2], Some(2), &[(1, found), (2, Some(1))]));
-    }
+    assert!(rt; has_choices_of_the_get_alone(&choices));
+    assert!(rt; has_choices_of_the_replace(&choices));
     Ok(())
+}
+
+/// The choices in which no call is taken, or the get alone, before the insert or behind it.
+fn has_choices_of_the_get_alone(choices: &[PastChoice]) -> bool {
+    has_choice(choices, &[], Some(1), &[])
+        && has_choice(choices, &[1], Some(1), &[(1, None)])
+        && has_choice(choices, &[1], Some(1), &[(1, Some(1))])
+}
+
+/// The choices in which the replace is taken, which finds no value or the 1, alone or with the get.
+fn has_choices_of_the_replace(choices: &[PastChoice]) -> bool {
+    has_choice(choices, &[2], Some(1), &[(2, None)])
+        && has_choice(choices, &[2], Some(2), &[(2, Some(1))])
+        && has_choice(choices, &[1, 2], Some(1), &[(1, None), (2, None)])
+        && has_choice(choices, &[1, 2], Some(1), &[(1, Some(1)), (2, None)])
+        && has_choice(choices, &[1, 2], Some(2), &[(1, None), (2, Some(1))])
+        && has_choice(choices, &[1, 2], Some(2), &[(1, Some(1)), (2, Some(1))])
+        && has_choice(choices, &[1, 2], Some(2), &[(1, Some(2)), (2, Some(1))])
 }
 
 // An insert of 1 had ended before a remove began that is open, and a get that is answered 1 behind

@@ -23,13 +23,12 @@ use Rattle.prefixes.specs.Laws.{PrefixesHaveOrders}
 use Rattle.prefixes.specs.Prefixes.{prefix_of, IsAnswerOf, GoesWrongAt}
 use Rattle.lone_reads.specs.Hushed.{silent, hushed}
 use Rattle.lone_reads.specs.LoneReads.{IsOpenAt, IsOnlyOpen, LeavesOnly}
-use Rattle.lone_reads.specs.Windows.{AreLinearizable, Window, TakesAnswer, HaveSameOpen, StandsAlone, StandFor}
+use Rattle.lone_reads.specs.Windows.{AreLinearizable, Window, TakesAnswer, StandsAlone, StandFor}
 use Rattle.lone_reads.proofs.AlikeLemmas.{IsAlike, long_alike, as_many_alike, number_alike, answer_alike, open_alike, well_alike}
 use Rattle.lone_reads.proofs.CallLemmas.{operation}
 use Rattle.lone_reads.proofs.HushLemmas.{hushed_alike, hushed_open, hushed_only, windows_are_hushed}
 use Rattle.lone_reads.proofs.PendingLemmas.{pending_of, only_pending}
 use Rattle.lone_reads.proofs.WindowLemmas.{alone_on, has_open, open_on, windows_at, windows_on, windows_are_closed}
-use Rattle.lone_reads.proofs.WindowLemmas.{begins_alone}
 use Rattle.kept_rows.proofs.ScanAnswerLemmas.{open_call}
 use Rattle.follower.specs.Faults.{invocation_fault, answer_fault}
 use Rattle.follower.specs.FollowerView.{FollowerView, known_call}
@@ -45,10 +44,6 @@ use Rattle.windows.proofs.StretchLemmas.{each_alike, zip_join, same_stands, hush
 -- ---- what stands for a stream
 
 module _ (start m : Contents) (events now : List Event) (windows : List Window) where
-  pub same_open : (lone : Option ℕ) → Stand start events lone windows m now → HaveSameOpen events now
-  same_open None h = h.0.open_calls
-  same_open (Some p) h = h.stand.open_calls
-
   -- it has an order where that has one
   pub stand_linearizable : (lone : Option ℕ) → Stand start events lone windows m now → AreLinearizable m now → AreLinearizable start events
   stand_linearizable None h lin =
@@ -129,10 +124,6 @@ module _ (start : Contents) (events : List Event) (w : WindowsView) (h : IsFollo
         well_formed = well;
         linearizable = stand_linearizable start h.m (events ++ e ∷ []) (h.now ++ e ∷ []) h.windows w.lone stand follows.linearizable;
       }
-
-  pub well_now : (e : Event) → IsWellFormed (h.now ++ e ∷ []) → IsWellFormed (events ++ e ∷ [])
-  well_now e well = well_alike (events ++ e ∷ []) (h.now ++ e ∷ [])
-      (zip_join IsAlike events (e ∷ []) h.now (e ∷ []) alike ((refl, refl), tt)) well
 
 -- ---- the answer of a call is told by its number in the stream
 
@@ -268,20 +259,3 @@ module _ (start : Contents) (events : List Event) (w : WindowsView) (h : IsFollo
           subst (λ (r : ℕ). IsOpenAt (hushed place h.now) r other at) (sym process)
           (subst (λ (c : Call). IsOpenAt (hushed place h.now) p c at) (sym asks)
           (subst (IsOpenAt (hushed place h.now) p call) (sym same) is))
-
--- ---- before any event
-
-pub begins : (start : Contents) (f : FollowerView) → IsFollowing start [] f → IsFollowed start [] (record { current = f; asides = []; lone = None })
-begins start f h = record {
-  m = start;
-  now = [];
-  windows = [];
-  follows = h;
-  asides = tt;
-  stand = (begins_alone start [] h.well_formed, refl);
-  each = tt;
-  parts = All-nil (λ v. AreOf [] v.events);
-  calls = λ p place call. (λ is. is, λ is. is);
-  well_formed = h.well_formed;
-  linearizable = h.linearizable;
-}
