@@ -175,7 +175,7 @@ static inline void potzendai_tell_origin(FILE *out, const char *line, bool is_le
 }
 
 /* Writes from which value of a key the few calls have no order: the line stands behind an undecided alone. */
-static inline void potzendai_tell_from(FILE *out, const char *line, bool is_left)
+static inline void potzendai_tell_from(FILE *out, const char *line)
 {
     const char *value = line + strlen("{\"from\":"), *put = potzendai_member(line, "\"put\":{");
     size_t digits = strspn(value, "0123456789");
@@ -184,7 +184,7 @@ static inline void potzendai_tell_from(FILE *out, const char *line, bool is_left
         fprintf(out, ", which process %" PRIu64 " put (event %" PRIu64 ")", potzendai_number(put, "\"process\":"),
                 potzendai_number(put, "\"event\":"));
     else if (digits)
-        fprintf(out, ", which %s", potzendai_at_start(is_left));
+        fputs(", which was there before these calls", out);
     fputs("\n", out);
 }
 
@@ -298,7 +298,7 @@ static inline const char *potzendai_tell(FILE *out, const char *text, const char
         else if (strncmp(line, "{\"front\"", 8) == 0)
             potzendai_tell_front(out, text, line, is_left);
         else if (strncmp(line, "{\"from\"", 7) == 0)
-            potzendai_tell_from(out, line, is_left);
+            potzendai_tell_from(out, line);
         else if (strncmp(line, "{\"key\"", 6) == 0)
             potzendai_tell_origin(out, line, is_left);
         else if (answer && call) {

@@ -1517,11 +1517,11 @@ func saidOrigin(r *round, line reported) string {
 }
 
 // From which value of a key the few calls have no order: the line stands behind an undecided alone.
-func saidFrom(r *round, line reported) string {
+func saidFrom(line reported) string {
 	if line.From == "" {
 		return fmt.Sprintf("  from key %v holding nothing", line.Key)
 	}
-	who := "was there " + r.atStart
+	who := "was there before these calls"
 	if line.Put != nil {
 		who = fmt.Sprintf("process %v put (event %v)", line.Put.Process, line.Put.Event)
 	}
@@ -1564,7 +1564,7 @@ func saidReport(report string, r *round) (said []string, few string) {
 			said = append(said, fmt.Sprintf("  %-19s process %-3d %s, answered %s", saidEvents(r, event, process), process,
 				saidCall(line.Call), saidAnswer(line.Answer)+saidWriter(r, line.Answer)+saidMissed(line)))
 		case strings.HasPrefix(text, `{"from"`):
-			said = append(said, saidFrom(r, line))
+			said = append(said, saidFrom(line))
 		case line.Puts != nil:
 			said = append(said, saidOrigin(r, line))
 		case line.Front != nil:

@@ -1294,12 +1294,12 @@ public final class Potzendai {
     }
 
     /** From which value of a key the few calls have no order: the line stands behind an undecided alone. */
-    private static String saidFrom(Round round, Map<?, ?> line) {
+    private static String saidFrom(Map<?, ?> line) {
         String begin = "  from key " + saidAnswer(line.get("key")) + " holding ";
         if (line.get("from") == null)
             return begin + "nothing";
         return begin + saidAnswer(line.get("from")) + ", which " + (line.get("put") instanceof Map<?, ?> put
-            ? "process " + put.get("process") + " put (event " + put.get("event") + ")" : "was there " + round.atStart);
+            ? "process " + put.get("process") + " put (event " + put.get("event") + ")" : "was there before these calls");
     }
 
     /** Which calls one misses. */
@@ -1329,7 +1329,7 @@ public final class Potzendai {
                     saidCall((List<?>) line.get("call")), saidAnswer(line.get("answer")), saidWriter(round, line.get("answer")),
                     saidMissed(line)));
             if (line.containsKey("from"))
-                said.add(saidFrom(round, line));
+                said.add(saidFrom(line));
             if (line.containsKey("puts"))
                 said.add(saidOrigin(round, line));
             if (!line.containsKey("front"))

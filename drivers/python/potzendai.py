@@ -1031,12 +1031,12 @@ def said_origin(one, line):
     return "  %d at %d is %s" % (line["value"], line["key"], ", ".join(start + puts) or "what %s put" % one.nobody)
 
 
-def said_from(one, line):
+def said_from(line):
     """From which value of a key the few calls have no order: the line stands behind an undecided alone."""
     if line["from"] is None:
         return "  from key %d holding nothing" % line["key"]
     put = line["put"]
-    return "  from key %d holding %d, which %s" % (line["key"], line["from"], "was there " + one.at_start if put is None else
+    return "  from key %d holding %d, which %s" % (line["key"], line["from"], "was there before these calls" if put is None else
                                                    "process %d put (event %d)" % (put["process"], put["event"]))
 
 
@@ -1061,7 +1061,7 @@ def said_report(report, one):
                 said_events(one, line["event"], line["process"]), line["process"], said_call(line["call"]), said_answer(line["answer"]),
                 said_writer(one, line["answer"]), said_missed(line)))
         elif "from" in line:
-            said.append(said_from(one, line))
+            said.append(said_from(line))
         elif "puts" in line:
             said.append(said_origin(one, line))
         elif "front" in line:

@@ -1632,13 +1632,13 @@ fn said_origin(round: &Round, line: &Json) -> String {
 }
 
 /// From which value of a key the few calls have no order: the line stands behind an undecided alone.
-fn said_from(round: &Round, line: &Json) -> String {
+fn said_from(line: &Json) -> String {
     let key = line.member("key").number();
     let (Json::Number(value), put) = (line.member("from"), line.member("put")) else {
         return format!("  from key {key} holding nothing");
     };
     let who = match put {
-        Json::Null => format!("was there {}", round.at_start),
+        Json::Null => "was there before these calls".to_string(),
         put => format!("process {} put (event {})", put.member("process").number(), put.member("event").number()),
     };
     format!("  from key {key} holding {value}, which {who}")
@@ -1676,7 +1676,7 @@ fn said_report(report: &str, round: &Round) -> (Vec<String>, Option<String>) {
             let events = said_events(round, event, process);
             said.push(format!("  {events:<19} process {process:<3} {call}, answered {answer}{writer}{missed}"));
         } else if line.has("from") {
-            said.push(said_from(round, &line));
+            said.push(said_from(&line));
         } else if line.has("puts") {
             said.push(said_origin(round, &line));
         } else if line.has("front") {
