@@ -140,6 +140,7 @@ module _ (start : Contents) (events : List Event) (w : WindowsView) (h : IsFollo
         m = h.m;
         now = h.now ++ e ∷ [];
         is_told = told_whole;
+        stands = (w.lone, (h.windows, stand));
         keys = l.keys;
         some = l.some;
         none = l.none;
@@ -147,17 +148,28 @@ module _ (start : Contents) (events : List Event) (w : WindowsView) (h : IsFollo
             (stand_refuted start h.m (events ++ e ∷ []) (h.now ++ e ∷ []) h.windows w.lone stand (l.wrong []).0) more;
       }
 
-  pub spent_other : (budget event number : ℕ) (doubt : Doubt) → one.IsSpent h.m h.now process reply budget event number doubt
-      → IsSpent start events process reply budget event number doubt
-  spent_other budget event number doubt s = record {
-    accepted = answer_same start events w h process ∙ s.accepted;
-    call = s.call;
-    told = told_too events h.now h.well_formed (alike start events w h) h.calls process event number s.call s.told;
-    m = h.m;
-    now = h.now ++ Answer process reply ∷ [];
-    is_told = told_whole;
-    doubt_is = s.doubt_is;
-  }
+  pub spent_other : (w.lone ≡ Some process → ⊥) → (budget event number : ℕ) (doubt : Doubt)
+      → one.IsSpent h.m h.now process reply budget event number doubt → IsSpent start events process reply budget event number doubt
+  spent_other apart budget event number doubt s =
+      let accepted = answer_same start events w h process ∙ s.accepted in
+      let e = Answer process reply in
+      record {
+        accepted = accepted;
+        call = s.call;
+        told = told_too events h.now h.well_formed (alike start events w h) h.calls process event number s.call s.told;
+        m = h.m;
+        now = h.now ++ e ∷ [];
+        is_told = told_whole;
+        stands = inl (
+          w.lone,
+          (
+            h.windows,
+            stand_on start h.m events h.now h.windows w.lone e h.stand
+                (accepted_well events process reply h.well_formed accepted) apart,
+          ),
+        );
+        doubt_is = s.doubt_is;
+      }
 
   pub going_other : (w.lone ≡ Some process → ⊥) → answer_fault h.now process ≡ None → (g : FollowerView)
       → IsFollowing h.m (h.now ++ Answer process reply ∷ []) g
@@ -205,6 +217,7 @@ module _ (start m : Contents) (events now : List Event) (process : ℕ) (reply g
         m = m;
         now = now ++ f ∷ [];
         is_told = given_told;
+        stands = (None, ([], (g.alone, refl)));
         keys = l.keys;
         some = λ x. l.some (may.1 x);
         none = λ never. l.none (λ x. never (may.0 x));
@@ -221,6 +234,7 @@ module _ (start m : Contents) (events now : List Event) (process : ℕ) (reply g
     m = m;
     now = now ++ f ∷ [];
     is_told = given_told;
+    stands = inl (None, ([], (g.alone, refl)));
     doubt_is = s.doubt_is;
   }
 
@@ -405,6 +419,7 @@ module _ (start : Contents) (events : List Event) (w : WindowsView) (h : IsFollo
           given_is = inl refl;
           told_are = refl;
         };
+        stands = inr (record { k = h.m; followed = h.now; windows = h.windows; stand = stand; is_window = v_is });
         doubt_is = subst (λ (c : Call). one.IsDoubt v.start (v.events ++ Answer p reply ∷ []) c budget doubt) same s.doubt_is;
       }
 

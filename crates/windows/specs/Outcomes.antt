@@ -1,6 +1,6 @@
 -- What becomes of a follower that puts windows aside where a call is answered.
 use Rattle.events.specs.declared.event.Reply.TheVariants as replies
-use Rattle.std.specs.Prelude.{◌≡◌, ◌≢◌, ◌⊎◌, ◌↔◌, ℕ, List, [], ◌∷◌, ◌++◌, All, Any, None, Some, ⊤}
+use Rattle.std.specs.Prelude.{◌≡◌, ◌≢◌, ◌⊎◌, ◌↔◌, ℕ, List, [], ◌∷◌, ◌++◌, All, Any, Contains, Option, None, Some, ⊤}
 use Rattle.std.specs.List.{AllZip}
 use Rattle.events.specs.declared.event.Call.{Call}
 use Rattle.events.specs.declared.event.Event.{Event}
@@ -12,7 +12,7 @@ use Rattle.map_object.specs.MapObject.{Contents}
 use Rattle.orders.specs.Orders.{IsLinearizable}
 use Rattle.prefixes.specs.Prefixes.{GoesWrongAt}
 use Rattle.lone_reads.specs.LoneReads.{IsOpenAt}
-use Rattle.lone_reads.specs.Windows.{StandsAlone}
+use Rattle.lone_reads.specs.Windows.{StandsAlone, Window}
 use Rattle.follower.specs.Calls.{MayReply}
 use Rattle.follower.specs.Faults.{answer_fault}
 use Rattle.follower.specs.Outcomes.{IsDoubt, IsDoubtOf, IsToldOf}
@@ -21,7 +21,7 @@ use Rattle.follower.specs.declared.answered.Doubt.{Doubt}
 use Rattle.follower.specs.declared.answered.Loss.{Loss}
 use Rattle.windows.specs.declared.answered.AnsweredWindows.{AnsweredWindows}
 use Rattle.windows.specs.declared.answered.AnsweredWindows.TheVariants.{Going, Lost, Spent, Refused}
-use Rattle.windows.specs.Followed.{AreOf, HaveSameCalls, IsFollowed, StandsIn}
+use Rattle.windows.specs.Followed.{AreOf, HaveSameCalls, IsFollowed, Stand, StandBeside, StandsIn}
 use Rattle.windows.specs.WindowsView.{WindowsView}
 
 -- what was followed in place of some events of the stream, from some pairs, and then this answer or
@@ -33,9 +33,22 @@ pub record IsTold (events : List Event) (process : ℕ) (reply : Reply) (m : Con
   pub given_is : (given ≡ reply) ⊎ (given ≡ replies.Done)
   pub told_are : told ≡ followed ++ Answer process given ∷ []
 
+-- some events, from some pairs, stand for those of the stream, alone or beside windows
+abbrev pub StandInPlace : Contents → List Event → Contents → List Event → Type 0
+StandInPlace start events m now = (lone : Option ℕ) × ((windows : List Window) × Stand start events lone windows m now)
+
+-- they are a window, beside which what is followed stands for those of the stream, at an open read of
+-- the process
+pub record AreWindowOf (start : Contents) (events : List Event) (process : ℕ) (m : Contents) (now : List Event) : Type 0 where
+  pub k : Contents
+  pub followed : List Event
+  pub windows : List Window
+  pub stand : StandBeside start events process windows k followed
+  pub is_window : Contains windows (record { start = m; events = now })
+
 -- the events go wrong at this answer, whatever comes behind it; what was kept of keys of the call
--- has no order with the answer, and what is told of each is what was kept of what is followed; there
--- is such a key, but where no map answers the call so
+-- has no order with the answer, and what is told of each is what was kept of what is followed, which
+-- stands for the events; there is such a key, but where no map answers the call so
 pub record IsLost (start : Contents) (events : List Event) (process : ℕ) (reply : Reply) (loss : Loss) : Type 0 where
   pub accepted : answer_fault events process ≡ None
   pub call : Call
@@ -43,6 +56,7 @@ pub record IsLost (start : Contents) (events : List Event) (process : ℕ) (repl
   pub m : Contents
   pub now : List Event
   pub is_told : IsTold events process reply m now
+  pub stands : StandInPlace start (events ++ Answer process reply ∷ []) m now
   pub keys : All (IsLostKey m now call) loss.keys.items
   pub some : MayReply call reply → loss.keys.items ≢ []
   pub none : (MayReply call reply → ⊥) → loss.keys.items ≡ []
@@ -58,6 +72,7 @@ pub record IsSpent (start : Contents) (events : List Event) (process : ℕ) (rep
   pub m : Contents
   pub now : List Event
   pub is_told : IsTold events process reply m now
+  pub stands : StandInPlace start (events ++ Answer process reply ∷ []) m now ⊎ AreWindowOf start events process m is_told.followed
   pub doubt_is : IsDoubt m now call budget doubt
 
 -- what an answer comes to

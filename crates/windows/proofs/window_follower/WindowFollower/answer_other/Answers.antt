@@ -38,7 +38,8 @@ pub returns-in-Spent-clause-answered : goal.returns-in-Spent-clause-answered
 returns-in-Spent-clause-answered c = λ start events h fine.
     let w : WindowsView = record { current = c.self.inside.current; asides = c.self.inside.asides.items; lone = c.self.inside.lone } in
     let seen : IsFollowed start events w = subst (IsFollowed start events) (sym c.self.view_is) h in
-    spent_other start events w seen c.args.process c.args.reply c.args.budget c.in-Spent.event c.in-Spent.number c.in-Spent.doubt
+    let apart : w.lone ≡ Some c.args.process → ⊥ = λ own. c.requires.other (sym (ap (λ (v : WindowsView). v.lone) c.self.view_is) ∙ own) in
+    spent_other start events w seen c.args.process c.args.reply apart c.args.budget c.in-Spent.event c.in-Spent.number c.in-Spent.doubt
     (subst (one.IsAnswered seen.m seen.now w.current c.args.process c.args.reply c.args.budget) c.in-Spent.is
     (c.in_ok-answered.ensures.answered seen.m seen.now seen.follows))
 
