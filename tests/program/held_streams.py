@@ -223,6 +223,12 @@ def rows_of_keys():
         yield f"{count} windows, lost behind an insert", history, event, keys_lost(value, None, end, end + 2)
 
 
+# In these a call is open over the pauses besides the scan that is held up, or two scans are held up: no window ends there, so that the ways may
+# come to too many.
+WITHOUT_WINDOWS = ("overlapping, ", *(
+    f"{name}, {count} pauses" for name in ("many_values", "beside_range", "in_window_first", "open_insert", "two_scans") for count in (4, 5)))
+
+
 def rows():
     """Each row: what it is of, the history, and the event at which it goes wrong, or None."""
     for make in (many_values, beside_range, in_window_first, open_insert, two_scans):
