@@ -1,3 +1,4 @@
+pub mod points
 pub mod calls
 pub mod calm
 pub mod changes

@@ -8,6 +8,7 @@ pub mod effects;
 pub mod locked_scans;
 pub mod optimistic;
 pub mod optimistic_runs;
+pub mod points;
 pub mod scan_points;
 pub mod stories;
 pub mod work;

@@ -1,4 +1,5 @@
 //! Every schedule of the two full trees: calm, what each call knows, and where it takes effect. Laws alone, in parts:
+//! - points: points of calls: calls that each take effect at one moment have an order, by these moments; of any calls;
 //! - calls: the calls of the history of a run: which process began each, the steps that began and answered it, and that they keep
 //!   the map small;
 //! - calm: the words of the two full trees, where each locked or obsolete row is as it was before;
@@ -108,6 +109,10 @@ pub use laws::optimistic::scans_store_nothing;
 pub use laws::optimistic::ways_begin;
 pub use laws::optimistic_runs::optimistic_is_linearizable;
 pub use laws::optimistic_runs::optimistic_is_linearizable_without_scans;
+pub use laws::points::orders_give_points;
+pub use laws::points::points_give_orders;
+pub use laws::points::points_order_calls;
+pub use laws::points::windows_give_precedence;
 pub use laws::scan_points::answered_scans_have_points;
 pub use laws::stories::starts_are_at_rest;
 pub use laws::stories::stories_give_effects;

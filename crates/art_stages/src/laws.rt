@@ -1,4 +1,4 @@
-// Laws of stages: each function only carries its clause.
+// Laws of stages and of refusals: each function only carries its clause.
 ghost use Rattle.std.specs.Prelude.{◌≡◌, ℕ, List, [], ◌∷◌, ◌++◌, false};
 ghost use Rattle.events.specs.declared.event.Call.TheVariants.{Scan};
 ghost use Rattle.art_steps.specs.Rows.{Setting, is_scan};
@@ -8,6 +8,10 @@ ghost use Rattle.art_stages.specs.Stages.{rest_in};
 ghost use Rattle.art_stages.specs.Automaton.{stage_after};
 ghost use Rattle.art_stages.specs.Scans.{ScanAt, scan_in, scan_after};
 ghost use Rattle.art_stages.specs.Calls.{CallAt, rest_at, call_turn, call_behind};
+ghost use Rattle.art_rows.specs.declared.table.Shape.{Shape};
+ghost use Rattle.events.specs.declared.event.Call.{Call};
+ghost use Rattle.art_steps.specs.declared.variant.Variant.{Variant};
+ghost use Rattle.art_steps.specs.Fits.{RefusesOnlyAtCapacity};
 
 /// What a stage does next is what is left of the call there.
 pub fn stages_ask()
@@ -29,4 +33,9 @@ pub fn scans_go_on()
 /// Every list of words got leaves every call of every variant at a stage, and what is left there is what the call does next.
 pub fn calls_are_at_stages()
     ensures { (c : Setting) (got more : List ℕ) → rest_at c (call_behind c got) more ≡ act c.shape c.variant c.call (got ++ more) }
+{}
+
+/// A call is refused only where its last claim got a number at or past its kind's capacity.
+pub fn refuses_only_at_capacity()
+    ensures { (shape : Shape) (variant : Variant) (call : Call) → RefusesOnlyAtCapacity shape variant call }
 {}

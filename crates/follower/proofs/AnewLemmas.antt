@@ -21,14 +21,14 @@ use Rattle.list_laws.proofs.Lists.{Contains-at, Contains-cases, Contains-first, 
 use Rattle.map_object.specs.MapObject.{Contents}
 use Rattle.quiet_cuts.proofs.EventLemmas.{none_of}
 use Rattle.following.proofs.keys.ChoiceLemmas.{any_from}
-use Rattle.lone_reads.specs.Hushed.{silent, hushed}
-use Rattle.lone_reads.specs.LoneReads.{IsOpenAt, IsOnlyOpen}
-use Rattle.lone_reads.proofs.AlikeLemmas.{long_alike, as_many_alike, number_alike, well_alike, none_alike}
-use Rattle.lone_reads.proofs.CallLemmas.{operation}
-use Rattle.lone_reads.proofs.DoneLemmas.{open_parts}
-use Rattle.lone_reads.proofs.HushLemmas.{hushed_parts, hushed_alike, hushed_open, hushed_only}
-use Rattle.lone_reads.proofs.OpenLemmas.{well_parts}
-use Rattle.lone_reads.proofs.PendingLemmas.{pending_of, open_at_of, only_pending}
+use Rattle.following.specs.lone_reads.Hushed.{silent, hushed}
+use Rattle.following.specs.lone_reads.LoneReads.{IsOpenAt, IsOnlyOpen}
+use Rattle.following.proofs.lone_reads.AlikeLemmas.{long_alike, as_many_alike, number_alike, well_alike, none_alike}
+use Rattle.following.proofs.lone_reads.CallLemmas.{operation}
+use Rattle.following.proofs.lone_reads.DoneLemmas.{open_parts}
+use Rattle.following.proofs.lone_reads.HushLemmas.{hushed_parts, hushed_alike, hushed_open, hushed_only}
+use Rattle.following.proofs.lone_reads.OpenLemmas.{well_parts}
+use Rattle.following.proofs.lone_reads.PendingLemmas.{pending_of, open_at_of, only_pending}
 use Rattle.kept_rows.specs.Followed.{AreFollowed}
 use Rattle.kept_rows.specs.Laws.{FollowedRowsHaveOrders, RowsPassBy}
 use Rattle.kept_rows.specs.OpenScan.{OpenScan}

@@ -3,7 +3,7 @@ use Rattle.std.specs.Prelude.{ℕ, ◌≤◌, IsTrue, List, map, ◌⊎◌, Any}
 use Rattle.events.specs.declared.event.Event.{Event}
 use Rattle.events.specs.Keys.{may_change}
 use Rattle.map_object.specs.MapObject.{Contents, IsRising}
-use Rattle.lone_reads.specs.LoneReads.{LeavesOnly}
+use Rattle.following.specs.lone_reads.LoneReads.{LeavesOnly}
 use Rattle.kept_rows.specs.AtRest.{HaveNoMap, IsMapOf}
 use Rattle.follower.specs.Faults.{event_limit}
 use Rattle.follower.specs.FollowerView.{FollowerView}

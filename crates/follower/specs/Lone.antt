@@ -4,8 +4,8 @@ use Rattle.events.specs.declared.event.Call.{Call}
 use Rattle.events.specs.declared.event.Event.{Event}
 use Rattle.events.specs.Keys.{may_change}
 use Rattle.map_object.specs.MapObject.{Contents}
-use Rattle.lone_reads.specs.Hushed.{hushed}
-use Rattle.lone_reads.specs.LoneReads.{IsOnlyOpen}
+use Rattle.following.specs.lone_reads.Hushed.{hushed}
+use Rattle.following.specs.lone_reads.LoneReads.{IsOnlyOpen}
 use Rattle.follower.specs.Faults.{event_limit}
 use Rattle.follower.specs.FollowerView.{FollowerView}
 use Rattle.follower.specs.Following.{IsFollowing}

@@ -146,7 +146,7 @@ impl Follower {
     /// scan of this process, as the only one of which anything is known: the others so far keep
     /// their places and numbers, and tell nothing. Where the pairs are the only ones that the calls
     /// may leave, it goes on as this one would, but for what that read may have found before
-    /// (`lone_reads`). Who put a value is not known there.
+    /// (`following/lone_reads`). Who put a value is not known there.
     pub fn begin_anew(
         &self,
         alloc: Global,

@@ -25,7 +25,7 @@ use Rattle.following.specs.rows.Cuts.{HasEndedBy, IsComparedCut}
 use Rattle.following.specs.rows.ExactMoments.{places_by}
 use Rattle.following.specs.rows.Fixed.{IsParted}
 use Rattle.following.specs.rows.Twins.{IsTimingAt}
-use Rattle.following_reads.specs.Laws.{ReadKeysSettle}
+use Rattle.following.specs.reads.Laws.{ReadKeysSettle}
 use Rattle.following.proofs.keys.ChoiceLemmas.{any_from, any_to, same_test}
 use Rattle.following.proofs.moments.KindLemmas.{IsPart, part_is, is_part}
 use Rattle.following.proofs.rows.UntouchedLemmas.{over_from_part}

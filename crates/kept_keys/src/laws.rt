@@ -70,7 +70,7 @@ pub fn kept_keys_judge()
 pub fn kept_keys_settle()
     ensures { KeptKeysSettle }
 {
-    following_reads::read_keys_settle();
+    following::read_keys_settle();
 }
 
 /// Reads go, where only such are left.

@@ -26,7 +26,7 @@ use Rattle.following.proofs.moments.TimedLemmas.{pending_form}
 use Rattle.following.proofs.rows.ClassLemmas.{equal_rows}
 use Rattle.following.proofs.rows.RowLemmas.{rows_go_on}
 use Rattle.past_choices.specs.Values.{IsCallOf}
-use Rattle.following_reads.specs.Laws.{ReadRowsJudge}
+use Rattle.following.specs.reads.Laws.{ReadRowsJudge}
 use Rattle.kept_keys.specs.Kept.{IsKept}
 use Rattle.kept_keys.specs.Laws.{KeptKeysGoOn, KeptKeysTakeCalls}
 use Rattle.kept_keys.specs.Steps.{IsNotAt, with_call}

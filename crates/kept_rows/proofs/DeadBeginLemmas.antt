@@ -26,9 +26,9 @@ use Rattle.following.proofs.keys.ChoiceLemmas.{any_from, any_to}
 use Rattle.following.proofs.keys.GrownLemmas.{in_later, grown_inv}
 use Rattle.following.proofs.moments.KindLemmas.{IsPart, part_is, response_spread}
 use Rattle.following.proofs.rows.EndLemmas as kinds
-use Rattle.dead_events.specs.Laws.{DeadBeginsJoin, ValuesTellDead, row_between}
-use Rattle.dead_events.specs.Standing.{IsDeadBegin, IsLeftAt}
-use Rattle.dead_events.specs.Values.{LeavesOther, NoneMayPut, left_by_replace}
+use Rattle.following.specs.dead_events.Laws.{DeadBeginsJoin, ValuesTellDead, row_between}
+use Rattle.following.specs.dead_events.Standing.{IsDeadBegin, IsLeftAt}
+use Rattle.following.specs.dead_events.Values.{LeavesOther, NoneMayPut, left_by_replace}
 use Rattle.kept_keys.specs.Formed.{IsFormed}
 use Rattle.kept_keys.specs.Kept.{IsKept}
 use Rattle.kept_keys.specs.Views.{KeptView, width}

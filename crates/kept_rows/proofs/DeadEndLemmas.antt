@@ -22,9 +22,9 @@ use Rattle.following.specs.rows.ExactMoments.{places_by}
 use Rattle.following.specs.rows.Steps.{HoldsWhere}
 use Rattle.following.proofs.keys.ChoiceLemmas.{any_from, any_to}
 use Rattle.following.proofs.moments.KindLemmas.{response_spread}
-use Rattle.dead_events.specs.Laws.{AnswersStandApart, DeadEndsJoin, ValuesTellDeadEnds, row_between}
-use Rattle.dead_events.specs.Standing.{IsDeadEnd}
-use Rattle.dead_events.specs.Values.{NoneMayPutUpTo}
+use Rattle.following.specs.dead_events.Laws.{AnswersStandApart, DeadEndsJoin, ValuesTellDeadEnds, row_between}
+use Rattle.following.specs.dead_events.Standing.{IsDeadEnd}
+use Rattle.following.specs.dead_events.Values.{NoneMayPutUpTo}
 use Rattle.kept_keys.specs.Views.{KeptView, width}
 use Rattle.kept_rows.specs.Followed.{RowGhost}
 use Rattle.kept_rows.specs.Outcomes.{AreOpenScans}

@@ -40,7 +40,7 @@ use Rattle.following.proofs.keys.SilenceLemmas.{silence}
 use Rattle.following.proofs.moments.PartLemmas.{waits_from}
 use Rattle.following.proofs.moments.TimedLemmas.{told_completed}
 use Rattle.following.proofs.rows.EndLemmas.{grown_call, told_call}
-use Rattle.following_reads.specs.Reads.{AreFixedUpToReads, IsReadOf}
+use Rattle.following.specs.reads.Reads.{AreFixedUpToReads, IsReadOf}
 use Rattle.kept_keys.specs.Formed.{IsOpenAhead, IsFormed}
 use Rattle.kept_keys.specs.Kept.{IsKept}
 use Rattle.kept_keys.specs.Steps.{IsOpenCall, IsNotAt, PassesBy}

@@ -5,7 +5,7 @@ use Rattle.std.proofs.lemmas.List.Elements.{Contains-append_left, Contains-appen
 use Rattle.events.specs.declared.operation.Operation.{Operation}
 use Rattle.following.specs.rows.Comparisons.{Comparison, Behind, Before, InTurn}
 use Rattle.following.specs.rows.Fixed.{IsBefore, IsBehind, IsParted, ComesFirst}
-use Rattle.following_reads.specs.Reads.{AreFixedUpToReads}
+use Rattle.following.specs.reads.Reads.{AreFixedUpToReads}
 
 -- ---- where comparisons hold
 

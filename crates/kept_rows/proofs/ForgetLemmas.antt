@@ -23,7 +23,7 @@ use Rattle.following.specs.rows.Comparisons.{Comparison, Behind, Before, InTurn,
 use Rattle.following.specs.rows.ExactMoments.{SayExactly, HasRank, places_by}
 use Rattle.following.specs.rows.Fixed.{IsBefore, IsBehind, IsParted, ComesFirst}
 use Rattle.following.specs.rows.Rows.{Row, RowHolds, RowsStandFor, IsWithin}
-use Rattle.following_reads.specs.Reads.{AreFixedUpToReads}
+use Rattle.following.specs.reads.Reads.{AreFixedUpToReads}
 use Rattle.following.proofs.keys.ChoiceLemmas.{any_from, any_to}
 use Rattle.following.proofs.moments.KindLemmas.{is_part}
 use Rattle.following.proofs.rows.EndLemmas.{told_call}

@@ -1,6 +1,6 @@
 -- The laws by which gaps of an answered scan need not be tried.
 use Rattle.following.specs.moments.Laws.{OperationsStandApart}
-use Rattle.dead_events.specs.Laws.{AnswersStandApart, BeginsJoin, DeadBeginsJoin, DeadEndsJoin, EndsJoin, ValuesTellDead, ValuesTellDeadEnds}
+use Rattle.following.specs.dead_events.Laws.{AnswersStandApart, BeginsJoin, DeadBeginsJoin, DeadEndsJoin, EndsJoin, ValuesTellDead, ValuesTellDeadEnds}
 
 pub record GapLaws : Type 0 where
   pub apart : OperationsStandApart

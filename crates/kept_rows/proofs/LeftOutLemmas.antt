@@ -19,7 +19,7 @@ use Rattle.following.specs.rows.Rows.{RowHolds}
 use Rattle.following.proofs.keys.ChoiceLemmas.{any_from, any_to}
 use Rattle.following.proofs.keys.GrownLemmas.{in_later, grown_inv}
 use Rattle.following.proofs.moments.KindLemmas.{response_spread}
-use Rattle.dead_events.specs.Laws.{row_between}
+use Rattle.following.specs.dead_events.Laws.{row_between}
 use Rattle.kept_keys.specs.Views.{KeptView, width}
 use Rattle.row_parting.specs.Candidates.{IsEventAt, ArePlacesWithin}
 use Rattle.kept_rows.specs.Followed.{RowGhost, IsKeptScan, row_of}

@@ -21,7 +21,7 @@ use Rattle.following.specs.moments.Timings.{IsToldScan}
 use Rattle.following.specs.rows.Blocks.{IsOver}
 use Rattle.following.specs.rows.Comparisons.{class_of}
 use Rattle.following.specs.rows.ExactMoments.{places_by}
-use Rattle.following_reads.specs.Laws.{ReadTimingsHold, ReadRowsJudge}
+use Rattle.following.specs.reads.Laws.{ReadTimingsHold, ReadRowsJudge}
 use Rattle.following.specs.rows.Rows.{IsWithin}
 use Rattle.following.proofs.keys.ChoiceLemmas.{any_from, any_to}
 use Rattle.following.proofs.rows.AlikeLemmas.{left_weaker}

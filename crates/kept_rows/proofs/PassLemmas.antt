@@ -19,9 +19,9 @@ use Rattle.following.specs.moments.Timings.{IsTiming}
 use Rattle.following.specs.rows.Comparisons.{Comparison, Behind, Before, InTurn}
 use Rattle.following.specs.rows.ExactMoments.{places_by, moments_by}
 use Rattle.following.specs.rows.Fixed.{IsBefore, IsBehind, IsParted, ComesFirst}
-use Rattle.following_reads.specs.Laws.{ReadRowsJudge}
+use Rattle.following.specs.reads.Laws.{ReadRowsJudge}
 use Rattle.following.specs.rows.Rows.{Row, RowsStandFor}
-use Rattle.following_reads.specs.Reads.{AreFixedUpToReads}
+use Rattle.following.specs.reads.Reads.{AreFixedUpToReads}
 use Rattle.following.proofs.keys.GrownPartLemmas.{timing_now}
 use Rattle.following.proofs.rows.ExactLemmas.{exact_time, exact_say}
 use Rattle.following.proofs.rows.RowLemmas.{rows_go_on}

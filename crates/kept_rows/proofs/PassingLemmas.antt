@@ -33,7 +33,7 @@ use Rattle.following.proofs.keys.GrownLemmas.{in_later, grown_inv}
 use Rattle.following.proofs.moments.KindLemmas.{IsPart, part_is}
 use Rattle.following.proofs.moments.TimedLemmas.{told_completed}
 use Rattle.following.proofs.rows.EndLemmas.{told_call}
-use Rattle.dead_events.specs.Passing.{StaysEarlier, StaysLater, StandsElsewhere, IsCrossing, MayPassBack, MayPassOn}
+use Rattle.following.specs.dead_events.Passing.{StaysEarlier, StaysLater, StandsElsewhere, IsCrossing, MayPassBack, MayPassOn}
 use Rattle.kept_keys.specs.Kept.{IsKept}
 use Rattle.kept_keys.specs.Views.{KeptView, state, width}
 use Rattle.row_parting.specs.Candidates.{IsEventAt, IsEventWithin, ArePlacesWithin}

@@ -17,7 +17,7 @@ use Rattle.following.specs.moments.Timings.{IsTiming}
 use Rattle.following.specs.rows.Comparisons.{Comparison, Behind, Before, class_of}
 use Rattle.following.specs.rows.ExactMoments.{places_by}
 use Rattle.following.specs.rows.Fixed.{IsParted}
-use Rattle.following_reads.specs.Reads.{AreFixedUpToReads}
+use Rattle.following.specs.reads.Reads.{AreFixedUpToReads}
 use Rattle.kept_keys.specs.Kept.{AreAnswered, IsKept}
 use Rattle.kept_keys.specs.Laws.{KeptKeysSettle, KeptReadsGo}
 use Rattle.kept_keys.specs.Settling.{names_ended}

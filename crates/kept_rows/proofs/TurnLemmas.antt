@@ -21,8 +21,8 @@ use Rattle.following.proofs.keys.RefuteLemmas.{refutes}
 use Rattle.following.proofs.rows.AlikeLemmas.{left_weaker}
 use Rattle.following.proofs.rows.ComparisonLemmas.{hold_front}
 use Rattle.following.proofs.rows.TwinLemmas.{timing_at}
-use Rattle.following_reads.specs.Laws.{ReadTimingsHold}
-use Rattle.following_reads.specs.Reads.{AreFixedUpToReads}
+use Rattle.following.specs.reads.Laws.{ReadTimingsHold}
+use Rattle.following.specs.reads.Reads.{AreFixedUpToReads}
 use Rattle.kept_keys.specs.Judging.{HasOrder}
 use Rattle.kept_keys.specs.Kept.{AreAnswered, IsKept}
 use Rattle.kept_keys.specs.Laws.{KeptKeysTakeAnswers, KeptKeysJudge}

@@ -21,8 +21,8 @@ use Rattle.following.specs.rows.Rows.{RowHolds}
 use Rattle.following.proofs.keys.GrownPartLemmas.{timing_now}
 use Rattle.following.proofs.rows.AlikeLemmas.{left_weaker}
 use Rattle.following.proofs.rows.ExactLemmas.{exact_time, exact_say}
-use Rattle.following_reads.specs.Laws.{ReadRowsJudge}
-use Rattle.following_reads.specs.Reads.{AreFixedUpToReads}
+use Rattle.following.specs.reads.Laws.{ReadRowsJudge}
+use Rattle.following.specs.reads.Reads.{AreFixedUpToReads}
 use Rattle.kept_keys.specs.Kept.{AreAnswered, IsKept}
 use Rattle.kept_keys.specs.Laws.{KeptKeysGoOn, KeptKeysSettle, KeptReadsGo}
 use Rattle.kept_keys.specs.Views.{KeptView, state}

@@ -14,7 +14,7 @@ use Rattle.following.specs.moments.Timings.{IsToldScan, HaveScansForm}
 use Rattle.following.specs.rows.Comparisons.{Comparison, class_of, SpeaksOf}
 use Rattle.following.specs.rows.ExactMoments.{AreExact, SayExactly, HasRank}
 use Rattle.following.specs.rows.Rows.{Row, RowHolds, RowsStandFor}
-use Rattle.following_reads.specs.Reads.{AreFixedUpToReads}
+use Rattle.following.specs.reads.Reads.{AreFixedUpToReads}
 use Rattle.kept_keys.specs.Kept.{IsKept, AreAnswered}
 use Rattle.kept_keys.specs.Views.{KeptView, state, width}
 use Rattle.scan_rows.specs.Moments.{IsNumbered}

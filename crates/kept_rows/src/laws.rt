@@ -7,7 +7,7 @@ pub mod turns;
 
 ghost use Rattle.kept_rows.specs.Laws.{RowsMayBecome, FollowedRowsHaveOrders, RowsPassBy};
 
-use following_reads::read_rows_judge;
+use following::read_rows_judge;
 use kept_keys::kept_keys_go_on;
 
 /// Rows may become others that stand at each key, and of which one holds wherever one of the rows

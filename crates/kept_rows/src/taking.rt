@@ -13,7 +13,7 @@ ghost use Rattle.kept_rows.specs.Followed.{AreFollowed};
 use crate::own_keys::{is_own, place_of};
 use crate::rows::Rows;
 use events::{Call, Memory};
-use following_reads::read_rows_judge;
+use following::read_rows_judge;
 use kept_keys::{kept_keys_go_on, kept_keys_take_calls};
 use scan_rows::Row;
 use std::alloc::Global;

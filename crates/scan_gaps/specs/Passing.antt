@@ -8,7 +8,7 @@ use Rattle.std.specs.Prelude.{◌≡◌, ◌≢◌, ◌⊎◌, ℕ, ◌*◌, ◌
 use Rattle.events.specs.declared.operation.Operation.{Operation}
 use Rattle.events.specs.declared.operation.Response.{Response}
 use Rattle.map_object.specs.MapObject.{Contents, value_at, value_reply}
-use Rattle.dead_events.specs.Values.{MayPut, LeavesOther}
+use Rattle.following.specs.dead_events.Values.{MayPut, LeavesOther}
 use Rattle.scan_rows.specs.Views.{KeptView, width}
 use Rattle.scan_rows.specs.RowView.{RowView}
 use Rattle.scan_rows.specs.declared.row.KeptScan.{KeptScan}

@@ -4,7 +4,7 @@ ghost use Rattle.events.specs.declared.event.Reply.TheVariants as replies;
 ghost use Rattle.std.specs.Prelude.{◌≡◌, ◌≢◌, ◌↔◌, ◌≤◌, ◌<◌, ◌*◌, ◌/◌, ℕ, Option, length, zip, Some, All, Any, IsTrue};
 ghost use Rattle.events.specs.declared.operation.Response.{Response};
 ghost use Rattle.map_object.specs.MapObject.{IsRising, value_at, value_reply};
-ghost use Rattle.dead_events.specs.Values.{MayPut, TellsOther, TellsLeft, IsNotRefused, LeavesOther, left_by_replace};
+ghost use Rattle.following.specs.dead_events.Values.{MayPut, TellsOther, TellsLeft, IsNotRefused, LeavesOther, left_by_replace};
 ghost use Rattle.scan_rows.specs.Views.{width};
 ghost use Rattle.scan_gaps.specs.Passing.{IsLeavingAt, IsPuttingAround, IsDeadAmong, HasDeadBegin};
 

@@ -33,10 +33,10 @@ use Rattle.quiet_cuts.proofs.AroundLemmas.{found, any_of}
 use Rattle.quiet_cuts.proofs.SetLemmas.{set_from_linearizable}
 use Rattle.following.specs.moments.Timings.{HasForm}
 use Rattle.following.proofs.moments.TimedLemmas.{forms_from_order}
-use Rattle.lone_reads.specs.LoneReads.{IsOpenAt}
-use Rattle.lone_reads.specs.Windows.{AreLinearizable, Window, TakesAnswer, StandsAlone, StandFor}
-use Rattle.lone_reads.proofs.AlikeLemmas.{IsAlike, long_alike, open_alike}
-use Rattle.lone_reads.proofs.WindowLemmas.{has_open, windows_take, windows_pass}
+use Rattle.following.specs.lone_reads.LoneReads.{IsOpenAt}
+use Rattle.following.specs.lone_reads.Windows.{AreLinearizable, Window, TakesAnswer, StandsAlone, StandFor}
+use Rattle.following.proofs.lone_reads.AlikeLemmas.{IsAlike, long_alike, open_alike}
+use Rattle.following.proofs.lone_reads.WindowLemmas.{has_open, windows_take, windows_pass}
 use Rattle.kept_rows.specs.Steps.{IsOpenCall}
 use Rattle.kept_rows.proofs.ScanAnswerLemmas.{open_call, answered_calls}
 use Rattle.follower.specs.Calls.{MayReply}

@@ -21,14 +21,14 @@ use Rattle.map_object.specs.MapObject.{Contents}
 use Rattle.orders.specs.Orders.{IsLinearizable, IsLinearizableHistory}
 use Rattle.prefixes.specs.Laws.{PrefixesHaveOrders}
 use Rattle.prefixes.specs.Prefixes.{prefix_of, IsAnswerOf, GoesWrongAt}
-use Rattle.lone_reads.specs.Hushed.{silent, hushed}
-use Rattle.lone_reads.specs.LoneReads.{IsOpenAt, IsOnlyOpen, LeavesOnly}
-use Rattle.lone_reads.specs.Windows.{AreLinearizable, Window, TakesAnswer, StandsAlone, StandFor}
-use Rattle.lone_reads.proofs.AlikeLemmas.{IsAlike, long_alike, as_many_alike, number_alike, answer_alike, open_alike, well_alike}
-use Rattle.lone_reads.proofs.CallLemmas.{operation}
-use Rattle.lone_reads.proofs.HushLemmas.{hushed_alike, hushed_open, hushed_only, windows_are_hushed}
-use Rattle.lone_reads.proofs.PendingLemmas.{pending_of, only_pending}
-use Rattle.lone_reads.proofs.WindowLemmas.{alone_on, has_open, open_on, windows_at, windows_on, windows_are_closed}
+use Rattle.following.specs.lone_reads.Hushed.{silent, hushed}
+use Rattle.following.specs.lone_reads.LoneReads.{IsOpenAt, IsOnlyOpen, LeavesOnly}
+use Rattle.following.specs.lone_reads.Windows.{AreLinearizable, Window, TakesAnswer, StandsAlone, StandFor}
+use Rattle.following.proofs.lone_reads.AlikeLemmas.{IsAlike, long_alike, as_many_alike, number_alike, answer_alike, open_alike, well_alike}
+use Rattle.following.proofs.lone_reads.CallLemmas.{operation}
+use Rattle.following.proofs.lone_reads.HushLemmas.{hushed_alike, hushed_open, hushed_only, windows_are_hushed}
+use Rattle.following.proofs.lone_reads.PendingLemmas.{pending_of, only_pending}
+use Rattle.following.proofs.lone_reads.WindowLemmas.{alone_on, has_open, open_on, windows_at, windows_on, windows_are_closed}
 use Rattle.kept_rows.proofs.ScanAnswerLemmas.{open_call}
 use Rattle.follower.specs.Faults.{invocation_fault, answer_fault}
 use Rattle.follower.specs.FollowerView.{FollowerView, known_call}

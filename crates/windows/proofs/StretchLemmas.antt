@@ -12,13 +12,13 @@ use Rattle.events.specs.declared.event.Event.TheVariants.{Invoke, Answer}
 use Rattle.events.specs.declared.event.Reply.{Reply}
 use Rattle.events.specs.Events.{process_of, events_of}
 use Rattle.list_laws.proofs.Lists.{slice_get-append_left, slice_get-middle}
-use Rattle.lone_reads.specs.Hushed.{silent, hushed}
-use Rattle.lone_reads.specs.LoneReads.{IsOpenAt, IsOnlyOpen}
-use Rattle.lone_reads.proofs.AlikeLemmas.{IsAlike}
-use Rattle.lone_reads.proofs.CallLemmas.{is_none}
-use Rattle.lone_reads.proofs.DoneLemmas.{open_parts}
-use Rattle.lone_reads.proofs.OpenLemmas.{own_join}
-use Rattle.lone_reads.proofs.WindowLemmas.{open_from, open_on}
+use Rattle.following.specs.lone_reads.Hushed.{silent, hushed}
+use Rattle.following.specs.lone_reads.LoneReads.{IsOpenAt, IsOnlyOpen}
+use Rattle.following.proofs.lone_reads.AlikeLemmas.{IsAlike}
+use Rattle.following.proofs.lone_reads.CallLemmas.{is_none}
+use Rattle.following.proofs.lone_reads.DoneLemmas.{open_parts}
+use Rattle.following.proofs.lone_reads.OpenLemmas.{own_join}
+use Rattle.following.proofs.lone_reads.WindowLemmas.{open_from, open_on}
 use Rattle.windows.specs.Followed.{StandsIn, AreOf, HaveSameCalls}
 
 -- ---- events side by side

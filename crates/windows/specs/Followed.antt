@@ -7,9 +7,9 @@ use Rattle.events.specs.Events.{IsWellFormed}
 use Rattle.events.specs.Operations.{operations}
 use Rattle.map_object.specs.MapObject.{Contents}
 use Rattle.orders.specs.Orders.{IsLinearizable}
-use Rattle.lone_reads.specs.Hushed.{silent}
-use Rattle.lone_reads.specs.LoneReads.{IsOpenAt}
-use Rattle.lone_reads.specs.Windows.{Window, StandsAlone, StandFor}
+use Rattle.following.specs.lone_reads.Hushed.{silent}
+use Rattle.following.specs.lone_reads.LoneReads.{IsOpenAt}
+use Rattle.following.specs.lone_reads.Windows.{Window, StandsAlone, StandFor}
 use Rattle.follower.specs.FollowerView.{FollowerView}
 use Rattle.follower.specs.Following.{IsFollowing}
 use Rattle.windows.specs.WindowsView.{WindowsView}

@@ -11,8 +11,8 @@ use Rattle.events.specs.Operations.{operations}
 use Rattle.map_object.specs.MapObject.{Contents}
 use Rattle.orders.specs.Orders.{IsLinearizable}
 use Rattle.prefixes.specs.Prefixes.{GoesWrongAt}
-use Rattle.lone_reads.specs.LoneReads.{IsOpenAt}
-use Rattle.lone_reads.specs.Windows.{StandsAlone, Window}
+use Rattle.following.specs.lone_reads.LoneReads.{IsOpenAt}
+use Rattle.following.specs.lone_reads.Windows.{StandsAlone, Window}
 use Rattle.follower.specs.Calls.{MayReply}
 use Rattle.follower.specs.Faults.{answer_fault}
 use Rattle.follower.specs.Outcomes.{IsDoubt, IsDoubtOf, IsToldOf}

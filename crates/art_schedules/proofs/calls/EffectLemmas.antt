@@ -12,11 +12,11 @@ use Rattle.events.specs.Precedence.{is_completed}
 use Rattle.map_object.specs.MapObject.{Contents}
 use Rattle.orders.specs.Orders.{after_calls, calls_at, IsCompletedAt, IsOrder}
 use Rattle.orders.specs.Leads.{DoesCall}
-use Rattle.points.specs.Points.{HasPoint, AllKeep, OneLeads, TakeEffect, HasPoints}
-use Rattle.points.specs.Windows.{AreWithinWindows}
-use Rattle.points.proofs.ChoiceLemmas.{chosen}
-use Rattle.points.proofs.PointLemmas.{calls_by_point}
-use Rattle.points.proofs.WindowLemmas.{precedence_from_windows}
+use Rattle.art_schedules.specs.points.Points.{HasPoint, AllKeep, OneLeads, TakeEffect, HasPoints}
+use Rattle.art_schedules.specs.points.Windows.{AreWithinWindows}
+use Rattle.art_schedules.proofs.points.ChoiceLemmas.{chosen}
+use Rattle.art_schedules.proofs.points.PointLemmas.{calls_by_point}
+use Rattle.art_schedules.proofs.points.WindowLemmas.{precedence_from_windows}
 use Rattle.art_core.specs.Core.{Plan, State, begun, history_of, opened_on}
 use Rattle.art_schedules.specs.calls.RunCalls.{IsIn, RunCall, IsWithin, EndsWith, IsRunCall, last_step, HasCalls}
 use Rattle.art_schedules.specs.calls.Effects.{IsStepOf, ChangesNothing, ChangesOnce, Changes, Finds, Pends, IsInCallAt, HaveEffects}

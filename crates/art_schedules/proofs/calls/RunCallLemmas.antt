@@ -17,8 +17,8 @@ use Rattle.events.specs.Events.{process_of}
 use Rattle.events.specs.Operations.{operations}
 use Rattle.events.specs.Precedence.{is_before}
 use Rattle.events.proofs.TimeLemmas.{inv_rises}
-use Rattle.points.specs.Windows.{WindowsKeepPrecedence}
-use Rattle.points.proofs.ChoiceLemmas.{chosen}
+use Rattle.art_schedules.specs.points.Windows.{WindowsKeepPrecedence}
+use Rattle.art_schedules.proofs.points.ChoiceLemmas.{chosen}
 use Rattle.art_core.specs.declared.process.Process.{Process}
 use Rattle.art_core.specs.Core.{Plan, State, Invokes, Responds, begun, history_of, known_reply, after_move, opened_on, step}
 use Rattle.art_core.specs.Runs.{At, Gives}

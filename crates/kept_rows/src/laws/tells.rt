@@ -12,15 +12,15 @@ pub fn placed_keys_were_kept()
     ensures { PlacedKeysWereKept }
 {
     following::operations_stand_apart();
-    dead_events::answers_stand_apart();
-    dead_events::ends_join();
-    dead_events::begins_join();
-    dead_events::dead_begins_join();
-    dead_events::values_tell_dead();
-    dead_events::dead_ends_join();
-    dead_events::values_tell_dead_ends();
-    following_reads::read_timings_hold();
-    following_reads::read_rows_judge();
+    following::answers_stand_apart();
+    following::ends_join();
+    following::begins_join();
+    following::dead_begins_join();
+    following::values_tell_dead();
+    following::dead_ends_join();
+    following::values_tell_dead_ends();
+    following::read_timings_hold();
+    following::read_rows_judge();
     kept_keys::kept_keys_narrow();
     kept_keys::kept_keys_go_on();
     kept_keys::kept_keys_take_scans();

@@ -7,8 +7,8 @@ pub fn rows_take_answers()
     ensures { RowsTakeAnswers }
 {
     following::keys_go_on();
-    following_reads::read_timings_hold();
-    following_reads::read_rows_judge();
+    following::read_timings_hold();
+    following::read_rows_judge();
     kept_keys::kept_keys_take_answers();
     kept_keys::kept_keys_judge();
     kept_keys::kept_keys_go_on();
@@ -21,8 +21,8 @@ pub fn base_takes_answers()
     ensures { BaseTakesAnswers }
 {
     following::keys_go_on();
-    following_reads::read_timings_hold();
-    following_reads::read_rows_judge();
+    following::read_timings_hold();
+    following::read_rows_judge();
     kept_keys::kept_keys_take_answers();
     kept_keys::kept_keys_judge();
     kept_keys::kept_keys_go_on();
@@ -35,7 +35,7 @@ pub fn base_is_lost()
     ensures { BaseIsLost }
 {
     following::keys_go_on();
-    following_reads::read_timings_hold();
+    following::read_timings_hold();
     kept_keys::kept_keys_take_answers();
     kept_keys::kept_keys_judge();
 }
@@ -46,7 +46,7 @@ pub fn answers_are_kept()
     ensures { AnswersAreKept }
 {
     following::keys_go_on();
-    following_reads::read_timings_hold();
+    following::read_timings_hold();
     kept_keys::kept_keys_take_answers();
     kept_keys::kept_keys_judge();
 }

@@ -1,7 +1,7 @@
 use Rattle.events.specs.declared.event.Reply.TheVariants as replies
 use Rattle.std.proofs.Common.{◌≡◌, ℕ, Option, Some, None, ap, sym, ◌∙◌}
 use Rattle.map_object.specs.MapObject.{value_reply}
-use Rattle.dead_events.specs.Values.{left_by_replace}
+use Rattle.following.specs.dead_events.Values.{left_by_replace}
 use Rattle.scan_gaps.proofs.dead_begins.is_left_by.Goals as goal
 
 pub returns-in-Some : goal.returns-in-Some

@@ -5,8 +5,8 @@ use Rattle.events.specs.declared.event.Event.TheVariants.{Invoke}
 use Rattle.events.specs.Keys.{may_change}
 use Rattle.kept_rows.specs.Followed.{AreFollowed}
 use Rattle.kept_rows.specs.OpenScan.{OpenScan}
-use Rattle.lone_reads.specs.Hushed.{hushed}
-use Rattle.lone_reads.specs.LoneReads.{IsOnlyOpen}
+use Rattle.following.specs.lone_reads.Hushed.{hushed}
+use Rattle.following.specs.lone_reads.LoneReads.{IsOnlyOpen}
 use Rattle.map_object.specs.MapObject.{Contents}
 use Rattle.follower.specs.FollowerView.{FollowerView, known_call}
 use Rattle.follower.specs.Following.{IsFollowing}

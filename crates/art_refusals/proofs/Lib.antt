@@ -1,2 +1,0 @@
-mod RefusalLemmas
-mod StageLemmas

@@ -1,0 +1,5 @@
+-- Points of calls.
+pub mod ChoiceLemmas
+pub mod PlaceLemmas
+pub mod PointLemmas
+pub mod WindowLemmas

@@ -1,0 +1,4 @@
+-- Points of calls.
+pub mod Laws
+pub mod Points
+pub mod Windows

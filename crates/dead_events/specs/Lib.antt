@@ -1,7 +1,0 @@
-pub mod Answered
-pub mod Begun
-pub mod Laws
-pub mod Passing
-pub mod Standing
-pub mod Values
-pub mod WiderDead

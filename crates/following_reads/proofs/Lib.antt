@@ -1,9 +1,0 @@
-mod BesideLemmas
-mod HoldLemmas
-mod MoveLemmas
-mod OpenLemmas
-mod OrderLemmas
-mod ReadLemmas
-mod SettleLemmas
-mod SortLemmas
-mod WiderLemmas

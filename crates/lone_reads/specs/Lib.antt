@@ -1,5 +1,0 @@
-pub mod Hushed
-pub mod Laws
-pub mod LoneReads
-pub mod WiderLoneReads
-pub mod Windows
