@@ -15,6 +15,7 @@ use Rattle.orders.specs.Orders.{IsLegal, calls_at, KeepsPrecedence, IsCompletedA
 use Rattle.quiet_cuts.proofs.AroundLemmas.{found, any_of}
 use Rattle.following.specs.cuts.WiderReads.{IsNarrowingRead, IsUnchangedHere}
 use Rattle.following.specs.cuts.Laws.{NarrowingReadsLoseOrders, UnchangedHereLosesOrders}
+use Rattle.following.proofs.cuts.FewLemmas.{three_of}
 
 -- a call at key 0, answered so
 abbrev get_of : ℕ → ℕ → Reply → Operation
@@ -33,18 +34,12 @@ holding_rises : (value : ℕ) → IsRising (holding value)
 holding_rises value = AllPairs-cons (λ a b. a.0 < b.0) (0, value) [] (All-nil (λ b. 0 < b.0)) (AllPairs-nil (λ a b. a.0 < b.0))
 
 -- three different numbers
-distinct_three : (i j k : ℕ) → i ≢ j → i ≢ k → j ≢ k → AllPairs (λ m n. m ≢ n) (i ∷ j ∷ k ∷ [])
-distinct_three i j k i_j i_k j_k =
-    let D = λ (m n : ℕ). m ≢ n in
-    AllPairs-cons D i (j ∷ k ∷ []) (All-cons (D i) j (k ∷ []) i_j (All-cons (D i) k [] i_k (All-nil (D i))))
-    (AllPairs-cons D j (k ∷ []) (All-cons (D j) k [] j_k (All-nil (D j))) (AllPairs-cons D k [] (All-nil (D k)) (AllPairs-nil D)))
+pub distinct_three : (i j k : ℕ) → i ≢ j → i ≢ k → j ≢ k → AllPairs (λ m n. m ≢ n) (i ∷ j ∷ k ∷ [])
+distinct_three i j k i_j i_k j_k = three_of (λ m n. m ≢ n) i j k i_j i_k j_k
 
 -- three calls in an order that keeps precedence
-keep_three : (a b c : Operation) → precedes b a ≡ false → precedes c a ≡ false → precedes c b ≡ false → KeepsPrecedence (a ∷ b ∷ c ∷ [])
-keep_three a b c b_a c_a c_b =
-    let R = λ (x y : Operation). precedes y x ≡ false in
-    AllPairs-cons R a (b ∷ c ∷ []) (All-cons (R a) b (c ∷ []) b_a (All-cons (R a) c [] c_a (All-nil (R a))))
-    (AllPairs-cons R b (c ∷ []) (All-cons (R b) c [] c_b (All-nil (R b))) (AllPairs-cons R c [] (All-nil (R c)) (AllPairs-nil R)))
+pub keep_three : (a b c : Operation) → precedes b a ≡ false → precedes c a ≡ false → precedes c b ≡ false → KeepsPrecedence (a ∷ b ∷ c ∷ [])
+keep_three a b c b_a c_a c_b = three_of (λ x y. precedes y x ≡ false) a b c b_a c_a c_b
 
 -- ---- a get is answered 1 and another 2, while an insert of 1 is done
 

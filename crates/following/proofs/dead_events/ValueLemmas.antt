@@ -47,6 +47,7 @@ use Rattle.following.specs.dead_events.Values.{MayPut, LeavesOther, NoneMayPut, 
 use Rattle.following.proofs.dead_events.AnsweredLemmas.{sides}
 use Rattle.following.proofs.dead_events.EndLemmas.{ends_begin}
 use Rattle.following.proofs.dead_events.StayLemmas.{behind_too}
+use Rattle.following.proofs.moments.KeyLegalLemmas.{value_told, told_value}
 
 -- ---- the value at a key along legal calls
 
@@ -141,15 +142,6 @@ call_keeps key value call o own over never m other = ⊎_elim
     (λ done. subst (λ (n : Contents). value_at n key ≢ value) (sym done) (after_keeps key value call own over never m other))
     (λ same. subst (λ (n : Contents). value_at n key ≢ value) (sym same) other)
     (after_or_same m call o)
-
--- the value that a reply tells
-abbrev value_told : Reply → Option ℕ
-value_told (replies.Some value) = Some value
-value_told reply = None
-
-told_value : (value : Option ℕ) → value_told (value_reply value) ≡ value
-told_value None = refl
-told_value (Some value) = refl
 
 one_value : (value found : Option ℕ) → value_reply value ≡ value_reply found → value ≡ found
 one_value value found same = sym (told_value value) ∙ (ap value_told same ∙ told_value found)

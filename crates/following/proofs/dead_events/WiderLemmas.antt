@@ -6,15 +6,13 @@ use Rattle.std.specs.Prelude.{◌≢◌, ◌⊎◌, nat_lt, slice_get, AllPairs,
 use Rattle.std.proofs.lemmas.Bool.{ltb-true, ltb-false}
 use Rattle.std.proofs.lemmas.Option.{none-some}
 use Rattle.std.proofs.lemmas.List.Elements.{All-nil, All-cons, All-contains}
-use Rattle.std.proofs.lemmas.List.Kept.{AllPairs-cons}
 use Rattle.events.specs.declared.event.Call.TheVariants.{Get, Insert, Scan}
 use Rattle.events.specs.declared.event.Event.{Event}
 use Rattle.events.specs.declared.event.Event.TheVariants.{Invoke, Answer}
 use Rattle.events.specs.declared.event.Reply.{Reply}
 use Rattle.events.specs.declared.operation.Operation.{Operation}
-use Rattle.events.specs.declared.operation.Response.{Response}
 use Rattle.events.specs.Precedence.{precedes}
-use Rattle.list_laws.proofs.Lists.{AllPairs-nil, AllPairs-head, AllPairs-tail, Contains-nil, Contains-first, Contains-later, Contains-cases}
+use Rattle.list_laws.proofs.Lists.{AllPairs-head, AllPairs-tail, Contains-nil, Contains-first, Contains-later}
 use Rattle.list_laws.proofs.FilterLemmas.{Contains-filter_map}
 use Rattle.map_object.specs.MapObject.{Contents, IsLegalReply}
 use Rattle.orders.specs.Orders.{IsLegal, calls_at, KeepsPrecedence, IsCompletedAt, IsLinearizable}
@@ -31,6 +29,8 @@ use Rattle.following.specs.dead_events.Answered.{with_answer, IsDeadBeginNow, Is
 use Rattle.following.specs.dead_events.Laws.{LostIsNotDead, RivalsStandBetween}
 use Rattle.following.specs.dead_events.Standing.{BeginsOnlyAt, IsLeftAt}
 use Rattle.following.specs.dead_events.WiderDead.{IsLostWithout, IsNextToCalls}
+use Rattle.following.proofs.cuts.FewLemmas.{behind, pair_of, three_of}
+use Rattle.following.proofs.rows.WiderBlockLemmas.{same_res}
 
 -- ---- what both examples have
 
@@ -71,9 +71,6 @@ of_each P h c value c_is value_is =
 insert_not_told : (inv : ℕ) → IsToldScan (insert inv) → ⊥
 insert_not_told inv (low, (high, (pairs, e))) = cc
 
-same_res : (r s : Response) → Some r ≡ Some s → r.res ≡ s.res
-same_res r s e = cc
-
 -- of no pairs no value is told, and of a value not none
 one_there : IsLegalReply [] (Get 0) (replies.Some 1) → ⊥
 one_there (inl refused) = cc
@@ -82,17 +79,6 @@ one_there (inr tells) = cc
 none_there : IsLegalReply told (Get 0) replies.None → ⊥
 none_there (inl refused) = cc
 none_there (inr tells) = cc
-
--- what stands behind a number that is not the wanted one
-behind : (n m : ℕ) (order : List ℕ) → n ≢ m → Contains (n ∷ order) m → Contains order m
-behind n m order other is = ⊎_elim (λ same. absurd (other same)) (λ later. later) (Contains-cases n order m is)
-
-pair_of : {X : Type 0} (R : X → X → Type 0) (x y : X) → R x y → AllPairs R (x ∷ y ∷ [])
-pair_of R x y h = AllPairs-cons R x (y ∷ []) (All-cons (R x) y [] h (All-nil (R x))) (AllPairs-cons R y [] (All-nil (R y)) (AllPairs-nil R))
-
-three_of : {X : Type 0} (R : X → X → Type 0) (x y z : X) → R x y → R x z → R y z → AllPairs R (x ∷ y ∷ z ∷ [])
-three_of R x y z first second third =
-    AllPairs-cons R x (y ∷ z ∷ []) (All-cons (R x) y (z ∷ []) first (All-cons (R x) z [] second (All-nil (R x)))) (pair_of R y z third)
 
 -- ---- a scan that is told what an insert puts
 

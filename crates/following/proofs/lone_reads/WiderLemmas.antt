@@ -21,6 +21,7 @@ use Rattle.quiet_cuts.specs.Leaves.{Leaves}
 use Rattle.following.specs.lone_reads.LoneReads.{IsOnlyOpen, LeavesOnly}
 use Rattle.following.specs.lone_reads.Windows.{AreLinearizable}
 use Rattle.following.specs.lone_reads.Laws.{LoneWritesLoseOrders, OtherMapsLoseOrders}
+use Rattle.following.proofs.cuts.WiderLemmas.{distinct_three, keep_three}
 
 abbrev holding : ℕ → Contents
 holding value = (0, value) ∷ []
@@ -150,18 +151,6 @@ open_get = record { call = Get 0; inv = 4; response = None }
 
 abbrev told_two : Operation
 told_two = record { call = Get 0; inv = 5; response = Some (record { res = 6; reply = replies.Some 2 }) }
-
-distinct_three : (i j k : ℕ) → i ≢ j → i ≢ k → j ≢ k → AllPairs (λ m n. m ≢ n) (i ∷ j ∷ k ∷ [])
-distinct_three i j k i_j i_k j_k =
-    let D = λ (m n : ℕ). m ≢ n in
-    AllPairs-cons D i (j ∷ k ∷ []) (All-cons (D i) j (k ∷ []) i_j (All-cons (D i) k [] i_k (All-nil (D i))))
-    (AllPairs-cons D j (k ∷ []) (All-cons (D j) k [] j_k (All-nil (D j))) (AllPairs-cons D k [] (All-nil (D k)) (AllPairs-nil D)))
-
-keep_three : (a b c : Operation) → precedes b a ≡ false → precedes c a ≡ false → precedes c b ≡ false → KeepsPrecedence (a ∷ b ∷ c ∷ [])
-keep_three a b c b_a c_a c_b =
-    let R = λ (x y : Operation). precedes y x ≡ false in
-    AllPairs-cons R a (b ∷ c ∷ []) (All-cons (R a) b (c ∷ []) b_a (All-cons (R a) c [] c_a (All-nil (R a))))
-    (AllPairs-cons R b (c ∷ []) (All-cons (R b) c [] c_b (All-nil (R b))) (AllPairs-cons R c [] (All-nil (R c)) (AllPairs-nil R)))
 
 -- the inserts may leave the value of the first
 first_is_left : Leaves [] (operations both_inserted) (holding 1)

@@ -23,11 +23,11 @@ use Rattle.following.proofs.moments.KindLemmas.{KindIs, kind_is, part_is, part_i
 -- ---- a get that was told what pairs have at its key
 
 -- the value that a reply tells
-abbrev value_told : Reply → Option ℕ
+abbrev pub value_told : Reply → Option ℕ
 value_told (replies.Some value) = Some value
 value_told reply = None
 
-told_value : (value : Option ℕ) → value_told (value_reply value) ≡ value
+pub told_value : (value : Option ℕ) → value_told (value_reply value) ≡ value
 told_value None = refl
 told_value (Some value) = refl
 

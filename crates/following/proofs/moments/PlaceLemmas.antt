@@ -12,7 +12,7 @@ use Rattle.quiet_cuts.proofs.ContinueLemmas.{invoked_from}
 use Rattle.following.specs.moments.Laws.{OperationsStandApart}
 
 -- a response that is looked for from a place on stands there or later
-found_later : (p i : ℕ) (events : List Event) (r : Response) → response_from p i events ≡ Some r → i ≤ r.res
+pub found_later : (p i : ℕ) (events : List Event) (r : Response) → response_from p i events ≡ Some r → i ≤ r.res
 found_later p i [] r h = absurd (none-some r h)
 found_later p i (Invoke q call ∷ events) r h = let later = found_later p (suc i) events r h in omega arith
 found_later p i (Answer q reply ∷ events) r h = by_test (q == p) h (found_later p (suc i) events r)
@@ -44,7 +44,7 @@ found_apart p i (Answer q reply ∷ events) r b h is same = by_test (q == p) h (
         omega arith
     by_test false h later = later h
 
-answered_later : (i : ℕ) (events : List Event) (a : Operation) (r : Response) → Contains (operations_from i events) a
+pub answered_later : (i : ℕ) (events : List Event) (a : Operation) (r : Response) → Contains (operations_from i events) a
     → a.response ≡ Some r → i ≤ r.res
 answered_later i [] a r is h = absurd (Contains-nil a is)
 answered_later i (Answer p reply ∷ events) a r is h = let later = answered_later (suc i) events a r is h in omega arith

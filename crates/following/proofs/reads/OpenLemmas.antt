@@ -26,7 +26,8 @@ use Rattle.following.specs.rows.Fixed.{IsParted}
 use Rattle.following.specs.reads.Laws.{OpenGetsFindOthers}
 use Rattle.following.specs.reads.Reads.{AreFixedUpTo}
 use Rattle.following.specs.reads.WiderReads.{IsOpenGet}
-use Rattle.following.proofs.reads.WiderLemmas.{scan_of, get_told, twice, at, timing_left, fixed, three_of, true_not_false, one_there}
+use Rattle.following.proofs.reads.WiderLemmas.{scan_of, get_told, twice, at, timing_left, fixed, true_not_false, one_there}
+use Rattle.following.proofs.cuts.FewLemmas.{three_of}
 
 -- ---- the calls: a scan that was told none, an open remove, and an open get
 

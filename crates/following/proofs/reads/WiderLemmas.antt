@@ -2,16 +2,15 @@
 use Rattle.events.specs.declared.event.Reply.TheVariants as replies
 use Rattle.std.proofs.Common.{◌≡◌, ℕ, zero, suc, ◌+◌, ◌*◌, ◌<◌, true, false, List, [], ◌∷◌, Option, Some, None, inl, inr, refl, sym, ap, ◌∙◌, subst}
 use Rattle.std.proofs.Common.{⊎_elim, arith}
-use Rattle.std.specs.Prelude.{◌≢◌, ◌⊎◌, slice_get, All, AllPairs, Any, Contains}
+use Rattle.std.specs.Prelude.{◌≢◌, ◌⊎◌, slice_get, All, Any, Contains}
 use Rattle.std.proofs.lemmas.Option.{none-some}
 use Rattle.std.proofs.lemmas.List.Elements.{All-nil, All-cons, All-contains}
-use Rattle.std.proofs.lemmas.List.Kept.{AllPairs-cons}
 use Rattle.events.specs.declared.event.Call.TheVariants.{Get, Insert, Remove, Scan}
 use Rattle.events.specs.declared.event.Reply.{Reply}
 use Rattle.events.specs.declared.operation.Operation.{Operation}
 use Rattle.events.specs.declared.operation.Response.{Response}
 use Rattle.events.specs.Precedence.{precedes, NonePrecedesItself}
-use Rattle.list_laws.proofs.Lists.{AllPairs-nil, AllPairs-head, Any-first, Contains-first, Contains-later, Contains-nil, Contains-cases, filter_all}
+use Rattle.list_laws.proofs.Lists.{AllPairs-head, Any-first, Contains-first, Contains-later, Contains-nil, Contains-cases, filter_all}
 use Rattle.list_laws.proofs.FilterLemmas.{Contains-filter_map}
 use Rattle.map_object.specs.MapObject.{Contents, value_at, IsLegalReply}
 use Rattle.orders.specs.Orders.{IsLegal, calls_at, KeepsPrecedence, IsCompletedAt, IsLinearizable}
@@ -30,6 +29,7 @@ use Rattle.following.proofs.rows.RowLemmas.{only}
 use Rattle.following.specs.reads.Laws.{UnlikeReadsLoseOrders, UnchangedCallsLoseOrders}
 use Rattle.following.specs.reads.Reads.{Rule, AreFixedUpTo}
 use Rattle.following.specs.reads.WiderReads.{IsAnyRead, IsUnchangedAt}
+use Rattle.following.proofs.cuts.FewLemmas.{behind, pair_of, three_of}
 
 -- ---- one scan of key 0 that was told nothing, invoked first, and other calls
 
@@ -147,17 +147,6 @@ module _ (res : ℕ) (others : List Operation) (own : All (λ a. kind_of a.call 
         subst IsOrdered all_left (subst From (sym (only value other other_is)) ordered)
 
 -- ---- orders of few calls
-
-pair_of : {X : Type 0} (R : X → X → Type 0) (x y : X) → R x y → AllPairs R (x ∷ y ∷ [])
-pair_of R x y h = AllPairs-cons R x (y ∷ []) (All-cons (R x) y [] h (All-nil (R x))) (AllPairs-cons R y [] (All-nil (R y)) (AllPairs-nil R))
-
-pub three_of : {X : Type 0} (R : X → X → Type 0) (x y z : X) → R x y → R x z → R y z → AllPairs R (x ∷ y ∷ z ∷ [])
-three_of R x y z first second third =
-    AllPairs-cons R x (y ∷ z ∷ []) (All-cons (R x) y (z ∷ []) first (All-cons (R x) z [] second (All-nil (R x)))) (pair_of R y z third)
-
--- what stands behind a number that is not the wanted one
-behind : (n m : ℕ) (order : List ℕ) → n ≢ m → Contains (n ∷ order) m → Contains order m
-behind n m order other is = ⊎_elim (λ same. absurd (other same)) (λ later. later) (Contains-cases n order m is)
 
 pub true_not_false : true ≡ false → ⊥
 true_not_false e = cc

@@ -22,16 +22,9 @@ use Rattle.following.specs.rows.Laws.{ForgottenScansJoin}
 use Rattle.following.proofs.moments.KindLemmas.{IsPart, part_is}
 use Rattle.following.proofs.keys.GrownLemmas.{in_now, same_completed, grown_inv}
 use Rattle.following.proofs.rows.AlikeLemmas.{alike_join}
-use Rattle.following.proofs.rows.ComparisonLemmas.{hold_both}
+use Rattle.following.proofs.rows.ComparisonLemmas.{hold_both, hold_front}
 use Rattle.following.proofs.rows.EndLemmas.{Ends, rising_keeps, precedes_same, ends_by_kind}
 use Rattle.following.proofs.rows.MixedLemmas.{here, there, mixed, here_rises, there_rises, there_before, there_behind, apart}
-
--- the first of two lists of comparisons that hold together does
-hold_first : (spread moment : ℕ → ℕ) (cs ds : List Comparison) → all_hold spread moment (cs ++ ds) ≡ true → all_hold spread moment cs ≡ true
-hold_first spread moment [] ds h = refl
-hold_first spread moment (c ∷ cs) ds h =
-    let parts = and_parts (holds_in spread moment c) (all_hold spread moment (cs ++ ds)) h in
-    and_from (holds_in spread moment c) (all_hold spread moment cs) parts.0 (hold_first spread moment cs ds parts.1)
 
 -- comparisons of some scans hold where each does
 hold_too : (spread moment other_spread other_moment : ℕ → ℕ) (Is : ℕ → Type 0)
@@ -214,7 +207,7 @@ forgotten_join law events states kept one two forgotten other_spread other_momen
       allowed = hold_both spreads takes kept two
           (hold_too spread moment spreads takes (λ n. Contains forgotten n → ⊥)
           (kept_hold events more states forgotten past gone spread moment timing other_spread other_moment other) kept keep
-          (hold_first spread moment kept one allowed))
+          (hold_front spread moment kept one allowed))
           (hold_too other_spread other_moment spreads takes (Contains forgotten)
           (lost_hold events more states forgotten past gone spread moment timing other_spread other_moment other) two speak hold);
       alike = mixed_alike events more states forgotten past gone spread moment timing other_spread other_moment other;

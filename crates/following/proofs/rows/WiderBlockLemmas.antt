@@ -2,11 +2,10 @@
 use Rattle.events.specs.declared.event.Reply.TheVariants as replies
 use Rattle.std.proofs.Common.{◌≡◌, ℕ, zero, suc, ◌*◌, ◌<◌, ◌≤◌, true, false, ◌&&◌, List, [], ◌∷◌, ◌++◌, Option, Some, None, inl, inr, refl, sym, ap}
 use Rattle.std.proofs.Common.{◌∙◌, subst, ⊎_elim, arith}
-use Rattle.std.specs.Prelude.{◌≢◌, ◌⊎◌, nat_lt, slice_get, AllPairs, Any, Contains}
+use Rattle.std.specs.Prelude.{◌≢◌, ◌⊎◌, nat_lt, slice_get, Any, Contains}
 use Rattle.std.proofs.lemmas.Bool.{and_parts, ltb-true, ltb-false}
 use Rattle.std.proofs.lemmas.Option.{none-some}
 use Rattle.std.proofs.lemmas.List.Elements.{All-nil, All-cons, All-contains, All-contains_itself}
-use Rattle.std.proofs.lemmas.List.Kept.{AllPairs-cons}
 use Rattle.events.specs.declared.event.Call.TheVariants.{Get, Insert, Scan}
 use Rattle.events.specs.declared.event.Event.{Event}
 use Rattle.events.specs.declared.event.Event.TheVariants.{Invoke, Answer}
@@ -34,6 +33,7 @@ use Rattle.following.proofs.moments.PartLemmas.{at_key_differ}
 use Rattle.following.proofs.keys.ChoiceLemmas.{any_to}
 use Rattle.following.proofs.rows.RowLemmas.{only}
 use Rattle.following.proofs.rows.UntouchedLemmas.{over_from_part}
+use Rattle.following.proofs.cuts.FewLemmas.{pair_of, three_of}
 
 -- ---- the events
 
@@ -114,7 +114,7 @@ told_places = each (λ a. IsToldScan a → (a.inv ≡ 0) ⊎ (a.inv ≡ 1)) wide
     (λ (told : IsToldScan insert_one). let (low, (high, (pairs, e))) = told in cc)
     (λ (told : IsToldScan insert_zero). let (low, (high, (pairs, e))) = told in cc)
 
-same_res : (r s : Response) → Some r ≡ Some s → r.res ≡ s.res
+pub same_res : (r s : Response) → Some r ≡ Some s → r.res ≡ s.res
 same_res r s e = cc
 
 timing : IsTiming calls spread moment
@@ -137,13 +137,6 @@ timing = record {
       (told_places b b_is b_told))
       (told_places a a_is a_told);
 }
-
-pair_of : {X : Type 0} (R : X → X → Type 0) (x y : X) → R x y → AllPairs R (x ∷ y ∷ [])
-pair_of R x y h = AllPairs-cons R x (y ∷ []) (All-cons (R x) y [] h (All-nil (R x))) (AllPairs-cons R y [] (All-nil (R y)) (AllPairs-nil R))
-
-three_of : {X : Type 0} (R : X → X → Type 0) (x y z : X) → R x y → R x z → R y z → AllPairs R (x ∷ y ∷ z ∷ [])
-three_of R x y z first second third =
-    AllPairs-cons R x (y ∷ z ∷ []) (All-cons (R x) y (z ∷ []) first (All-cons (R x) z [] second (All-nil (R x)))) (pair_of R y z third)
 
 abbrev get_told : ℕ → ℕ → Reply → Operation
 get_told key at reply = record { call = Get key; inv = at; response = Some (record { res = at; reply = reply }) }
