@@ -1,5 +1,5 @@
-//! A stream of events that is followed for each key by itself: what may be dropped or chosen at a
-//! moment. Laws alone, in parts:
+//! A stream of events that is followed for each key by itself: what may be dropped, chosen or
+//! put aside at a moment. Laws alone, in parts:
 //! - cuts: a past moment, before which some calls took effect and after which the others; answers that lose no order; reads that
 //!   may go first.
 //! - moments: scans take effect at moments, and each key is judged by itself.
