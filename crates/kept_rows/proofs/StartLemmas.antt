@@ -13,7 +13,8 @@ use Rattle.following.specs.rows.ExactMoments.{HasRank, SayExactly}
 use Rattle.following.specs.rows.Rows.{Row, RowHolds, RowsStandFor, first_row}
 use Rattle.following.proofs.keys.ChoiceLemmas.{any_to}
 use Rattle.following.proofs.rows.ClassLemmas.{equal_rows}
-use Rattle.following.proofs.rows.RowLemmas.{rows_begin, rows_judge, only}
+use Rattle.following.proofs.rows.RowLemmas.{rows_begin, rows_judge}
+use Rattle.following.proofs.cuts.FewLemmas.{only}
 use Rattle.kept_keys.specs.Kept.{IsKept}
 use Rattle.kept_keys.specs.Laws.{KeptKeysBegin}
 use Rattle.kept_keys.specs.Views.{KeptView, fresh, state}

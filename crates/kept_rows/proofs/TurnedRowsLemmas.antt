@@ -15,7 +15,8 @@ use Rattle.map_object.specs.MapObject.{Contents}
 use Rattle.following.specs.keys.KeyStates.{KeyStandsFor}
 use Rattle.following.specs.rows.Rows.{Row, RowHolds}
 use Rattle.following.proofs.keys.ChoiceLemmas.{any_from, any_to}
-use Rattle.following.proofs.rows.RowLemmas.{only, rows_go_on}
+use Rattle.following.proofs.rows.RowLemmas.{rows_go_on}
+use Rattle.following.proofs.cuts.FewLemmas.{only}
 use Rattle.kept_keys.specs.Views.{KeptView}
 use Rattle.kept_rows.specs.Followed.{RowGhost, row_of, rows_of, IsRowOf, AreFollowed}
 use Rattle.scan_rows.specs.RowView.{RowView}

@@ -20,12 +20,12 @@ use Rattle.following.specs.rows.Blocks.{is_scan}
 use Rattle.following.specs.rows.Twins.{IsTimingAt}
 use Rattle.following.proofs.keys.ChoiceLemmas.{any_from, any_to}
 use Rattle.following.proofs.rows.EndLemmas.{told_call}
-use Rattle.following.proofs.rows.RowLemmas.{only}
 use Rattle.following.specs.reads.Laws.{ReadTimingsHold}
 use Rattle.following.specs.dead_events.Answered.{with_answer_at, with_answer}
 use Rattle.following.specs.dead_events.Laws.{OneTimingTellsDead}
 use Rattle.following.specs.dead_events.Standing.{BeginsOnlyAt}
 use Rattle.following.proofs.dead_events.AnsweredLemmas.{same_inv, is_answered, is_same}
+use Rattle.following.proofs.cuts.FewLemmas.{only}
 
 module _ (events : List Event) (place : ℕ) where
   abbrev calls : List Operation

@@ -1,5 +1,5 @@
 -- A beginning that is dead now stays dead: an order with further events that has the call before the scan, cut to now, has it answered at once.
-use Rattle.std.proofs.Common.{◌≡◌, ℕ, ◌<◌, ◌≤◌, ◌==◌, Bool, true, false, List, ◌∷◌, ◌++◌, length, Option, Some, None, filter, map, refl, sym, ap, ◌∙◌}
+use Rattle.std.proofs.Common.{◌≡◌, ℕ, ◌<◌, ◌≤◌, ◌==◌, Bool, true, false, List, ◌∷◌, ◌++◌, length, Option, Some, filter, map, refl, sym, ap, ◌∙◌}
 use Rattle.std.proofs.Common.{subst, ⊎_elim, arith, inl, inr}
 use Rattle.std.specs.Prelude.{◌≢◌, ◌⊎◌, not, slice_get, Contains}
 use Rattle.std.proofs.lemmas.Bool.{both_ways, cases_eq, cases_lt, cases_order, lt-ltb, le-ltb, ltb-true, ltb-false}
@@ -42,6 +42,7 @@ use Rattle.following.specs.dead_events.Laws.{DeadBeginsStay}
 use Rattle.following.proofs.dead_events.RefusedLemmas.{EndsNotBefore, turned_order, turned_never}
 use Rattle.following.proofs.dead_events.DeadLemmas.{has_get}
 use Rattle.following.proofs.dead_events.AnsweredLemmas.{NotBefore, sides, same_inv, is_answered, is_same, listed, legal_answered}
+use Rattle.following.proofs.lone_reads.LoneLemmas.{still_waits}
 
 -- ---- an order now with a call answered at once
 
@@ -274,11 +275,6 @@ begun_now events more key spread moment timing dropped place within d x d_is out
         absurd (timing.between d place d_is (low, (high, (pairs, kind))) (ap (λ (y : Operation). y.inv) part.2 ∙ x_at))
     by_kind Silent kind part = absurd part
 
--- what is not answered before a limit is not before an earlier place
-earlier_waits : (r : Option Response) (limit p : ℕ) → is_before r limit ≡ false → p ≤ limit → is_before r p ≡ false
-earlier_waits None limit p waits upto = refl
-earlier_waits (Some r) limit p waits upto = let h = ltb-false r.res limit waits in le-ltb r.res p (omega arith)
-
 -- a call that was refused later is behind the scan in some order, where it is before it in one
 pub behind_too : (start : Contents) (calls order : List Operation) → InvocationsDiffer calls → IsOrderOfSet start (Contains calls) Completed order
     → (here last limit : ℕ) → here < last → last < limit → (x g : Operation) → Contains order x → Contains order g → x.inv ≡ here → g.inv ≡ last
@@ -293,7 +289,7 @@ behind_too start calls order apart is here last limit less within x g x_is g_is 
     let free : ChangesNothing x = λ m. refused_changes_nothing limit x.call x.response m refused in
     let legal : (m : Contents) → IsLegalCall m x.call x.response = λ m. refused_legal limit x.call x.response m refused in
     let late : EndsNotBefore x g.inv =
-    λ p upto. earlier_waits x.response limit p (refused_waits limit x.response refused) (omega arith) in
+    λ p upto. still_waits x.response limit p (refused_waits limit x.response refused) (omega arith) in
     let waits : (y : Operation) → precedes g y ≡ false → y.inv ≤ g.inv = λ y h.
     let (r, answered, at) = ends in
     let end = ltb-false r.res y.inv (subst (λ (o : Option Response). is_before o y.inv ≡ false) answered h) in omega arith in

@@ -24,12 +24,11 @@ use Rattle.following.specs.keys.KeyStates.{one_key, Configuration, KeyState}
 use Rattle.following.specs.rows.Blocks.{is_scan, IsOver}
 use Rattle.following.specs.rows.Comparisons.{Comparison, Behind, Before, InTurn, class_of}
 use Rattle.following.proofs.rows.BlockLemmas.{one_holds}
-use Rattle.following.proofs.rows.RowLemmas.{only}
 use Rattle.following.specs.dead_events.Answered.{with_answer, IsDeadBeginNow, IsNextTo}
 use Rattle.following.specs.dead_events.Laws.{LostIsNotDead, RivalsStandBetween}
 use Rattle.following.specs.dead_events.Standing.{BeginsOnlyAt, IsLeftAt}
 use Rattle.following.specs.dead_events.WiderDead.{IsLostWithout, IsNextToCalls}
-use Rattle.following.proofs.cuts.FewLemmas.{behind, pair_of, three_of}
+use Rattle.following.proofs.cuts.FewLemmas.{behind, only, pair_of, three_of}
 use Rattle.following.proofs.rows.WiderBlockLemmas.{same_res}
 
 -- ---- what both examples have

@@ -29,6 +29,7 @@ use Rattle.following.proofs.keys.ChoiceLemmas.{any_from, any_to, same_test, same
 use Rattle.following.proofs.keys.EarlyLemmas.{part_into, part_from}
 use Rattle.following.proofs.keys.SettleLemmas.{settles}
 use Rattle.following.proofs.keys.WiderAnswerLemmas.{one_timing}
+use Rattle.following.proofs.cuts.FewLemmas.{only}
 
 abbrev all : Timings
 all spread moment = true
@@ -55,10 +56,6 @@ before = record { gone = []; configurations = not_yet ∷ [] }
 
 abbrev behind : KeyState
 behind = record { gone = []; configurations = not_yet ∷ taken ∷ [] }
-
--- one item of a list of one
-only : {X : Type 0} (x y : X) → Contains (x ∷ []) y → x ≡ y
-only x y is = ⊎_elim (λ same. same) (λ later. absurd (Contains-nil y later)) (Contains-cases x [] y is)
 
 cut : IsKeyCut events all 0 [] 1 [] (0 ∷ [])
 cut = record {

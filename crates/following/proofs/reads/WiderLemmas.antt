@@ -25,11 +25,11 @@ use Rattle.following.specs.rows.Comparisons.{Comparison, Behind}
 use Rattle.following.specs.rows.Fixed.{IsParted}
 use Rattle.following.specs.rows.Twins.{IsTimingAt}
 use Rattle.following.proofs.keys.ChoiceLemmas.{any_to}
-use Rattle.following.proofs.rows.RowLemmas.{only}
 use Rattle.following.specs.reads.Laws.{UnlikeReadsLoseOrders, UnchangedCallsLoseOrders}
 use Rattle.following.specs.reads.Reads.{Rule, AreFixedUpTo}
 use Rattle.following.specs.reads.WiderReads.{IsAnyRead, IsUnchangedAt}
-use Rattle.following.proofs.cuts.FewLemmas.{behind, pair_of, three_of}
+use Rattle.following.proofs.cuts.FewLemmas.{behind, only, pair_of, three_of}
+use Rattle.following.proofs.rows.WiderBlockLemmas.{same_res}
 
 -- ---- one scan of key 0 that was told nothing, invoked first, and other calls
 
@@ -77,9 +77,6 @@ module _ (res : ℕ) (others : List Operation) (own : All (λ a. kind_of a.call 
     apart = λ a b a_is b_is a_told b_told a_over b_over other same.
         other (ap (λ (a : Operation). a.inv) (sym (the_scan a a_is a_told) ∙ the_scan b b_is b_told));
   }
-    where
-      same_res : (r s : Response) → Some r ≡ Some s → r.res ≡ s.res
-      same_res r s e = cc
 
   all_left : calls_left [] calls ≡ calls
   all_left = filter_all (is_left []) calls (λ k d inside. refl)

@@ -23,7 +23,7 @@ use Rattle.following.specs.rows.Rows.{Row, RowHolds, with_class}
 use Rattle.following.specs.rows.Laws.{AlikeTimingsHold, AlikeTimingsCover, AlikeRowsJoin, GoneScansDoNotMatter}
 use Rattle.following.proofs.moments.KindLemmas.{IsPart, part_is}
 use Rattle.following.proofs.keys.ChoiceLemmas.{any_from, any_to}
-use Rattle.following.proofs.rows.RowLemmas.{only}
+use Rattle.following.proofs.cuts.FewLemmas.{only}
 
 -- ---- what calls are at a key in two timings
 

@@ -1,7 +1,6 @@
 -- A key that comparisons fix settles in each timing of their class as it does in one: it is fixed up to twins.
-use Rattle.std.proofs.Common.{ℕ, List, [], ◌∷◌, ◌++◌, inl}
+use Rattle.std.proofs.Common.{ℕ, List, ◌++◌, inl}
 use Rattle.std.specs.Prelude.{Contains}
-use Rattle.std.specs.List.{AllZip}
 use Rattle.std.proofs.lemmas.List.Elements.{Contains-append_left}
 use Rattle.events.specs.declared.operation.Operation.{Operation}
 use Rattle.events.specs.Operations.{operations}
@@ -14,6 +13,7 @@ use Rattle.following.specs.rows.Twins.{AreFixedUpToTwins}
 use Rattle.following.proofs.rows.FixedLemmas.{moment_before, moment_behind}
 use Rattle.following.proofs.rows.TwinLemmas.{timing_at}
 use Rattle.following.proofs.rows.TwinSettleLemmas.{leaves_over, settles_over}
+use Rattle.following.proofs.keys.SettleBackLemmas.{zip_weaker}
 
 pub tell_moments : ComparisonsTellMoments
 tell_moments events comparisons a place is told = (
@@ -35,13 +35,6 @@ fixed_settle events comparisons key k l ended begun spread moment fixed timing h
     settles_over events comparisons key k l ended begun spread moment other_spread other_moment
     (up_to_twins comparisons key (calls_left k.gone calls) fixed) (timing_at calls spread moment timing key k.gone) hold
     (timing_at calls other_spread other_moment other key k.gone) other_hold settles
-
-zip_weaker : {A B : Type 0} (R Q : A → B → Type 0) → ((x : A) (y : B) → R x y → Q x y) → (xs : List A) (ys : List B) → AllZip R xs ys
-    → AllZip Q xs ys
-zip_weaker R Q weaker [] [] zip = tt
-zip_weaker R Q weaker [] (y ∷ ys) zip = absurd zip
-zip_weaker R Q weaker (x ∷ xs) [] zip = absurd zip
-zip_weaker R Q weaker (x ∷ xs) (y ∷ ys) zip = (weaker x y zip.0, zip_weaker R Q weaker xs ys zip.1)
 
 pub fixed_settle_quietly : FixedKeysSettleQuietly
 fixed_settle_quietly events comparisons key k l ended spread moment fixed timing hold gone zip =

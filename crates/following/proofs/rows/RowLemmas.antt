@@ -24,6 +24,7 @@ use Rattle.following.proofs.keys.ChoiceLemmas.{any_from, any_to}
 use Rattle.following.proofs.keys.GrownLemmas.{in_later, same_completed}
 use Rattle.following.proofs.keys.GrownPartLemmas.{timing_now}
 use Rattle.following.proofs.keys.RefuteLemmas.{refutes}
+use Rattle.following.proofs.cuts.FewLemmas.{only}
 
 -- ---- lists with one part replaced
 
@@ -52,9 +53,6 @@ parts_cases front parts back y is = ⊎_elim
 
 abbrev StatesStand : Contents → List Event → Row → Type 0
 StatesStand start events row = (key : ℕ) → KeyStandsFor start events row.allows key (row.states key)
-
-pub only : {X : Type 0} (x y : X) → Contains (x ∷ []) y → x ≡ y
-only x y is = ⊎_elim (λ same. same) (λ later. absurd (Contains-nil y later)) (Contains-cases x [] y is)
 
 pub rows_begin : RowsBegin
 rows_begin start rising =

@@ -31,9 +31,8 @@ use Rattle.following.specs.rows.Laws.{OpenScansTieMoments}
 use Rattle.following.proofs.moments.DistinctLemmas.{differ_from_rise, linearizable_from_order}
 use Rattle.following.proofs.moments.PartLemmas.{at_key_differ}
 use Rattle.following.proofs.keys.ChoiceLemmas.{any_to}
-use Rattle.following.proofs.rows.RowLemmas.{only}
 use Rattle.following.proofs.rows.UntouchedLemmas.{over_from_part}
-use Rattle.following.proofs.cuts.FewLemmas.{pair_of, three_of}
+use Rattle.following.proofs.cuts.FewLemmas.{only, pair_of, three_of}
 
 -- ---- the events
 
