@@ -1,4 +1,4 @@
--- Relations between few items, pair by pair, and where few are told apart.
+-- Relations between few items, pair by pair, and which items lists of few have.
 use Rattle.std.proofs.Common.{◌≡◌, ℕ, List, [], ◌∷◌, ⊎_elim}
 use Rattle.std.specs.Prelude.{◌≢◌, AllPairs, Contains}
 use Rattle.std.proofs.lemmas.List.Elements.{All-nil, All-cons}
