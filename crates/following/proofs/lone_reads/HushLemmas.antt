@@ -10,11 +10,9 @@ use Rattle.std.proofs.lemmas.List.Elements.{All-nil, All-cons, All-head, All-tai
 use Rattle.events.specs.declared.event.Call.{Call}
 use Rattle.events.specs.declared.event.Event.{Event}
 use Rattle.events.specs.declared.event.Event.TheVariants.{Invoke, Answer}
-use Rattle.events.specs.declared.event.Reply.{Reply}
 use Rattle.events.specs.declared.operation.Operation.{Operation}
 use Rattle.events.specs.declared.operation.Response.{Response}
 use Rattle.events.specs.Events.{events_of, IsWellFormed}
-use Rattle.events.specs.HistoryFaults.{has_open_call}
 use Rattle.events.specs.Keys.{may_change}
 use Rattle.events.specs.Operations.{response_from, operation_of, operations_from, operations}
 use Rattle.events.specs.Precedence.{is_before, precedes, NonePrecedesItself}
@@ -22,18 +20,17 @@ use Rattle.events.proofs.TimeLemmas.{inv_rises, NonePrecedesItself-operations}
 use Rattle.list_laws.proofs.Lists.{All-front, All-back, All-from_contains, AllPairs-nil, AllPairs-head, AllPairs-tail, AllPairs-back}
 use Rattle.map_object.specs.MapObject.{Contents, IsLegalReply}
 use Rattle.orders.specs.Orders.{after_calls, IsLegalCall, IsLinearizable}
-use Rattle.quiet_cuts.specs.Leaves.{Leaves}
 use Rattle.quiet_cuts.specs.TimeCuts.{InvocationsRise}
 use Rattle.quiet_cuts.proofs.AroundLemmas.{AllPairs-beside}
-use Rattle.quiet_cuts.proofs.SetLemmas.{HasOrderTo, Completed, Each, set_from_linearizable, linearizable_from_set, set_from_leaves}
+use Rattle.quiet_cuts.proofs.SetLemmas.{HasOrderTo, Completed, set_from_linearizable, linearizable_from_set, set_from_leaves}
 use Rattle.following.specs.lone_reads.Hushed.{silent, hushed}
 use Rattle.following.specs.lone_reads.Laws.{HushedEventsStand, WindowsHush}
 use Rattle.following.specs.lone_reads.LoneReads.{IsOpenAt, IsOnlyOpen, LeavesOnly}
-use Rattle.following.specs.lone_reads.Windows.{AreLinearizable, TakesAnswer, StandFor}
+use Rattle.following.specs.lone_reads.Windows.{AreLinearizable}
 use Rattle.following.proofs.lone_reads.AlikeLemmas.{IsAlike, well_alike, open_alike, none_alike}
 use Rattle.following.proofs.lone_reads.CallLemmas.{operation, ArePartedBy}
 use Rattle.following.proofs.lone_reads.DoneLemmas.{open_parts}
-use Rattle.following.proofs.lone_reads.LoneLemmas.{still_waits, only_parts, whole_is, whole_rises, lone_rises, begins, begun_before, joins_behind}
+use Rattle.following.proofs.lone_reads.LoneLemmas.{still_waits, only_parts, whole_is, whole_rises, lone_rises, begins, joins_behind}
 use Rattle.following.proofs.lone_reads.ReadLemmas.{read_keeps, drop_read, add_first}
 use Rattle.following.proofs.lone_reads.WindowLemmas.{open_from, alone_open}
 

@@ -8,7 +8,7 @@ use Rattle.std.proofs.lemmas.List.{append-nil}
 use Rattle.std.proofs.lemmas.List.Elements.{All-contains, filter-append, Contains-append_left, Contains-append_right, Contains-append_cases}
 use Rattle.events.specs.declared.operation.Operation.{Operation}
 use Rattle.events.specs.Precedence.{is_before, precedes, NonePrecedesItself}
-use Rattle.list_laws.proofs.Lists.{All-front, All-back, All-from_contains, Contains-first, Contains-later, filter_all, filter_none}
+use Rattle.list_laws.proofs.Lists.{All-front, All-back, All-from_contains, Contains-later, filter_all, filter_none}
 use Rattle.map_object.specs.MapObject.{Contents}
 use Rattle.orders.specs.Orders.{IsLinearizable}
 use Rattle.quiet_cuts.specs.Leaves.{Leaves}

@@ -1,5 +1,4 @@
 -- At its moment a scan is a get of a key. Beside it reads of what it was told may stand, and scans that were told the same.
-use Rattle.events.specs.declared.event.Reply.TheVariants as replies
 use Rattle.std.proofs.Common.{◌≡◌, ℕ, Option, Some, refl, sym, ap, ◌∙◌, subst}
 use Rattle.events.specs.declared.event.Call.TheVariants.{Get}
 use Rattle.events.specs.declared.operation.Operation.{Operation}
