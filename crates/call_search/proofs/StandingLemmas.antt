@@ -1,12 +1,11 @@
 -- How a search stands after each of its steps.
 use Rattle.std.proofs.Common.{Vec, Global, ◌≡◌, ℕ, ◌+◌, ◌<◌, ◌≤◌, Bool, true, false, List, Some, [], ◌∷◌, ◌++◌, length, take, replicate}
 use Rattle.std.proofs.Common.{set, get_or}
-use Rattle.std.proofs.Common.{reverse, refl, sym, ap, ◌∙◌, subst, inl, inr, ⊎_elim, arith}
+use Rattle.std.proofs.Common.{refl, sym, ap, ◌∙◌, subst, inl, inr, ⊎_elim, arith}
 use Rattle.std.specs.Prelude.{◌⊎◌, slice_get, Contains}
 use Rattle.std.proofs.lemmas.Bool.{cases_lt}
 use Rattle.std.proofs.lemmas.List.{append-nil, append_assoc, map-append, take-append-le, take_all, length-append, length-map}
-use Rattle.std.proofs.lemmas.List.{reverse-append}
-use Rattle.std.proofs.lemmas.List.Elements.{Contains-append_left, Contains-append_right, Contains-push, Contains-push_cases}
+use Rattle.std.proofs.lemmas.List.Elements.{Contains-append_left, Contains-push, Contains-push_cases}
 use Rattle.std.proofs.lemmas.Option.{none-some, same_Some, slice_get_within}
 use Rattle.events.specs.declared.operation.Operation.{Operation}
 use Rattle.events.specs.Precedence.{is_completed, NonePrecedesItself}
@@ -332,22 +331,6 @@ read_choices start calls path rest n rising is next read = subst (AreChoices sta
   next = λ k h. ⊎_elim (λ same. subst (IsNext start calls path) same next) (λ none. absurd (Contains-nil k none)) (Contains-cases n [] k h);
   closes = read_closes start calls path n rising read;
 })
-
--- a list has the same members the other way round
-pub Contains-reverse : (xs : List ℕ) (n : ℕ) → Contains xs n → Contains (reverse xs) n
-Contains-reverse [] n h = absurd (Contains-nil n h)
-Contains-reverse (x ∷ xs) n h =
-    let turned = reverse-append (x ∷ []) xs in
-    subst (λ ys. Contains ys n) (sym turned) (⊎_elim
-    (λ is. subst (Contains (reverse xs ++ x ∷ [])) is (Contains-push (reverse xs) x))
-    (λ later. Contains-append_left (reverse xs) (x ∷ []) n (Contains-reverse xs n later)) (Contains-cases x xs n h))
-
-pub Contains-from_reverse : (xs : List ℕ) (n : ℕ) → Contains (reverse xs) n → Contains xs n
-Contains-from_reverse [] n h = absurd (Contains-nil n h)
-Contains-from_reverse (x ∷ xs) n h = ⊎_elim
-    (λ later. Contains-append_right (x ∷ []) xs n (Contains-from_reverse xs n later))
-    (λ is. subst (Contains (x ∷ xs)) is (Contains-first x xs))
-    (Contains-push_cases (reverse xs) x n (subst (λ ys. Contains ys n) (reverse-append (x ∷ []) xs) h))
 
 -- ---- what a step came to
 

@@ -1,5 +1,6 @@
 pub mod HistoryLemmas
 pub mod OperationLemmas
+pub mod ExtensionLemmas
 pub mod TimeLemmas
 pub mod OpenCallLemmas
 pub mod StartLemmas

@@ -1,16 +1,17 @@
 -- When the calls of a history are invoked and answered.
-use Rattle.std.proofs.Common.{◌≡◌, ℕ, suc, ◌<◌, ◌≤◌, Bool, true, false, cond, ◌==◌, List, [], ◌∷◌, Option, Some, None, refl, arith}
-use Rattle.std.specs.Prelude.{IfSome, All, AllPairs}
-use Rattle.std.proofs.lemmas.Bool.{le-ltb}
+use Rattle.std.proofs.Common.{◌≡◌, ℕ, suc, ◌<◌, ◌≤◌, Bool, true, false, cond, ◌==◌, List, [], ◌∷◌, Option, Some, None, refl, ⊎_elim, arith}
+use Rattle.std.specs.Prelude.{slice_get, IfSome, All, AllPairs}
+use Rattle.std.proofs.lemmas.Bool.{le-ltb, cases_order}
 use Rattle.std.proofs.lemmas.Option.{IfSome_then}
 use Rattle.std.proofs.lemmas.List.Elements.{All-nil, All-cons, All-weaker}
 use Rattle.std.proofs.lemmas.List.Kept.{AllPairs-cons}
 use Rattle.events.specs.declared.event.Event.{Event}
 use Rattle.events.specs.declared.event.Event.TheVariants.{Invoke, Answer}
+use Rattle.events.specs.declared.operation.Operation.{Operation}
 use Rattle.events.specs.declared.operation.Response.{Response}
 use Rattle.events.specs.Operations.{response_from, operation_of, operations_from, operations}
 use Rattle.events.specs.Precedence.{is_before, precedes, NonePrecedesItself}
-use Rattle.list_laws.proofs.Lists.{AllPairs-nil}
+use Rattle.list_laws.proofs.Lists.{AllPairs-nil, AllPairs-at}
 
 -- a response that is looked for from a place on stands there or later
 response_from-at_least : (p i : ℕ) (events : List Event) → IfSome (response_from p i events) (λ r. i ≤ r.res)
@@ -27,7 +28,7 @@ response_from-at_least p i (Answer q reply ∷ events) =
     first_or false x rest h k = k
 
 -- the calls of a list that starts at a place are invoked there or later
-inv-at_least : (i : ℕ) (events : List Event) → All (λ a. i ≤ a.inv) (operations_from i events)
+pub inv-at_least : (i : ℕ) (events : List Event) → All (λ a. i ≤ a.inv) (operations_from i events)
 inv-at_least i [] = All-nil (λ a. i ≤ a.inv)
 inv-at_least i (Answer p reply ∷ events) =
     All-weaker (λ a. suc i ≤ a.inv) (λ a. i ≤ a.inv) (λ a later. omega arith) (operations_from (suc i) events) (inv-at_least (suc i) events)
@@ -56,6 +57,15 @@ response_later_from i (Invoke p call ∷ events) =
 -- calls are numbered by their invocations: a later call is invoked later
 pub inv_rises : (events : List Event) → AllPairs (λ a b. a.inv < b.inv) (operations events)
 inv_rises events = inv_rises_from 0 events
+
+-- calls whose invocations rise are one where they are invoked at one place
+pub same_number : (calls : List Operation) (m n : ℕ) (a b : Operation) → AllPairs (λ a b. a.inv < b.inv) calls → slice_get calls m ≡ Some a
+    → slice_get calls n ≡ Some b
+    → a.inv ≡ b.inv → m ≡ n
+same_number calls m n a b rise m_here n_here same = ⊎_elim (λ equal. equal) (λ differ. ⊎_elim
+    (λ before. let less = AllPairs-at (λ a b. a.inv < b.inv) calls m n a b rise before m_here n_here in absurd (omega arith))
+    (λ after. let less = AllPairs-at (λ a b. a.inv < b.inv) calls n m b a rise after n_here m_here in absurd (omega arith))
+    differ) (cases_order m n)
 
 -- each response stands after the invocation that it answers
 pub response_later : (events : List Event) → All (λ a. IfSome a.response (λ r. a.inv < r.res)) (operations events)

@@ -83,15 +83,22 @@ module _ (key value : ℕ) (front back : Contents) (lower : AreBelow key front) 
 
 -- ---- the keys stay in order
 
+-- the first key of rising pairs is below all others, which rise too
+pub AreAbove-first : (pair : ℕ × ℕ) (m : Contents) → IsRising (pair ∷ m) → AreAbove pair.0 m
+AreAbove-first pair m h k d within = h 0 (suc k) d (omega arith) (omega arith)
+
+pub IsRising-rest : (pair : ℕ × ℕ) (m : Contents) → IsRising (pair ∷ m) → IsRising m
+IsRising-rest pair m h i j d before within = h (suc i) (suc j) d (omega arith) (omega arith)
+
 -- pairs by rising key, then others with greater keys
 IsRising-append : (front back : Contents) → IsRising front → IsRising back → All (λ a. All (λ b. a.0 < b.0) back) front
     → IsRising (front ++ back)
 IsRising-append [] back h k between = k
 IsRising-append (pair ∷ front) back h k between =
     AllPairs-cons (λ (a : ℕ × ℕ) (b : ℕ × ℕ). a.0 < b.0) pair (front ++ back)
-    (All-append (λ (b : ℕ × ℕ). pair.0 < b.0) front back (λ i d below. h 0 (suc i) d (omega arith) (omega arith))
+    (All-append (λ (b : ℕ × ℕ). pair.0 < b.0) front back (AreAbove-first pair front h)
     (All-head (λ (a : ℕ × ℕ). All (λ (b : ℕ × ℕ). a.0 < b.0) back) pair front between))
-    (IsRising-append front back (λ i j d lt below. h (suc i) (suc j) d (omega arith) (omega arith)) k
+    (IsRising-append front back (IsRising-rest pair front h) k
     (All-tail (λ (a : ℕ × ℕ). All (λ (b : ℕ × ℕ). a.0 < b.0) back) pair front between))
 
 module _ (m : Contents) (key : ℕ) where

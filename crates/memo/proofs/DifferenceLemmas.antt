@@ -1,12 +1,13 @@
 -- Pairs are told by what differs from those at the start, and by nothing else.
 use Rattle.std.proofs.Common.{◌≡◌, ◌<◌, ℕ, false, cond, [], ◌∷◌, Option, Some, None, refl, sym, ap, ◌∙◌, subst, ⊎_elim}
 use Rattle.std.specs.Prelude.{◌==◌, is_none, filter}
-use Rattle.std.proofs.lemmas.Bool.{both_ways, eqb-true, eq-eqb, cases_Bool}
+use Rattle.std.proofs.lemmas.Bool.{both_ways, eqb-true, eq-eqb, cases_eq, cases_Bool}
 use Rattle.std.proofs.lemmas.List.Kept.{AllPairs-filter}
 use Rattle.map_object.specs.MapObject.{Contents, IsRising, value_at, put}
 use Rattle.list_laws.proofs.Lists.{AllPairs-nil}
 use Rattle.memo.specs.Differences.{with_value, value_put, value_gone, value_from, IsDifference, put_all, pairs_from}
-use Rattle.memo.proofs.ValueLemmas.{or_else, same_pairs, value_at-kept, value_at-own, value_at-other, with_value-rises, here_or_not}
+use Rattle.map_object.proofs.ValueLemmas.{same_pairs}
+use Rattle.memo.proofs.ValueLemmas.{or_else, value_at-kept, value_at-own, value_at-other, with_value-rises}
 
 -- ---- the pairs that are told
 
@@ -115,10 +116,10 @@ module _ (start old new put gone : Contents) (key : ℕ) (is : IsDifference star
         (λ e. subst (λ at. value_at (with_value key here_put put) at ≡ value_put (value_at start at) (value_at new at)) e
         (value_at-own key put here_put))
         (λ other. value_at-other key put k other here_put ∙ is.put k ∙ ap (value_put (value_at start k)) (sym (same k other)))
-        (here_or_not key k);
+        (cases_eq key k);
     gone = λ k. ⊎_elim
         (λ e. subst (λ at. value_at (with_value key here_gone gone) at ≡ value_gone (value_at start at) (value_at new at)) e
         (value_at-own key gone here_gone))
         (λ other. value_at-other key gone k other here_gone ∙ is.gone k ∙ ap (value_gone (value_at start k)) (sym (same k other)))
-        (here_or_not key k);
+        (cases_eq key k);
   }

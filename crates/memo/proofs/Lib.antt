@@ -3,7 +3,6 @@ mod DifferenceLemmas
 mod DigestLemmas
 mod KeptLemmas
 mod KeyLemmas
-mod PlaceLemmas
 mod PlacesLemmas
 mod ValueLemmas
 mod WindowLemmas

@@ -1,57 +1,14 @@
 -- Pairs by the values at their keys.
-use Rattle.std.proofs.Common.{◌≡◌, ℕ, ◌<◌, nat_lt, Bool, true, false, cond, [], ◌∷◌, ◌++◌, get_or, Option, Some, None, refl, sym, ap, ◌∙◌}
-use Rattle.std.proofs.Common.{subst, inl, inr, ⊎_elim}
+use Rattle.std.proofs.Common.{◌≡◌, ℕ, ◌<◌, nat_lt, Bool, true, false, cond, [], ◌∷◌, ◌++◌, Option, Some, None, refl, sym, ap, ◌∙◌}
+use Rattle.std.proofs.Common.{subst, ⊎_elim}
 use Rattle.std.proofs.Common.{arith}
 use Rattle.std.specs.Prelude.{◌⊎◌, ◌==◌, filter}
-use Rattle.std.proofs.lemmas.Bool.{eq-eqb, ne_eqb, cases_order}
+use Rattle.std.proofs.lemmas.Bool.{cases_eq, cases_order}
 use Rattle.std.proofs.lemmas.Bool.Decides.{nat_tests}
-use Rattle.std.proofs.lemmas.Option.{none-some, same_Some}
-use Rattle.std.proofs.lemmas.List.Elements.{All-cons}
 use Rattle.map_object.specs.MapObject.{Contents, IsRising, value_at, below, above}
-use Rattle.map_object.proofs.MapLemmas.{AreAbove, value_at_above, IsRising-insert, IsRising-remove}
-use Rattle.list_laws.proofs.Lists.{AllPairs-head, AllPairs-tail}
+use Rattle.map_object.proofs.MapLemmas.{IsRising-insert, IsRising-remove}
+use Rattle.map_object.proofs.ValueLemmas.{first_value, later_value, same_pairs}
 use Rattle.memo.specs.Differences.{with_value}
-
--- a number is another or not
-pub here_or_not : (key k : ℕ) → (key ≡ k) ⊎ (key ≡ k → ⊥)
-here_or_not key k = ⊎_elim (λ same. inl same) (λ apart. inr (λ e. ⊎_elim (λ less. omega (arith, less, e)) (λ more. omega (arith, more, e)) apart))
-    (cases_order key k)
-
--- ---- pairs by rising key are told by the values at all keys
-
-first_value : (k v : ℕ) (m : Contents) → value_at ((k, v) ∷ m) k ≡ Some v
-first_value k v m = rw (eq-eqb k k refl) refl
-
-later_value : (k v : ℕ) (m : Contents) (key : ℕ) → (k ≡ key → ⊥) → value_at ((k, v) ∷ m) key ≡ value_at m key
-later_value k v m key other = rw (ne_eqb k key other) refl
-
--- the first key of pairs is above no key that they have a value at
-not_below : (k v l w : ℕ) (m n : Contents) → IsRising ((l, w) ∷ n)
-    → ((key : ℕ) → value_at ((k, v) ∷ m) key ≡ value_at ((l, w) ∷ n) key) → k < l → ⊥
-not_below k v l w m n rising same less =
-    let above_all : AreAbove k ((l, w) ∷ n) =
-    All-cons (λ (p : ℕ × ℕ). k < p.0) (l, w) n less
-    (λ i d within. let more : l < (get_or n i d).0 =
-    AllPairs-head (λ (a : ℕ × ℕ) (b : ℕ × ℕ). a.0 < b.0) (l, w) n rising i d within in omega arith) in
-    none-some v (sym (value_at_above k ((l, w) ∷ n) above_all) ∙ (sym (same k) ∙ first_value k v m))
-
-pub same_pairs : (m n : Contents) → IsRising m → IsRising n → ((key : ℕ) → value_at m key ≡ value_at n key) → m ≡ n
-same_pairs [] [] m_rises n_rises same = refl
-same_pairs [] ((l, w) ∷ n) m_rises n_rises same = absurd (none-some w (same l ∙ first_value l w n))
-same_pairs ((k, v) ∷ m) [] m_rises n_rises same = absurd (none-some v (sym (same k) ∙ first_value k v m))
-same_pairs ((k, v) ∷ m) ((l, w) ∷ n) m_rises n_rises same =
-    let keys : k ≡ l = ⊎_elim (λ equal. equal) (λ differ. ⊎_elim
-    (λ less. absurd (not_below k v l w m n n_rises same less))
-    (λ more. absurd (not_below l w k v n m m_rises (λ key. sym (same key)) more)) differ) (cases_order k l) in
-    let values : v ≡ w = same_Some v w (sym (first_value k v m) ∙ (same k ∙ rw keys (first_value l w n))) in
-    let R = λ (a : ℕ × ℕ) (b : ℕ × ℕ). a.0 < b.0 in
-    let rests : m ≡ n =
-    same_pairs m n (AllPairs-tail R (k, v) m m_rises) (AllPairs-tail R (l, w) n n_rises) (λ key. ⊎_elim
-    (λ here. subst (λ at. value_at m at ≡ value_at n at) here
-    (value_at_above k m (AllPairs-head R (k, v) m m_rises) ∙ sym (rw keys (value_at_above l n (AllPairs-head R (l, w) n n_rises)))))
-    (λ differ. let other : (k ≡ key → ⊥) = λ e. ⊎_elim (λ less. omega (arith, less, e)) (λ more. omega (arith, more, e)) differ in
-    sym (later_value k v m key other) ∙ (same key ∙ later_value l w n key (λ e. other (keys ∙ e)))) (cases_order k key)) in
-    cc
 
 -- ---- values of parts of pairs
 
@@ -87,7 +44,7 @@ kept_there false k v rest key other = refl
 pub value_at-kept : (p : ℕ → Bool) (m : Contents) (key : ℕ) → value_at (filter (λ pair. p pair.0) m) key ≡ cond (p key) (value_at m key) None
 value_at-kept p [] key = either_way (p key) None
 value_at-kept p ((k, v) ∷ m) key =
-    ⊎_elim (λ same. here (value_at-kept p m k) same) (λ other. there (value_at-kept p m key) other) (here_or_not k key)
+    ⊎_elim (λ same. here (value_at-kept p m k) same) (λ other. there (value_at-kept p m key) other) (cases_eq k key)
   where
     here : value_at (filter (λ pair. p pair.0) m) k ≡ cond (p k) (value_at m k) None → k ≡ key
         → value_at (filter (λ pair. p pair.0) ((k, v) ∷ m)) key ≡ cond (p key) (value_at ((k, v) ∷ m) key) None
@@ -152,4 +109,4 @@ pub with_value-is : (key : ℕ) (m n : Contents) → IsRising m → IsRising n �
 with_value-is key m n m_rises n_rises same =
     same_pairs (with_value key (value_at n key) m) n (with_value-rises key m m_rises (value_at n key)) n_rises (λ k.
     ⊎_elim (λ here. subst (λ at. value_at (with_value key (value_at n key) m) at ≡ value_at n at) here (value_at-own key m (value_at n key)))
-    (λ other. value_at-other key m k other (value_at n key) ∙ sym (same k other)) (here_or_not key k))
+    (λ other. value_at-other key m k other (value_at n key) ∙ sym (same k other)) (cases_eq key k))

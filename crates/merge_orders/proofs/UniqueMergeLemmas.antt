@@ -2,15 +2,16 @@
 use Rattle.std.proofs.Common.{◌≡◌, ℕ, ◌<◌, ◌≤◌, List, [], ◌∷◌, length, filter, Some, refl, sym, ap, ◌∙◌, subst, ⊎_elim, arith}
 use Rattle.std.specs.Prelude.{slice_get, All, AllPairs, Contains}
 use Rattle.std.specs.List.{concat}
-use Rattle.std.proofs.lemmas.Bool.{cases_eq, cases_order}
+use Rattle.std.proofs.lemmas.Bool.{cases_eq}
 use Rattle.std.proofs.lemmas.List.Elements.{All-head, All-tail, All-contains}
 use Rattle.std.proofs.lemmas.List.Sorted.{IsPermutation-sym, Contains-permutation}
 use Rattle.events.specs.declared.operation.Operation.{Operation}
 use Rattle.list_laws.specs.Lists.{has_number}
+use Rattle.events.proofs.TimeLemmas.{same_number}
 use Rattle.merge_orders.specs.Merge.{point_of, IsMergedOrder}
 use Rattle.list_laws.proofs.Lists.{AllPairs-head, AllPairs-tail, Contains-cases, Contains-first, All-from_contains}
 use Rattle.list_laws.proofs.NumberLemmas.{slice_get-below, has_number-from_Contains}
-use Rattle.list_laws.proofs.FilterLemmas.{filter_rest, AllPairs-at, Contains-from_filter}
+use Rattle.list_laws.proofs.FilterLemmas.{filter_rest, Contains-from_filter}
 use Rattle.merge_orders.proofs.PointLemmas.{point_in-is, point_of-is, Contains-from_up_to}
 use Rattle.merge_orders.proofs.MergeLemmas.{Contains-from_concat}
 use Rattle.merge_orders.proofs.DisjointLemmas.{AreDisjoint, AreDisjoint-from_merged, same_order}
@@ -18,15 +19,6 @@ use Rattle.merge_orders.proofs.DisjointLemmas.{AreDisjoint, AreDisjoint-from_mer
 -- each call is invoked after those with smaller numbers, as in each history
 abbrev pub InvocationsRise : List Operation → Type 0
 InvocationsRise calls = AllPairs (λ a b. a.inv < b.inv) calls
-
--- calls that are invoked at one place are one call
-same_invocation : (calls : List Operation) (m n : ℕ) (a b : Operation) → InvocationsRise calls → slice_get calls m ≡ Some a
-    → slice_get calls n ≡ Some b
-    → a.inv ≡ b.inv → m ≡ n
-same_invocation calls m n a b rise m_here n_here same = ⊎_elim (λ equal. equal) (λ differ. ⊎_elim
-    (λ before. let less = AllPairs-at (λ a b. a.inv < b.inv) calls m n a b rise before m_here n_here in absurd (omega arith))
-    (λ after. let less = AllPairs-at (λ a b. a.inv < b.inv) calls n m b a rise after n_here m_here in absurd (omega arith))
-    differ) (cases_order m n)
 
 -- two orders never share a point
 pub same_order-from_point : (calls : List Operation) (orders : List (List ℕ)) (order other : List ℕ) (m n : ℕ) → InvocationsRise calls
@@ -42,7 +34,7 @@ same_order-from_point calls orders order other m n rise known disjoint order_is 
     let p = point_in-is calls at_m.order m a at_m.number m_here in
     let q = point_in-is calls at_n.order n b at_n.number n_here in
     let inv_same : p.call.inv ≡ q.call.inv = sym p.point ∙ (sym at_m.point ∙ (same ∙ (at_n.point ∙ q.point))) in
-    let number_same = same_invocation calls p.number q.number p.call q.call rise p.here q.here inv_same in
+    let number_same = same_number calls p.number q.number p.call q.call rise p.here q.here inv_same in
     let p_in = Contains-from_up_to m at_m.order p.number p.up_to_it in
     let q_in = Contains-from_up_to n at_n.order q.number q.up_to_it in
     same_order orders order at_m.order m disjoint order_is at_m.is m_is at_m.number

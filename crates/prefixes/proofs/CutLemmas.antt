@@ -18,7 +18,7 @@ use Rattle.list_laws.proofs.Lists.{AllPairs-nil, AllPairs-head, AllPairs-tail, C
 use Rattle.list_laws.proofs.Lists.{All-from_contains}
 use Rattle.list_laws.proofs.NumberLemmas.{slice_get-below, some_at}
 use Rattle.list_laws.proofs.FilterLemmas.{AreRelatedAs, AllPairs-from_filter_map, AllPairs-filter_map, AllPairs-weaker}
-use Rattle.prefixes.proofs.ExtensionLemmas.{IsExtendedResponse, IsExtended}
+use Rattle.events.proofs.ExtensionLemmas.{IsExtendedResponse, IsExtended}
 
 -- whether a reply is `refused`
 abbrev pub is_refused : Reply → Bool

@@ -1,4 +1,3 @@
 mod EventLemmas
-mod ExtensionLemmas
 mod CutLemmas
 mod PrefixLemmas

@@ -1,15 +1,15 @@
 -- The first events of a history, and one invocation more.
-use Rattle.std.proofs.Common.{◌≡◌, ℕ, ◌+◌, ◌<◌, List, [], ◌∷◌, ◌++◌, length, take, drop, refl, sym, ap, ◌∙◌, subst, arith, take-append-drop}
+use Rattle.std.proofs.Common.{◌≡◌, ℕ, zero, ◌+◌, ◌<◌, ◌≤◌, List, [], ◌∷◌, ◌++◌, length, take, drop, refl, sym, ap, ◌∙◌, subst, arith, take-append-drop}
 use Rattle.std.proofs.Common.{Bool, true, false, suc, cond, ◌==◌, Some, None, IsTrue, ⊎_elim}
 use Rattle.std.specs.Prelude.{slice_get, IsSomeAnd, All}
 use Rattle.std.specs.List.{list_all}
 use Rattle.std.proofs.lemmas.Bool.{false≢true, and_parts}
-use Rattle.std.proofs.lemmas.Option.{slice_get_within, get_or_from_slice_get}
+use Rattle.std.proofs.lemmas.Option.{none-some, slice_get_within, get_or_from_slice_get}
 use Rattle.std.proofs.lemmas.List.{take_more, length-append}
-use Rattle.std.proofs.lemmas.List.Elements.{All-head, All-tail, All-weaker, filter-append}
+use Rattle.std.proofs.lemmas.List.Elements.{All-head, All-tail, All-weaker, All-contains, filter-append}
 use Rattle.std.proofs.lemmas.List.Folds.{list_all-append}
 use Rattle.std.proofs.lemmas.List.Sums.{sum_by-append}
-use Rattle.list_laws.proofs.Lists.{slice_get-append_left, place-push}
+use Rattle.list_laws.proofs.Lists.{Contains-at, slice_get-append_left, place-push}
 use Rattle.list_laws.proofs.NumberLemmas.{some_at}
 use Rattle.events.specs.declared.event.Call.{Call}
 use Rattle.events.specs.declared.event.Event.{Event}
@@ -18,11 +18,27 @@ use Rattle.events.specs.declared.operation.Operation.{Operation}
 use Rattle.events.specs.Events.{process_of, is_invocation, events_of, takes_turns}
 use Rattle.events.specs.Histories.{is_shaped, is_small, AreHistoryEvents}
 use Rattle.events.specs.Precedence.{is_completed}
-use Rattle.events.specs.Operations.{response_from, operations_from, operations}
+use Rattle.events.specs.Operations.{operations_from, operations}
+use Rattle.events.proofs.ExtensionLemmas.{extended_at}
+use Rattle.events.proofs.OperationLemmas.{operations_from-invoke}
+use Rattle.events.proofs.TimeLemmas.{inv-at_least}
 use Rattle.map_object.specs.MapObject.{Contents}
 use Rattle.orders.specs.Orders.{KeepsPrecedence, IsLegal, calls_at, IsCompletedAt, IsOrder, IsLinearizable}
-use Rattle.prefixes.proofs.ExtensionLemmas.{extended_at, invoked_later}
 use Rattle.prefixes.proofs.CutLemmas.{kept, order_of_part}
+
+-- the further calls of the whole are invoked after its first events
+invoked_later : (i place : ℕ) (events more : List Event) (n : ℕ) (b : Operation) → place ≤ i + length events
+    → slice_get (operations_from i events) n ≡ None
+    → slice_get (operations_from i (events ++ more)) n ≡ Some b → place ≤ b.inv
+invoked_later i place [] more n b within none here =
+    let from_place : i ≤ b.inv =
+    All-contains (λ a. i ≤ a.inv) (operations_from i more) b (inv-at_least i more) (Contains-at (operations_from i more) n b here) in
+    omega arith
+invoked_later i place (Answer p reply ∷ events) more n b within none here =
+    invoked_later (suc i) place events more n b (omega arith) none here
+invoked_later i place (Invoke p call ∷ events) more (suc n) b within none here =
+    invoked_later (suc i) place events more n b (omega arith) none here
+invoked_later i place (Invoke p call ∷ events) more zero b within none here = absurd (none-some _ (sym none))
 
 -- what has an order has one without its last events
 pub front_has_order : (start : Contents) (events more : List Event) → IsLinearizable start (operations (events ++ more))
@@ -61,22 +77,6 @@ front_of_history events more h = record {
 pub prefix_is_history : (events : List Event) (count : ℕ) → AreHistoryEvents events → AreHistoryEvents (take count events)
 prefix_is_history events count h =
     front_of_history (take count events) (drop count events) (subst AreHistoryEvents (sym (take-append-drop count events)) h)
-
--- an invocation answers nothing
-response_from-invoke : (p i q : ℕ) (call : Call) (events : List Event)
-    → response_from p i (events ++ Invoke q call ∷ []) ≡ response_from p i events
-response_from-invoke p i q call [] = refl
-response_from-invoke p i q call (Invoke r other ∷ events) = response_from-invoke p (suc i) q call events
-response_from-invoke p i q call (Answer r reply ∷ events) = rw (response_from-invoke p (suc i) q call events) refl
-
--- the calls of a list with one invocation more: one more, which is pending
-operations_from-invoke : (i q : ℕ) (call : Call) (events : List Event) → (inv : ℕ)
-    × (operations_from i (events ++ Invoke q call ∷ []) ≡ operations_from i events ++ record
-    { call = call; inv = inv; response = None } ∷ [])
-operations_from-invoke i q call [] = (i, refl)
-operations_from-invoke i q call (Answer r reply ∷ events) = operations_from-invoke (suc i) q call events
-operations_from-invoke i q call (Invoke r other ∷ events) =
-    let (inv, is) = operations_from-invoke (suc i) q call events in (inv, rw (response_from-invoke r (suc i) q call events, is) refl)
 
 -- known numbers name the same calls where there is one more
 calls_at-more_calls : (calls : List Operation) (a : Operation) (order : List ℕ) → All (λ n. n < length calls) order
@@ -118,12 +118,11 @@ order_with_call start calls call inv order h =
 
 pub invocation_keeps_order : (start : Contents) (events : List Event) (process : ℕ) (call : Call) → IsLinearizable start (operations events)
     → IsLinearizable start (operations (events ++ Invoke process call ∷ []))
-invocation_keeps_order start events process call (order, h) =
-    let (inv, is) = operations_from-invoke 0 process call events in (
-      order,
-      subst (λ (calls : List Operation). IsOrder start calls order) (sym is)
-          (order_with_call start (operations events) call inv order h),
-    )
+invocation_keeps_order start events process call (order, h) = (
+  order,
+  subst (λ (calls : List Operation). IsOrder start calls order) (sym (operations_from-invoke 0 process call events))
+      (order_with_call start (operations events) call (0 + length events) order h),
+)
 
 -- the first events up to an event and with it
 pub take_with : (events : List Event) (place : ℕ) (e : Event) → slice_get events place ≡ Some e

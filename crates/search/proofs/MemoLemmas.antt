@@ -1,6 +1,6 @@
 -- Whether a configuration was visited can be told.
-use Rattle.std.proofs.Common.{◌≡◌, true, false, List, [], ◌∷◌, subst, inl, inr, ⊎_elim}
-use Rattle.std.specs.Prelude.{◌⊎◌, Contains}
+use Rattle.std.proofs.Common.{◌≡◌, Bool, true, false, List, [], ◌∷◌, subst, inl, inr, ⊎_elim}
+use Rattle.std.specs.Prelude.{◌⊎◌, ◌↔◌, Contains, IsTrue}
 use Rattle.std.proofs.lemmas.Bool.{both_ways, cases_Bool}
 use Rattle.configurations.specs.Configurations.{Configuration}
 use Rattle.list_laws.proofs.Lists.{Contains-first, Contains-later, Contains-nil, Contains-cases}
@@ -19,3 +19,8 @@ visited_or_not (d ∷ visited) c = by_cases (visited_or_not visited c)
     by_cases : Contains visited c ⊎ (Contains visited c → ⊥) → Contains (d ∷ visited) c ⊎ (Contains (d ∷ visited) c → ⊥)
     by_cases (inl within) = inl (Contains-later d visited c within)
     by_cases (inr out) = ⊎_elim (λ e. inl (found e)) (λ e. inr (none e out)) (cases_Bool (is_same d c))
+
+-- a configuration that is not new was visited
+pub not_new : (config : Configuration) (visited : List Configuration) (new : Bool) → IsTrue new ↔ (Contains visited config → ⊥) → new ≡ false
+    → Contains visited config
+not_new config visited new h is = ⊎_elim (λ within. within) (λ out. absurd (both_ways new is (h.1 out))) (visited_or_not visited config)

@@ -6,9 +6,10 @@ use Rattle.std.specs.Prelude.{◌⊎◌, ◌↔◌, slice_get, slice_index, AllP
 use Rattle.std.specs.List.{range_with_len}
 use Rattle.std.specs.List.Sorted.{IsStrictlyIncreasing}
 use Rattle.std.proofs.lemmas.List.Kept.{AllPairs-filter}
+use Rattle.std.proofs.lemmas.List.Sorted.{IsPermutation-sym, IsPermutation-reverse, Contains-permutation}
 use Rattle.std.proofs.lemmas.Bool.{false≢true, cases_order, lt-ltb, ltb-true}
 use Rattle.std.proofs.lemmas.List.{append-nil, map-append, reverse-append, take-append-le, take_at, length-set}
-use Rattle.std.proofs.lemmas.List.Elements.{All-contains, Contains-append_left, Contains-append_right, Contains-push, Contains-push_cases}
+use Rattle.std.proofs.lemmas.List.Elements.{All-contains}
 use Rattle.std.proofs.lemmas.Option.{same_Some, slice_get_within}
 use Rattle.events.specs.declared.event.Call.{Call}
 use Rattle.events.specs.declared.operation.Operation.{Operation}
@@ -46,20 +47,12 @@ use Rattle.search.proofs.CursorLemmas.{HasCount-at_end}
 -- ---- lists
 
 -- a list has the same members the other way round
-Contains-reverse : (xs : List ℕ) (n : ℕ) → Contains xs n → Contains (reverse xs) n
-Contains-reverse [] n h = absurd (Contains-nil n h)
-Contains-reverse (x ∷ xs) n h =
-    let turned = reverse-append (x ∷ []) xs in
-    subst (λ ys. Contains ys n) (sym turned) (⊎_elim
-    (λ is. subst (Contains (reverse xs ++ x ∷ [])) is (Contains-push (reverse xs) x))
-    (λ later. Contains-append_left (reverse xs) (x ∷ []) n (Contains-reverse xs n later)) (Contains-cases x xs n h))
+pub Contains-reverse : (xs : List ℕ) (n : ℕ) → Contains xs n → Contains (reverse xs) n
+Contains-reverse xs n h = Contains-permutation xs (reverse xs) n (IsPermutation-reverse xs) h
 
-Contains-from_reverse : (xs : List ℕ) (n : ℕ) → Contains (reverse xs) n → Contains xs n
-Contains-from_reverse [] n h = absurd (Contains-nil n h)
-Contains-from_reverse (x ∷ xs) n h = ⊎_elim
-    (λ later. Contains-append_right (x ∷ []) xs n (Contains-from_reverse xs n later))
-    (λ is. subst (Contains (x ∷ xs)) is (Contains-first x xs))
-    (Contains-push_cases (reverse xs) x n (subst (λ ys. Contains ys n) (reverse-append (x ∷ []) xs) h))
+pub Contains-from_reverse : (xs : List ℕ) (n : ℕ) → Contains (reverse xs) n → Contains xs n
+Contains-from_reverse xs n h =
+    Contains-permutation (reverse xs) xs n (IsPermutation-sym xs (reverse xs) (IsPermutation-reverse xs)) h
 
 -- the places of one level more
 pub places-push : (levels : List Level) (level : Level) → places (levels ++ level ∷ []) ≡ places levels ++ level.place ∷ []

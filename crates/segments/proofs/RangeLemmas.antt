@@ -1,13 +1,13 @@
 -- The map by key ranges: what a call does to the pairs of a range.
 use Rattle.events.specs.declared.event.Reply.TheVariants as replies
 use Rattle.std.proofs.Common.{◌≡◌, ℕ, ◌<◌, ◌≤◌, Bool, true, false, ◌==◌, ◌&&◌, nat_le, nat_lt, cond, [], ◌∷◌, ◌++◌, Some, None, Option}
-use Rattle.std.proofs.Common.{refl, sym, ap, ◌∙◌, inl}
+use Rattle.std.proofs.Common.{get_or, refl, sym, ap, ◌∙◌, inl}
 use Rattle.std.proofs.Common.{inr, ⊎_elim, arith}
-use Rattle.std.specs.Prelude.{◌⊎◌, ◌↔◌}
+use Rattle.std.specs.Prelude.{◌⊎◌, ◌↔◌, All}
 use Rattle.std.proofs.lemmas.Bool.{false≢true, and_parts, and_from, and_left, and_right, leb-true, le-leb, lt-leb, lt-ltb, le-ltb, eqb-true}
 use Rattle.std.proofs.lemmas.Bool.{cases_Bool}
 use Rattle.std.proofs.lemmas.List.{append-nil}
-use Rattle.std.proofs.lemmas.List.Elements.{filter-append}
+use Rattle.std.proofs.lemmas.List.Elements.{filter-append, filter_passes}
 use Rattle.events.specs.declared.event.Call.{Call}
 use Rattle.events.specs.declared.event.Call.TheVariants.{Get, Insert, Remove, Scan, Replace}
 use Rattle.events.specs.declared.event.Reply.{Reply}
@@ -22,12 +22,17 @@ abbrev pub in_range : ℕ → ℕ → ℕ → Bool
 in_range low high key = nat_le low key && nat_le key high
 
 -- a key from low to high passes the test
-in_range-true : (low high key : ℕ) → low ≤ key → key ≤ high → in_range low high key ≡ true
-in_range-true low high key above below = and_from (nat_le low key) (nat_le key high) (le-leb low key above) (le-leb key high below)
+pub in_range_from : (low high key : ℕ) → low ≤ key → key ≤ high → in_range low high key ≡ true
+in_range_from low high key above below = and_from (nat_le low key) (nat_le key high) (le-leb low key above) (le-leb key high below)
 
 -- a key that passes the test is from low to high
 pub bounds : (low high key : ℕ) → in_range low high key ≡ true → (low ≤ key) × (key ≤ high)
 bounds low high key h = let parts = and_parts (nat_le low key) (nat_le key high) h in (leb-true low key parts.0, leb-true key high parts.1)
+
+-- the pairs of a range are in it
+pub within_bounds : (low high : ℕ) (m : Contents) → All (λ pair. (low ≤ pair.0) × (pair.0 ≤ high)) (within low high m)
+within_bounds low high m k d inside =
+    bounds low high (get_or (within low high m) k d).0 (filter_passes (λ (pair : ℕ × ℕ). in_range low high pair.0) m k d inside)
 
 -- a value that is not at its key may be left out
 value_at_cond : (b : Bool) (k value : ℕ) (m : Contents) (key : ℕ) → (k == key) ≡ false
@@ -39,7 +44,7 @@ value_at_cond false k value m key other = refl
 pub value_at-within : (low high : ℕ) (m : Contents) (key : ℕ) → low ≤ key → key ≤ high → value_at (within low high m) key ≡ value_at m key
 value_at-within low high [] key lo hi = refl
 value_at-within low high ((k, value) ∷ m) key lo hi = ⊎_elim
-    (λ same. rw (eqb-true k key same) (rw (in_range-true low high key lo hi) (rw (rw (eqb-true k key same) at same) refl)))
+    (λ same. rw (eqb-true k key same) (rw (in_range_from low high key lo hi) (rw (rw (eqb-true k key same) at same) refl)))
     (λ other. value_at_cond (in_range low high k) k value (within low high m) key other
     ∙ (value_at-within low high m key lo hi ∙ rw other refl))
     (cases_Bool (k == key))
@@ -50,7 +55,7 @@ pub within-insert : (low high : ℕ) (m : Contents) (key value : ℕ) → low �
 within-insert low high m key value lo hi =
     let p = λ (pair : ℕ × ℕ). in_range low high pair.0 in
     filter-append p (below key m) ((key, value) ∷ above key m)
-    ∙ rw (in_range-true low high key lo hi, filter_comm p (λ pair. nat_lt pair.0 key) m, filter_comm p (λ pair. nat_lt key pair.0) m) refl
+    ∙ rw (in_range_from low high key lo hi, filter_comm p (λ pair. nat_lt pair.0 key) m, filter_comm p (λ pair. nat_lt key pair.0) m) refl
 
 -- a removal within a range is one among its pairs
 pub within-remove : (low high : ℕ) (m : Contents) (key : ℕ) → low ≤ key → key ≤ high
@@ -76,7 +81,7 @@ within-replace low high m key expected value lo hi =
 pub within-within : (low high a b : ℕ) (m : Contents) → low ≤ a → b ≤ high → within a b (within low high m) ≡ within a b m
 within-within low high a b m lo hi =
     filter_implied (λ pair. in_range a b pair.0) (λ pair. in_range low high pair.0) m
-    (λ pair h. let at = bounds a b pair.0 h in in_range-true low high pair.0 (omega arith) (omega arith))
+    (λ pair h. let at = bounds a b pair.0 h in in_range_from low high pair.0 (omega arith) (omega arith))
 
 -- all keys of a call are from low to high
 pub record IsInside (low high : ℕ) (call : Call) : Type 0 where

@@ -1,11 +1,11 @@
 -- What holds of the calls that some numbers name.
-use Rattle.std.proofs.Common.{◌≡◌, ℕ, zero, suc, ◌<◌, ◌≤◌, true, false, List, [], ◌∷◌, length, get_or, Option, Some, None, arith}
+use Rattle.std.proofs.Common.{◌≡◌, ℕ, zero, suc, ◌<◌, ◌≤◌, true, false, List, [], ◌∷◌, length, Option, Some, None, arith}
 use Rattle.std.specs.Prelude.{◌≢◌, map, slice_get, IfSome, All, AllPairs}
 use Rattle.std.specs.List.{cons_option, list_all}
 use Rattle.std.specs.List.Sorted.{IsStrictlyIncreasing}
 use Rattle.std.proofs.lemmas.Bool.{and_parts, leb-true}
 use Rattle.std.proofs.lemmas.List.Kept.{AllPairs-from_increasing, AllPairs-filter}
-use Rattle.std.proofs.lemmas.List.Elements.{All-nil, All-cons, All-head, All-tail, All-contains, All-weaker, filter_passes}
+use Rattle.std.proofs.lemmas.List.Elements.{All-nil, All-cons, All-head, All-tail, All-contains, All-weaker}
 use Rattle.std.proofs.lemmas.List.Sums.{length-filter, count_by-le-length}
 use Rattle.events.specs.declared.event.Call.{Call}
 use Rattle.events.specs.declared.event.Call.TheVariants.{Get, Insert, Remove, Scan, Replace}
@@ -17,7 +17,7 @@ use Rattle.events.specs.Histories.{has_range, is_shaped, AreHistoryEvents, IsHis
 use Rattle.events.specs.HistoryView.{HistoryView}
 use Rattle.events.specs.Starts.{IsStart}
 use Rattle.map_object.specs.MapObject.{Contents, within}
-use Rattle.segments.proofs.RangeLemmas.{in_range, bounds}
+use Rattle.segments.proofs.RangeLemmas.{in_range, within_bounds}
 use Rattle.events.specs.Operations.{operation_of, operations_from, operations}
 use Rattle.events.specs.Precedence.{precedes}
 use Rattle.events.specs.Keys.{low_key, high_key}
@@ -97,10 +97,6 @@ IsStart-within low high m h = record {
   );
 }
 
-within-bounds : (low high : ℕ) (m : Contents) → All (λ pair. (low ≤ pair.0) × (pair.0 ≤ high)) (within low high m)
-within-bounds low high m k d inside =
-    bounds low high (get_or (within low high m) k d).0 (filter_passes (λ (pair : ℕ × ℕ). in_range low high pair.0) m k d inside)
-
 -- calls of a history by rising number are a segment
 pub IsSegmentView-segment_of : (history : HistoryView) (numbers : List ℕ) → IsHistory history → numbers ≢ [] → IsStrictlyIncreasing numbers
     → All (λ n. n < length (operations history.events)) numbers
@@ -131,5 +127,5 @@ IsSegmentView-segment_of history numbers h not_empty rising known =
             high_within = greatest_bound (λ a. high_key a.call) taken a here;
           });
       start = IsStart-within (least (map (λ a. low_key a.call) taken)) (greatest (map (λ a. high_key a.call) taken)) history.start h.start;
-      start_within = within-bounds (least (map (λ a. low_key a.call) taken)) (greatest (map (λ a. high_key a.call) taken)) history.start;
+      start_within = within_bounds (least (map (λ a. low_key a.call) taken)) (greatest (map (λ a. high_key a.call) taken)) history.start;
     }

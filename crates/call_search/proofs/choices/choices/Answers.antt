@@ -3,7 +3,8 @@ use Rattle.std.specs.Prelude.{Contains}
 use Rattle.std.proofs.lemmas.List.{length-reverse}
 use Rattle.search.proofs.EarliestLemmas.{IsOrder-from_none}
 use Rattle.call_search.specs.Standing.{places}
-use Rattle.call_search.proofs.StandingLemmas.{choices_again, Contains-reverse, Contains-from_reverse}
+use Rattle.search.proofs.WalkLemmas.{Contains-reverse, Contains-from_reverse}
+use Rattle.call_search.proofs.StandingLemmas.{choices_again}
 use Rattle.call_search.proofs.choices.choices.Goals as goal
 
 pub returns-in_default : goal.returns-in_default

@@ -1,16 +1,14 @@
-use Rattle.std.proofs.Common.{◌≡◌, ℕ, Bool, true, false, List, Option, ◌+◌, ◌<◌, ◌≤◌, get_or, [], ◌∷◌, ◌++◌, Some, length, set, refl, sym}
+use Rattle.std.proofs.Common.{◌≡◌, ℕ, true, false, Option, ◌+◌, ◌<◌, ◌≤◌, get_or, [], ◌∷◌, ◌++◌, Some, length, set, refl, sym}
 use Rattle.std.proofs.Common.{ap, ◌∙◌}
-use Rattle.std.proofs.Common.{subst, ⊎_elim, arith}
-use Rattle.std.specs.Prelude.{◌⊎◌, ◌↔◌, slice_get, Contains, IsTrue}
-use Rattle.std.proofs.lemmas.Bool.{both_ways}
+use Rattle.std.proofs.Common.{subst, arith}
+use Rattle.std.specs.Prelude.{◌⊎◌, slice_get, Contains}
 use Rattle.std.proofs.lemmas.List.{length-append}
 use Rattle.std.proofs.lemmas.Option.{slice_get_read, slice_get_within, same_Some}
-use Rattle.configurations.specs.Configurations.{Configuration}
 use Rattle.configurations.proofs.ConfigurationLemmas.{LeadsTo-push}
 use Rattle.events.specs.declared.operation.Operation.{Operation}
 use Rattle.map_object.specs.MapObject.{Contents}
 use Rattle.orders.specs.Orders.{after_call}
-use Rattle.search.proofs.MemoLemmas.{visited_or_not}
+use Rattle.search.proofs.MemoLemmas.{not_new}
 use Rattle.memo.specs.Taking.{after_one}
 use Rattle.memo.proofs.TakingLemmas.{Contains-with_place, with_place-rises}
 use Rattle.call_search.specs.Standing.{places, StandsWith, to_try, IsPushed}
@@ -19,11 +17,6 @@ use Rattle.events.specs.declared.event.Call.{Call}
 use Rattle.call_search.specs.declared.standing.Level.{Level}
 use Rattle.call_search.proofs.StandingLemmas.{stands-push, dead-seen, to_try-push, stands-same}
 use Rattle.call_search.proofs.standing.take.Goals as goal
-
--- a configuration that is not new was visited
-not_new : (config : Configuration) (visited : List Configuration) (new : Bool) → IsTrue new ↔ (Contains visited config → ⊥) → new ≡ false
-    → Contains visited config
-not_new config visited new h is = ⊎_elim (λ within. within) (λ out. absurd (both_ways new is (h.1 out))) (visited_or_not visited config)
 
 -- a call that is read at its place is the one that may come next
 same_call : (m n : Contents) (a b : Operation) → b ≡ a → n ≡ after_call m a.call a.response → n ≡ after_call m b.call b.response

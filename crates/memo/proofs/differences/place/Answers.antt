@@ -1,6 +1,6 @@
 use Rattle.std.proofs.Common.{rules}
 use Rattle.std.proofs.lemmas.List.Sorted.{answers_always}
-use Rattle.memo.proofs.PlaceLemmas.{searched}
+use Rattle.map_object.proofs.PlaceLemmas.{searched}
 use Rattle.memo.proofs.differences.place.Goals as goal
 
 -- the closure gives a pair's key

@@ -1,10 +1,9 @@
-use Rattle.std.proofs.Common.{Result, Ok, Err, ◌≡◌, Bool, false, List, ◌+◌, [], ◌∷◌, ◌++◌, Some, length, refl, sym, ap, ◌∙◌, subst, inl}
-use Rattle.std.proofs.Common.{inr, ⊎_elim, arith}
-use Rattle.std.specs.Prelude.{slice_get, slice_index, Contains, IsTrue, ◌↔◌, OnOk}
-use Rattle.std.proofs.lemmas.Bool.{both_ways}
+use Rattle.std.proofs.Common.{Result, Ok, Err, ◌≡◌, false, ◌+◌, [], ◌∷◌, ◌++◌, Some, length, refl, sym, ap, ◌∙◌, subst, inl}
+use Rattle.std.proofs.Common.{inr, arith}
+use Rattle.std.specs.Prelude.{slice_get, slice_index, Contains, OnOk}
 use Rattle.std.proofs.lemmas.List.{length-append}
 use Rattle.std.proofs.lemmas.Option.{slice_get_read}
-use Rattle.configurations.specs.Configurations.{Configuration, LeadsTo}
+use Rattle.configurations.specs.Configurations.{LeadsTo}
 use Rattle.memo.specs.Taking.{after_one}
 use Rattle.memo.proofs.TakingLemmas.{Contains-with_place, with_place-rises}
 use Rattle.orders.specs.Orders.{after_call}
@@ -12,16 +11,11 @@ use Rattle.search.specs.declared.standing.Level.{Level}
 use Rattle.search.specs.Links.{unlinked}
 use Rattle.search.specs.declared.standing.Standing.{Standing}
 use Rattle.search.specs.Standing.{places, HasMoved, IsPushed}
-use Rattle.search.proofs.MemoLemmas.{visited_or_not}
+use Rattle.search.proofs.MemoLemmas.{not_new}
 use Rattle.search.proofs.WalkLemmas.{StandsWith-passed, untried-passed, LeadsTo-taken, cursor-seen, StandsWith-push}
 use Rattle.search.proofs.WalkLemmas.{untried-pushed}
 use Rattle.search.proofs.WalkLemmas.{places-push, StandsWith-same}
 use Rattle.search.proofs.standing.take_next.Goals as goal
-
--- a configuration that is not new was visited
-not_new : (config : Configuration) (visited : List Configuration) (new : Bool) → IsTrue new ↔ (Contains visited config → ⊥) → new ≡ false
-    → Contains visited config
-not_new config visited new h is = ⊎_elim (λ within. within) (λ out. absurd (both_ways new is (h.1 out))) (visited_or_not visited config)
 
 -- a result that is weaker said
 on_ok : {A E : Type 0} (P Q : Type 0) (r : Result A E) → (P → Q) → OnOk r P → OnOk r Q

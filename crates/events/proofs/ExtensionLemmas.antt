@@ -1,7 +1,6 @@
 -- The calls of the first events of a list, and the same calls in the whole list.
 use Rattle.std.proofs.Common.{◌≡◌, ℕ, zero, suc, ◌+◌, ◌<◌, ◌≤◌, Bool, true, false, cond, ◌==◌, List, [], ◌∷◌, ◌++◌, length, Option, Some}
-use Rattle.std.proofs.Common.{None, refl, sym, arith}
-use Rattle.std.proofs.Common.{ap, subst}
+use Rattle.std.proofs.Common.{None, refl, subst, arith}
 use Rattle.std.specs.Prelude.{slice_get, ⊤}
 use Rattle.std.proofs.lemmas.Option.{none-some, same_Some}
 use Rattle.events.specs.declared.event.Event.{Event}
@@ -50,23 +49,3 @@ extended_at i place (Invoke p call ∷ events) more zero a within here = (
     response = response_from-extended p (suc i) place events more (omega arith);
   }),
 )
-
--- the calls of a list that starts at a place are invoked there or later
-inv_from : (i place : ℕ) (events : List Event) (n : ℕ) (b : Operation) → place ≤ i
-    → slice_get (operations_from i events) n ≡ Some b → place ≤ b.inv
-inv_from i place [] n b later here = absurd (none-some b here)
-inv_from i place (Answer p reply ∷ events) n b later here = inv_from (suc i) place events n b (omega arith) here
-inv_from i place (Invoke p call ∷ events) (suc n) b later here = inv_from (suc i) place events n b (omega arith) here
-inv_from i place (Invoke p call ∷ events) zero b later here =
-    let at = ap (λ (a : Operation). a.inv) (same_Some (operation_of p call i events) b here) in omega arith
-
--- the further calls of the whole are invoked after its first events
-pub invoked_later : (i place : ℕ) (events more : List Event) (n : ℕ) (b : Operation) → place ≤ i + length events
-    → slice_get (operations_from i events) n ≡ None
-    → slice_get (operations_from i (events ++ more)) n ≡ Some b → place ≤ b.inv
-invoked_later i place [] more n b within none here = inv_from i place more n b (omega arith) here
-invoked_later i place (Answer p reply ∷ events) more n b within none here =
-    invoked_later (suc i) place events more n b (omega arith) none here
-invoked_later i place (Invoke p call ∷ events) more (suc n) b within none here =
-    invoked_later (suc i) place events more n b (omega arith) none here
-invoked_later i place (Invoke p call ∷ events) more zero b within none here = absurd (none-some _ (sym none))
