@@ -32,7 +32,7 @@ use Rattle.kept_rows.specs.Outcomes.{HasNoOrder, IsLimitOf, AreOpenScans, IsLost
 use Rattle.kept_rows.specs.PartLaws.{with_scan, IsScanAnswerOf, OpenedRowsFollow, RowsTakeScans, UnseenScansAreLost}
 use Rattle.row_parting.specs.ScanAnswers.{ScanAnswer, IsInRange}
 use Rattle.kept_rows.specs.Opening.{IsSameRow, HaveColumns, AreOpened}
-use Rattle.kept_rows.specs.Seeing.{IsUnseen, last_number}
+use Rattle.row_parting.specs.Seeing.{IsUnseen, last_number}
 use Rattle.row_parting.specs.Placed.{IsPlacedInRows}
 use Rattle.kept_rows.specs.Reaching.{HasReach, IsReachOf, reaching}
 use Rattle.scan_rows.specs.RowView.{RowView}

@@ -32,7 +32,6 @@ mod RestLawLemmas
 mod RestLemmas
 pub mod RowEntryLemmas
 pub mod ScanEndLemmas
-pub mod ScanKeyLemmas
 pub mod ScanOpenLemmas
 pub mod ScanSoundLemmas
 pub mod SettleLemmas

@@ -26,7 +26,7 @@ use Rattle.kept_rows.specs.Outcomes.{IsLimitOf, AreOpenScans}
 use Rattle.kept_rows.specs.PartLaws.{IsScanAnswerOf, RowsTakeScans}
 use Rattle.row_parting.specs.ScanAnswers.{ScanAnswer}
 use Rattle.row_parting.specs.Parting.{Way, IsTimedWay, AreTried, IsParted, AreParted}
-use Rattle.kept_rows.specs.Seeing.{HaveSeen}
+use Rattle.row_parting.specs.Seeing.{HaveSeen}
 use Rattle.kept_rows.specs.Reaching.{HasReach}
 use Rattle.scan_rows.specs.RowView.{RowView}
 use Rattle.kept_rows.specs.Rows.{RowsView}

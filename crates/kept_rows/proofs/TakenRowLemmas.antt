@@ -28,7 +28,7 @@ use Rattle.scan_rows.specs.Moments.{IsSameScan}
 use Rattle.kept_rows.specs.Outcomes.{IsLimitOf}
 use Rattle.row_parting.specs.ScanAnswers.{ScanAnswer, IsInRange}
 use Rattle.row_parting.specs.Parting.{Way, scan_in, HasPlacedGet, IsEntryPlaced, IsWayTaken, IsVoidWay}
-use Rattle.kept_rows.specs.Seeing.{HaveSeen}
+use Rattle.row_parting.specs.Seeing.{HaveSeen}
 use Rattle.scan_rows.specs.RowView.{RowView, comparisons_of}
 use Rattle.scan_rows.specs.Entries.{entry_at, or_fresh}
 use Rattle.kept_rows.specs.Rows.{kept_at}

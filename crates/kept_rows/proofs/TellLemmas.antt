@@ -27,7 +27,7 @@ use Rattle.kept_rows.specs.Outcomes.{WasKept}
 use Rattle.kept_rows.specs.PartLaws.{IsScanAnswerOf}
 use Rattle.row_parting.specs.ScanAnswers.{ScanAnswer, IsInRange}
 use Rattle.row_parting.specs.Parting.{Way, AreTried, IsParted, AreParted}
-use Rattle.kept_rows.specs.Seeing.{IsUnseen, last_number}
+use Rattle.row_parting.specs.Seeing.{IsUnseen, last_number}
 use Rattle.row_parting.specs.Placed.{IsPlacedInRow, IsPlacedInRows}
 use Rattle.kept_rows.specs.Reaching.{HasReach}
 use Rattle.scan_rows.specs.RowView.{RowView, number_of}

@@ -9,7 +9,6 @@ pub mod Outcomes
 pub mod PartLaws
 pub mod Reaching
 pub mod Rows
-pub mod Seeing
 pub mod Sound
 pub mod Taken
 pub mod TellLaws

@@ -12,7 +12,7 @@ use Rattle.kept_rows.specs.Followed.{AreFollowed}
 use Rattle.kept_rows.specs.Outcomes.{IsLostFor, IsLimitOf, AreOpenScans}
 use Rattle.row_parting.specs.ScanAnswers.{ScanAnswer, IsInRange}
 use Rattle.kept_rows.specs.Opening.{HaveColumns, AreOpened}
-use Rattle.kept_rows.specs.Seeing.{HaveSeen, IsUnseen}
+use Rattle.row_parting.specs.Seeing.{HaveSeen, IsUnseen}
 use Rattle.row_parting.specs.Parting.{AreParted}
 use Rattle.kept_rows.specs.Reaching.{HasReach}
 use Rattle.scan_rows.specs.RowView.{RowView}

@@ -5,7 +5,7 @@ use Rattle.kept_keys.specs.Views.{KeptView}
 use Rattle.row_parting.specs.Crowding.{AreCrowding}
 use Rattle.row_parting.specs.Crowds.{AreTooMany}
 use Rattle.row_parting.specs.ScanAnswers.{ScanAnswer, IsInRange}
-use Rattle.kept_rows.specs.Seeing.{HaveSeen, IsUnseen}
+use Rattle.row_parting.specs.Seeing.{HaveSeen, IsUnseen}
 use Rattle.row_parting.specs.Parting.{AreParted}
 use Rattle.row_parting.specs.Placed.{IsPlacedInRows}
 use Rattle.row_parting.specs.Spending.{IsSpentAmong}

@@ -7,7 +7,7 @@ use Rattle.kept_rows.specs.Followed.{AreFollowed}
 use Rattle.kept_rows.specs.Outcomes.{WasKept}
 use Rattle.kept_rows.specs.PartLaws.{with_scan, IsScanAnswerOf}
 use Rattle.row_parting.specs.ScanAnswers.{ScanAnswer}
-use Rattle.kept_rows.specs.Seeing.{IsUnseen}
+use Rattle.row_parting.specs.Seeing.{IsUnseen}
 use Rattle.row_parting.specs.Parting.{AreParted}
 use Rattle.row_parting.specs.Placed.{IsPlacedInRows}
 use Rattle.kept_rows.specs.Rows.{RowsView}

@@ -14,7 +14,6 @@ mod reaching;
 mod rows;
 mod scan_taking;
 mod scanning;
-mod seeing;
 mod taking;
 mod tidying;
 mod turning;

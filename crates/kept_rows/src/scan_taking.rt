@@ -9,7 +9,7 @@ ghost use Rattle.row_parting.specs.Crowds.{AreTooMany};
 ghost use Rattle.row_parting.specs.Limits.{limit_of};
 ghost use Rattle.row_parting.specs.ScanAnswers.{ScanAnswer, IsInRange};
 ghost use Rattle.row_parting.specs.Parting.{AreParted};
-ghost use Rattle.kept_rows.specs.Seeing.{HaveSeen};
+ghost use Rattle.row_parting.specs.Seeing.{HaveSeen};
 ghost use Rattle.row_parting.specs.Placed.{IsPlacedInRows, WasPlaced};
 ghost use Rattle.scan_rows.specs.RowView.{RowView};
 ghost use Rattle.kept_rows.specs.Rows.{RowsView};
@@ -21,10 +21,9 @@ ghost use Rattle.kept_rows.specs.Taken.{IsTakenAs, AreFewOr};
 
 use crate::outcomes::AnsweredRows;
 use crate::rows::Rows;
-use crate::seeing::see_others;
 use events::Memory;
 use kept_keys::KeptKey;
-use row_parting::{Halt, Parted, Told, part_rows};
+use row_parting::{Halt, Parted, Told, part_rows, see_others};
 use scan_rows::{Known, OpenScan, Row};
 use std::alloc::Global;
 

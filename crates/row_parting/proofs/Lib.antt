@@ -6,5 +6,6 @@ pub mod ScanGapLemmas
 pub mod ScanPlaceLemmas
 pub mod ScanTryLemmas
 pub mod ScanWayLemmas
+mod SeeingLemmas
 mod SpentLemmas
 pub use Rattle.scan_gaps.proofs.ToldLemmas

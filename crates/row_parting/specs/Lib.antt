@@ -4,6 +4,7 @@ pub mod Parting
 pub mod Placed
 pub mod Placing
 pub mod Scannable
+pub mod Seeing
 pub mod Spending
 pub mod Steps
 pub mod Trying

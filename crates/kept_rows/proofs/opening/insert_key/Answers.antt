@@ -3,7 +3,7 @@ use Rattle.std.specs.List.{insert}
 use Rattle.std.proofs.lemmas.List.Sorted.{IsPartitionPoint-from_clause}
 use Rattle.kept_keys.specs.Views.{KeptView}
 use Rattle.scan_rows.specs.RowView.{RowView}
-use Rattle.kept_rows.proofs.ScanKeyLemmas.{own_comes, keys_parted}
+use Rattle.kept_rows.proofs.OwnKeyLemmas.{own_comes, keys_parted}
 use Rattle.kept_rows.proofs.opening.insert_key.Goals as goal
 
 pub returns : goal.returns

@@ -4,7 +4,7 @@ use Rattle.kept_keys.specs.Views.{KeptView}
 use Rattle.kept_rows.specs.Beginning.{first_keys}
 use Rattle.row_parting.specs.Crowding.{AreCrowding}
 use Rattle.row_parting.specs.Limits.{limit_of}
-use Rattle.kept_rows.specs.Seeing.{HaveSeen, IsUnseen}
+use Rattle.row_parting.specs.Seeing.{HaveSeen, IsUnseen}
 use Rattle.row_parting.specs.Parting.{AreParted}
 use Rattle.row_parting.specs.Placed.{IsPlacedInRows, WasPlaced}
 use Rattle.scan_rows.specs.RowView.{RowView}

@@ -1,6 +1,6 @@
 use Rattle.std.proofs.Common.{take}
-use Rattle.kept_rows.specs.Seeing.{HaveSeenAt}
-use Rattle.kept_rows.proofs.seeing.see_keys.Given as goal
+use Rattle.row_parting.specs.Seeing.{HaveSeenAt}
+use Rattle.row_parting.proofs.seeing.see_keys.Given as goal
 
 -- those so far have seen the scan
 abbrev pub invariant-loop-key : goal.invariant-loop-key

@@ -6,13 +6,13 @@ ghost use Rattle.following.specs.moments.Timings.{ArePairsOf};
 ghost use Rattle.kept_keys.specs.Steps.{HasGet};
 ghost use Rattle.kept_keys.specs.Puts.{noted_put, seen};
 ghost use Rattle.kept_keys.specs.Views.{place_limit, resting};
-ghost use Rattle.row_parting.specs.ScanAnswers.{IsInRange};
+ghost use Rattle.scan_gaps.specs.ScanAnswers.{IsInRange};
 ghost use Rattle.scan_rows.specs.Entries.{MayHave, entry_at, or_fresh};
-ghost use Rattle.kept_rows.specs.Seeing.{HaveSeen, IsUnseen, last_number, IsSeenAs, HaveSeenAt, IsUnknown, AreKnown};
+ghost use Rattle.row_parting.specs.Seeing.{HaveSeen, IsUnseen, last_number, IsSeenAs, HaveSeenAt, IsUnknown, AreKnown};
 
 use events::Memory;
 use kept_keys::{KeptKey, WIDTH};
-use row_parting::Told;
+use scan_gaps::Told;
 use scan_rows::{KeyLoss, Known, KnownKey};
 use std::alloc::Global;
 
@@ -183,9 +183,13 @@ fn see_known(
     }
 }
 
-/// All keys of the range that are no rows' own see the scan, or one of them can't have what it was
-/// told. Where a key is known to have that, it costs a look-up.
-pub(crate) fn see_others(
+/// All keys of the scan's range that are not the rows' own see it: of what `base` keeps of each
+/// there stays what has what the scan was told. If one can't have that, it is handed back, with the
+/// scan as a get at the last number before the answer, and `base` keeps nothing of it; some of the
+/// others may have seen the scan then. `own` has the rows' own keys, as one row keeps them, with
+/// all of the range of which calls are left. A key that is known to have what was told costs a
+/// look-up.
+pub fn see_others(
     alloc: Global,
     told: &Told,
     base: &mut Known,

@@ -1,6 +1,6 @@
 use Rattle.std.proofs.Common.{take}
-use Rattle.kept_rows.specs.Seeing.{AreKnown}
-use Rattle.kept_rows.proofs.seeing.first_unknown.Given as goal
+use Rattle.row_parting.specs.Seeing.{AreKnown}
+use Rattle.row_parting.proofs.seeing.first_unknown.Given as goal
 
 -- those so far are known
 abbrev pub invariant-loop-pair : goal.invariant-loop-pair

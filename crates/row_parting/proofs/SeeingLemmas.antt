@@ -1,13 +1,10 @@
 -- Keys of which no call is left see a scan.
-use Rattle.std.proofs.Common.{◌≡◌, ℕ, ◌+◌, ◌<◌, ◌≤◌, Bool, true, false, List, length, get_or, take, drop, map, Option, Some, None, nat_lt, Result, Ok}
+use Rattle.std.proofs.Common.{◌≡◌, ℕ, ◌+◌, ◌<◌, ◌≤◌, Bool, true, false, List, length, get_or, take, map, Option, Some, None, Result, Ok}
 use Rattle.std.proofs.Common.{Err, refl, sym, ap, ap₂, ◌∙◌, subst, ⊎_elim, inl, inr, arith}
 use Rattle.std.specs.Prelude.{◌≢◌, ◌⊎◌, ◌↔◌, All, AllPairs, Contains, MatchOption, IsTrue, slice_get}
-use Rattle.std.specs.List.{AllWithin, insert}
-use Rattle.std.specs.List.Sorted.{IsPartitionedBy}
-use Rattle.std.proofs.lemmas.List.Sorted.{IsPartitionedBy-ltb}
 use Rattle.std.specs.Result.{result_ok, is_ok}
 use Rattle.std.proofs.lemmas.Bool.{false≢true}
-use Rattle.std.proofs.lemmas.List.{take-append-drop, get_or_default}
+use Rattle.std.proofs.lemmas.List.{get_or_default}
 use Rattle.std.proofs.lemmas.Option.{get_or_from_slice_get}
 use Rattle.std.proofs.lemmas.List.Elements.{All-contains, Contains-get_or}
 use Rattle.std.specs.Option.{IsSome}
@@ -19,16 +16,13 @@ use Rattle.kept_keys.specs.Puts.{seen}
 use Rattle.kept_keys.specs.Reads.{HasSeen}
 use Rattle.kept_keys.specs.Steps.{HasGet}
 use Rattle.kept_keys.specs.Views.{KeptView, fresh}
-use Rattle.kept_keys.proofs.ScanZipLemmas.{All-take_within, All-drop_within}
-use Rattle.scan_rows.specs.RowView.{RowView}
 use Rattle.scan_rows.specs.Entries.{entry_at, or_fresh, MayHave}
 use Rattle.scan_rows.proofs.ScanListLemmas.{HasNoKey, IsKeyAt, take_cases, take_old, take_here, here_is}
 use Rattle.scan_rows.proofs.RestingLemmas.{fresh_may, none_may}
 use Rattle.scan_rows.specs.declared.key_loss.KeyLoss.{KeyLoss}
-use Rattle.row_parting.specs.ScanAnswers.{ScanAnswer, IsInRange}
-use Rattle.row_parting.proofs.ToldLemmas.{value_none, value_here}
-use Rattle.kept_rows.specs.Seeing.{HaveSeen, IsUnseen, last_number, IsSeenAs, HasSeenAt, HaveSeenAt, IsUnknown, AreKnown}
-use Rattle.kept_rows.specs.Opening.{HasOwn}
+use Rattle.scan_gaps.specs.ScanAnswers.{ScanAnswer, IsInRange}
+use Rattle.scan_gaps.proofs.ToldLemmas.{value_none, value_here}
+use Rattle.row_parting.specs.Seeing.{HaveSeen, IsUnseen, last_number, IsSeenAs, HasSeenAt, HaveSeenAt, IsUnknown, AreKnown}
 
 -- a key is among those by which entries rise
 pub among : (es : List (ℕ × KeptView)) (key : ℕ) (r : Result ℕ ℕ) (t : Bool) → AllPairs (λ d e. d.0 < e.0) es
@@ -42,34 +36,6 @@ among es key (Err i) t rising found told = (
   λ h. absurd (false≢true (subst IsTrue told h)),
   λ h. let (e, is, same) = Contains-from_map (λ (e : ℕ × KeptView). e.0) es key h in absurd (found rising e is same),
 )
-
--- by rising key those below a key come first
-pub keys_parted : (es : List (ℕ × KeptView)) (key : ℕ) → AllPairs (λ d e. d.0 < e.0) es → IsPartitionedBy (λ e. nat_lt e.0 key) es
-keys_parted es key rising = IsPartitionedBy-ltb (λ (e : ℕ × KeptView). e.0) es key (λ i j d within there.
-    ⊎_elim (λ (less : i < j). let h = rising i j d less there in omega (arith, h))
-    (λ (same : i ≡ j). subst (λ (k : ℕ). (get_or es i d).0 ≤ (get_or es k d).0) same (omega arith))
-    (le_cases i j within))
-  where
-    le_cases : (i j : ℕ) → i ≤ j → (i < j) ⊎ (i ≡ j)
-    le_cases i j h = grind arith
-
--- a key comes to a row at the place behind which the keys are not less
-pub own_comes : (key place : ℕ) (kept : KeptView) (old new : RowView) → new.scans ≡ old.scans → new.turns ≡ old.turns → place ≤ length old.keys
-    → (AllPairs (λ d e. d.0 < e.0) old.keys → AllWithin (λ e. nat_lt e.0 key ≡ true) old.keys 0 place
-    × AllWithin (λ e. nat_lt e.0 key ≡ false) old.keys place (length old.keys))
-    → new.keys ≡ insert old.keys place (key, kept) → HasOwn key kept old new
-own_comes key place kept old new scans turns within parts keys = record {
-  scans = scans;
-  turns = turns;
-  front = take place old.keys;
-  back = drop place old.keys;
-  before = sym (take-append-drop place old.keys);
-  after = keys;
-  less = λ rising. All-take_within (λ (e : ℕ × KeptView). nat_lt e.0 key ≡ true) old.keys place (parts rising).0;
-  others = λ rising. All-drop_within (λ (e : ℕ × KeptView). nat_lt e.0 key ≡ false) old.keys place (parts rising).1;
-}
-
--- ---- seeing
 
 -- a key that has what the scan was told has seen it
 pub seen_as_known : (s : ScanAnswer) (key : ℕ) (base : List (ℕ × KeptView)) (value : Option ℕ) → value ≡ value_at s.pairs key

@@ -1,8 +1,8 @@
 use Rattle.std.proofs.Common.{rules}
 use Rattle.std.proofs.lemmas.List.Sorted.{answers_always}
 use Rattle.scan_rows.proofs.ScanListLemmas.{key_found}
-use Rattle.kept_rows.proofs.ScanKeyLemmas.{among}
-use Rattle.kept_rows.proofs.seeing.is_among.Goals as goal
+use Rattle.row_parting.proofs.SeeingLemmas.{among}
+use Rattle.row_parting.proofs.seeing.is_among.Goals as goal
 
 -- the closure gives an entry's key
 pub returns : goal.returns

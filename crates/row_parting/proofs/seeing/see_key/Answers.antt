@@ -1,6 +1,6 @@
-use Rattle.kept_rows.proofs.ScanKeyLemmas.{seen_as_known}
+use Rattle.row_parting.proofs.SeeingLemmas.{seen_as_known}
 use Rattle.std.proofs.Common.{refl}
-use Rattle.kept_rows.proofs.seeing.see_key.Goals as goal
+use Rattle.row_parting.proofs.seeing.see_key.Goals as goal
 
 pub returns-then-is_known_as : goal.returns-then-is_known_as
 returns-then-is_known_as c =

@@ -1,8 +1,8 @@
 use Rattle.std.proofs.Common.{get_or}
 use Rattle.std.proofs.lemmas.Bool.{false≢true}
 use Rattle.std.proofs.lemmas.List.{get_or_default}
-use Rattle.kept_rows.proofs.ScanKeyLemmas.{known_more}
-use Rattle.kept_rows.proofs.seeing.first_unknown.Goals as goal
+use Rattle.row_parting.proofs.SeeingLemmas.{known_more}
+use Rattle.row_parting.proofs.seeing.first_unknown.Goals as goal
 
 pub loop-pair-preserved : goal.loop-pair-preserved
 loop-pair-preserved c =

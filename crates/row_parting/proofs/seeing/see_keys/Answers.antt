@@ -1,7 +1,7 @@
 use Rattle.std.proofs.Common.{get_or}
 use Rattle.std.proofs.lemmas.List.{get_or_default}
-use Rattle.kept_rows.proofs.ScanKeyLemmas.{have_seen_more, seen_now, not_seen_now}
-use Rattle.kept_rows.proofs.seeing.see_keys.Goals as goal
+use Rattle.row_parting.proofs.SeeingLemmas.{have_seen_more, seen_now, not_seen_now}
+use Rattle.row_parting.proofs.seeing.see_keys.Goals as goal
 
 pub loop-key-preserved : goal.loop-key-preserved
 loop-key-preserved c =

@@ -1,10 +1,10 @@
 use Rattle.std.proofs.Common.{◌≤◌, ℕ, List, sym, subst}
 use Rattle.std.specs.Prelude.{◌↔◌, Contains}
 use Rattle.std.specs.Option.{IsSome}
-use Rattle.row_parting.specs.ScanAnswers.{ScanAnswer}
+use Rattle.scan_gaps.specs.ScanAnswers.{ScanAnswer}
 use Rattle.scan_rows.specs.Entries.{entry_at}
-use Rattle.kept_rows.proofs.ScanKeyLemmas.{lost_unseen, others_seen}
-use Rattle.kept_rows.proofs.seeing.see_known.Goals as goal
+use Rattle.row_parting.proofs.SeeingLemmas.{lost_unseen, others_seen}
+use Rattle.row_parting.proofs.seeing.see_known.Goals as goal
 
 pub returns-in-Some : goal.returns-in-Some
 returns-in-Some c =

@@ -1,9 +1,9 @@
 use Rattle.std.proofs.Common.{ap, subst}
 use Rattle.map_object.specs.MapObject.{Contents}
-use Rattle.row_parting.specs.ScanAnswers.{ScanAnswer}
-use Rattle.kept_rows.specs.Seeing.{IsUnknown}
-use Rattle.kept_rows.proofs.ScanKeyLemmas.{unknown_unseen}
-use Rattle.kept_rows.proofs.seeing.see_others.Goals as goal
+use Rattle.scan_gaps.specs.ScanAnswers.{ScanAnswer}
+use Rattle.row_parting.specs.Seeing.{IsUnknown}
+use Rattle.row_parting.proofs.SeeingLemmas.{unknown_unseen}
+use Rattle.row_parting.proofs.seeing.see_others.Goals as goal
 
 pub returns-in_ok-loss-in-Some : goal.returns-in_ok-loss-in-Some
 returns-in_ok-loss-in-Some c =

@@ -7,7 +7,7 @@ use Rattle.kept_keys.specs.Views.{KeptView, width}
 use Rattle.kept_keys.specs.Puts as puts
 use Rattle.scan_rows.specs.Entries.{entry_at, or_fresh, MayHave}
 use Rattle.scan_rows.specs.declared.key_loss.KeyLoss.{KeyLoss}
-use Rattle.row_parting.specs.ScanAnswers.{ScanAnswer, IsInRange}
+use Rattle.scan_gaps.specs.ScanAnswers.{ScanAnswer, IsInRange}
 
 -- all keys of the range that are no rows' own have seen the scan
 pub record HaveSeen (s : ScanAnswer) (columns : List ℕ) (base other : List (ℕ × KeptView)) : Type 0 where
