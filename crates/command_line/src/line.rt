@@ -1,7 +1,7 @@
 // What words ask for, subcommand by subcommand.
 
 /// What the words ask for: a subcommand, with its values.
-#[derive(Debug, Drop)]
+#[derive(Drop)]
 pub enum Line {
     /// It asks whether these calls, by number, are an order of the history on standard input.
     Check {

@@ -69,19 +69,7 @@ fn scouted_order(
     rounds: usize,
 ) -> Result<Option<Vec<usize>>, Memory> {
     let mut scout = open(alloc, value, calls)?;
-    for _ in 0..rounds {
-        scout.take_reads(calls)?;
-        if scout.left == 0 {
-            return Ok(Some(places_of(alloc, &scout.order)?));
-        }
-        scout.look_on(alloc, calls)?;
-        let Some(way) = scout.ways.pop() else {
-            return Ok(None);
-        };
-        scout.go_back(way.depth, calls);
-        scout.take(way.place, calls)?;
-    }
-    Ok(None)
+    scout.search(alloc, calls, rounds)
 }
 
 /// So many digests of positions are kept, each at the place that its first 12 bits tell.
@@ -403,6 +391,29 @@ impl Scout {
             }
         }
         earliest
+    }
+
+    /// Takes calls, and goes back where it has to, so many rounds at most: the places of the calls
+    /// taken, once all completed ones are.
+    fn search(
+        &mut self,
+        alloc: Global,
+        calls: &[Operation],
+        rounds: usize,
+    ) -> Result<Option<Vec<usize>>, Memory> {
+        for _ in 0..rounds {
+            self.take_reads(calls)?;
+            if self.left == 0 {
+                return Ok(Some(places_of(alloc, &self.order)?));
+            }
+            self.look_on(alloc, calls)?;
+            let Some(way) = self.ways.pop() else {
+                return Ok(None);
+            };
+            self.go_back(way.depth, calls);
+            self.take(way.place, calls)?;
+        }
+        Ok(None)
     }
 
     /// Takes reads that may come next, until none may.

@@ -18,7 +18,7 @@ use std::alloc::Global;
 
 /// The bar of a call, from its invocation to its response; a pending one is open, to the end of the
 /// picture.
-#[derive(Debug, Drop)]
+#[derive(Drop)]
 pub struct Bar {
     /// The number of the call in the history.
     pub number: usize,

@@ -29,7 +29,7 @@ pub enum Heading {
 }
 
 /// A picture of a verdict on a history, from left to right by columns, from 0.
-#[derive(Debug, Drop)]
+#[derive(Drop)]
 pub struct Picture {
     /// What it says at its top.
     pub heading: Heading,
