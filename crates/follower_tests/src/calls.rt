@@ -1,5 +1,5 @@
 // Calls of a key, and configurations, by hand.
-ghost use Rattle.std.specs.Prelude.{◌≡◌, length, None, Some, IfOk};
+ghost use Rattle.std.specs.Prelude.{◌≡◌, None, Some, IfOk};
 
 use events::{Call, Memory, Operation, Reply, Response};
 use kept_keys::{Ahead, Configuration, KeptKey};

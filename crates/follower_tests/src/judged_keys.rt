@@ -1,6 +1,6 @@
 // Verdicts on keys, by hand.
 use crate::calls::{answered_call, configuration_with, key_of, open_call};
-use events::{Call, Memory, Operation, Reply};
+use events::{Call, Memory, Reply};
 use kept_keys::Judged;
 use std::alloc::Global;
 use std::test::Fail;

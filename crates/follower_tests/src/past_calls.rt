@@ -1,5 +1,5 @@
 // Choices of calls of one key, by hand.
-ghost use Rattle.std.specs.Prelude.{◌≡◌, [], ◌∷◌, length, true, false, All, IfOk};
+ghost use Rattle.std.specs.Prelude.{◌≡◌, length, IfOk};
 ghost use Rattle.past_choices.specs.PastChoices.{ArePast};
 
 use crate::calls::{answered_call, open_call};
