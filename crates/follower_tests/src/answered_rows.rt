@@ -28,38 +28,47 @@ fn get_answered(alloc: Global, rows: Rows, reply: Reply) -> Result<AnsweredRows,
     rows.answer_call(alloc, 3, 7, 2, &Call::Get(7), reply, 4, 100)
 }
 
+/// The rows behind an insert that found nothing.
+fn inserted(alloc: Global) -> Result<Rows, Memory>
+    ensures { IfOk result (AreFollowed [] (Invoke 0 (Insert 7 1) ∷ Answer 0 replies.None ∷ [])) }
+{
+    match insert_answered(alloc, Reply::None)? {
+        AnsweredRows::Going(rows) => Ok(rows),
+        _ => Err(Memory),
+    }
+}
+
+/// Whether the rows go on.
+fn go_on(answered: &AnsweredRows) -> bool {
+    matches!(answered, AnsweredRows::Going(_))
+}
+
+/// Whether the rows are lost at the key alone.
+fn lose_the_key(answered: &AnsweredRows) -> bool {
+    match answered {
+        AnsweredRows::Lost(losses) => losses.len() == 1 && losses[0].key == 7,
+        _ => false,
+    }
+}
+
 // It found nothing: a get behind it finds its value, and nothing else.
 #[test]
 fn an_insert_is_answered(rt: HostRuntime) -> Result<(), Fail> {
     let alloc = rt.alloc();
-    let AnsweredRows::Going(rows) = insert_answered(alloc, Reply::None)? else {
-        panic!(rt; "an insert finds nothing in an empty map");
-    };
-    let AnsweredRows::Going(_) = get_answered(alloc, rows, Reply::Some(1))? else {
-        panic!(rt; "the get finds what was inserted");
-    };
+    assert!(rt; go_on(&get_answered(alloc, inserted(alloc)?, Reply::Some(1))?));
     Ok(())
 }
 
 #[test]
 fn a_value_is_not_lost(rt: HostRuntime) -> Result<(), Fail> {
     let alloc = rt.alloc();
-    let AnsweredRows::Going(rows) = insert_answered(alloc, Reply::None)? else {
-        panic!(rt; "an insert finds nothing in an empty map");
-    };
-    let AnsweredRows::Lost(losses) = get_answered(alloc, rows, Reply::None)? else {
-        panic!(rt; "the key has a value");
-    };
-    assert!(rt; losses.len() == 1 && losses[0].key == 7);
+    assert!(rt; lose_the_key(&get_answered(alloc, inserted(alloc)?, Reply::None)?));
     Ok(())
 }
 
 // It found a value that no call put there.
 #[test]
 fn a_value_from_nowhere_is_lost(rt: HostRuntime) -> Result<(), Fail> {
-    let AnsweredRows::Lost(losses) = insert_answered(rt.alloc(), Reply::Some(5))? else {
-        panic!(rt; "the map was empty");
-    };
-    assert!(rt; losses.len() == 1 && losses[0].key == 7);
+    assert!(rt; lose_the_key(&insert_answered(rt.alloc(), Reply::Some(5))?));
     Ok(())
 }

@@ -1,53 +1,77 @@
 // Choices of calls of one key, by hand.
-ghost use Rattle.std.specs.Prelude.{◌≡◌, length, None, Some, All, IfOk};
-ghost use Rattle.events.specs.declared.event.Reply.TheVariants as replies;
+ghost use Rattle.std.specs.Prelude.{◌≡◌, length, IfOk};
+ghost use Rattle.past_choices.specs.PastChoices.{ArePast};
 
-use events::{Call, Memory, Operation, Reply, Response};
+use crate::calls::{answered_call, open_call};
+use events::{Call, Memory, Operation, Reply};
 use past_choices::{Answer, PastChoice, Start, past_choices};
 use std::alloc::Global;
 use std::test::Fail;
 
-/// A call that is answered at a place.
-fn answered_call(call: Call, inv: usize, res: usize, reply: Reply) -> Operation
-    ensures { result ≡ record { call = call; inv = inv; response = Some (record { res = res; reply = reply }) } }
-{
-    Operation {
-        call,
-        inv,
-        response: Some(Response { res, reply }),
+/// A choice that is expected: of which calls, which value is behind them, and which they found.
+type Expected<'a> = (&'a [usize], Option<u64>, &'a [(usize, Option<u64>)]);
+
+/// Whether these are the choices, and there are no others.
+fn are_choices(answer: &Answer, expected: &[Expected]) -> bool {
+    match answer {
+        Answer::All(choices) => choices.len() == expected.len()
+            && expected.iter().all(|choice| has_choice(choices, choice)),
+        Answer::Spent => false,
     }
 }
 
-/// A call that is not answered.
-fn open_call(call: Call, inv: usize) -> Operation
-    ensures { result ≡ record { call = call; inv = inv; response = None } }
-{
-    Operation {
-        call,
-        inv,
-        response: None,
-    }
+/// Whether more positions are reachable than the budget.
+fn is_spent(answer: &Answer) -> bool {
+    matches!(answer, Answer::Spent)
 }
 
-/// Whether one of the choices is of these calls, with this value behind them, and these values
-/// found.
-fn has_choice(
-    choices: &[PastChoice],
-    chosen: &[usize],
+/// Whether a choice is among some.
+fn has_choice(choices: &[PastChoice], expected: &Expected) -> bool {
+    choices.iter().any(|choice| choice.chosen_calls() == expected.0
+        && choice.value() == expected.1
+        && choice.found_values() == expected.2)
+}
+
+/// What calls leave of which none is taken before, from one value.
+fn left_of(
+    alloc: Global,
     value: Option<u64>,
-    found: &[(usize, Option<u64>)],
-) -> bool {
-    choices.iter().any(|choice| choice.chosen_calls() == chosen
-        && choice.value() == value
-        && choice.found_values() == found)
+    calls: &[Operation],
+    ended: &[bool],
+    budget: u32,
+) -> Result<Answer, Memory>
+    requires { ArePast 7 calls.now ended.now }
+{
+    let taken = vec![in alloc; false; calls.len()]?;
+    let starts = vec![in alloc; Start { taken, value }]?;
+    past_choices(alloc, 7, &starts, calls, ended, budget)
 }
 
-/// No call of some is taken.
-fn from_value(alloc: Global, count: usize, value: Option<u64>) -> Result<Vec<Start>, Memory>
-    ensures { IfOk result (λ starts. All (λ s. length s.taken ≡ count) starts.items) }
+/// Whether they leave these choices, and no others.
+fn leave(
+    alloc: Global,
+    value: Option<u64>,
+    calls: &[Operation],
+    ended: &[bool],
+    budget: u32,
+    expected: &[Expected],
+) -> Result<bool, Memory>
+    requires { ArePast 7 calls.now ended.now }
 {
-    let taken = vec![in alloc; false; count]?;
-    Ok(vec![in alloc; Start { taken, value }]?)
+    Ok(are_choices(&left_of(alloc, value, calls, ended, budget)?, expected))
+}
+
+/// Whether the budget is too little for them.
+fn are_beyond(
+    alloc: Global,
+    value: Option<u64>,
+    calls: &[Operation],
+    ended: &[bool],
+    budget: u32,
+) -> Result<bool, Memory>
+    requires { ArePast 7 calls.now ended.now }
+{
+    Ok(is_spent(&left_of(alloc, value, calls, ended, budget)?))
 }
 
 // An insert of 1 had ended; a get and a replace of 1 by 2 are open. Each may have come before the
@@ -55,37 +79,32 @@ fn from_value(alloc: Global, count: usize, value: Option<u64>) -> Result<Vec<Sta
 #[test]
 fn open_calls_come_at_each_place_or_not_at_all(rt: HostRuntime) -> Result<(), Fail> {
     let alloc = rt.alloc();
-    let insert = answered_call(Call::Insert(7, 1), 0, 3, Reply::Done);
-    let get = open_call(Call::Get(7), 1);
-    let replace = open_call(Call::Replace(7, 1, 2), 2);
-    let calls = vec![in alloc; insert, get, replace]?;
-    let ended = vec![in alloc; true, false, false]?;
-    let starts = from_value(alloc, 3, None)?;
-    let Answer::All(choices) = past_choices(alloc, 7, &starts, &calls, &ended, 1000)? else {
-        panic!(rt; "more positions than there are");
-    };
-    assert!(rt; choices.len() == 10);
-    assert!(rt; has_choices_of_the_get_alone(&choices));
-    assert!(rt; has_choices_of_the_replace(&choices));
+    let calls = vec![in alloc;
+        answered_call(Call::Insert(7, 1), 0, 3, Reply::Done),
+        open_call(Call::Get(7), 1),
+        open_call(Call::Replace(7, 1, 2), 2),
+    ]?;
+    let answer = left_of(alloc, None, &calls, &[true, false, false], 1000)?;
+    assert!(rt;
+        are_choices(
+            &answer,
+            &[
+                // No call is taken, or the get alone, before the insert or behind it.
+                (&[], Some(1), &[]),
+                (&[1], Some(1), &[(1, None)]),
+                (&[1], Some(1), &[(1, Some(1))]),
+                // The replace is taken, which finds no value or the 1, alone or with the get.
+                (&[2], Some(1), &[(2, None)]),
+                (&[2], Some(2), &[(2, Some(1))]),
+                (&[1, 2], Some(1), &[(1, None), (2, None)]),
+                (&[1, 2], Some(1), &[(1, Some(1)), (2, None)]),
+                (&[1, 2], Some(2), &[(1, None), (2, Some(1))]),
+                (&[1, 2], Some(2), &[(1, Some(1)), (2, Some(1))]),
+                (&[1, 2], Some(2), &[(1, Some(2)), (2, Some(1))]),
+            ]
+        )
+    );
     Ok(())
-}
-
-/// The choices in which no call is taken, or the get alone, before the insert or behind it.
-fn has_choices_of_the_get_alone(choices: &[PastChoice]) -> bool {
-    has_choice(choices, &[], Some(1), &[])
-        && has_choice(choices, &[1], Some(1), &[(1, None)])
-        && has_choice(choices, &[1], Some(1), &[(1, Some(1))])
-}
-
-/// The choices in which the replace is taken, which finds no value or the 1, alone or with the get.
-fn has_choices_of_the_replace(choices: &[PastChoice]) -> bool {
-    has_choice(choices, &[2], Some(1), &[(2, None)])
-        && has_choice(choices, &[2], Some(2), &[(2, Some(1))])
-        && has_choice(choices, &[1, 2], Some(1), &[(1, None), (2, None)])
-        && has_choice(choices, &[1, 2], Some(1), &[(1, Some(1)), (2, None)])
-        && has_choice(choices, &[1, 2], Some(2), &[(1, None), (2, Some(1))])
-        && has_choice(choices, &[1, 2], Some(2), &[(1, Some(1)), (2, Some(1))])
-        && has_choice(choices, &[1, 2], Some(2), &[(1, Some(2)), (2, Some(1))])
 }
 
 // An insert of 1 had ended before a remove began that is open, and a get that is answered 1 behind
@@ -93,34 +112,31 @@ fn has_choices_of_the_replace(choices: &[PastChoice]) -> bool {
 #[test]
 fn answers_and_precedence_are_kept(rt: HostRuntime) -> Result<(), Fail> {
     let alloc = rt.alloc();
-    let insert = answered_call(Call::Insert(7, 1), 0, 1, Reply::Done);
-    let remove = open_call(Call::Remove(7), 2);
-    let get = answered_call(Call::Get(7), 3, 9, Reply::Some(1));
-    let calls = vec![in alloc; insert, remove, get]?;
-    let ended = vec![in alloc; true, false, false]?;
-    let starts = from_value(alloc, 3, Some(4))?;
-    let Answer::All(choices) = past_choices(alloc, 7, &starts, &calls, &ended, 1000)? else {
-        panic!(rt; "more positions than there are");
-    };
-    assert!(rt; choices.len() == 4);
-    assert!(rt; has_choice(&choices, &[], Some(1), &[]));
-    assert!(rt; has_choice(&choices, &[1], None, &[(1, Some(1))]));
-    assert!(rt; has_choice(&choices, &[2], Some(1), &[]));
-    assert!(rt; has_choice(&choices, &[1, 2], None, &[(1, Some(1))]));
+    let calls = vec![in alloc;
+        answered_call(Call::Insert(7, 1), 0, 1, Reply::Done),
+        open_call(Call::Remove(7), 2),
+        answered_call(Call::Get(7), 3, 9, Reply::Some(1)),
+    ]?;
+    let ended = [true, false, false];
+    assert!(rt;
+        leave(
+            alloc,
+            Some(4),
+            &calls,
+            &ended,
+            1000,
+            &[
+                (&[], Some(1), &[]),
+                (&[1], None, &[(1, Some(1))]),
+                (&[2], Some(1), &[]),
+                (&[1, 2], None, &[(1, Some(1))]),
+            ]
+        )?
+    );
     // No call, the insert, the remove behind it, and the get behind the insert with the remove or
     // not.
-    assert!(rt;
-        matches!(
-            past_choices(alloc, 7, &starts, &calls, &ended, 4)?,
-            Answer::Spent
-        )
-    );
-    assert!(rt;
-        matches!(
-            past_choices(alloc, 7, &starts, &calls, &ended, 5)?,
-            Answer::All(_)
-        )
-    );
+    assert!(rt; are_beyond(alloc, Some(4), &calls, &ended, 4)?);
+    assert!(rt; !are_beyond(alloc, Some(4), &calls, &ended, 5)?);
     Ok(())
 }
 
@@ -130,26 +146,48 @@ fn answers_and_precedence_are_kept(rt: HostRuntime) -> Result<(), Fail> {
 #[test]
 fn reads_that_ended_go_first(rt: HostRuntime) -> Result<(), Fail> {
     let alloc = rt.alloc();
-    let insert = answered_call(Call::Insert(7, 1), 0, 1, Reply::Done);
-    let first = answered_call(Call::Get(7), 2, 5, Reply::Some(1));
-    let second = answered_call(Call::Get(7), 3, 6, Reply::Some(1));
-    let remove = open_call(Call::Remove(7), 4);
-    let calls = vec![in alloc; insert, first, second, remove]?;
-    let ended = vec![in alloc; true, true, true, false]?;
-    let starts = from_value(alloc, 4, None)?;
-    let Answer::All(choices) = past_choices(alloc, 7, &starts, &calls, &ended, 5)? else {
-        panic!(rt; "more positions than are met");
-    };
-    assert!(rt; choices.len() == 2);
-    assert!(rt; has_choice(&choices, &[], Some(1), &[]));
-    assert!(rt; has_choice(&choices, &[3], None, &[(3, Some(1))]));
+    let calls = vec![in alloc;
+        answered_call(Call::Insert(7, 1), 0, 1, Reply::Done),
+        answered_call(Call::Get(7), 2, 5, Reply::Some(1)),
+        answered_call(Call::Get(7), 3, 6, Reply::Some(1)),
+        open_call(Call::Remove(7), 4),
+    ]?;
+    let ended = [true, true, true, false];
     assert!(rt;
-        matches!(
-            past_choices(alloc, 7, &starts, &calls, &ended, 4)?,
-            Answer::Spent
-        )
+        leave(
+            alloc,
+            None,
+            &calls,
+            &ended,
+            5,
+            &[(&[], Some(1), &[]), (&[3], None, &[(3, Some(1))])]
+        )?
     );
+    assert!(rt; are_beyond(alloc, None, &calls, &ended, 4)?);
     Ok(())
+}
+
+/// A start of two calls of which the second may be taken.
+fn start_of_two(alloc: Global, second: bool, value: Option<u64>) -> Result<Start, Memory>
+    ensures { IfOk result (λ start. length start.taken ≡ 2) }
+{
+    let taken = vec![in alloc; false, second]?;
+    Ok(Start { taken, value })
+}
+
+/// What an insert of 1 that had ended and an open get leave, from no value and from 4, and from 4
+/// where the get is taken.
+fn left_from_three_starts(alloc: Global, budget: u32) -> Result<Answer, Memory> {
+    let starts = vec![in alloc;
+        start_of_two(alloc, false, None)?,
+        start_of_two(alloc, false, Some(4))?,
+        start_of_two(alloc, true, Some(4))?,
+    ]?;
+    let calls = vec![in alloc;
+        answered_call(Call::Insert(7, 1), 0, 3, Reply::Done),
+        open_call(Call::Get(7), 1),
+    ]?;
+    past_choices(alloc, 7, &starts, &calls, &[true, false], budget)
 }
 
 // An insert of 1 had ended, and a get is open. From none and from 4 each finds its own, or 1 behind
@@ -159,35 +197,19 @@ fn reads_that_ended_go_first(rt: HostRuntime) -> Result<(), Fail> {
 // insert too, and of 1.
 #[test]
 fn positions_of_several_starts_are_met_once(rt: HostRuntime) -> Result<(), Fail> {
-    let alloc = rt.alloc();
-    let insert = answered_call(Call::Insert(7, 1), 0, 3, Reply::Done);
-    let get = open_call(Call::Get(7), 1);
-    let calls = vec![in alloc; insert, get]?;
-    let ended = vec![in alloc; true, false]?;
-    let mut starts = from_value(alloc, 2, None)?;
-    let none = vec![in alloc; false, false]?;
-    starts.push(Start {
-        taken: none,
-        value: Some(4),
-    })?;
-    let second = vec![in alloc; false, true]?;
-    starts.push(Start {
-        taken: second,
-        value: Some(4),
-    })?;
-    let Answer::All(choices) = past_choices(alloc, 7, &starts, &calls, &ended, 10)? else {
-        panic!(rt; "more positions than there are");
-    };
-    assert!(rt; choices.len() == 5);
-    assert!(rt; has_choice(&choices, &[], Some(1), &[]));
-    assert!(rt; has_choice(&choices, &[1], Some(1), &[]));
-    for found in [None, Some(1), Some(4)] {
-        assert!(rt; has_choice(&choices, &[1], Some(1), &[(1, found)]));
-    }
+    let few = left_from_three_starts(rt.alloc(), 9)?;
+    assert!(rt; is_spent(&few));
+    let enough = left_from_three_starts(rt.alloc(), 10)?;
     assert!(rt;
-        matches!(
-            past_choices(alloc, 7, &starts, &calls, &ended, 9)?,
-            Answer::Spent
+        are_choices(
+            &enough,
+            &[
+                (&[], Some(1), &[]),
+                (&[1], Some(1), &[]),
+                (&[1], Some(1), &[(1, None)]),
+                (&[1], Some(1), &[(1, Some(1))]),
+                (&[1], Some(1), &[(1, Some(4))]),
+            ]
         )
     );
     Ok(())

@@ -4,8 +4,9 @@ ghost use Rattle.events.specs.declared.event.Call.TheVariants.{Get};
 ghost use Rattle.events.specs.declared.event.Reply.TheVariants as replies;
 ghost use Rattle.kept_keys.specs.Views.{width};
 
+use crate::calls::key_with;
 use events::{Call, Operation, Reply, Response};
-use kept_keys::{KeptKey, WIDTH};
+use kept_keys::WIDTH;
 use std::test::Fail;
 
 /// A get from one place to another.
@@ -44,15 +45,13 @@ fn open_get(invoked: usize) -> Operation
 #[test]
 fn a_key_is_quiet_between_calls(rt: HostRuntime) -> Result<(), Fail> {
     let alloc = rt.alloc();
-    let key = KeptKey::of(
-        alloc,
-        Vec::new(alloc),
-        vec![in alloc; 0, 2, 5]?,
-        vec![in alloc; get(0, 3), get(2, 4), get(5, 6)]?,
+    let calls = vec![in alloc; get(0, 3), get(2, 4), get(5, 6)]?;
+    let key = key_with(alloc, &[0, 2, 5], calls)?;
+    assert!(rt;
+        key.quiet_place(7, 7) == Some(7)
+            && key.quiet_place(6, 7) == Some(5)
+            && key.quiet_place(4, 7) == Some(0)
     );
-    assert!(rt; key.quiet_place(7, 7) == Some(7));
-    assert!(rt; key.quiet_place(6, 7) == Some(5));
-    assert!(rt; key.quiet_place(4, 7) == Some(0));
     Ok(())
 }
 
@@ -60,16 +59,10 @@ fn a_key_is_quiet_between_calls(rt: HostRuntime) -> Result<(), Fail> {
 #[test]
 fn a_key_with_an_open_call_is_not_quiet(rt: HostRuntime) -> Result<(), Fail> {
     let alloc = rt.alloc();
-    let key = KeptKey::of(
-        alloc,
-        Vec::new(alloc),
-        vec![in alloc; 1, 2, 4]?,
-        vec![in alloc; open_get(1), get(2, 3), open_get(4)]?,
-    );
-    assert!(rt; key.quiet_place(5, 5) == Some(1));
-    assert!(rt; key.quiet_place(0, 5).is_none());
+    let calls = vec![in alloc; open_get(1), get(2, 3), open_get(4)]?;
+    let key = key_with(alloc, &[1, 2, 4], calls)?;
+    assert!(rt; key.quiet_place(5, 5) == Some(1) && key.quiet_place(0, 5).is_none());
     // At 4 one is open, and one has ended; at 5 two are open; at 1 and 2 none has ended.
-    assert!(rt; key.few_open_place(5, 5) == Some(4));
-    assert!(rt; key.few_open_place(3, 5).is_none());
+    assert!(rt; key.few_open_place(5, 5) == Some(4) && key.few_open_place(3, 5).is_none());
     Ok(())
 }
