@@ -56,8 +56,8 @@ abbrev pub IsUnshown : Contents → ℕ → List Operation → ℕ → Type 0
 IsUnshown start budget calls count = (reason : Reason) × IsReasonFor start budget calls (last_places count calls) reason
 
 -- how many of the last calls are tried
-abbrev pub windows : List ℕ
-windows = 8 ∷ 16 ∷ 32 ∷ 64 ∷ 128 ∷ 256 ∷ []
+abbrev pub sizes_tried : List ℕ
+sizes_tried = 8 ∷ 16 ∷ 32 ∷ 64 ∷ 128 ∷ 256 ∷ []
 
 -- how many configurations a search meets at most that is to leave out many calls at once
 abbrev pub few_configurations : ℕ → ℕ
@@ -67,7 +67,7 @@ few_configurations budget = if nat_lt budget 16384 then budget else 16384
 -- number of the last ones that is tried shows it
 abbrev pub IsExplained : Contents → List Operation → ℕ → Option Explanation → Type 0
 IsExplained start calls budget (Some e) = IsExplanation start calls budget e
-IsExplained start calls budget None = All (IsUnshown start (few_configurations budget) calls) windows
+IsExplained start calls budget None = All (IsUnshown start (few_configurations budget) calls) sizes_tried
 
 -- what became of calls that were to go: those that stay are enough, and no more than there were to
 -- stay; or these are kept

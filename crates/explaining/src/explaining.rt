@@ -4,9 +4,9 @@ ghost use Rattle.events.specs.Precedence.{NonePrecedesItself};
 ghost use Rattle.orders.specs.Orders.{IsLinearizable};
 ghost use Rattle.explaining.specs.Explained.{AreEnough, IsExplanation, few_configurations};
 
+use crate::ends::{first_calls, last_calls};
 use crate::explanation::Explanation;
 use crate::lessening::{Reduction, lessen, look_at_each};
-use crate::windows::{first_calls, last_calls};
 use events::{Memory, Operation};
 use map_object::SortedMap;
 use std::alloc::Global;

@@ -18,6 +18,7 @@
 //! searched.
 #![tactic(auto)]
 
+mod ends;
 mod explaining;
 mod explanation;
 mod laws;
@@ -26,7 +27,6 @@ mod lessening;
 mod losing;
 mod rests;
 mod telling;
-mod windows;
 
 pub use explaining::explain_calls;
 pub use explanation::{Explanation, Reason};

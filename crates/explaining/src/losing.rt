@@ -5,12 +5,12 @@ ghost use Rattle.events.specs.Precedence.{NonePrecedesItself};
 ghost use Rattle.explaining.specs.Explained.{AreEnough, IsExplained, IsExplanation, IsReasonFor, IsUnshown};
 ghost use Rattle.explaining.specs.declared.explanation.Reason.{Reason};
 
+use crate::ends::places_of;
 use crate::explaining::{by_halves, few_configurations, least_of};
 use crate::explanation::Explanation;
 use crate::leaving::{Without, leave_out};
 use crate::rests::{precedes, says_put};
 use crate::telling::tells_put;
-use crate::windows::places_of;
 use events::{Call, History, Memory, Operation};
 use map_object::SortedMap;
 use std::alloc::Global;

@@ -4,7 +4,7 @@ ghost use Rattle.std.specs.Prelude.{◌≡◌, ◌<◌};
 use history_text::{TextVersion, call_value, read_history, reply_value, write_history};
 use std::alloc::Global;
 use std::test::Fail;
-use stream_text::{NoLine, StreamEvent, Window, next_line, read_event_line};
+use stream_text::{LineBuffer, NoLine, StreamEvent, next_line, read_event_line};
 use streams::memory_ends::MemorySource;
 
 /// The lines of a text with a bar behind each, and how many calls failed: at most so many bytes come at once, and a read may fail.
@@ -17,15 +17,15 @@ fn read_all(
     requires { 0 < most }
 {
     let mut source = MemorySource::new(text.as_bytes().to_vec(alloc)?, most, fails_in);
-    let mut window = Window::new(alloc)?;
+    let mut buffer = LineBuffer::new(alloc)?;
     let mut lines = Vec::new(alloc);
-    let failed = put_lines(&mut window, &mut source, &mut lines)?;
+    let failed = put_lines(&mut buffer, &mut source, &mut lines)?;
     Ok((lines, failed))
 }
 
 /// Puts all lines that a source has, with a bar behind each, and counts the calls that failed.
 fn put_lines(
-    window: &mut Window,
+    buffer: &mut LineBuffer,
     source: &mut MemorySource,
     lines: &mut Vec<u8>,
 ) -> Result<u64, Fail>
@@ -33,9 +33,9 @@ fn put_lines(
 {
     let mut failed = 0;
     for _turn in 0..100u64 {
-        match next_line(window, source) {
+        match next_line(buffer, source) {
             Ok(true) => {
-                lines.extend_from_slice(window.line())?;
+                lines.extend_from_slice(buffer.line())?;
                 lines.push(b'|')?;
             }
             Ok(false) => return Ok(failed),

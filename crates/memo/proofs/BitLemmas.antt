@@ -13,8 +13,8 @@ use Rattle.std.proofs.lemmas.List.FromFn.{length-map-range_with_len, get_or-map-
 use Rattle.std.proofs.lemmas.Nat.{shr-shr, div-add-mod', pow_pos, or_lt}
 use Rattle.std.proofs.lemmas.Nat.Bits.{bit_at-zero, bit_at_or, bit_at_set_same, bit_at_set_other}
 use Rattle.std.proofs.lemmas.Nat.Bits.{bit_at_above, bit_at_cat_low, bit_at_cat_high, bit_at_ones, bit_at-trailing_ones}
-use Rattle.memo.specs.Windows.{bit_of, IsTrimmed, AreWords, shifted_word}
-use Rattle.memo.proofs.WindowLemmas.{bit_of-past, bit_of-at}
+use Rattle.memo.specs.Words.{bit_of, IsTrimmed, AreWords, shifted_word}
+use Rattle.memo.proofs.WordLemmas.{bit_of-past, bit_of-at}
 
 -- words that read alike, with bit n set in one of those of the second list
 module _ (words grown : List ℕ) (n : ℕ) (alike : (k : ℕ) → get_or grown k 0 ≡ get_or words k 0) (within : n / 64 < length grown) where

@@ -5,5 +5,5 @@ mod KeptLemmas
 mod KeyLemmas
 mod PlacesLemmas
 mod ValueLemmas
-mod WindowLemmas
+mod WordLemmas
 pub mod TakingLemmas

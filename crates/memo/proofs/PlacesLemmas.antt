@@ -5,9 +5,9 @@ use Rattle.std.proofs.lemmas.Bool.{cases_order, cases_lt, cases_eq}
 use Rattle.std.proofs.lemmas.List.Elements.{All-contains}
 use Rattle.list_laws.proofs.Lists.{All-from_contains}
 use Rattle.memo.specs.Taking.{with_place}
-use Rattle.memo.specs.Windows.{bit_of, places_of, IsTrimmed, AreWords, ArePlaces}
+use Rattle.memo.specs.Words.{bit_of, places_of, IsTrimmed, AreWords, ArePlaces}
 use Rattle.memo.proofs.TakingLemmas.{Contains-with_place, with_place-rises}
-use Rattle.memo.proofs.WindowLemmas.{IsAmong, Contains-places_of, places_of-rises, places_of-is}
+use Rattle.memo.proofs.WordLemmas.{IsAmong, Contains-places_of, places_of-rises, places_of-is}
 
 -- a form of a set that has one more number is the form of the list with it
 module _ (least : ℕ) (words : List ℕ) (place more : ℕ) (longer : List ℕ)

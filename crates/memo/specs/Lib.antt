@@ -4,5 +4,5 @@ pub mod Equality
 pub mod Keys
 pub mod Kept
 pub mod Taking
-pub mod Windows
+pub mod Words
 pub mod Visits

@@ -8,6 +8,6 @@ mod differences;
 mod digests;
 mod memo;
 mod places;
-mod windows;
+mod words;
 
 pub use memo::{Memo, visited_at_start};

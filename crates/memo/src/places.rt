@@ -3,7 +3,7 @@ ghost use Rattle.std.specs.Prelude.{◌≡◌, ◌↔◌, [], IsTrue, IfOk, Cont
 ghost use Rattle.std.specs.List.Sorted.{IsStrictlyIncreasing};
 ghost use Rattle.memo.specs.Taking.{with_place};
 
-use crate::windows::{ones_of, with_bit, without_lowest};
+use crate::words::{ones_of, with_bit, without_lowest};
 use events::Memory;
 use std::alloc::Global;
 use std::marker::Model;
@@ -18,7 +18,7 @@ pub(crate) struct Places {
 
 impl Model for Places {
     ghost use Rattle.std.specs.Prelude.{ℕ, List};
-    ghost use Rattle.memo.specs.Windows.{places_of, ArePlaces};
+    ghost use Rattle.memo.specs.Words.{places_of, ArePlaces};
 
     ghost Value = { List ℕ };
 

@@ -21,9 +21,9 @@ use Rattle.origins.specs.External.{AreExternal}
 use Rattle.origins.specs.Writers.{writers_of}
 use Rattle.origins.specs.Missed.{missed_by}
 use Rattle.pictures.specs.declared.pictures_of.Picture.{Picture}
-use Rattle.pictures.specs.declared.windows.View.{View}
+use Rattle.pictures.specs.declared.viewports.View.{View}
 use Rattle.pictures.specs.Few.{IsFewOf}
-use Rattle.pictures.specs.Windows.{IsShownOf}
+use Rattle.pictures.specs.Viewports.{IsShownOf}
 use Rattle.picture_engines.specs.declared.choice.Choice.{Choice}
 use Rattle.picture_engines.specs.declared.choice.Choice.TheVariants.{Few, Part}
 

@@ -9,7 +9,7 @@ use Rattle.locating.specs.declared.location.Location.{Location}
 use Rattle.locating.specs.declared.location.Location.TheVariants as locations
 use Rattle.locating.specs.Locations.{IsLocated}
 use Rattle.pictures.specs.declared.pictures_of.Picture.{Picture}
-use Rattle.pictures.specs.declared.windows.View.{View}
+use Rattle.pictures.specs.declared.viewports.View.{View}
 use Rattle.pictures.specs.Fronts.{IsFrontShown}
 use Rattle.pictures.specs.Pictures.{IsPictureOf}
 use Rattle.picture_text.specs.declared.svg_of.TheConstants.{STYLE}

@@ -16,7 +16,7 @@ use Rattle.pictures.specs.declared.bars.Bar.{Bar}
 use Rattle.pictures.specs.declared.marks.Mark.{Mark}
 use Rattle.pictures.specs.Few.{is_of_named, named_bar, named_marks, stands_out, FewHaveFewColumns}
 use Rattle.pictures.specs.Marks.{AreMarksOf}
-use Rattle.pictures.specs.Windows.{columns_of, end_of, start_of}
+use Rattle.pictures.specs.Viewports.{columns_of, end_of, start_of}
 
 -- at most one column more, of a bar that stands out
 one_more : (named : Bool) (column : Option ℕ) (bar : Bar) (columns : List ℕ) (bars : List Bar) → length columns ≤ length bars

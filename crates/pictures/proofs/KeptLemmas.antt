@@ -3,7 +3,7 @@ use Rattle.std.proofs.Common.{◌≡◌, ℕ, Bool, true, false, not, List, [], 
 use Rattle.std.specs.Prelude.{filter, cond}
 use Rattle.std.specs.List.{filter_map, cons_option}
 use Rattle.pictures.specs.declared.bars.Bar.{Bar}
-use Rattle.pictures.specs.Windows.{bar_in, bars_in, meets, ranked_bar}
+use Rattle.pictures.specs.Viewports.{bar_in, bars_in, meets, ranked_bar}
 
 -- a bar that is kept stands before the others
 first : (kept : Bool) (bar : Bar) (xs ys : List Bar) → xs ≡ ys

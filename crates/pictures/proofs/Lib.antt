@@ -5,7 +5,7 @@ mod BarLemmas
 mod MarkLemmas
 mod FrontLemmas
 mod RankLemmas
-mod WindowLemmas
+mod ViewportLemmas
 mod KeptLemmas
 mod InsideLemmas
 mod FewLemmas

@@ -4,7 +4,7 @@ use Rattle.std.specs.Prelude.{filter, Contains}
 use Rattle.std.proofs.lemmas.Bool.{lt-ltb, le-ltb, ltb-true}
 use Rattle.std.proofs.lemmas.List.Sums.{length-filter, count_by-le-length}
 use Rattle.list_laws.proofs.Lists.{Contains-nil, Contains-cases}
-use Rattle.pictures.specs.Windows.{rank, RanksRise}
+use Rattle.pictures.specs.Viewports.{rank, RanksRise}
 use Rattle.pictures.proofs.ColumnLemmas.{is_below}
 
 -- how many columns stand before one

@@ -8,7 +8,7 @@ use Rattle.pictures.specs.declared.bars.Bar.{Bar}
 use Rattle.pictures.specs.declared.marks.Mark.{Mark}
 use Rattle.pictures.specs.declared.pictures_of.Picture.{Picture}
 use Rattle.pictures.specs.Marks.{AreMarksOf}
-use Rattle.pictures.specs.Windows.{column_of, event_meant, IsWindowAround}
+use Rattle.pictures.specs.Viewports.{column_of, event_meant, IsViewportAround}
 
 -- a bar stands out where its call was invoked at one of some places
 abbrev pub stands_out : List ℕ → Bar → Bool
@@ -44,7 +44,7 @@ pub record IsFewOf (places : List ℕ) (wrong : Option ℕ) (whole part : Pictur
   pub narrowed : Picture
   pub named : IsNarrowedTo places whole narrowed
   pub shown : let event = event_meant wrong whole.marks.items in
-      IsWindowAround few_room (column_of whole.marks.items event) event narrowed part
+      IsViewportAround few_room (column_of whole.marks.items event) event narrowed part
 
 -- ---- a law
 

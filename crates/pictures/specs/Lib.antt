@@ -5,5 +5,5 @@ pub mod Bars
 pub mod Marks
 pub mod Pictures
 pub mod Fronts
-pub mod Windows
+pub mod Viewports
 pub mod Few

@@ -6,7 +6,7 @@ ghost use Rattle.pictures.specs.Few.{named_bar, is_of_named, named_marks, IsNarr
 use crate::bars::Bar;
 use crate::marks::Mark;
 use crate::pictures_of::Picture;
-use crate::windows::{column_of, event_meant, window_around};
+use crate::viewports::{column_of, event_meant, viewport_around};
 use events::Memory;
 use std::alloc::Global;
 
@@ -28,7 +28,7 @@ pub fn few_of(
     let event = event_meant(wrong, &picture.marks);
     let column = column_of(&picture.marks, event);
     let narrowed = narrowed_to(alloc, picture, places)?;
-    let part = window_around(alloc, narrowed, FEW_ROOM, column, event)?;
+    let part = viewport_around(alloc, narrowed, FEW_ROOM, column, event)?;
     Ok(part)
 }
 

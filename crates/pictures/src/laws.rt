@@ -1,10 +1,10 @@
-// Laws of windows, and of pictures of a few calls.
+// Laws of viewports, and of pictures of a few calls.
 ghost use Rattle.pictures.specs.Few.{FewHaveFewColumns};
-ghost use Rattle.pictures.specs.Windows.{MarksStayInside, RanksRise, WindowHoldsMiddle};
+ghost use Rattle.pictures.specs.Viewports.{MarksStayInside, RanksRise, ViewportHoldsMiddle};
 
-/// A window does not pass the last column, and its middle is in it.
-pub fn windows_hold_their_middle()
-    ensures { WindowHoldsMiddle }
+/// A viewport does not pass the last column, and its middle is in it.
+pub fn viewports_hold_their_middle()
+    ensures { ViewportHoldsMiddle }
 {}
 
 /// Columns that are counted anew keep their order, each has a place of its own, and none is past
@@ -13,7 +13,7 @@ pub fn ranks_rise()
     ensures { RanksRise }
 {}
 
-/// A mark that is inside of a bar, and in a window, has the bar there, and is inside of it.
+/// A mark that is inside of a bar, and in a viewport, has the bar there, and is inside of it.
 pub fn marks_stay_inside()
     ensures { MarksStayInside }
 {}

@@ -3,7 +3,7 @@
 //!
 //! A picture goes from left to right by columns. Each event has a column, and each mark has one
 //! behind the event at which its point is, so no two of them stand in one column. Of a long picture
-//! a part is shown, a window of the columns of the calls of which the verdict speaks.
+//! a part is shown, a viewport of the columns of the calls of which the verdict speaks.
 #![tactic(auto)]
 
 mod bars;
@@ -14,14 +14,14 @@ mod lanes;
 mod laws;
 mod marks;
 mod pictures_of;
-mod windows;
+mod viewports;
 mod words;
 
 pub use bars::Bar;
 pub use few::few_of;
 pub use fronts::front_of;
-pub use laws::{few_have_few_columns, marks_stay_inside, ranks_rise, windows_hold_their_middle};
+pub use laws::{few_have_few_columns, marks_stay_inside, ranks_rise, viewports_hold_their_middle};
 pub use marks::Mark;
 pub use pictures_of::{Heading, Picture, PicturePart, picture_of};
-pub use windows::{View, part_of};
+pub use viewports::{View, part_of};
 pub use words::{call_words, pairs_words, reply_words};

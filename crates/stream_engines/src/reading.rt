@@ -12,7 +12,7 @@ use crate::progress::Progress;
 use crate::refusals::{refused_line, refused_many};
 use outcomes::{RunOutcome, write_outcome};
 use std::alloc::Global;
-use stream_text::{LineFault, NoLine, Window, lines_one_by_one, next_line};
+use stream_text::{LineBuffer, LineFault, NoLine, lines_one_by_one, next_line};
 use streams::{Sink, Source};
 
 /// The most lines that are read.
@@ -56,32 +56,32 @@ pub fn follow_outcome<S: Source, P: Progress>(
     requires { S.failures source.old < u64.MAX }
     ensures { IsFollowOutcome budget (change S.remaining S.failures source.old source.new) result }
 {
-    let Ok(mut window) = Window::new(alloc) else {
+    let Ok(mut buffer) = LineBuffer::new(alloc) else {
         return RunOutcome::Memory;
     };
     let Ok(followed) = Followed::new(alloc) else {
         return RunOutcome::Memory;
     };
-    follow_lines(alloc, &mut window, source, followed, budget, progress)
+    follow_lines(alloc, &mut buffer, source, followed, budget, progress)
 }
 
 /// Takes line after line.
 fn follow_lines<S: Source, P: Progress>(
     alloc: Global,
-    window: &mut Window,
+    buffer: &mut LineBuffer,
     source: &mut S,
     followed: Followed,
     budget: u32,
     progress: &mut P,
 ) -> RunOutcome
     requires few { S.failures source.old < u64.MAX }
-    requires empty { window.old.bytes ≡ [] }
+    requires empty { buffer.old.bytes ≡ [] }
     requires begins { IsFollowed [] followed }
     ensures { IsFollowOutcome budget (change S.remaining S.failures source.old source.new) result }
 {
     let mut followed = followed;
     for before in 0..MOST_LINES {
-        match follow_next(alloc, window, source, followed, before, budget) {
+        match follow_next(alloc, buffer, source, followed, before, budget) {
             Ok(next) => {
                 progress.show(next.follower.calls());
                 followed = next;
@@ -95,7 +95,7 @@ fn follow_lines<S: Source, P: Progress>(
 /// Takes the next line, behind so many.
 fn follow_next<S: Source>(
     alloc: Global,
-    window: &mut Window,
+    buffer: &mut LineBuffer,
     source: &mut S,
     followed: Followed,
     before: u64,
@@ -106,23 +106,23 @@ fn follow_next<S: Source>(
     ensures sound { OnOk result (S.failures source.new ≡ S.failures source.old) }
     ensures went { (told : Option (List ℕ)) (read : List (List ℕ)) → length read ≡ before
         → IsFollowed read followed
-        → HasRead told read (prepend_known window.old.bytes (S.remaining source.old))
+        → HasRead told read (prepend_known buffer.old.bytes (S.remaining source.old))
         → IfOk result (λ next. (line : List ℕ) × IsFollowed (read ++ line ∷ []) next
         × HasRead told (read ++ line ∷ [])
-        (prepend_known window.new.bytes (S.remaining source.new))) }
+        (prepend_known buffer.new.bytes (S.remaining source.new))) }
     ensures stopped { (told : Option (List ℕ)) (read : List (List ℕ)) → length read ≡ before
         → IsFollowed read followed
-        → HasRead told read (prepend_known window.old.bytes (S.remaining source.old))
+        → HasRead told read (prepend_known buffer.old.bytes (S.remaining source.old))
         → IfErr result (IsFollowOutcome budget (record {
           old = record { bytes = told; failures = S.failures source.old };
           new = record { bytes = S.remaining source.new; failures = S.failures source.new };
         })) }
 {
     lines_one_by_one();
-    match next_line(window, source) {
+    match next_line(buffer, source) {
         Ok(found) => {
             if found {
-                followed.take_line(alloc, before, window.line(), budget)
+                followed.take_line(alloc, before, buffer.line(), budget)
             } else {
                 Err(followed.finish(alloc))
             }

@@ -13,7 +13,7 @@ use Rattle.list_laws.proofs.Places.{parts_at}
 use Rattle.stream_text.specs.Cuts.{line_feed, HasNoLineFeed, lines_of, TakesLine, Advances, BeginsTooLong}
 use Rattle.stream_text.specs.LineLimits.{line_limit}
 use Rattle.stream_text.specs.LineLaws.{TakesFirstLine}
-use Rattle.stream_text.specs.Windows.{GrowsBy}
+use Rattle.stream_text.specs.LineBuffers.{GrowsBy}
 
 -- ---- lines of bytes
 

@@ -2,4 +2,4 @@ mod CutLemmas
 mod FirstLineLemmas
 mod LineLemmas
 mod ValueLemmas
-mod WindowLemmas
+mod LineBufferLemmas

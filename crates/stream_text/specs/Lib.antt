@@ -2,5 +2,5 @@ pub mod LineLimits
 pub mod Lines
 pub mod LineFaults
 pub mod Cuts
-pub mod Windows
+pub mod LineBuffers
 pub mod LineLaws

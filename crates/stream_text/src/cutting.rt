@@ -5,23 +5,23 @@ ghost use Rattle.stream_text.specs.Cuts.{Advances, Stays, BeginsTooLong};
 
 use crate::MAX_LINE;
 use crate::feeds::first_line_feed;
+use crate::line_buffer::LineBuffer;
 use crate::no_line::NoLine;
-use crate::window::Window;
 use streams::Source;
 
-/// Hands out the next line of a source, of which a beginning was read into the window, and answers
+/// Hands out the next line of a source, of which a beginning was read into the buffer, and answers
 /// whether there is one; else why none was handed out: then nothing that is to come is lost, and a
 /// later call begins at the same bytes. It takes no memory. The time is linear in the bytes read.
-pub fn next_line<S: Source>(window: &mut Window, source: &mut S) -> Result<bool, NoLine>
+pub fn next_line<S: Source>(buffer: &mut LineBuffer, source: &mut S) -> Result<bool, NoLine>
     requires { S.failures source.old < u64.MAX }
     ensures line { IfOk result (λ found. Advances found
-        (prepend_known window.old.bytes (S.remaining source.old)) window.new.line
-        (prepend_known window.new.bytes (S.remaining source.new))) }
+        (prepend_known buffer.old.bytes (S.remaining source.old)) buffer.new.line
+        (prepend_known buffer.new.bytes (S.remaining source.new))) }
     ensures stays { OnErr result (Stays
-        (prepend_known window.old.bytes (S.remaining source.old)) window.new.line
-        (prepend_known window.new.bytes (S.remaining source.new))) }
+        (prepend_known buffer.old.bytes (S.remaining source.old)) buffer.new.line
+        (prepend_known buffer.new.bytes (S.remaining source.new))) }
     ensures too_long { IsErrOf result NoLine.TooLong
-        → BeginsTooLong (prepend_known window.old.bytes (S.remaining source.old)) }
+        → BeginsTooLong (prepend_known buffer.old.bytes (S.remaining source.old)) }
 
     // The count of failures rises exactly where the answer is that a call failed.
     ensures counted { OnOk result (S.failures source.new ≡ S.failures source.old) }
@@ -29,23 +29,23 @@ pub fn next_line<S: Source>(window: &mut Window, source: &mut S) -> Result<bool,
     ensures raised { IsErrOf result NoLine.Failed
         → S.failures source.new ≡ S.failures source.old + 1 }
 {
-    window.forget_line();
+    buffer.forget_line();
     let mut seen = 0;
     loop {
-        if let Some(more) = first_line_feed(&window.bytes()[seen..]) {
+        if let Some(more) = first_line_feed(&buffer.bytes()[seen..]) {
             let length = seen + more;
             if length > MAX_LINE {
                 return Err(NoLine::TooLong);
             }
-            window.hand_out(length);
+            buffer.hand_out(length);
             return Ok(true);
         }
-        seen = window.bytes().len();
+        seen = buffer.bytes().len();
         if seen > MAX_LINE {
             return Err(NoLine::TooLong);
         }
-        if window.fill(source)? == 0 {
-            window.hand_out(seen);
+        if buffer.fill(source)? == 0 {
+            buffer.hand_out(seen);
             return Ok(seen > 0);
         }
     }

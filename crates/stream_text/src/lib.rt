@@ -10,20 +10,20 @@ mod cutting;
 mod event;
 mod feeds;
 mod laws;
+mod line_buffer;
 mod line_fault;
 mod no_line;
 mod read_line;
 mod room;
-mod window;
 
 pub use cutting::next_line;
 pub use event::{FirstLine, StreamEvent};
 pub use feeds::first_line_feed;
 pub use laws::{lines_one_by_one, one_event_line, one_line_fault};
+pub use line_buffer::LineBuffer;
 pub use line_fault::LineFault;
 pub use no_line::NoLine;
 pub use read_line::{read_event_line, read_first_line};
-pub use window::Window;
 
 /// The most bytes that a line has, without the line feed that ends it.
 pub const MAX_LINE: usize = 1_048_576;

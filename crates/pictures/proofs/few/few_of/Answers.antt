@@ -1,4 +1,4 @@
-use Rattle.pictures.proofs.WindowLemmas.{few-shown}
+use Rattle.pictures.proofs.ViewportLemmas.{few-shown}
 use Rattle.pictures.proofs.few.few_of.Goals as goal
 
 pub returns : goal.returns

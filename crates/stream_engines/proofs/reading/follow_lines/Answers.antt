@@ -15,7 +15,7 @@ returns g c =
     inr (
       at.0,
       many_at c.args.budget (g.S.Source.remaining c.args.source.now) read c.loop-before.followed 18446744073709551615
-          (prepend_known c.loop-before.window.bytes (g.S.Source.remaining c.loop-before.source)) c.refused_many.result at.1.2 count number
+          (prepend_known c.loop-before.buffer.bytes (g.S.Source.remaining c.loop-before.source)) c.refused_many.result at.1.2 count number
           at.1.3 c.refused_many.ensures,
     )
 

@@ -9,4 +9,4 @@ abbrev pub invariant-loop-before : goal.invariant-loop-before
 invariant-loop-before g l =
     (g.S.Source.failures l.source ≡ g.S.Source.failures l.fn.source)
     × ((read : List (List ℕ)) × (length read ≡ l.before) × IsFollowed read l.followed
-    × HasRead (g.S.Source.remaining l.fn.source) read (prepend_known l.window.bytes (g.S.Source.remaining l.source)))
+    × HasRead (g.S.Source.remaining l.fn.source) read (prepend_known l.buffer.bytes (g.S.Source.remaining l.source)))

@@ -7,9 +7,9 @@ use Rattle.stream_engines.proofs.reading.follow_next.Goals as goal
 pub returns-then-found-clause-went : goal.returns-then-found-clause-went
 returns-then-found-clause-went g c = λ told read count followed has.
     let line = c.line.result.now in
-    let old = prepend_known c.args.window.now.bytes (g.S.Source.remaining c.args.source.now) in
-    let new = prepend_known c.next_line.new.window.bytes (g.S.Source.remaining c.next_line.new.source) in
-    let this : TakesLine old line new = took old new line c.in-Ok.found c.next_line.new.window.line c.if-found.true c.line.ensures
+    let old = prepend_known c.args.buffer.now.bytes (g.S.Source.remaining c.args.source.now) in
+    let new = prepend_known c.next_line.new.buffer.bytes (g.S.Source.remaining c.next_line.new.source) in
+    let this : TakesLine old line new = took old new line c.in-Ok.found c.next_line.new.buffer.line c.if-found.true c.line.ensures
     c.in-Ok.ensures.line in
     went_on told read line new c.take_line.result (HasRead-more c.lines_one_by_one.ensures told read old new line has this)
     (c.take_line.ensures.taken read count followed)
@@ -17,9 +17,9 @@ returns-then-found-clause-went g c = λ told read count followed has.
 pub returns-then-found-clause-stopped : goal.returns-then-found-clause-stopped
 returns-then-found-clause-stopped g c = λ told read count followed has.
     let line = c.line.result.now in
-    let old = prepend_known c.args.window.now.bytes (g.S.Source.remaining c.args.source.now) in
-    let new = prepend_known c.next_line.new.window.bytes (g.S.Source.remaining c.next_line.new.source) in
-    let this : TakesLine old line new = took old new line c.in-Ok.found c.next_line.new.window.line c.if-found.true c.line.ensures
+    let old = prepend_known c.args.buffer.now.bytes (g.S.Source.remaining c.args.source.now) in
+    let new = prepend_known c.next_line.new.buffer.bytes (g.S.Source.remaining c.next_line.new.source) in
+    let this : TakesLine old line new = took old new line c.in-Ok.found c.next_line.new.buffer.line c.if-found.true c.line.ensures
     c.in-Ok.ensures.line in
     let begins = BeginsWith-read told (read ++ line ∷ []) new (HasRead-more c.lines_one_by_one.ensures told read old new line has this) in
     came_out c.args.budget told (g.S.Source.failures c.args.source.now) (g.S.Source.failures c.next_line.new.source)
@@ -28,17 +28,17 @@ returns-then-found-clause-stopped g c = λ told read count followed has.
 
 pub returns-in-Ok-clause-stopped : goal.returns-in-Ok-clause-stopped
 returns-in-Ok-clause-stopped g c = λ told read count followed has.
-    let old = prepend_known c.args.window.now.bytes (g.S.Source.remaining c.args.source.now) in
-    let new = prepend_known c.next_line.new.window.bytes (g.S.Source.remaining c.next_line.new.source) in
+    let old = prepend_known c.args.buffer.now.bytes (g.S.Source.remaining c.args.source.now) in
+    let new = prepend_known c.next_line.new.buffer.bytes (g.S.Source.remaining c.next_line.new.source) in
     inr (
       c.in-Ok.ensures.counted,
-      c.finish.ensures told read c.args.budget followed (AreLinesOf-end told read old new c.next_line.new.window.line has
-          (ended old new c.in-Ok.found c.next_line.new.window.line c.if-found.false c.in-Ok.ensures.line)),
+      c.finish.ensures told read c.args.budget followed (AreLinesOf-end told read old new c.next_line.new.buffer.line has
+          (ended old new c.in-Ok.found c.next_line.new.buffer.line c.if-found.false c.in-Ok.ensures.line)),
     )
 
 pub returns-in-Err-TooLong-clause-stopped : goal.returns-in-Err-TooLong-clause-stopped
 returns-in-Err-TooLong-clause-stopped g c = λ told read count followed has.
-    let old = prepend_known c.args.window.now.bytes (g.S.Source.remaining c.args.source.now) in
+    let old = prepend_known c.args.buffer.now.bytes (g.S.Source.remaining c.args.source.now) in
     inr (
       c.in-Err-TooLong.ensures.unread (ap Err c.in-Err-TooLong.field-0-is),
       long_at c.args.budget told read c.args.followed (c.args.before + 1) old c.refused_line.result followed

@@ -11,33 +11,33 @@ pub returns-then-length-gt-MAX_LINE-clause-too_long : goal.returns-then-length-g
 returns-then-length-gt-MAX_LINE-clause-too_long g c = λ _.
     let l = c.loop-more in
     let arm = c.in-Some in
-    let fed = IsFedAt-found l.window.bytes l.seen arm.more l.invariant.whole (rw c.bytes.ensures at arm.ensures.within)
+    let fed = IsFedAt-found l.buffer.bytes l.seen arm.more l.invariant.whole (rw c.bytes.ensures at arm.ensures.within)
     (rw c.bytes.ensures at arm.ensures.here)
     (rw c.bytes.ensures at arm.ensures.before) in
-    long_fed _ _ l.window.bytes l.seen arm.more l.invariant.kept fed c.if-length-gt-MAX_LINE.true
+    long_fed _ _ l.buffer.bytes l.seen arm.more l.invariant.kept fed c.if-length-gt-MAX_LINE.true
 
 pub returns-in-Some-clause-line : goal.returns-in-Some-clause-line
 returns-in-Some-clause-line g c =
     let l = c.loop-more in
     let arm = c.in-Some in
-    let fed = IsFedAt-found l.window.bytes l.seen arm.more l.invariant.whole (rw c.bytes.ensures at arm.ensures.within)
+    let fed = IsFedAt-found l.buffer.bytes l.seen arm.more l.invariant.whole (rw c.bytes.ensures at arm.ensures.within)
     (rw c.bytes.ensures at arm.ensures.here)
     (rw c.bytes.ensures at arm.ensures.before) in
-    rw c.hand_out.ensures (takes_fed _ _ l.window.bytes l.seen arm.more l.invariant.kept fed c.if-length-gt-MAX_LINE.false)
+    rw c.hand_out.ensures (takes_fed _ _ l.buffer.bytes l.seen arm.more l.invariant.kept fed c.if-length-gt-MAX_LINE.false)
 
 pub returns-then-seen-gt-MAX_LINE-clause-too_long : goal.returns-then-seen-gt-MAX_LINE-clause-too_long
 returns-then-seen-gt-MAX_LINE-clause-too_long g c = λ _.
     let l = c.loop-more in
-    let whole = whole_all l.window.bytes l.seen l.invariant.whole (rw c.bytes.ensures at c.in_default.ensures.none) in
-    long_unfed _ _ l.window.bytes l.invariant.kept whole (rw c.bytes-seen.ensures at c.if-seen-gt-MAX_LINE.true)
+    let whole = whole_all l.buffer.bytes l.seen l.invariant.whole (rw c.bytes.ensures at c.in_default.ensures.none) in
+    long_unfed _ _ l.buffer.bytes l.invariant.kept whole (rw c.bytes-seen.ensures at c.if-seen-gt-MAX_LINE.true)
 
 pub returns-then-branch-eq0-clause-line : goal.returns-then-branch-eq0-clause-line
 returns-then-branch-eq0-clause-line g c =
     let l = c.loop-more in
-    let bytes = l.window.bytes in
+    let bytes = l.buffer.bytes in
     let after = c.fill.new.self.bytes in
     let now = g.S.Source.remaining c.fill.new.source in
-    let start = prepend_known c.args.window.now.bytes (g.S.Source.remaining c.args.source.now) in
+    let start = prepend_known c.args.buffer.now.bytes (g.S.Source.remaining c.args.source.now) in
     let grown = c.in_ok-fill.ensures.grown in
     let same = GrowsBy-none _ now bytes after _ grown c.if-branch-eq0.true in
     let end = c.fill.ensures.end (c.in_ok-fill.was ∙ ap Ok c.if-branch-eq0.true) in
@@ -52,7 +52,7 @@ returns-then-branch-eq0-clause-line g c =
 pub loop-more-preserved : goal.loop-more-preserved
 loop-more-preserved g c =
     let l = c.loop-more in
-    let bytes = l.window.bytes in
+    let bytes = l.buffer.bytes in
     let after = c.fill.new.self.bytes in
     let now = g.S.Source.remaining c.fill.new.source in
     let grown = c.in_ok-fill.ensures.grown in

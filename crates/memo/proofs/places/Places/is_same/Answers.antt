@@ -3,8 +3,8 @@ use Rattle.std.specs.Bool.{Decides}
 use Rattle.std.specs.Cmp.{unsigned_Decides}
 use Rattle.std.specs.Cmp.Lexicographic.{pointwise, pointwise_decides}
 use Rattle.std.proofs.lemmas.Bool.Decides.{Decides-at, Decides-eqb}
-use Rattle.memo.specs.Windows.{places_of}
-use Rattle.memo.proofs.WindowLemmas.{same_places}
+use Rattle.memo.specs.Words.{places_of}
+use Rattle.memo.proofs.WordLemmas.{same_places}
 use Rattle.memo.proofs.places.Places.is_same.Goals as goal
 
 pub returns-then-self-other : goal.returns-then-self-other

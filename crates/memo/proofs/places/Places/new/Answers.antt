@@ -1,6 +1,6 @@
 use Rattle.std.proofs.Common.{◌∙◌, sym, ap, subst}
-use Rattle.memo.specs.Windows.{places_of, ArePlaces}
-use Rattle.memo.proofs.WindowLemmas.{ArePlaces-none, places_of-none}
+use Rattle.memo.specs.Words.{places_of, ArePlaces}
+use Rattle.memo.proofs.WordLemmas.{ArePlaces-none, places_of-none}
 use Rattle.memo.proofs.places.Places.new.Goals as goal
 
 pub invariant_of-result : goal.invariant_of-result

@@ -2,10 +2,10 @@ use Rattle.std.proofs.Common.{◌≡◌, ◌+◌, ◌*◌, ◌^◌, ◌<◌, ◌
 use Rattle.std.specs.Prelude.{◌↔◌, ◌⊎◌, Contains}
 use Rattle.std.proofs.lemmas.List.{take_rest}
 use Rattle.memo.specs.Taking.{with_place}
-use Rattle.memo.specs.Windows.{bit_of, places_of, ArePlaces}
+use Rattle.memo.specs.Words.{bit_of, places_of, ArePlaces}
 use Rattle.memo.proofs.BitLemmas.{bit_of-drop}
 use Rattle.memo.proofs.PlacesLemmas.{places_of-with, ArePlaces-with, IsAmong-set, IsAmong-run, place_above}
-use Rattle.memo.proofs.WindowLemmas.{IsAmong, places_of-rises, run_small}
+use Rattle.memo.proofs.WordLemmas.{IsAmong, places_of-rises, run_small}
 use Rattle.memo.proofs.places.Places.with.Goals as goal
 
 -- a bit is set above the least missing place

@@ -1,0 +1,11 @@
+use Rattle.std.proofs.Common.{◌≤◌, ◌-◌, length}
+use Rattle.explaining.specs.Explained.{AreEnough}
+use Rattle.explaining.proofs.ends.first_calls.Given as goal
+
+-- those kept so far are enough, and the halving is among the calls
+abbrev pub invariant-loop-low : goal.invariant-loop-low
+invariant-loop-low l = record { enough : AreEnough l.map l.calls l.kept.items; within : l.high ≤ length l.calls }
+
+-- each turn halves what is between
+abbrev pub decreases-loop-low : goal.decreases-loop-low
+decreases-loop-low l = l.high - l.low

@@ -1,0 +1,85 @@
+// Bits of words.
+ghost use Rattle.std.specs.Prelude.{◌==◌, ◌≡◌, ◌≢◌, ℕ, ◌+◌, ◌-◌, ◌*◌, ◌/◌, ◌%◌, ◌^◌, ◌<◌, ◌≤◌, length, map, take, slice_index, All, IfOk};
+ghost use Rattle.std.specs.Prelude.{bit_or};
+ghost use Rattle.std.specs.List.{range_with_len};
+ghost use Rattle.memo.specs.Words.{bit_of, IsTrimmed, AreWords, shifted_word};
+
+use events::Memory;
+use std::alloc::Global;
+
+/// The word at a place, 0 past the last one.
+fn word_at(words: &[u64], at: usize) -> u64
+    ensures { result ≡ slice_index words.now at }
+{
+    match words.get(at) {
+        Some(word) => *word,
+        None => 0,
+    }
+}
+
+/// The words with one more bit set.
+pub(crate) fn with_bit(alloc: Global, words: &[u64], bit: usize) -> Result<Vec<u64>, Memory>
+    requires { IsTrimmed words.now }
+    ensures set { IfOk result (λ v. bit_of v.items bit ≡ 1) }
+    ensures others { IfOk result (λ v. (n : ℕ) → n ≢ bit → bit_of v.items n ≡ bit_of words.now n) }
+    ensures trimmed { IfOk result (λ v. IsTrimmed v.items) }
+    ensures each { IfOk result (λ v. AreWords v.items) }
+{
+    let count = words.len().max(bit / 64 + 1);
+    let mut set = Vec::with_capacity(alloc, count)?;
+    set.extend_from_slice(words)?;
+    set.resize(count, 0)?;
+    set[bit / 64] |= 1u64 << (bit % 64);
+    Ok(set)
+}
+
+/// How many bits from the lowest on are set: whole words, and bits of the next word.
+pub(crate) fn ones_of(words: &[u64]) -> (usize, u32)
+    ensures words { result.0 ≤ length words.now }
+    ensures bits { result.1 < 64 }
+    ensures ones { (n : ℕ) → n < 64 * result.0 + result.1 → bit_of words.now n ≡ 1 }
+    ensures zero { bit_of words.now (64 * result.0 + result.1) ≡ 0 }
+{
+    let mut full = 0;
+    while full < words.len() && words[full] == u64::MAX {
+        full += 1;
+    }
+    (full, word_at(words, full).trailing_ones())
+}
+
+/// The words without their lowest bits: some, and the one after them.
+pub(crate) fn without_lowest(alloc: Global, words: &[u64], count: u32) -> Result<Vec<u64>, Memory>
+    requires { count < 64 }
+    ensures bits { IfOk result (λ v. (n : ℕ) → bit_of v.items n ≡ bit_of words.now (n + (count + 1))) }
+    ensures trimmed { IfOk result (λ v. IsTrimmed v.items) }
+    ensures each { IfOk result (λ v. AreWords v.items) }
+{
+    let moved = shift_down(alloc, words, count)?;
+    Ok(without_zeros(moved))
+}
+
+/// The words, with each bit moved down by one more place than `count`.
+fn shift_down(alloc: Global, words: &[u64], count: u32) -> Result<Vec<u64>, Memory>
+    requires { count < 64 }
+    ensures { IfOk result (λ v. v.items ≡ map (shifted_word words.now count) (range_with_len 0 (length words.now))) }
+{
+    let mut moved = Vec::with_capacity(alloc, words.len())?;
+    for at in 0..words.len() {
+        let upper = word_at(words, at + 1) << (63 - count);
+        moved.push((words[at] >> count >> 1) | upper)?;
+    }
+    Ok(moved)
+}
+
+/// The words without those at the end that are 0.
+fn without_zeros(words: Vec<u64>) -> Vec<u64>
+    ensures bits { (n : ℕ) → bit_of result.items n ≡ bit_of words.items n }
+    ensures trimmed { IsTrimmed result.items }
+    ensures each { AreWords result.items }
+{
+    let mut words = words;
+    while let Some(0) = words.last() {
+        let _zero = words.pop();
+    }
+    words
+}

@@ -1,0 +1,537 @@
+// The part of a picture that a view shows.
+ghost use Rattle.std.specs.Prelude.{◌≡◌, ◌==◌, ◌+◌, ◌++◌, ◌≤◌, length, map, min, option_map, position, slice_get, unwrap_or, IfOk, OnOk, Option};
+ghost use Rattle.std.specs.List.{filter_map, list_any};
+ghost use Rattle.pictures.specs.Viewports.{ranked_bar, ranked_mark, meets, is_within, cut_bar, cut_mark, cut_end};
+ghost use Rattle.pictures.specs.Viewports.{columns_of, start_of, end_of, rank, place_of, has_key, start_kept, lanes_kept, bar_in, bars_in, marks_in};
+ghost use Rattle.pictures.specs.Viewports.{viewport_from, event_meant, event_shown, last_point, column_of, is_whole, room_for};
+ghost use Rattle.pictures.specs.Viewports.{IsPartOf, IsShownOf, IsViewportAround};
+
+use crate::bars::Bar;
+use crate::marks::Mark;
+use crate::pictures_of::{Picture, PicturePart};
+use events::{MAX_CALLS, Memory};
+use std::alloc::Global;
+
+/// What part of a picture is asked for.
+#[derive(Clone, Copy, Debug, PartialEq, Eq)]
+pub struct View {
+    /// The event in its middle. One that the history has not names none.
+    pub around: u32,
+    /// For how many calls it has room, three columns each. 0 asks for the whole picture, and more
+    /// than a history can have for none, which is for 20.
+    pub calls: u32,
+}
+
+/// The part of a picture of a history with so many events that a view shows: the picture itself
+/// where all its columns have room, else a viewport of the columns of the calls of which the verdict
+/// speaks. It takes time in proportion to the square of the columns. `Err` is want of memory.
+pub fn part_of(
+    alloc: Global,
+    picture: Picture,
+    events: usize,
+    wrong: Option<usize>,
+    view: View,
+) -> Result<Picture, Memory>
+    ensures { IfOk result (IsShownOf events wrong view picture) }
+{
+    let room = room_for(view.calls);
+    if is_whole(room, picture.columns) {
+        return Ok(picture);
+    }
+    let event = event_shown(events, wrong, view.around as usize, &picture.marks);
+    let column = column_of(&picture.marks, event);
+    viewport_around(alloc, picture, room, column, event)
+}
+
+/// For how many columns there is room, where this is asked for: three for each call, and 20 calls
+/// where more are named than a history can have.
+fn room_for(calls: u32) -> usize
+    ensures { result ≡ room_for calls }
+{
+    if calls as usize > MAX_CALLS {
+        60
+    } else {
+        calls as usize * 3
+    }
+}
+
+/// The viewport that has so much room around a column, in which an event stands.
+pub(crate) fn viewport_around(
+    alloc: Global,
+    picture: Picture,
+    room: usize,
+    column: u128,
+    event: usize,
+) -> Result<Picture, Memory>
+    ensures { IfOk result (IsViewportAround room column event picture) }
+{
+    let columns = columns_of(alloc, &picture.bars, &picture.marks)?;
+    let middle = rank(&columns, column);
+    let from = viewport_from(columns.len(), middle, room);
+    let to = from + room.min(columns.len());
+    viewport_at(alloc, picture, &columns, event, from, to)
+}
+
+/// Whether a picture with so many columns is shown whole.
+fn is_whole(room: usize, columns: usize) -> bool
+    ensures { result ≡ is_whole room columns }
+{
+    room == 0 || columns <= room
+}
+
+/// The event in the middle: the one that is asked for, where there is such an event.
+fn event_shown(events: usize, wrong: Option<usize>, around: usize, marks: &[Mark]) -> usize
+    ensures { result ≡ event_shown events wrong around marks.now }
+{
+    if around < events {
+        around
+    } else {
+        event_meant(wrong, marks)
+    }
+}
+
+/// The event in the middle where none is asked for: the wrong one; else that behind which the last
+/// mark stands.
+pub(crate) fn event_meant(wrong: Option<usize>, marks: &[Mark]) -> usize
+    ensures { result ≡ event_meant wrong marks.now }
+{
+    match wrong {
+        Some(event) => event,
+        None => last_point(marks),
+    }
+}
+
+/// The event behind which the last mark stands, and the first one where nothing is marked.
+fn last_point(marks: &[Mark]) -> usize
+    ensures { result ≡ last_point marks.now }
+{
+    match marks.last() {
+        Some(mark) => mark.point,
+        None => 0,
+    }
+}
+
+/// The column of an event in the whole picture.
+pub(crate) fn column_of(marks: &[Mark], event: usize) -> u128
+    ensures { result ≡ column_of marks.now event }
+{
+    event as u128 + marks.iter().filter(|mark| mark.point < event).count() as u128
+}
+
+/// The columns that the calls of which the verdict speaks, and the marks, have in the whole
+/// picture.
+fn columns_of(alloc: Global, bars: &[Bar], marks: &[Mark]) -> Result<Vec<usize>, Memory>
+    ensures { IfOk result (λ v. v.items ≡ columns_of bars.now marks.now) }
+{
+    let mut columns = starts_of(alloc, bars)?;
+    push_ends(alloc, &mut columns, bars)?;
+    push_places(alloc, &mut columns, marks)?;
+    Ok(columns)
+}
+
+/// Adds the columns of the responses.
+fn push_ends(alloc: Global, columns: &mut Vec<usize>, bars: &[Bar]) -> Result<(), Memory>
+    ensures { OnOk result (columns.new.items ≡ columns.old.items ++ filter_map end_of bars.now) }
+{
+    let ends = ends_of(alloc, bars)?;
+    Ok(columns.extend_from_slice(&ends)?)
+}
+
+/// Adds the columns of the marks.
+fn push_places(alloc: Global, columns: &mut Vec<usize>, marks: &[Mark]) -> Result<(), Memory>
+    ensures { OnOk result (columns.new.items ≡ columns.old.items ++ map (λ m. m.column) marks.now) }
+{
+    let places = places_of(alloc, marks)?;
+    Ok(columns.extend_from_slice(&places)?)
+}
+
+/// The columns of their invocations.
+fn starts_of(alloc: Global, bars: &[Bar]) -> Result<Vec<usize>, Memory>
+    ensures { IfOk result (λ v. v.items ≡ filter_map start_of bars.now) }
+{
+    Ok(bars.iter().filter_map(|bar| start_of(bar)).collect(alloc)?)
+}
+
+/// The column of an invocation, where the verdict speaks of the call.
+fn start_of(bar: &Bar) -> Option<usize>
+    ensures { result ≡ start_of bar.now }
+{
+    if bar.is_pale { None } else { Some(bar.from) }
+}
+
+/// The columns of their responses.
+fn ends_of(alloc: Global, bars: &[Bar]) -> Result<Vec<usize>, Memory>
+    ensures { IfOk result (λ v. v.items ≡ filter_map end_of bars.now) }
+{
+    Ok(bars.iter().filter_map(|bar| end_of(bar)).collect(alloc)?)
+}
+
+/// The column of a response, where the verdict speaks of the call.
+fn end_of(bar: &Bar) -> Option<usize>
+    ensures { result ≡ end_of bar.now }
+{
+    if bar.is_pale { None } else { bar.to }
+}
+
+/// The columns of the marks.
+fn places_of(alloc: Global, marks: &[Mark]) -> Result<Vec<usize>, Memory>
+    ensures { IfOk result (λ v. v.items ≡ map (λ m. m.column) marks.now) }
+{
+    Ok(marks.iter().map(|mark| mark.column).collect(alloc)?)
+}
+
+/// How many of the columns stand before one.
+fn rank(columns: &[usize], column: u128) -> usize
+    ensures value { result ≡ rank columns.now column }
+    ensures within { result ≤ length columns.now }
+{
+    columns
+        .iter()
+        .filter(|other| (**other as u128) < column)
+        .count()
+}
+
+/// The first column of a viewport with so much room, as near to the middle as the columns let it be.
+fn viewport_from(columns: usize, middle: usize, room: usize) -> usize
+    ensures value { result ≡ viewport_from columns middle room }
+    ensures within { result + min room columns ≤ columns }
+{
+    let last = columns - room.min(columns);
+    middle.saturating_sub(room / 2).min(last)
+}
+
+/// The viewport from a column up to another one.
+fn viewport_at(
+    alloc: Global,
+    picture: Picture,
+    columns: &[usize],
+    event: usize,
+    from: usize,
+    to: usize,
+) -> Result<Picture, Memory>
+    ensures { IfOk result (IsPartOf columns.now event from to picture) }
+{
+    let (start, lanes, bars, marks) = kept_at(
+        alloc,
+        picture.bars,
+        &picture.marks,
+        &picture.start,
+        &picture.lanes,
+        columns,
+        from,
+        to,
+    )?;
+    Ok(Picture {
+        heading: picture.heading,
+        start,
+        lanes,
+        bars,
+        marks,
+        columns: to.saturating_sub(from),
+        part: Some(PicturePart {
+            before: from,
+            behind: columns.len().saturating_sub(to),
+            event,
+        }),
+        is_few: picture.is_few,
+    })
+}
+
+/// The pairs at the start, the lanes, the bars and the marks of a viewport, where these are all pairs
+/// and all lanes.
+fn kept_at(
+    alloc: Global,
+    bars: Vec<Bar>,
+    marks: &[Mark],
+    pairs: &[(u64, u64)],
+    all: &[u8],
+    columns: &[usize],
+    from: usize,
+    to: usize,
+) -> Result<(Vec<(u64, u64)>, Vec<u8>, Vec<Bar>, Vec<Mark>), Memory>
+    ensures start { IfOk result (λ kept. kept.0.items ≡ start_kept
+        (bars_in columns.now from to bars.items) pairs.now) }
+    ensures lanes { IfOk result (λ kept. kept.1.items ≡ lanes_kept
+        (bars_in columns.now from to bars.items) all.now) }
+    ensures bars { IfOk result (λ kept. kept.2.items ≡ map (cut_bar kept.1.items from to)
+        (bars_in columns.now from to bars.items)) }
+    ensures marks { IfOk result (λ kept. kept.3.items
+        ≡ map (cut_mark all.now kept.1.items from) (marks_in columns.now from to marks.now)) }
+{
+    let bars = bars_in(alloc, bars, columns, from, to)?;
+    let start = start_kept(alloc, &bars, pairs)?;
+    let lanes = lanes_kept(alloc, &bars, all)?;
+    let marks = marks_at(alloc, marks, all, &lanes, columns, from, to)?;
+    let bars = cut_bars(alloc, bars, &lanes, from, to)?;
+    Ok((start, lanes, bars, marks))
+}
+
+/// The marks in a viewport, as they stand in it with these of all lanes.
+fn marks_at(
+    alloc: Global,
+    marks: &[Mark],
+    all: &[u8],
+    lanes: &[u8],
+    columns: &[usize],
+    from: usize,
+    to: usize,
+) -> Result<Vec<Mark>, Memory>
+    ensures { IfOk result (λ v. v.items ≡ map (cut_mark all.now lanes.now from)
+        (marks_in columns.now from to marks.now)) }
+{
+    let marks = marks_in(alloc, marks, columns, from, to)?;
+    cut_marks(alloc, &marks, all, lanes, from)
+}
+
+/// The bars of the calls of which the verdict speaks that meet a viewport, with their places among
+/// the columns.
+fn bars_in(
+    alloc: Global,
+    bars: Vec<Bar>,
+    columns: &[usize],
+    from: usize,
+    to: usize,
+) -> Result<Vec<Bar>, Memory>
+    ensures { IfOk result (λ v. v.items ≡ bars_in columns.now from to bars.items) }
+{
+    let kept = bars_kept(alloc, bars, columns, from, to)?;
+    Ok(kept)
+}
+
+/// The same, bar by bar.
+fn bars_kept(
+    alloc: Global,
+    bars: Vec<Bar>,
+    columns: &[usize],
+    from: usize,
+    to: usize,
+) -> Result<Vec<Bar>, Memory>
+    ensures { IfOk result (λ v. v.items ≡ filter_map (bar_in columns.now from to) bars.items) }
+{
+    Ok(
+        bars.into_iter()
+            .filter_map(|bar| bar_in(columns, from, to, bar))
+            .collect(alloc)?,
+    )
+}
+
+/// A bar with its places among the columns, where the verdict speaks of the call and it meets a
+/// viewport.
+fn bar_in(columns: &[usize], from: usize, to: usize, bar: Bar) -> Option<Bar>
+    ensures { result ≡ bar_in columns.now from to bar }
+{
+    if bar.is_pale {
+        return None;
+    }
+    let bar = ranked_bar(columns, bar);
+    if meets(from, to, &bar) {
+        Some(bar)
+    } else {
+        None
+    }
+}
+
+/// A bar whose columns are their places among these.
+fn ranked_bar(columns: &[usize], bar: Bar) -> Bar
+    ensures { result ≡ ranked_bar columns.now bar }
+{
+    let from = rank(columns, bar.from as u128);
+    let to = ranked_end(columns, bar.to);
+    Bar { from, to, ..bar }
+}
+
+/// The place of a column among these.
+fn ranked_end(columns: &[usize], end: Option<usize>) -> Option<usize>
+    ensures { result ≡ option_map (rank columns.now) end }
+{
+    match end {
+        Some(column) => Some(rank(columns, column as u128)),
+        None => None,
+    }
+}
+
+/// Whether a bar has a part in a viewport.
+fn meets(from: usize, to: usize, bar: &Bar) -> bool
+    ensures { result ≡ meets from to bar.now }
+{
+    if bar.from >= to {
+        return false;
+    }
+    match bar.to {
+        Some(end) => from <= end,
+        None => true,
+    }
+}
+
+/// The marks in a viewport, with their places among the columns.
+fn marks_in(
+    alloc: Global,
+    marks: &[Mark],
+    columns: &[usize],
+    from: usize,
+    to: usize,
+) -> Result<Vec<Mark>, Memory>
+    ensures { IfOk result (λ v. v.items ≡ marks_in columns.now from to marks.now) }
+{
+    Ok(
+        marks
+            .iter()
+            .map(|mark| ranked_mark(columns, mark))
+            .filter(|mark| is_within(from, to, mark))
+            .collect(alloc)?,
+    )
+}
+
+/// A mark whose column is its place among these.
+fn ranked_mark(columns: &[usize], mark: &Mark) -> Mark
+    ensures { result ≡ ranked_mark columns.now mark.now }
+{
+    let column = rank(columns, mark.column as u128);
+    Mark { column, ..*mark }
+}
+
+/// Whether a mark stands in a viewport.
+fn is_within(from: usize, to: usize, mark: &Mark) -> bool
+    ensures { result ≡ is_within from to mark.now }
+{
+    from <= mark.column && mark.column < to
+}
+
+/// The pairs at keys that the calls of these bars name.
+fn start_kept(alloc: Global, bars: &[Bar], start: &[(u64, u64)]) -> Result<Vec<(u64, u64)>, Memory>
+    ensures { IfOk result (λ v. v.items ≡ start_kept bars.now start.now) }
+{
+    Ok(
+        start
+            .iter()
+            .copied()
+            .filter(|pair| is_named(bars, pair.0))
+            .collect(alloc)?,
+    )
+}
+
+/// Whether the call of one of these bars names a key.
+fn is_named(bars: &[Bar], key: u64) -> bool
+    ensures { result ≡ list_any (has_key key) bars.now }
+{
+    bars.iter().any(|bar| bar.low <= key && key <= bar.high)
+}
+
+/// The lanes in which there is a bar.
+fn lanes_kept(alloc: Global, bars: &[Bar], lanes: &[u8]) -> Result<Vec<u8>, Memory>
+    ensures { IfOk result (λ v. v.items ≡ lanes_kept bars.now lanes.now) }
+{
+    Ok(
+        lanes
+            .iter()
+            .copied()
+            .filter(|lane| has_bar(bars, *lane))
+            .collect(alloc)?,
+    )
+}
+
+/// Whether a process has a bar.
+fn has_bar(bars: &[Bar], process: u8) -> bool
+    ensures { result ≡ list_any (λ b. b.process == process) bars.now }
+{
+    bars.iter().any(|bar| bar.process == process)
+}
+
+/// Where the lane of a process stands among these.
+fn place_of(lanes: &[u8], process: u8) -> usize
+    ensures { result ≡ place_of lanes.now process }
+{
+    match lane_of(lanes, process) {
+        Some(place) => place,
+        None => 0,
+    }
+}
+
+/// The lane of a process.
+fn lane_of(lanes: &[u8], process: u8) -> Option<usize>
+    ensures { result ≡ position (λ lane. lane == process) lanes.now }
+{
+    lanes.iter().position(|lane| *lane == process)
+}
+
+/// The bars as they stand in a viewport with these lanes.
+fn cut_bars(
+    alloc: Global,
+    bars: Vec<Bar>,
+    lanes: &[u8],
+    from: usize,
+    to: usize,
+) -> Result<Vec<Bar>, Memory>
+    ensures { IfOk result (λ v. v.items ≡ map (cut_bar lanes.now from to) bars.items) }
+{
+    Ok(
+        bars.into_iter()
+            .map(|bar| cut_bar(lanes, from, to, bar))
+            .collect(alloc)?,
+    )
+}
+
+/// A bar as it stands in a viewport: where it begins before the viewport, or ends behind it, it is open
+/// at that end.
+fn cut_bar(lanes: &[u8], from: usize, to: usize, bar: Bar) -> Bar
+    ensures { result ≡ cut_bar lanes.now from to bar }
+{
+    Bar {
+        lane: place_of(lanes, bar.process),
+        from: bar.from.saturating_sub(from),
+        to: cut_end(from, to, bar.to),
+        is_cut: bar.from < from,
+        ..bar
+    }
+}
+
+/// The end of a bar in a viewport, where it is in it.
+fn cut_end(from: usize, to: usize, end: Option<usize>) -> Option<usize>
+    ensures { result ≡ cut_end from to end }
+{
+    let column = end?;
+    if column < to {
+        Some(column.saturating_sub(from))
+    } else {
+        None
+    }
+}
+
+/// The marks as they stand in a viewport with these lanes.
+fn cut_marks(
+    alloc: Global,
+    marks: &[Mark],
+    all: &[u8],
+    lanes: &[u8],
+    from: usize,
+) -> Result<Vec<Mark>, Memory>
+    ensures { IfOk result (λ v. v.items ≡ map (cut_mark all.now lanes.now from) marks.now) }
+{
+    Ok(
+        marks
+            .iter()
+            .map(|mark| cut_mark(all, lanes, from, mark))
+            .collect(alloc)?,
+    )
+}
+
+/// A mark as it stands in a viewport.
+fn cut_mark(all: &[u8], lanes: &[u8], from: usize, mark: &Mark) -> Mark
+    ensures { result ≡ cut_mark all.now lanes.now from mark.now }
+{
+    Mark {
+        lane: place_of(lanes, process_at(all, mark.lane)),
+        column: mark.column.saturating_sub(from),
+        ..*mark
+    }
+}
+
+/// The process of a lane.
+fn process_at(lanes: &[u8], lane: usize) -> u8
+    ensures { result ≡ unwrap_or (slice_get lanes.now lane) 0 }
+{
+    match lanes.get(lane) {
+        Some(process) => *process,
+        None => 0,
+    }
+}
