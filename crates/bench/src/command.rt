@@ -9,7 +9,7 @@ ghost use Rattle.bench.specs.Outcomes.{IsLineOutcome, variant_of};
 
 use art::{Shape, Variant};
 use command_line::{Line, Tree};
-use judge_lines::{Progress, run_line};
+use judge_lines::{ProgressDisplay, run_line};
 use line_outcomes::asked_line;
 use locked_map::LockedMap;
 use outcomes::write_outcome;
@@ -24,7 +24,7 @@ use workload::Mix;
 /// Does what the words of the command line ask for, the program's name first, and answers the exit status.
 /// Nothing stops workers before a segment that they search, or the processes of a drive before they begin; how far a stream was followed
 /// is shown.
-pub fn run<R: Threads + Wait + Sync, S: Source, O: Sink, F: Sink, H: Sink, P: Progress>(
+pub fn run<R: Threads + Wait + Sync, S: Source, O: Sink, F: Sink, H: Sink, P: ProgressDisplay>(
     rt: &R,
     alloc: Global,
     source: &mut S,

@@ -28,7 +28,7 @@ use Rattle.call_search.specs.Standing.{HasMoved, IsLooked, IsStep, to_try}
 use Rattle.call_search.specs.declared.standing.CallSearch.{CallSearch}
 use Rattle.call_search.specs.declared.standing.SearchStep.{SearchStep}
 use Rattle.call_search.specs.declared.standing.SearchStep.TheVariants.{Made, Order, NoOrder}
-use Rattle.call_search.specs.declared.standing.Level.{Level}
+use Rattle.call_search.specs.declared.standing.Branch.{Branch}
 use Rattle.call_search.proofs.ReadLemmas.{reads_first}
 use Rattle.call_search.proofs.MarkLemmas.{marked-none, marked-push, marked-pop}
 
@@ -36,17 +36,17 @@ use Rattle.call_search.proofs.MarkLemmas.{marked-none, marked-push, marked-pop}
 Contains-from_take : (xs : List ℕ) (i n : ℕ) → Contains (take i xs) n → Contains xs n
 Contains-from_take xs i n h = let (j, before, there) = place_before-Contains xs i n h in Contains-at xs j n there
 
-pub places-push : (levels : List Level) (level : Level) → places (levels ++ level ∷ []) ≡ places levels ++ level.place ∷ []
-places-push levels level = map-append (λ (l : Level). l.place) levels (level ∷ [])
+pub places-push : (levels : List Branch) (level : Branch) → places (levels ++ level ∷ []) ≡ places levels ++ level.place ∷ []
+places-push levels level = map-append (λ (l : Branch). l.place) levels (level ∷ [])
 
 -- ---- what is to be tried
 
-pub to_try-push : (levels : List Level) (level : Level) (rest : List ℕ)
+pub to_try-push : (levels : List Branch) (level : Branch) (rest : List ℕ)
     → to_try (levels ++ level ∷ []) rest ≡ to_try levels level.rest.items + 1 + length rest
 to_try-push [] level rest = omega arith
 to_try-push (l ∷ levels) level rest = omega (arith, to_try-push levels level rest)
 
-pub to_try-rest : (levels : List Level) (rest : List ℕ) → to_try levels rest ≡ to_try levels [] + length rest
+pub to_try-rest : (levels : List Branch) (rest : List ℕ) → to_try levels rest ≡ to_try levels [] + length rest
 to_try-rest [] rest = omega arith
 to_try-rest (l ∷ levels) rest = omega (arith, to_try-rest levels rest)
 
@@ -92,7 +92,7 @@ module _ (start : Contents) (calls : List Operation) where
 
   -- ---- at the beginning
 
-  pub stands-open : (levels : List Level) (visited : List Configuration) (pairs : Contents) → levels ≡ [] → pairs ≡ start
+  pub stands-open : (levels : List Branch) (visited : List Configuration) (pairs : Contents) → levels ≡ [] → pairs ≡ start
       → visited ≡ configuration_of [] start ∷ []
       → StandsWith start calls levels 0 pairs visited (replicate (length calls) false) 0
   stands-open levels visited pairs levels_is pairs_is visited_is =
@@ -116,7 +116,7 @@ module _ (start : Contents) (calls : List Operation) where
 
   -- ---- a call that leads to a configuration that was visited is taken in vain
 
-  module _ (levels : List Level) (at : ℕ) (pairs : Contents) (visited : List Configuration) (taken : List Bool) (low : ℕ)
+  module _ (levels : List Branch) (at : ℕ) (pairs : Contents) (visited : List Configuration) (taken : List Bool) (low : ℕ)
       (s : StandsWith start calls levels at pairs visited taken low) (n : ℕ) (next : IsNext start calls (places levels) n)
       (d : Configuration) (leads : LeadsTo start calls (places levels ++ n ∷ []) d) where
     abbrev path : List ℕ
@@ -130,7 +130,7 @@ module _ (start : Contents) (calls : List Operation) where
 
     -- ---- one call further
 
-    module _ (rest : List ℕ) (of : IsNextOf start calls path n rest) (level : Level) (place_is : level.place ≡ n) (at_is : level.at ≡ at)
+    module _ (rest : List ℕ) (of : IsNextOf start calls path n rest) (level : Branch) (place_is : level.place ≡ n) (at_is : level.at ≡ at)
         (rest_is : level.rest.items ≡ rest) (after_pairs : Contents)
         (after_is : after_pairs ≡ after_call pairs next.call.call next.call.response)
         (undo_is : undone after_pairs level.undo ≡ pairs) (low_after : ℕ) (low_within : low_after ≤ length (set taken n true))
@@ -145,12 +145,12 @@ module _ (start : Contents) (calls : List Operation) where
       within_path : (i : ℕ) → i ≤ length path → take i (path ++ n ∷ []) ≡ take i path
       within_path i le = take-append-le i path (n ∷ []) le
 
-      remembers_pushed : (i : ℕ) (l : Level) → slice_get (levels ++ level ∷ []) i ≡ Some l
+      remembers_pushed : (i : ℕ) (l : Branch) → slice_get (levels ++ level ∷ []) i ≡ Some l
           → Remembers start calls (visited ++ d ∷ []) (take i (path ++ n ∷ [])) l
       remembers_pushed i l is = ⊎_elim
           (λ old.
           let before = s.remembers i l old in
-          let le : i ≤ length path = omega (arith, slice_get_within levels i l old, length-map levels (λ (k : Level). k.place)) in
+          let le : i ≤ length path = omega (arith, slice_get_within levels i l old, length-map levels (λ (k : Branch). k.place)) in
           subst (λ p. Remembers start calls (visited ++ d ∷ []) p l) (sym (within_path i le))
           (record {
             at = (
@@ -165,8 +165,8 @@ module _ (start : Contents) (calls : List Operation) where
           }))
           (λ pushed.
           let whole : take i (path ++ n ∷ []) ≡ path =
-          within_path i (omega (arith, pushed.0, length-map levels (λ (k : Level). k.place)))
-          ∙ take_all i path (omega (arith, pushed.0, length-map levels (λ (k : Level). k.place))) in
+          within_path i (omega (arith, pushed.0, length-map levels (λ (k : Branch). k.place)))
+          ∙ take_all i path (omega (arith, pushed.0, length-map levels (λ (k : Branch). k.place))) in
           subst (λ p. Remembers start calls (visited ++ d ∷ []) p l) (sym whole)
           (subst (Remembers start calls (visited ++ d ∷ []) path) (sym pushed.1) (record {
             at = (
@@ -221,7 +221,7 @@ module _ (start : Contents) (calls : List Operation) where
 
   -- ---- back by one call
 
-  module _ (apart : NonePrecedesItself calls) (levels : List Level) (level : Level) (at : ℕ) (pairs : Contents)
+  module _ (apart : NonePrecedesItself calls) (levels : List Branch) (level : Branch) (at : ℕ) (pairs : Contents)
       (visited : List Configuration)
       (taken : List Bool) (low : ℕ) (s : StandsWith start calls (levels ++ level ∷ []) at pairs visited taken low)
       (dead : IsDead start calls (places (levels ++ level ∷ []))) where
@@ -248,8 +248,8 @@ module _ (start : Contents) (calls : List Operation) where
 
     remembered : Remembers start calls visited front level
     remembered =
-        let le : length levels ≤ length front = omega (arith, length-map levels (λ (k : Level). k.place)) in
-        let ge : length front ≤ length levels = omega (arith, length-map levels (λ (k : Level). k.place)) in
+        let le : length levels ≤ length front = omega (arith, length-map levels (λ (k : Branch). k.place)) in
+        let ge : length front ≤ length levels = omega (arith, length-map levels (λ (k : Branch). k.place)) in
         subst (λ p. Remembers start calls visited p level) (cut (length levels) le ∙ take_all (length levels) front ge)
         (s.remembers (length levels) level (slice_get-middle levels level []))
 
@@ -279,7 +279,7 @@ module _ (start : Contents) (calls : List Operation) where
       stands_at = remembered.at;
       remembers = λ i l is.
           let within = slice_get_within levels i l is in
-          subst (λ p. Remembers start calls visited p l) (cut i (omega (arith, within, length-map levels (λ (k : Level). k.place))))
+          subst (λ p. Remembers start calls visited p l) (cut i (omega (arith, within, length-map levels (λ (k : Branch). k.place))))
           (s.remembers i l (slice_get-append_left levels (level ∷ []) i within ∙ is));
       reached = s.reached;
       settled = settled_popped;
@@ -291,7 +291,7 @@ module _ (start : Contents) (calls : List Operation) where
     choices-pop = record { next = remembered.next; closes = remembered.closes dead_whole }
 
 -- a search whose parts are these stands so
-pub stands-same : (start : Contents) (calls : List Operation) (levels l : List Level) (at a : ℕ) (pairs m : Contents)
+pub stands-same : (start : Contents) (calls : List Operation) (levels l : List Branch) (at a : ℕ) (pairs m : Contents)
     (visited v : List Configuration)
     (taken t : List Bool) (low k : ℕ) → l ≡ levels → a ≡ at → m ≡ pairs → v ≡ visited → t ≡ taken → k ≡ low
     → StandsWith start calls levels at pairs visited taken low
@@ -367,7 +367,7 @@ step_on start calls old middle new rest Made visited pushed popped h = record {
       to_try-rest new.levels.items new.rest.items,
       to_try-rest old.levels.items old.rest.items,
       to_try-rest old.levels.items rest,
-      ap (λ (v : Vec Level Global). to_try v.items []) h.2,
+      ap (λ (v : Vec Branch Global). to_try v.items []) h.2,
     ),
   );
 }
@@ -384,8 +384,8 @@ pub step_back : (start : Contents) (calls : List Operation) (old middle new : Ca
     → new.levels ≡ middle.levels
     → new.rest ≡ middle.rest → IsDead start calls (places middle.levels.items ++ n ∷ []) → HasMoved start calls old new
 step_back start calls old middle new n s rest_is levels_is memo_is of stands memo levels rest dead =
-    let path_is : places middle.levels.items ≡ places old.levels.items = ap (λ (v : Vec Level Global). places v.items) levels_is in
-    let new_path : places new.levels.items ≡ places old.levels.items = ap (λ (v : Vec Level Global). places v.items) (levels ∙ levels_is) in
+    let path_is : places middle.levels.items ≡ places old.levels.items = ap (λ (v : Vec Branch Global). places v.items) levels_is in
+    let new_path : places new.levels.items ≡ places old.levels.items = ap (λ (v : Vec Branch Global). places v.items) (levels ∙ levels_is) in
     let dead_there = subst (λ p. IsDead start calls (p ++ n ∷ [])) path_is dead in
     let choices : AreChoices start calls (places old.levels.items) middle.rest.items =
     record { next = of.next; closes = of.closes dead_there } in
@@ -401,7 +401,7 @@ step_back start calls old middle new n s rest_is levels_is memo_is of stands mem
           arith,
           to_try-rest new.levels.items new.rest.items,
           to_try-rest old.levels.items old.rest.items,
-          ap (λ (v : Vec Level Global). to_try v.items []) (levels ∙ levels_is),
+          ap (λ (v : Vec Branch Global). to_try v.items []) (levels ∙ levels_is),
           ap (λ (v : Vec ℕ Global). length v.items) rest,
           ap length rest_is,
           length-append middle.rest.items (n ∷ []),

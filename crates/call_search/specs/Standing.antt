@@ -13,13 +13,13 @@ use Rattle.configurations.proofs.FrontLemmas.{IsNext}
 use Rattle.search.specs.Standing.{pairs_after, IsConfigurationAt}
 use Rattle.search.specs.Undo.{undone}
 use Rattle.call_search.specs.Reads.{HasOrderAfter}
-use Rattle.call_search.specs.declared.standing.Level.{Level}
+use Rattle.call_search.specs.declared.standing.Branch.{Branch}
 use Rattle.call_search.specs.declared.standing.CallSearch.{CallSearch}
 use Rattle.call_search.specs.declared.standing.SearchStep.{SearchStep}
 use Rattle.call_search.specs.declared.standing.SearchStep.TheVariants.{Made, Order, NoOrder}
 
 -- the calls taken, by place
-abbrev pub places : List Level → List ℕ
+abbrev pub places : List Branch → List ℕ
 places levels = map (λ level. level.place) levels
 
 -- some calls are a dead end: they go on to no order
@@ -41,7 +41,7 @@ Closes start calls path rest = ((n : ℕ) → Contains rest n → IsDead start c
 -- a level of the stack: where the search stood before its call, what undoes the call, and what is
 -- to be tried in its stead
 pub record Remembers (start : Contents) (calls : List Operation) (visited : List Configuration) (path : List ℕ)
-    (level : Level) : Type 0 where
+    (level : Branch) : Type 0 where
   pub at : IsConfigurationAt start calls visited path level.at
   pub undo : undone (pairs_after start calls (path ++ level.place ∷ [])) level.undo ≡ pairs_after start calls path
   pub next : AreNext start calls path level.rest.items
@@ -59,12 +59,12 @@ pub record AreMarked (size : ℕ) (path : List ℕ) (taken : List Bool) (low : �
   pub below : (n : ℕ) → n < low → Contains path n
 
 -- a search stands here, but for what it is to try next
-pub record StandsWith (start : Contents) (calls : List Operation) (levels : List Level) (at : ℕ) (pairs : Contents)
+pub record StandsWith (start : Contents) (calls : List Operation) (levels : List Branch) (at : ℕ) (pairs : Contents)
     (visited : List Configuration) (taken : List Bool) (low : ℕ) : Type 0 where
   pub is_front : IsFront start calls (places levels)
   pub holds : pairs ≡ pairs_after start calls (places levels)
   pub stands_at : IsConfigurationAt start calls visited (places levels) at
-  pub remembers : (i : ℕ) (level : Level) → slice_get levels i ≡ Some level → Remembers start calls visited (take i (places levels)) level
+  pub remembers : (i : ℕ) (level : Branch) → slice_get levels i ≡ Some level → Remembers start calls visited (take i (places levels)) level
   pub reached : (c : Configuration) → Contains visited c → IsReachable start calls c
   pub settled : (c : Configuration) → Contains visited c → IsSettled start calls (places levels) c
   pub marked : AreMarked (length calls) (places levels) taken low
@@ -82,7 +82,7 @@ abbrev pub Stands : Contents → List Operation → CallSearch → Type 0
 Stands start calls s = StandsBare start calls s × AreChoices start calls (places s.levels.items) s.rest.items
 
 -- the calls that are to be tried, with the levels that are to be gone back
-abbrev pub to_try : List Level → List ℕ → ℕ
+abbrev pub to_try : List Branch → List ℕ → ℕ
 to_try [] rest = length rest
 to_try (level ∷ levels) rest = 1 + length level.rest.items + to_try levels rest
 

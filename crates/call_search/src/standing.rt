@@ -16,7 +16,7 @@ use std::mem;
 /// A call taken: by its place, with what undoes it on the map, the configuration before it, by its
 /// place in the memo, and the calls that are to be tried in its stead.
 #[derive(Drop)]
-pub struct Level {
+pub struct Branch {
     pub place: u32,
     pub undo: Option<Call>,
     pub at: usize,
@@ -27,7 +27,7 @@ pub struct Level {
 /// configuration that it stands at, the map there, the configurations visited, which calls are
 /// taken, and a place below which all are.
 pub struct CallSearch {
-    pub levels: Vec<Level>,
+    pub levels: Vec<Branch>,
     pub rest: Vec<u32>,
     pub at: usize,
     pub map: SortedMap,
@@ -147,7 +147,7 @@ fn push(
 {
     let at = standing.at;
     let rest = mem::replace(&mut standing.rest, Vec::new(alloc));
-    standing.levels.push(Level {
+    standing.levels.push(Branch {
         place,
         undo,
         at,
@@ -200,7 +200,7 @@ fn go_back(
     let Some(level) = standing.levels.pop() else {
         return Ok(SearchStep::NoOrder);
     };
-    let Level {
+    let Branch {
         place,
         undo,
         at,

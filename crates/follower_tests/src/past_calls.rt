@@ -4,7 +4,7 @@ ghost use Rattle.past_choices.specs.PastChoices.{ArePast};
 
 use crate::calls::{answered_call, open_call};
 use events::{Call, Memory, Operation, Reply};
-use past_choices::{Answer, PastChoice, Start, past_choices};
+use past_choices::{PastChoice, PastChoices, Start, past_choices};
 use std::alloc::Global;
 use std::test::Fail;
 
@@ -12,17 +12,17 @@ use std::test::Fail;
 type Expected<'a> = (&'a [usize], Option<u64>, &'a [(usize, Option<u64>)]);
 
 /// Whether these are the choices, and there are no others.
-fn are_choices(answer: &Answer, expected: &[Expected]) -> bool {
+fn are_choices(answer: &PastChoices, expected: &[Expected]) -> bool {
     match answer {
-        Answer::All(choices) => choices.len() == expected.len()
+        PastChoices::All(choices) => choices.len() == expected.len()
             && expected.iter().all(|choice| has_choice(choices, choice)),
-        Answer::Spent => false,
+        PastChoices::Spent => false,
     }
 }
 
 /// Whether more positions are reachable than the budget.
-fn is_spent(answer: &Answer) -> bool {
-    matches!(answer, Answer::Spent)
+fn is_spent(answer: &PastChoices) -> bool {
+    matches!(answer, PastChoices::Spent)
 }
 
 /// Whether a choice is among some.
@@ -39,7 +39,7 @@ fn left_of(
     calls: &[Operation],
     ended: &[bool],
     budget: u32,
-) -> Result<Answer, Memory>
+) -> Result<PastChoices, Memory>
     requires { ArePast 7 calls.now ended.now }
 {
     let taken = vec![in alloc; false; calls.len()]?;
@@ -177,7 +177,7 @@ fn start_of_two(alloc: Global, second: bool, value: Option<u64>) -> Result<Start
 
 /// What an insert of 1 that had ended and an open get leave, from no value and from 4, and from 4
 /// where the get is taken.
-fn left_from_three_starts(alloc: Global, budget: u32) -> Result<Answer, Memory> {
+fn left_from_three_starts(alloc: Global, budget: u32) -> Result<PastChoices, Memory> {
     let starts = vec![in alloc;
         start_of_two(alloc, false, None)?,
         start_of_two(alloc, false, Some(4))?,

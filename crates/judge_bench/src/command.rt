@@ -6,7 +6,7 @@ ghost use Rattle.outcomes.specs.Runs.{IsRun};
 ghost use Rattle.outcomes.specs.Statuses.{words_status};
 ghost use Rattle.judge_bench.specs.Outcomes.{IsJudgeWordsOutcome};
 
-use judge_lines::{Progress, run_line};
+use judge_lines::{ProgressDisplay, run_line};
 use line_outcomes::asked_line;
 use outcomes::write_outcome;
 use std::alloc::Global;
@@ -15,7 +15,7 @@ use streams::{Sink, Source};
 
 /// Does what the words of the command line ask of a history or of a stream, the program's name first, and answers the exit status. Words
 /// that ask for a plan or a tree are told that it has none. How far a stream was followed is shown.
-pub fn run<R: Threads + Sync, S: Source, O: Sink, F: Sink, H: Sink, P: Progress>(
+pub fn run<R: Threads + Sync, S: Source, O: Sink, F: Sink, H: Sink, P: ProgressDisplay>(
     rt: &R,
     alloc: Global,
     source: &mut S,

@@ -9,4 +9,4 @@ mod progress;
 
 pub use lines::run_line;
 pub use progress::TerminalProgress;
-pub use stream_engines::Progress;
+pub use stream_engines::ProgressDisplay;

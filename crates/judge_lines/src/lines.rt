@@ -20,13 +20,13 @@ use picture_engines::{View, run_draw};
 use pool::OpenGate;
 use std::alloc::Global;
 use std::thread::Threads;
-use stream_engines::{Progress, run_follow};
+use stream_engines::{ProgressDisplay, run_follow};
 use streams::{Sink, Source};
 
 /// Does what a line asks of a history or of a stream, and answers the exit status; a line that asks
 /// for a plan or a tree is told that it has none here. Its numbers are within their limits. Nothing
 /// stops workers before a segment that they search; how far a stream was followed is shown.
-pub fn run_line<R: Threads + Sync, S: Source, O: Sink, F: Sink, H: Sink, P: Progress>(
+pub fn run_line<R: Threads + Sync, S: Source, O: Sink, F: Sink, H: Sink, P: ProgressDisplay>(
     rt: &R,
     alloc: Global,
     source: &mut S,

@@ -2,7 +2,7 @@
 
 use std::io::{IsTerminal, Stderr, Write};
 use std::time::{Clock, Instant};
-use stream_engines::Progress;
+use stream_engines::ProgressDisplay;
 
 /// Tells on standard error, where that is a terminal, each second how many calls were taken, and
 /// how many a second since it last told so.
@@ -29,7 +29,7 @@ impl<'a, R: Clock> TerminalProgress<'a, R> {
     }
 }
 
-impl<R: Clock> Progress for TerminalProgress<'_, R> {
+impl<R: Clock> ProgressDisplay for TerminalProgress<'_, R> {
     fn show(&mut self, calls: usize) {
         if !self.is_shown {
             return;

@@ -14,7 +14,7 @@ use crate::starting::{add_starts, are_plain, starts_of};
 use events::{Memory, Operation};
 use key_configurations::{Ahead, Configuration, copied_ahead, is_among};
 use past_choices::{
-    Answer, PastChoice, Start, is_ended, may_be_answered, past_choices, value_behind,
+    PastChoice, PastChoices, Start, is_ended, may_be_answered, past_choices, value_behind,
 };
 use std::alloc::Global;
 
@@ -244,8 +244,8 @@ fn with_starts(
         (IsOutcomeOf gone.now names.now c.now) into.items v.items)) }
 {
     match past_choices(alloc, key, starts, calls, ended, budget)? {
-        Answer::All(choices) => Ok(Some(with_choices(alloc, into, c, gone, names, &choices)?)),
-        Answer::Spent => Ok(None),
+        PastChoices::All(choices) => Ok(Some(with_choices(alloc, into, c, gone, names, &choices)?)),
+        PastChoices::Spent => Ok(None),
     }
 }
 

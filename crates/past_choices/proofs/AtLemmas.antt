@@ -17,8 +17,8 @@ use Rattle.orders.proofs.OrderLemmas.{after_calls-push, calls_at-push}
 use Rattle.configurations.proofs.FrontLemmas.{IsNext, IsFront-push}
 use Rattle.following.specs.keys.KeyStates.{one_key}
 use Rattle.following.specs.keys.Settling.{found_at, found_in}
-use Rattle.past_choices.specs.declared.mark.Mark.{Mark}
-use Rattle.past_choices.specs.declared.mark.Mark.TheVariants.{Left, Taken, Found}
+use Rattle.past_choices.specs.declared.mark.CallMark.{CallMark}
+use Rattle.past_choices.specs.declared.mark.CallMark.TheVariants.{Left, Taken, Found}
 use Rattle.past_choices.specs.Positions.{Position, FindsAt, IsAt, IsFrontFrom}
 use Rattle.past_choices.specs.Starts.{Start, IsFree, with_taken}
 use Rattle.past_choices.specs.Steps.{mark_of, start_mark, start_position, next_position, MayCome}
@@ -191,7 +191,7 @@ push_at key first calls path p n a of_key rising at here is_left = record {
       ∙ sym (after_calls-push (one_key key first.value) calls path n a here);
 }
   where
-    mark : Mark
+    mark : CallMark
     mark = mark_of a.response p.value
 
     order : List Operation
@@ -211,7 +211,7 @@ push_at key first calls path p n a of_key rising at here is_left = record {
         (λ apart. inr (⊎_elim (λ below. λ e. absurd (omega (arith, below, e))) (λ above. λ e. absurd (omega (arith, above, e))) apart))
         (cases_order m n)
 
-    mark_here : (m : ℕ) (x : Mark) → m ≡ n → slice_get (slice_set p.marks n mark) m ≡ Some x → mark ≡ x
+    mark_here : (m : ℕ) (x : CallMark) → m ≡ n → slice_get (slice_set p.marks n mark) m ≡ Some x → mark ≡ x
     mark_here m x same h =
         same_Some mark x (sym (set_here p.marks n mark within) ∙ ap (slice_get (slice_set p.marks n mark)) (sym same) ∙ h)
 
@@ -268,7 +268,7 @@ push_at key first calls path p n a of_key rising at here is_left = record {
           (subst (λ (x : Operation). Contains (found_in key (one_key key first.value) (calls_at calls (path ++ n ∷ []))) (x.inv, value)) is_a
           h.2) in
           ap (slice_get (slice_set p.marks n mark)) same ∙ set_here p.marks n mark within
-          ∙ ap (λ (x : Mark). Some x) (⊎_elim (λ old. absurd (not_before value old)) (λ now. ((more_is a.inv value).0 now).1)
+          ∙ ap (λ (x : CallMark). Some x) (⊎_elim (λ old. absurd (not_before value old)) (λ now. ((more_is a.inv value).0 now).1)
           (Contains-append_cases (found_in key (one_key key first.value) order) more (a.inv, value) there)),
     )
 

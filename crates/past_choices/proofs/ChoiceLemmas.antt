@@ -5,8 +5,8 @@ use Rattle.std.specs.Prelude.{◌⊎◌, ◌↔◌, slice_get}
 use Rattle.std.proofs.lemmas.Bool.{cases_Bool}
 use Rattle.std.proofs.lemmas.Option.{same_Some, slice_get_within}
 use Rattle.list_laws.proofs.NumberLemmas.{slice_get-below}
-use Rattle.past_choices.specs.declared.mark.Mark.{Mark}
-use Rattle.past_choices.specs.declared.mark.Mark.TheVariants.{Left, Taken, Found}
+use Rattle.past_choices.specs.declared.mark.CallMark.{CallMark}
+use Rattle.past_choices.specs.declared.mark.CallMark.TheVariants.{Left, Taken, Found}
 use Rattle.past_choices.specs.Equality.{same_position}
 use Rattle.past_choices.specs.PastChoices.{PastChoice}
 use Rattle.past_choices.specs.Positions.{Position}
@@ -33,7 +33,7 @@ same_choice ended p c d is_c is_d = same_parts c d
     (λ f h. (is_c.found.each f.0 f.1).1 ((is_d.found.each f.0 f.1).0 h)))
 
 -- marks at which the same calls are left, and found the same, are the same
-mark_cases : (a b : Mark) → (a ≡ Left ↔ b ≡ Left) → ((value : Option ℕ) → a ≡ Found value ↔ b ≡ Found value) → a ≡ b
+mark_cases : (a b : CallMark) → (a ≡ Left ↔ b ≡ Left) → ((value : Option ℕ) → a ≡ Found value ↔ b ≡ Found value) → a ≡ b
 mark_cases Left b left found = sym (left.0 refl)
 mark_cases (Found value) b left found = sym ((found value).0 refl)
 mark_cases Taken Left left found = absurd (left_is_not_taken (sym (left.1 refl)))
@@ -42,7 +42,7 @@ mark_cases Taken (Found value) left found = absurd (taken_found_nothing value ((
 
 -- positions with the same choice have the same marks
 same_mark_at : (ended : List Bool) (p q : Position) (c : PastChoice) → length p.marks ≡ length ended → length q.marks ≡ length ended
-    → IsChoiceOf ended p c → IsChoiceOf ended q c → (n : ℕ) (a b : Mark) → slice_get p.marks n ≡ Some a → slice_get q.marks n ≡ Some b
+    → IsChoiceOf ended p c → IsChoiceOf ended q c → (n : ℕ) (a b : CallMark) → slice_get p.marks n ≡ Some a → slice_get q.marks n ≡ Some b
     → a ≡ b
 same_mark_at ended p q c size_p size_q is_p is_q n a b here there =
     mark_cases a b (to_left p q a b size_p size_q is_p is_q here there, to_left q p b a size_q size_p is_q is_p there here) found
@@ -50,29 +50,29 @@ same_mark_at ended p q c size_p size_q is_p is_q n a b here there =
     found : (value : Option ℕ) → a ≡ Found value ↔ b ≡ Found value
     found value = (
       λ h. same_Some b (Found value)
-          (sym there ∙ (is_q.found.each n value).0 ((is_p.found.each n value).1 (here ∙ ap (λ (m : Mark). Some m) h))),
+          (sym there ∙ (is_q.found.each n value).0 ((is_p.found.each n value).1 (here ∙ ap (λ (m : CallMark). Some m) h))),
       λ h. same_Some a (Found value)
-          (sym here ∙ (is_p.found.each n value).0 ((is_q.found.each n value).1 (there ∙ ap (λ (m : Mark). Some m) h))),
+          (sym here ∙ (is_p.found.each n value).0 ((is_q.found.each n value).1 (there ∙ ap (λ (m : CallMark). Some m) h))),
     )
 
-    left_or_not : (m : Mark) → (m ≡ Left) ⊎ (m ≢ Left)
+    left_or_not : (m : CallMark) → (m ≡ Left) ⊎ (m ≢ Left)
     left_or_not Left = inl refl
     left_or_not Taken = inr (λ h. left_is_not_taken (sym h))
     left_or_not (Found value) = inr (λ h. left_found_nothing value (sym h))
 
-    to_left : (p q : Position) (a b : Mark) → length p.marks ≡ length ended → length q.marks ≡ length ended → IsChoiceOf ended p c
+    to_left : (p q : Position) (a b : CallMark) → length p.marks ≡ length ended → length q.marks ≡ length ended → IsChoiceOf ended p c
         → IsChoiceOf ended q c → slice_get p.marks n ≡ Some a → slice_get q.marks n ≡ Some b → a ≡ Left → b ≡ Left
     to_left p q a b size_p size_q is_p is_q here there is_left = ⊎_elim (λ yes. yes)
         (λ no.
         let within = slice_get_within q.marks n b there in
         let (e, e_here) = slice_get-below ended n (omega (arith, within, size_q)) in
         absurd (⊎_elim
-        (λ had. is_p.whole n (e_here ∙ ap (λ (t : Bool). Some t) had) (here ∙ ap (λ (m : Mark). Some m) is_left))
+        (λ had. is_p.whole n (e_here ∙ ap (λ (t : Bool). Some t) had) (here ∙ ap (λ (m : CallMark). Some m) is_left))
         (λ had_not. ((is_p.chosen.each n).0 ((is_q.chosen.each n).1 (
           e_here ∙ ap (λ (t : Bool). Some t) had_not,
           within,
           λ q_left. no (same_Some b Left (sym there ∙ q_left)),
-        ))).2 (here ∙ ap (λ (m : Mark). Some m) is_left))
+        ))).2 (here ∙ ap (λ (m : CallMark). Some m) is_left))
         (cases_Bool e)))
         (left_or_not b)
 

@@ -9,14 +9,14 @@ use Rattle.events.specs.declared.operation.Response.{Response}
 use Rattle.events.specs.Precedence.{is_before, precedes, NonePrecedesItself}
 use Rattle.list_laws.proofs.Lists.{All-at, AllPairs-at}
 use Rattle.list_laws.proofs.NumberLemmas.{slice_get-below}
-use Rattle.past_choices.specs.declared.mark.Mark.{Mark}
-use Rattle.past_choices.specs.declared.mark.Mark.TheVariants.{Left}
+use Rattle.past_choices.specs.declared.mark.CallMark.{CallMark}
+use Rattle.past_choices.specs.declared.mark.CallMark.TheVariants.{Left}
 use Rattle.past_choices.specs.Positions.{Position}
 use Rattle.past_choices.specs.Steps.{earlier_of, NoneLeftPrecedes, IsEnd}
 use Rattle.past_choices.proofs.GatherLemmas.{last_or_before}
 
 -- a call that is left, of the first ones, is answered at a place
-pub record IsLeftAnswered (calls : List Operation) (marks : List Mark) (size place : ℕ) : Type 0 where
+pub record IsLeftAnswered (calls : List Operation) (marks : List CallMark) (size place : ℕ) : Type 0 where
   pub number : ℕ
   pub within : number < size
   pub call : Operation
@@ -27,13 +27,13 @@ pub record IsLeftAnswered (calls : List Operation) (marks : List Mark) (size pla
   pub at : response.res ≡ place
 
 -- the earliest answer of a call that is left, of the first ones
-abbrev pub IsEarliest : List Operation → List Mark → ℕ → Option ℕ → Type 0
+abbrev pub IsEarliest : List Operation → List CallMark → ℕ → Option ℕ → Type 0
 IsEarliest calls marks size None = (place : ℕ) → IsLeftAnswered calls marks size place → ⊥
 IsEarliest calls marks size (Some answered) =
     IsLeftAnswered calls marks size answered × ((place : ℕ) → IsLeftAnswered calls marks size place → answered ≤ place)
 
 -- of more calls
-wider : (calls : List Operation) (marks : List Mark) (size place : ℕ) → IsLeftAnswered calls marks size place
+wider : (calls : List Operation) (marks : List CallMark) (size place : ℕ) → IsLeftAnswered calls marks size place
     → IsLeftAnswered calls marks (size + 1) place
 wider calls marks size place l = record {
   number = l.number;
@@ -47,7 +47,7 @@ wider calls marks size place l = record {
 }
 
 -- one of the calls before, or the last one
-narrower : (calls : List Operation) (marks : List Mark) (size place : ℕ) → IsLeftAnswered calls marks (size + 1) place
+narrower : (calls : List Operation) (marks : List CallMark) (size place : ℕ) → IsLeftAnswered calls marks (size + 1) place
     → IsLeftAnswered calls marks size place
     ⊎ ((a : Operation) × (r : Response) × (slice_get calls size ≡ Some a) × (slice_get marks size ≡ Some Left) × (a.response ≡ Some r)
     × (r.res ≡ place))
@@ -73,13 +73,13 @@ narrower calls marks size place l = ⊎_elim
     (last_or_before l.number size l.within)
 
 -- the last call is not one that counts
-skip : (calls : List Operation) (marks : List Mark) (size : ℕ)
+skip : (calls : List Operation) (marks : List CallMark) (size : ℕ)
     → ((a : Operation) (r : Response) → slice_get calls size ≡ Some a → slice_get marks size ≡ Some Left → a.response ≡ Some r → ⊥)
     → (place : ℕ) → IsLeftAnswered calls marks (size + 1) place → IsLeftAnswered calls marks size place
 skip calls marks size none place l =
     ⊎_elim (λ before. before) (λ last. absurd (none last.0 last.1 last.2 last.3 last.4)) (narrower calls marks size place l)
 
-earliest_without : (calls : List Operation) (marks : List Mark) (size : ℕ) (earliest : Option ℕ)
+earliest_without : (calls : List Operation) (marks : List CallMark) (size : ℕ) (earliest : Option ℕ)
     → ((a : Operation) (r : Response) → slice_get calls size ≡ Some a → slice_get marks size ≡ Some Left → a.response ≡ Some r → ⊥)
     → IsEarliest calls marks size earliest → IsEarliest calls marks (size + 1) earliest
 earliest_without calls marks size None none h = λ place l. h place (skip calls marks size none place l)
@@ -87,13 +87,13 @@ earliest_without calls marks size (Some answered) none h =
     (wider calls marks size answered h.0, λ place l. h.1 place (skip calls marks size none place l))
 
 -- a call that is done
-pub earliest_skip : (calls : List Operation) (marks : List Mark) (size : ℕ) (earliest : Option ℕ) → slice_get marks size ≢ Some Left
+pub earliest_skip : (calls : List Operation) (marks : List CallMark) (size : ℕ) (earliest : Option ℕ) → slice_get marks size ≢ Some Left
     → IsEarliest calls marks size earliest → IsEarliest calls marks (size + 1) earliest
 earliest_skip calls marks size earliest done h =
     earliest_without calls marks size earliest (λ a r here left answered. done left) h
 
 -- a call that is left
-pub earliest_take : (calls : List Operation) (marks : List Mark) (size : ℕ) (earliest : Option ℕ) (a : Operation)
+pub earliest_take : (calls : List Operation) (marks : List CallMark) (size : ℕ) (earliest : Option ℕ) (a : Operation)
     → slice_get calls size ≡ Some a → slice_get marks size ≡ Some Left → IsEarliest calls marks size earliest
     → IsEarliest calls marks (size + 1) (earlier_of earliest a.response)
 earliest_take calls marks size earliest a here left h = by_response earliest a.response refl h

@@ -6,8 +6,8 @@ use Rattle.std.proofs.lemmas.Bool.{both_ways, cases_lt}
 use Rattle.std.proofs.lemmas.Option.{same_Some, slice_get_within, slice_get-get_or, get_or_from_slice_get}
 use Rattle.events.specs.declared.operation.Operation.{Operation}
 use Rattle.list_laws.proofs.Lists.{Contains-at, place_of-Contains}
-use Rattle.past_choices.specs.declared.mark.Mark.{Mark}
-use Rattle.past_choices.specs.declared.mark.Mark.TheVariants.{Left, Taken, Found}
+use Rattle.past_choices.specs.declared.mark.CallMark.{CallMark}
+use Rattle.past_choices.specs.declared.mark.CallMark.TheVariants.{Left, Taken, Found}
 use Rattle.past_choices.specs.PastChoices.{PastChoice}
 use Rattle.past_choices.specs.Positions.{Position}
 use Rattle.past_choices.specs.Steps.{next_position, MayCome, IsNextOf, IsEnd, AreChosen, AreFound, IsChoiceOf, AreChoicesOf}
@@ -15,11 +15,11 @@ use Rattle.past_choices.proofs.ChoiceLemmas.{same_choice, same_position_from}
 use Rattle.past_choices.proofs.GatherLemmas.{Gathers, gather_push, gather_skip, pairs_push}
 
 -- a call that had not ended and is done
-abbrev pub IsChosenAt : List Bool → List Mark → ℕ → ℕ → Type 0
+abbrev pub IsChosenAt : List Bool → List CallMark → ℕ → ℕ → Type 0
 IsChosenAt ended marks n m = (m ≡ n) × (slice_get ended n ≡ Some false) × (slice_get marks n ≢ Some Left)
 
 -- what a call found
-abbrev pub IsFoundAt : List Mark → ℕ → ℕ × Option ℕ → Type 0
+abbrev pub IsFoundAt : List CallMark → ℕ → ℕ × Option ℕ → Type 0
 IsFoundAt marks n found = (found.0 ≡ n) × (slice_get marks n ≡ Some (Found found.1))
 
 -- the choice of a position
@@ -35,24 +35,24 @@ IsNextAt calls p n q = (may_come : MayCome calls p n) × (q ≡ next_position p 
 pub word_at : (words : List Bool) (n : ℕ) (word : Bool) → n < length words → get_or words n false ≡ word → slice_get words n ≡ Some word
 word_at words n word within is = slice_get-get_or words n false within ∙ ap (λ (t : Bool). Some t) is
 
-pub mark_at : (marks : List Mark) (n : ℕ) (d mark : Mark) → n < length marks → get_or marks n d ≡ mark → slice_get marks n ≡ Some mark
-mark_at marks n d mark within is = slice_get-get_or marks n d within ∙ ap (λ (m : Mark). Some m) is
+pub mark_at : (marks : List CallMark) (n : ℕ) (d mark : CallMark) → n < length marks → get_or marks n d ≡ mark → slice_get marks n ≡ Some mark
+mark_at marks n d mark within is = slice_get-get_or marks n d within ∙ ap (λ (m : CallMark). Some m) is
 
-pub left_at : (marks : List Mark) (n : ℕ) (d : Mark) (result : Bool) → n < length marks → IsTrue result ↔ (get_or marks n d ≡ Left)
+pub left_at : (marks : List CallMark) (n : ℕ) (d : CallMark) (result : Bool) → n < length marks → IsTrue result ↔ (get_or marks n d ≡ Left)
     → result ≡ true → slice_get marks n ≡ Some Left
 left_at marks n d result within is told =
-    slice_get-get_or marks n d within ∙ ap (λ (m : Mark). Some m) (is.0 told)
+    slice_get-get_or marks n d within ∙ ap (λ (m : CallMark). Some m) (is.0 told)
 
-pub not_left_at : (marks : List Mark) (n : ℕ) (d : Mark) (result : Bool) → IsTrue result ↔ (get_or marks n d ≡ Left)
+pub not_left_at : (marks : List CallMark) (n : ℕ) (d : CallMark) (result : Bool) → IsTrue result ↔ (get_or marks n d ≡ Left)
     → result ≡ false → slice_get marks n ≢ Some Left
 not_left_at marks n d result is told h = both_ways result told (is.1 (get_or_from_slice_get marks n Left d h))
 
 -- ---- the calls chosen
 
-abbrev pub ChosenBelow : List Bool → List Mark → ℕ → List ℕ → Type 0
+abbrev pub ChosenBelow : List Bool → List CallMark → ℕ → List ℕ → Type 0
 ChosenBelow ended marks size chosen = Gathers (IsChosenAt ended marks) size chosen × AllPairs (λ m n. m < n) chosen
 
-pub chosen_push : (ended : List Bool) (marks : List Mark) (n : ℕ) (chosen more : List ℕ) → more ≡ chosen ++ n ∷ []
+pub chosen_push : (ended : List Bool) (marks : List CallMark) (n : ℕ) (chosen more : List ℕ) → more ≡ chosen ++ n ∷ []
     → slice_get ended n ≡ Some false → slice_get marks n ≢ Some Left → ChosenBelow ended marks n chosen
     → ChosenBelow ended marks (n + 1) more
 chosen_push ended marks n chosen more is had_not done h = (
@@ -60,7 +60,7 @@ chosen_push ended marks n chosen more is had_not done h = (
   pairs_push (λ a b. a < b) (IsChosenAt ended marks) n chosen more n is h.0 h.1 (λ k m below item. omega (arith, below, item.0)),
 )
 
-pub chosen_skip : (ended : List Bool) (marks : List Mark) (n : ℕ) (chosen more : List ℕ) → more ≡ chosen
+pub chosen_skip : (ended : List Bool) (marks : List CallMark) (n : ℕ) (chosen more : List ℕ) → more ≡ chosen
     → ((slice_get ended n ≡ Some false) × (slice_get marks n ≢ Some Left) → ⊥) → ChosenBelow ended marks n chosen
     → ChosenBelow ended marks (n + 1) more
 chosen_skip ended marks n chosen more is none h = (
@@ -68,7 +68,7 @@ chosen_skip ended marks n chosen more is none h = (
   subst (AllPairs (λ m n. m < n)) (sym is) h.1,
 )
 
-pub chosen_all : (ended : List Bool) (marks : List Mark) (size : ℕ) (chosen : List ℕ) → length marks ≡ length ended → length ended ≤ size
+pub chosen_all : (ended : List Bool) (marks : List CallMark) (size : ℕ) (chosen : List ℕ) → length marks ≡ length ended → length ended ≤ size
     → ChosenBelow ended marks size chosen → AreChosen ended marks chosen
 chosen_all ended marks size chosen same all h = record {
   rising = h.1;
@@ -85,7 +85,7 @@ chosen_all ended marks size chosen same all h = record {
 
 -- ---- what calls found
 
-abbrev pub FoundBelow : List Mark → ℕ → List (ℕ × Option ℕ) → Type 0
+abbrev pub FoundBelow : List CallMark → ℕ → List (ℕ × Option ℕ) → Type 0
 FoundBelow marks size found = Gathers (IsFoundAt marks) size found × AllPairs (λ a b. a.0 < b.0) found
 
 pair_of : ℕ → Option ℕ → ℕ × Option ℕ
@@ -95,7 +95,7 @@ same_pair : (f : ℕ × Option ℕ) (n : ℕ) (value : Option ℕ) → f.0 ≡ n
 unfolding pair_of
 same_pair f n value number is = ap (λ (k : ℕ). pair_of k f.1) number ∙ ap (pair_of n) is
 
-value_of : Option ℕ → Mark → Option ℕ
+value_of : Option ℕ → CallMark → Option ℕ
 value_of other Left = other
 value_of other Taken = other
 value_of other (Found value) = value
@@ -104,7 +104,7 @@ same_value : (a b : Option ℕ) → Found a ≡ Found b → a ≡ b
 unfolding value_of
 same_value a b h = ap (value_of a) h
 
-pub found_push : (marks : List Mark) (n : ℕ) (value : Option ℕ) (found more : List (ℕ × Option ℕ)) → more ≡ found ++ (n, value) ∷ []
+pub found_push : (marks : List CallMark) (n : ℕ) (value : Option ℕ) (found more : List (ℕ × Option ℕ)) → more ≡ found ++ (n, value) ∷ []
     → slice_get marks n ≡ Some (Found value) → FoundBelow marks n found → FoundBelow marks (n + 1) more
 found_push marks n value found more is here h = (
   gather_push (IsFoundAt marks) n found more (n, value) is h.0 (refl, here)
@@ -112,14 +112,14 @@ found_push marks n value found more is here h = (
   pairs_push (λ a b. a.0 < b.0) (IsFoundAt marks) n found more (n, value) is h.0 h.1 (λ k f below item. omega (arith, below, item.0)),
 )
 
-pub found_skip : (marks : List Mark) (n : ℕ) (found more : List (ℕ × Option ℕ)) → more ≡ found
+pub found_skip : (marks : List CallMark) (n : ℕ) (found more : List (ℕ × Option ℕ)) → more ≡ found
     → ((value : Option ℕ) → slice_get marks n ≢ Some (Found value)) → FoundBelow marks n found → FoundBelow marks (n + 1) more
 found_skip marks n found more is none h = (
   gather_skip (IsFoundAt marks) n found more is h.0 (λ f item. none f.1 item.1),
   subst (AllPairs (λ a b. a.0 < b.0)) (sym is) h.1,
 )
 
-pub found_all : (marks : List Mark) (size : ℕ) (found : List (ℕ × Option ℕ)) → length marks ≤ size → FoundBelow marks size found
+pub found_all : (marks : List CallMark) (size : ℕ) (found : List (ℕ × Option ℕ)) → length marks ≤ size → FoundBelow marks size found
     → AreFound marks found
 found_all marks size found all h = record {
   rising = h.1;

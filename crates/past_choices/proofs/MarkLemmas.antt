@@ -1,8 +1,8 @@
 -- Marks that are different.
 use Rattle.std.proofs.Common.{◌≡◌, ℕ, Option, Some, None, ap}
 use Rattle.events.specs.declared.operation.Response.{Response}
-use Rattle.past_choices.specs.declared.mark.Mark.{Mark}
-use Rattle.past_choices.specs.declared.mark.Mark.TheVariants.{Left, Taken, Found}
+use Rattle.past_choices.specs.declared.mark.CallMark.{CallMark}
+use Rattle.past_choices.specs.declared.mark.CallMark.TheVariants.{Left, Taken, Found}
 use Rattle.past_choices.specs.Steps.{mark_of}
 
 pub taken_is_not_left : (response : Option Response) (value : Option ℕ) → mark_of response value ≡ Left → ⊥
@@ -19,7 +19,7 @@ pub taken_found_nothing : (value : Option ℕ) → Taken ≡ Found value → ⊥
 taken_found_nothing value h = cc
 
 -- what a mark found
-found_of : Option ℕ → Mark → Option ℕ
+found_of : Option ℕ → CallMark → Option ℕ
 found_of other Left = other
 found_of other Taken = other
 found_of other (Found value) = value

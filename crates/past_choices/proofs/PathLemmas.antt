@@ -7,8 +7,8 @@ use Rattle.std.proofs.lemmas.List.{length-append}
 use Rattle.std.proofs.lemmas.Option.{same_Some, slice_get_within}
 use Rattle.events.specs.declared.operation.Operation.{Operation}
 use Rattle.list_laws.proofs.Lists.{All-at, Contains-first, Contains-later, Contains-split}
-use Rattle.past_choices.specs.declared.mark.Mark.{Mark}
-use Rattle.past_choices.specs.declared.mark.Mark.TheVariants.{Left, Taken}
+use Rattle.past_choices.specs.declared.mark.CallMark.{CallMark}
+use Rattle.past_choices.specs.declared.mark.CallMark.TheVariants.{Left, Taken}
 use Rattle.past_choices.specs.Equality.{same_position}
 use Rattle.past_choices.specs.Positions.{Position}
 use Rattle.quiet_cuts.specs.Replies.{IsRead}
@@ -46,7 +46,7 @@ left_before calls p k next n left = (
   sym (set_elsewhere p.marks k n mark other) ∙ left,
 )
   where
-    mark : Mark
+    mark : CallMark
     mark = mark_of next.call.response p.value
 
     other : n ≢ k

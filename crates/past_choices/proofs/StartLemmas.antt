@@ -11,7 +11,7 @@ use Rattle.events.specs.Precedence.{is_before}
 use Rattle.list_laws.proofs.Lists.{Contains-first, Contains-later}
 use Rattle.configurations.specs.Fronts.{PrecedesAt}
 use Rattle.orders.specs.Orders.{calls_at}
-use Rattle.past_choices.specs.declared.mark.Mark.TheVariants.{Left, Taken, Found}
+use Rattle.past_choices.specs.declared.mark.CallMark.TheVariants.{Left, Taken, Found}
 use Rattle.past_choices.specs.Starts.{IsFree, with_taken}
 use Rattle.past_choices.specs.Steps.{start_mark}
 use Rattle.past_choices.proofs.MarkLemmas.{left_found_nothing, left_is_not_taken, taken_found_nothing}

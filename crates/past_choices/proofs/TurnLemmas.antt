@@ -19,7 +19,7 @@ use Rattle.configurations.specs.Fronts.{PrecedesAt}
 use Rattle.configurations.proofs.FrontLemmas.{IsLegalOrder-from_front}
 use Rattle.following.specs.keys.KeyStates.{one_key}
 use Rattle.following.specs.keys.Settling.{AreInTurn}
-use Rattle.past_choices.specs.declared.mark.Mark.TheVariants.{Left}
+use Rattle.past_choices.specs.declared.mark.CallMark.TheVariants.{Left}
 use Rattle.past_choices.specs.PastChoices.{PastChoice, ArePast, calls_done, IsPastChoice}
 use Rattle.past_choices.specs.Positions.{Position, FindsAt, IsAt, IsFrontFrom, IsReached}
 use Rattle.past_choices.specs.Starts.{Start, IsFree, with_taken}

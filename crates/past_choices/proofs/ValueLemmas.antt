@@ -14,7 +14,7 @@ use Rattle.following.specs.keys.KeyStates.{one_key}
 use Rattle.quiet_cuts.specs.Replies.{says_unchanged}
 use Rattle.quiet_cuts.proofs.ReplyLemmas.{unchanged}
 use Rattle.following.proofs.keys.BeginLemmas.{one_rises}
-use Rattle.past_choices.specs.declared.mark.Mark.TheVariants.{Taken}
+use Rattle.past_choices.specs.declared.mark.CallMark.TheVariants.{Taken}
 use Rattle.quiet_cuts.specs.Replies.{IsRead}
 use Rattle.past_choices.specs.Steps.{mark_of}
 use Rattle.past_choices.specs.Values.{IsCallOf, value_behind, value_behind_reply, value_behind_call, MayBeAnswered}

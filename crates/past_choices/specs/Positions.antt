@@ -6,13 +6,13 @@ use Rattle.orders.specs.Orders.{after_calls, calls_at}
 use Rattle.configurations.specs.Fronts.{IsFront}
 use Rattle.following.specs.keys.KeyStates.{one_key}
 use Rattle.following.specs.keys.Settling.{found_in}
-use Rattle.past_choices.specs.declared.mark.Mark.{Mark}
-use Rattle.past_choices.specs.declared.mark.Mark.TheVariants.{Left, Found}
+use Rattle.past_choices.specs.declared.mark.CallMark.{CallMark}
+use Rattle.past_choices.specs.declared.mark.CallMark.TheVariants.{Left, Found}
 use Rattle.past_choices.specs.Starts.{Start, IsFree, with_taken}
 
 -- a mark for each call, and the value behind those that are done
 pub record Position : Type 0 where
-  pub marks : List Mark
+  pub marks : List CallMark
   pub value : Option ℕ
 
 -- call n found a value or none, where calls are done in turn, and has no answer

@@ -4,8 +4,8 @@ use Rattle.std.specs.Prelude.{slice_get, slice_set, All, AllPairs, Contains}
 use Rattle.events.specs.declared.operation.Operation.{Operation}
 use Rattle.events.specs.declared.operation.Response.{Response}
 use Rattle.configurations.specs.Fronts.{PrecedesAt}
-use Rattle.past_choices.specs.declared.mark.Mark.{Mark}
-use Rattle.past_choices.specs.declared.mark.Mark.TheVariants.{Left, Taken, Found}
+use Rattle.past_choices.specs.declared.mark.CallMark.{CallMark}
+use Rattle.past_choices.specs.declared.mark.CallMark.TheVariants.{Left, Taken, Found}
 use Rattle.past_choices.specs.PastChoices.{PastChoice}
 use Rattle.past_choices.specs.Positions.{Position, IsAt, IsFrontFrom, IsReachedFrom}
 use Rattle.quiet_cuts.specs.Replies.{IsRead}
@@ -13,12 +13,12 @@ use Rattle.past_choices.specs.Starts.{Start, IsFree}
 use Rattle.past_choices.specs.Values.{value_behind_call, MayBeAnswered}
 
 -- the mark of a call that is done at a value
-abbrev pub mark_of : Option Response → Option ℕ → Mark
+abbrev pub mark_of : Option Response → Option ℕ → CallMark
 mark_of None value = Found value
 mark_of (Some response) value = Taken
 
 -- the mark of a call where nothing is done
-abbrev pub start_mark : Bool → Mark
+abbrev pub start_mark : Bool → CallMark
 start_mark true = Taken
 start_mark false = Left
 
@@ -122,16 +122,16 @@ pub record AreReached (key : ℕ) (starts : List Start) (calls : List Operation)
       → (p : Position) × Contains visited p × IsAt key first calls path p
 
 -- all calls that ended are done
-abbrev pub EndedAreDone : List Bool → List Mark → Type 0
+abbrev pub EndedAreDone : List Bool → List CallMark → Type 0
 EndedAreDone ended marks = (n : ℕ) → slice_get ended n ≡ Some true → slice_get marks n ≢ Some Left
 
 -- the calls done that had not ended
-pub record AreChosen (ended : List Bool) (marks : List Mark) (chosen : List ℕ) : Type 0 where
+pub record AreChosen (ended : List Bool) (marks : List CallMark) (chosen : List ℕ) : Type 0 where
   pub rising : AllPairs (λ m n. m < n) chosen
   pub each : (n : ℕ) → Contains chosen n ↔ ((slice_get ended n ≡ Some false) × (n < length marks) × (slice_get marks n ≢ Some Left))
 
 -- what calls found
-pub record AreFound (marks : List Mark) (found : List (ℕ × Option ℕ)) : Type 0 where
+pub record AreFound (marks : List CallMark) (found : List (ℕ × Option ℕ)) : Type 0 where
   pub rising : AllPairs (λ a b. a.0 < b.0) found
   pub each : (n : ℕ) (value : Option ℕ) → Contains found (n, value) ↔ (slice_get marks n ≡ Some (Found value))
 

@@ -62,7 +62,7 @@ impl PastChoice {
 
 /// What was found of calls that were done by a past moment.
 #[derive(Debug, Drop)]
-pub enum Answer {
+pub enum PastChoices {
     /// These are all choices, each once.
     All(Vec<PastChoice>),
     /// More positions are reachable than the budget.

@@ -4,7 +4,7 @@ ghost use Rattle.past_choices.specs.PastChoices.{PastChoice as Choice};
 ghost use Rattle.past_choices.specs.Steps.{AreChoicesOf, AreChosen, AreFound, EndedAreDone, IsChoiceOf};
 
 use crate::answer::PastChoice;
-use crate::mark::Mark;
+use crate::mark::CallMark;
 use crate::position::Position;
 use crate::visited::Visited;
 use events::Memory;
@@ -48,7 +48,7 @@ fn choice_of(
 }
 
 /// Whether all calls that ended are done.
-fn ended_are_done(marks: &[Mark], ended: &[bool]) -> bool
+fn ended_are_done(marks: &[CallMark], ended: &[bool]) -> bool
     requires { length marks.now ≡ length ended.now }
     ensures { IsTrue result ↔ EndedAreDone ended.now marks.now }
 {
@@ -61,7 +61,7 @@ fn ended_are_done(marks: &[Mark], ended: &[bool]) -> bool
 }
 
 /// The calls done that had not ended.
-fn chosen_of(alloc: Global, marks: &[Mark], ended: &[bool]) -> Result<Vec<usize>, Memory>
+fn chosen_of(alloc: Global, marks: &[CallMark], ended: &[bool]) -> Result<Vec<usize>, Memory>
     requires { length marks.now ≡ length ended.now }
     ensures { IfOk result (λ v. AreChosen ended.now marks.now v.items) }
 {
@@ -75,12 +75,12 @@ fn chosen_of(alloc: Global, marks: &[Mark], ended: &[bool]) -> Result<Vec<usize>
 }
 
 /// What calls found.
-fn found_of(alloc: Global, marks: &[Mark]) -> Result<Vec<(usize, Option<u64>)>, Memory>
+fn found_of(alloc: Global, marks: &[CallMark]) -> Result<Vec<(usize, Option<u64>)>, Memory>
     ensures { IfOk result (λ v. AreFound marks.now v.items) }
 {
     let mut found = Vec::new(alloc);
     for place in 0..marks.len() {
-        if let Mark::Found(value) = marks[place] {
+        if let CallMark::Found(value) = marks[place] {
             found.push((place, value))?;
         }
     }

@@ -18,7 +18,7 @@ mod values;
 mod visited;
 mod worklist;
 
-pub use answer::{Answer, PastChoice};
+pub use answer::{PastChoice, PastChoices};
 pub use start::Start;
 pub use values::{is_ended, may_be_answered, value_behind};
 pub use worklist::past_choices;

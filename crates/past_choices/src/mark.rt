@@ -1,6 +1,6 @@
 // What became of a call at a position.
 ghost use Rattle.std.specs.Prelude.{◌≡◌, ◌↔◌, IsTrue};
-ghost use Rattle.past_choices.specs.declared.mark.Mark.TheVariants as marks;
+ghost use Rattle.past_choices.specs.declared.mark.CallMark.TheVariants as marks;
 ghost use Rattle.past_choices.specs.Marks.{kind_of, told_of, with_mark};
 ghost use Rattle.past_choices.specs.Steps.{mark_of, start_mark};
 
@@ -8,7 +8,7 @@ use events::Response;
 
 /// What became of a call at a position.
 #[derive(Clone, Copy, Debug)]
-pub enum Mark {
+pub enum CallMark {
     /// It is not done.
     Left,
     /// It is done, and its answer says all that is to be known of it.
@@ -17,7 +17,7 @@ pub enum Mark {
     Found(Option<u64>),
 }
 
-impl PartialEq for Mark {
+impl PartialEq for CallMark {
     ghost use Rattle.std.specs.Cmp.{partial_equiv_from_equiv};
     ghost use Rattle.past_choices.specs.Equality.{is_same_mark};
     ghost use Rattle.past_choices.specs.Equality.{is_same_mark-equivalence};
@@ -26,27 +26,27 @@ impl PartialEq for Mark {
 
     ghost laws = { partial_equiv_from_equiv is_same_mark-equivalence };
 
-    fn eq(&self, other: &Mark) -> bool {
+    fn eq(&self, other: &CallMark) -> bool {
         self.kind() == other.kind() && self.value_or_zero() == other.value_or_zero()
     }
 }
 
-impl Eq for Mark {
+impl Eq for CallMark {
     ghost use Rattle.past_choices.specs.Equality.{is_same_mark-equivalence};
 
     ghost laws = { is_same_mark-equivalence };
 }
 
-impl Mark {
+impl CallMark {
     /// Which kind of mark it is.
     fn kind(&self) -> u64
         ensures { result ≡ kind_of self.now }
     {
         match self {
-            Mark::Left => 0,
-            Mark::Taken => 1,
-            Mark::Found(None) => 2,
-            Mark::Found(Some(_)) => 3,
+            CallMark::Left => 0,
+            CallMark::Taken => 1,
+            CallMark::Found(None) => 2,
+            CallMark::Found(Some(_)) => 3,
         }
     }
 
@@ -55,8 +55,8 @@ impl Mark {
         ensures { result ≡ told_of self.now }
     {
         match self {
-            Mark::Left | Mark::Taken | Mark::Found(None) => 0,
-            Mark::Found(Some(value)) => *value,
+            CallMark::Left | CallMark::Taken | CallMark::Found(None) => 0,
+            CallMark::Found(Some(value)) => *value,
         }
     }
 
@@ -64,24 +64,28 @@ impl Mark {
     pub(crate) fn is_left(&self) -> bool
         ensures { IsTrue result ↔ (self.now ≡ marks.Left) }
     {
-        matches!(self, Mark::Left)
+        matches!(self, CallMark::Left)
     }
 }
 
 /// The mark of a call where nothing is done yet.
-pub(crate) fn start_mark(is_taken: bool) -> Mark
+pub(crate) fn start_mark(is_taken: bool) -> CallMark
     ensures { result ≡ start_mark is_taken }
 {
-    if is_taken { Mark::Taken } else { Mark::Left }
+    if is_taken {
+        CallMark::Taken
+    } else {
+        CallMark::Left
+    }
 }
 
 /// The mark of a call that is done where its key has this value, or none.
-pub(crate) fn mark_of(response: &Option<Response>, value: Option<u64>) -> Mark
+pub(crate) fn mark_of(response: &Option<Response>, value: Option<u64>) -> CallMark
     ensures { result ≡ mark_of response.now value }
 {
     match response {
-        Some(_) => Mark::Taken,
-        None => Mark::Found(value),
+        Some(_) => CallMark::Taken,
+        None => CallMark::Found(value),
     }
 }
 
@@ -89,7 +93,7 @@ pub(crate) fn mark_of(response: &Option<Response>, value: Option<u64>) -> Mark
 const MULTIPLIER: u64 = 11400714819323198485;
 
 /// A digest with one more mark.
-pub(crate) fn with_mark(digest: u64, mark: Mark) -> u64
+pub(crate) fn with_mark(digest: u64, mark: CallMark) -> u64
     ensures { result ≡ with_mark digest mark }
 {
     digest

@@ -2,7 +2,7 @@
 ghost use Rattle.std.specs.Prelude.{◌≡◌, ◌<◌, length, map, Some, slice_get, IfOk};
 ghost use Rattle.past_choices.specs.Steps.{start_mark, start_position, next_position};
 
-use crate::mark::{Mark, mark_of, start_mark, with_mark};
+use crate::mark::{CallMark, mark_of, start_mark, with_mark};
 use crate::start::Start;
 use crate::values::value_behind;
 use events::{Memory, Operation};
@@ -13,7 +13,7 @@ use std::marker::Model;
 /// Where the worklist stands: a mark for each call, and the value behind those that are done.
 #[derive(Debug, Drop)]
 pub(crate) struct Position {
-    marks: Vec<Mark>,
+    marks: Vec<CallMark>,
     value: Option<u64>,
 }
 
@@ -36,7 +36,7 @@ impl PartialEq for Position {
     ghost laws = { partial_equiv_from_equiv is_same-equivalence };
 
     fn eq(&self, other: &Position) -> bool {
-        Mark::Found(self.value) == Mark::Found(other.value) && self.marks == other.marks
+        CallMark::Found(self.value) == CallMark::Found(other.value) && self.marks == other.marks
     }
 }
 
@@ -76,7 +76,7 @@ impl Position {
     }
 
     /// The marks, one for each call.
-    pub(crate) fn marks(&self) -> &[Mark]
+    pub(crate) fn marks(&self) -> &[CallMark]
         ensures { result.now ≡ self.now.marks }
     {
         &self.marks
@@ -111,7 +111,7 @@ impl Position {
     fn digest(&self) -> u64
         ensures { result ≡ digest_of self.now }
     {
-        let mut digest = with_mark(0, Mark::Found(self.value));
+        let mut digest = with_mark(0, CallMark::Found(self.value));
         for mark in &self.marks {
             digest = with_mark(digest, *mark);
         }
@@ -120,7 +120,7 @@ impl Position {
 }
 
 /// The marks of calls of which some are taken.
-fn start_marks(alloc: Global, taken: &[bool]) -> Result<Vec<Mark>, Memory>
+fn start_marks(alloc: Global, taken: &[bool]) -> Result<Vec<CallMark>, Memory>
     ensures { IfOk result (λ v. v.items ≡ map start_mark taken.now) }
 {
     let mut marks = Vec::new(alloc);

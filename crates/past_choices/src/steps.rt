@@ -4,7 +4,7 @@ ghost use Rattle.events.specs.Precedence.{NonePrecedesItself};
 ghost use Rattle.past_choices.specs.Positions.{Position as Standing};
 ghost use Rattle.past_choices.specs.Steps.{earlier_of, AreSteps, IsEnd, IsNextOf, IsReadAt, MayCome, NoneLeftPrecedes};
 
-use crate::mark::Mark;
+use crate::mark::CallMark;
 use crate::position::Position;
 use crate::values::may_be_answered;
 use events::{Memory, Operation, Response};

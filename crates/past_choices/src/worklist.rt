@@ -7,7 +7,7 @@ ghost use Rattle.past_choices.specs.Positions.{ReachesMoreThan};
 ghost use Rattle.past_choices.specs.Steps.{AreReached, IsExpandedAt};
 ghost use Rattle.past_choices.specs.Values.{IsCallOf};
 
-use crate::answer::Answer;
+use crate::answer::PastChoices;
 use crate::choices::choices_of;
 use crate::start::Start;
 use crate::steps::next_positions;
@@ -30,14 +30,14 @@ pub fn past_choices(
     calls: &[Operation],
     ended: &[bool],
     budget: u32,
-) -> Result<Answer, Memory>
+) -> Result<PastChoices, Memory>
     requires past { ArePast key calls.now ended.now }
     requires sized { All (λ s. length s.taken ≡ length calls.now) starts.now }
     ensures { IfOk result (IsAnswer key starts.now calls.now ended.now budget) }
 {
     match positions_of(alloc, key, starts, calls, ended, budget)? {
-        Some(visited) => Ok(Answer::All(choices_of(alloc, &visited, ended)?)),
-        None => Ok(Answer::Spent),
+        Some(visited) => Ok(PastChoices::All(choices_of(alloc, &visited, ended)?)),
+        None => Ok(PastChoices::Spent),
     }
 }
 

@@ -11,5 +11,5 @@ mod reports;
 mod small_lines;
 
 pub use handed::{LineFollower, follow_text};
-pub use progress::Progress;
+pub use progress::ProgressDisplay;
 pub use reading::{follow_outcome, run_follow};

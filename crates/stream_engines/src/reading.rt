@@ -8,7 +8,7 @@ ghost use Rattle.stream_engines.specs.Outcomes.{IsFollowOutcome};
 ghost use Rattle.stream_engines.specs.Reading.{HasRead};
 
 use crate::followed::Followed;
-use crate::progress::Progress;
+use crate::progress::ProgressDisplay;
 use crate::refusals::{refused_line, refused_many};
 use outcomes::{RunOutcome, write_outcome};
 use std::alloc::Global;
@@ -23,7 +23,7 @@ pub(crate) const MOST_LINES: u64 = u64::MAX - 1;
 /// have had. It ends at the end of the source, or at the first line that goes wrong. Memory is
 /// taken for the longest line, and for what the follower keeps. Behind each line it is told how far
 /// this is. Answers the exit status.
-pub fn run_follow<S: Source, O: Sink, F: Sink, H: Sink, P: Progress>(
+pub fn run_follow<S: Source, O: Sink, F: Sink, H: Sink, P: ProgressDisplay>(
     alloc: Global,
     source: &mut S,
     output: &mut O,
@@ -47,7 +47,7 @@ pub fn run_follow<S: Source, O: Sink, F: Sink, H: Sink, P: Progress>(
 }
 
 /// What a stream is answered, before anything is written.
-pub fn follow_outcome<S: Source, P: Progress>(
+pub fn follow_outcome<S: Source, P: ProgressDisplay>(
     alloc: Global,
     source: &mut S,
     budget: u32,
@@ -66,7 +66,7 @@ pub fn follow_outcome<S: Source, P: Progress>(
 }
 
 /// Takes line after line.
-fn follow_lines<S: Source, P: Progress>(
+fn follow_lines<S: Source, P: ProgressDisplay>(
     alloc: Global,
     buffer: &mut LineBuffer,
     source: &mut S,

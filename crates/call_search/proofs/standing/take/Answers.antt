@@ -14,7 +14,7 @@ use Rattle.memo.proofs.TakingLemmas.{Contains-with_place, with_place-rises}
 use Rattle.call_search.specs.Standing.{places, StandsWith, to_try, IsPushed}
 use Rattle.call_search.specs.declared.standing.CallSearch.{CallSearch}
 use Rattle.events.specs.declared.event.Call.{Call}
-use Rattle.call_search.specs.declared.standing.Level.{Level}
+use Rattle.call_search.specs.declared.standing.Branch.{Branch}
 use Rattle.call_search.proofs.StandingLemmas.{stands-push, dead-seen, to_try-push, stands-same}
 use Rattle.call_search.proofs.standing.take.Goals as goal
 
@@ -88,7 +88,7 @@ returns-then-new g c =
     (after_is ∙ ap (λ m. after_call m next.call.call next.call.response) (sym pairs_before)) in
     let visited_is = rw (c.if-new.true, s.stands_at.1) at c.in_ok-new.ensures.visited in
     let p = c.in_ok-push.ensures in
-    let level : Level = record { place = c.args.place; undo = c.in_ok-undo.undo; at = w.at; rest = w.rest } in
+    let level : Branch = record { place = c.args.place; undo = c.in_ok-undo.undo; at = w.at; rest = w.rest } in
     let n = c.push.new.standing in
     let stands =
     stands-push g.start calls w.levels.items w.at w.map w.memo w.taken.items w.low s c.args.place next config leads w.rest.items

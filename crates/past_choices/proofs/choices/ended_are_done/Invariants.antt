@@ -1,6 +1,6 @@
 use Rattle.std.proofs.Common.{◌≡◌, ◌≢◌, ℕ, ◌<◌, true, Some}
 use Rattle.std.specs.Prelude.{slice_get}
-use Rattle.past_choices.specs.declared.mark.Mark.TheVariants.{Left}
+use Rattle.past_choices.specs.declared.mark.CallMark.TheVariants.{Left}
 use Rattle.past_choices.proofs.choices.ended_are_done.Given as goal
 
 -- of the calls so far

@@ -1,6 +1,6 @@
 use Rattle.std.proofs.Common.{◌∙◌, ap, arith}
 use Rattle.std.proofs.lemmas.Option.{get_or_from_slice_get}
-use Rattle.past_choices.specs.declared.mark.Mark.TheVariants.{Found}
+use Rattle.past_choices.specs.declared.mark.CallMark.TheVariants.{Found}
 use Rattle.past_choices.proofs.ItemLemmas.{mark_at, found_push, found_skip, found_all}
 use Rattle.past_choices.proofs.choices.found_of.Goals as goal
 use Rattle.past_choices.proofs.choices.found_of.Goals.{in-Found+in_ok-push, in_default}

@@ -2,8 +2,8 @@ use Rattle.std.proofs.Common.{◌≡◌, ◌+◌, ◌∙◌, List, Some, length,
 use Rattle.std.specs.Prelude.{slice_get}
 use Rattle.std.proofs.lemmas.Bool.{both_ways}
 use Rattle.std.proofs.lemmas.Option.{slice_get_read}
-use Rattle.past_choices.specs.declared.mark.Mark.{Mark}
-use Rattle.past_choices.specs.declared.mark.Mark.TheVariants.{Left}
+use Rattle.past_choices.specs.declared.mark.CallMark.{CallMark}
+use Rattle.past_choices.specs.declared.mark.CallMark.TheVariants.{Left}
 use Rattle.past_choices.proofs.EarliestLemmas.{IsEarliest, earliest_skip, earliest_take, ends_start, ends_more, end_here, end_all}
 use Rattle.past_choices.proofs.ItemLemmas.{left_at, not_left_at}
 use Rattle.past_choices.proofs.steps.end_of.Goals as goal
@@ -35,14 +35,14 @@ loop-place-preserved c =
     (elim c.if-is_left.branch [
       | then-is_left w ↦ subst (IsEarliest calls p.marks (n + 1)) (sym (w.earliest-is ∙ w.earlier-earliest.ensures))
           (earliest_take calls p.marks n c.loop-place.earliest a here
-          (subst (λ (l : List Mark). slice_get l n ≡ Some Left) c.marks-marks.ensures
+          (subst (λ (l : List CallMark). slice_get l n ≡ Some Left) c.marks-marks.ensures
           (left_at marks n _ c.is_left.result (omega (arith, c.requires.each, c.loop-place-test.true, ap length c.marks-marks.ensures))
           c.is_left.ensures w.if-is_left.true))
           is_now)
       | else-is_left w ↦ subst (IsEarliest calls p.marks (n + 1)) (sym w.earliest-is)
           (earliest_skip calls p.marks n c.loop-place.earliest
           (λ left. not_left_at marks n _ c.is_left.result c.is_left.ensures w.if-is_left.false
-          (subst (λ (l : List Mark). slice_get l n ≡ Some Left) (sym c.marks-marks.ensures) left))
+          (subst (λ (l : List CallMark). slice_get l n ≡ Some Left) (sym c.marks-marks.ensures) left))
           is_now)
     ])
     c.loop-place.invariant

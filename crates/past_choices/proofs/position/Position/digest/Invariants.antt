@@ -1,7 +1,7 @@
 use Rattle.std.proofs.Common.{◌≡◌, take}
 use Rattle.std.specs.List.{fold}
 use Rattle.past_choices.specs.Marks.{with_mark}
-use Rattle.past_choices.specs.declared.mark.Mark.TheVariants.{Found}
+use Rattle.past_choices.specs.declared.mark.CallMark.TheVariants.{Found}
 use Rattle.past_choices.proofs.position.Position.digest.Given as goal
 
 -- of the marks so far
