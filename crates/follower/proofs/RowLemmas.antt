@@ -19,7 +19,7 @@ use Rattle.events.proofs.TimeLemmas.{inv_rises}
 use Rattle.list_laws.proofs.FilterLemmas.{Contains-map}
 use Rattle.list_laws.proofs.Lists.{All-from_contains}
 use Rattle.map_object.specs.MapObject.{Contents, IsRising}
-use Rattle.past_choices.specs.Values.{IsCallOf}
+use Rattle.quiet_cuts.specs.Values.{IsCallOf}
 use Rattle.quiet_cuts.specs.KeptCalls.{answered_at}
 use Rattle.quiet_cuts.proofs.ContinueLemmas.{completed_stays}
 use Rattle.quiet_cuts.proofs.SetLemmas.{set_from_linearizable}

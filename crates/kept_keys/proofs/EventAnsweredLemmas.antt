@@ -21,7 +21,7 @@ use Rattle.list_laws.proofs.Lists.{All-from_contains}
 use Rattle.list_laws.proofs.FilterLemmas.{Contains-map, Contains-from_map, Contains-filter, Contains-from_filter, AllPairs-map, AllPairs-from_map}
 use Rattle.list_laws.proofs.FilterLemmas.{AllPairs-weaker}
 use Rattle.map_object.specs.MapObject.{Contents}
-use Rattle.past_choices.specs.Values.{IsCallOf}
+use Rattle.quiet_cuts.specs.Values.{IsCallOf}
 use Rattle.quiet_cuts.specs.Cells.{calls_left}
 use Rattle.quiet_cuts.specs.KeptCalls.{answered_at}
 use Rattle.quiet_cuts.proofs.AroundLemmas.{found, any_of}

@@ -12,7 +12,7 @@ use Rattle.events.specs.declared.operation.Response.{Response}
 use Rattle.events.specs.Operations.{operations}
 use Rattle.events.specs.Precedence.{is_before}
 use Rattle.list_laws.proofs.FilterLemmas.{Contains-map, Contains-from_map}
-use Rattle.past_choices.specs.Values.{IsCallOf}
+use Rattle.quiet_cuts.specs.Values.{IsCallOf}
 use Rattle.quiet_cuts.specs.Cells.{calls_left}
 use Rattle.quiet_cuts.proofs.AroundLemmas.{found}
 use Rattle.quiet_cuts.proofs.ContinueLemmas.{invoked_before, completed_stays}

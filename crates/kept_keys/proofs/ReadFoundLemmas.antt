@@ -15,7 +15,7 @@ use Rattle.following.specs.keys.Still.{IsFoundBy}
 use Rattle.following.specs.keys.Still as still
 use Rattle.following.specs.moments.KeyCalls.{Kind, OfKey, Told, Silent, kind_of, spread_response, part_at}
 use Rattle.following.proofs.moments.KindLemmas.{IsPart, part_is}
-use Rattle.past_choices.specs.Values.{MayBeAnswered}
+use Rattle.quiet_cuts.specs.Values.{MayBeAnswered}
 use Rattle.kept_keys.specs.Reads.{IsReadAt}
 
 -- ---- values are the same or not

@@ -28,7 +28,7 @@ use Rattle.following.specs.rows.Twins.{IsTimingAt}
 use Rattle.following.proofs.keys.ChoiceLemmas.{any_from, any_to}
 use Rattle.following.proofs.keys.SettleBackLemmas.{zip_each}
 use Rattle.following.proofs.moments.KindLemmas.{IsPart, part_is, is_part}
-use Rattle.past_choices.specs.Values.{MayBeAnswered}
+use Rattle.quiet_cuts.specs.Values.{MayBeAnswered}
 use Rattle.key_configurations.specs.Calls.{AreCallsOf}
 use Rattle.key_configurations.specs.Formed.{IsOpenAhead, IsFormed}
 use Rattle.kept_keys.specs.Kept.{IsKept}

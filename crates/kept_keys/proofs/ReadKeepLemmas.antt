@@ -12,7 +12,7 @@ use Rattle.quiet_cuts.specs.Replies.{says_unchanged}
 use Rattle.list_laws.proofs.Lists.{Any-first, Any-later, Contains-first, Contains-later, Contains-nil, Contains-cases}
 use Rattle.following.specs.keys.KeyStates.{Configuration}
 use Rattle.following.proofs.keys.ChoiceLemmas.{any_from, any_to}
-use Rattle.past_choices.specs.Values.{MayBeAnswered}
+use Rattle.quiet_cuts.specs.Values.{MayBeAnswered}
 use Rattle.kept_keys.specs.Reads.{AreReadOff, HasSeen, IsNarrowedByReads, IsStillKept}
 use Rattle.key_outcomes.specs.Puts.{noted_put, puts_of, seen, values_of}
 use Rattle.key_configurations.specs.Views.{KeptView}

@@ -21,7 +21,7 @@ use Rattle.following.specs.rows.Fixed.{IsParted}
 use Rattle.following.specs.rows.Rows.{IsWithin}
 use Rattle.following.specs.rows.Twins.{IsTimingAt}
 use Rattle.following.specs.reads.Reads.{AreFixedUpToReads}
-use Rattle.past_choices.specs.Values.{IsCallOf}
+use Rattle.quiet_cuts.specs.Values.{IsCallOf}
 use Rattle.key_configurations.specs.Calls.{AreCallsOf}
 use Rattle.key_orders.specs.Judging.{HasOrder}
 use Rattle.kept_keys.specs.Kept.{AreAnswered, IsKept}

@@ -4,7 +4,7 @@ use Rattle.std.specs.Prelude.{◌≡◌, ◌↔◌, ℕ, Bool, true, IsTrue, IsS
 use Rattle.events.specs.declared.operation.Operation.{Operation}
 use Rattle.quiet_cuts.specs.Replies.{says_unchanged}
 use Rattle.following.specs.keys.KeyStates.{Configuration}
-use Rattle.past_choices.specs.Values.{MayBeAnswered}
+use Rattle.quiet_cuts.specs.Values.{MayBeAnswered}
 use Rattle.key_outcomes.specs.Puts.{noted_put, puts_of, seen, values_of}
 use Rattle.key_configurations.specs.Views.{KeptView}
 

@@ -1,7 +1,7 @@
 // Reads that go at once.
 ghost use Rattle.std.specs.Prelude.{◌≡◌, ◌↔◌, IsTrue, IsSomeAnd, true, [], All, Any, Contains, IfOk};
 ghost use Rattle.quiet_cuts.specs.Replies as spec;
-ghost use Rattle.past_choices.specs.Values.{MayBeAnswered};
+ghost use Rattle.quiet_cuts.specs.Values.{MayBeAnswered};
 ghost use Rattle.kept_keys.specs.Reads.{IsStillKept, IsReadAt, AreReadOff, HasSeen, IsNarrowedByReads};
 
 use crate::kept::KeptKey;
@@ -9,8 +9,7 @@ use events::{Memory, Operation};
 use key_configurations::Configuration;
 use key_orders::KeptOrder;
 use key_outcomes::{noted_put, puts_left};
-use past_choices::may_be_answered;
-use quiet_cuts::is_read;
+use quiet_cuts::{is_read, may_be_answered};
 use std::alloc::Global;
 
 impl KeptKey {

@@ -5,7 +5,7 @@ ghost use Rattle.kept_keys.specs.Settling.{IsSettledAt, IsBeyondAt};
 ghost use Rattle.key_outcomes.specs.SettleSteps.{AreOutcomes, calls_begun, names_begun, names_gone, starts_of};
 ghost use Rattle.key_configurations.specs.Views.{place_limit};
 ghost use Rattle.past_choices.specs.Positions.{ReachesMoreThan};
-ghost use Rattle.past_choices.specs.Values.{IsCallOf};
+ghost use Rattle.quiet_cuts.specs.Values.{IsCallOf};
 
 use crate::kept::{KeptKey, WIDTH};
 use events::{Memory, Operation};

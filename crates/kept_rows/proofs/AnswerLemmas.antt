@@ -16,7 +16,7 @@ use Rattle.list_laws.proofs.Lists.{All-from_contains}
 use Rattle.following.specs.keys.Answers.{SaysNothing, IsSilent}
 use Rattle.following.specs.moments.KeyCalls.{OfKey, Told, kind_of}
 use Rattle.following.specs.moments.Timings.{HasForm, HaveScansForm}
-use Rattle.past_choices.specs.Values.{IsCallOf}
+use Rattle.quiet_cuts.specs.Values.{IsCallOf}
 use Rattle.kept_keys.specs.Steps.{IsOpenCall, PassesBy}
 use Rattle.kept_rows.proofs.EventLemmas.{TellsNone, answered_later, answer_tells_none}
 

@@ -13,7 +13,7 @@ use Rattle.list_laws.proofs.Lists.{All-from_contains, Contains-nil, Contains-fir
 use Rattle.list_laws.proofs.FilterLemmas.{Contains-map}
 use Rattle.map_object.specs.MapObject.{Contents, value_at, value_reply}
 use Rattle.orders.specs.Orders.{IsLinearizable, IsLegal, calls_at}
-use Rattle.past_choices.specs.Values.{MayBeAnswered}
+use Rattle.quiet_cuts.specs.Values.{MayBeAnswered}
 use Rattle.past_choices.proofs.ValueLemmas.{legal_one}
 use Rattle.following.specs.keys.KeyStates.{Configuration, one_key}
 use Rattle.following.specs.keys.Settling.{IsOpenScanOver}

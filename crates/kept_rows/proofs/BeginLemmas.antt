@@ -25,7 +25,7 @@ use Rattle.following.specs.rows.Ways.{AreEqualRows}
 use Rattle.following.proofs.moments.TimedLemmas.{pending_form}
 use Rattle.following.proofs.rows.ClassLemmas.{equal_rows}
 use Rattle.following.proofs.rows.RowLemmas.{rows_go_on}
-use Rattle.past_choices.specs.Values.{IsCallOf}
+use Rattle.quiet_cuts.specs.Values.{IsCallOf}
 use Rattle.following.specs.reads.Laws.{ReadRowsJudge}
 use Rattle.kept_keys.specs.Kept.{IsKept}
 use Rattle.kept_keys.specs.Laws.{KeptKeysGoOn, KeptKeysTakeCalls}

@@ -11,7 +11,7 @@ use Rattle.events.specs.declared.event.Call.TheVariants.{Insert}
 use Rattle.events.specs.declared.event.Event.{Event}
 use Rattle.events.specs.declared.operation.Operation.{Operation}
 use Rattle.events.specs.Precedence.{precedes}
-use Rattle.past_choices.specs.Values.{IsCallOf}
+use Rattle.quiet_cuts.specs.Values.{IsCallOf}
 use Rattle.list_laws.proofs.FilterLemmas.{AllPairs-from_map, AllPairs-map, Contains-map}
 use Rattle.list_laws.proofs.Lists.{All-back, All-from_contains, All-front, AllPairs-across, AllPairs-front, AllPairs-nil, Contains-cases, Contains-first, Contains-nil}
 use Rattle.map_object.specs.MapObject.{Contents, IsRising, above, below, value_at}

@@ -28,7 +28,7 @@ use Rattle.kept_keys.specs.Laws.{KeptKeysRetime}
 use Rattle.kept_keys.specs.Retiming.{IsRetimed}
 use Rattle.kept_keys.specs.Steps.{get_of, HasGet}
 use Rattle.events.specs.Precedence.{precedes}
-use Rattle.past_choices.specs.Values.{IsCallOf}
+use Rattle.quiet_cuts.specs.Values.{IsCallOf}
 use Rattle.std.proofs.lemmas.List.{map-append}
 use Rattle.std.proofs.lemmas.List.Kept.{AllPairs-cons}
 use Rattle.std.proofs.lemmas.Bool.Decides.{nat_tests}

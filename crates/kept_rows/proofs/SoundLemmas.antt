@@ -23,7 +23,7 @@ use Rattle.following.specs.keys.KeyStates.{Timings}
 use Rattle.following.specs.moments.KeyCalls.{Kind, OfKey, Told, Silent, kind_of, kind_of_scan, spread_call, part_of, part_at}
 use Rattle.following.specs.rows.ExactMoments.{places_by}
 use Rattle.following.proofs.moments.KindLemmas.{IsPart, is_part, part_is}
-use Rattle.past_choices.specs.Values.{IsCallOf}
+use Rattle.quiet_cuts.specs.Values.{IsCallOf}
 use Rattle.kept_keys.specs.Kept.{AreAnswered, IsKept}
 use Rattle.kept_keys.specs.Laws.{KeptKeysTakeAnswers}
 use Rattle.kept_keys.specs.Steps.{IsAnswered, IsOpenCall}

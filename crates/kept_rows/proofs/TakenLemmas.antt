@@ -29,7 +29,7 @@ use Rattle.following.proofs.keys.ChoiceLemmas.{any_from}
 use Rattle.following.proofs.moments.KindLemmas.{is_part}
 use Rattle.following.proofs.rows.EndLemmas.{told_call}
 use Rattle.following.specs.reads.Reads.{AreFixedUpToReads, IsReadOf}
-use Rattle.past_choices.specs.Values.{IsCallOf}
+use Rattle.quiet_cuts.specs.Values.{IsCallOf}
 use Rattle.past_choices.proofs.ValueLemmas.{legal_one}
 use Rattle.kept_keys.specs.Kept.{IsKept}
 use Rattle.kept_keys.specs.Reads.{IsReadAt}

@@ -4,7 +4,7 @@ use Rattle.events.specs.declared.event.Call.{Call}
 use Rattle.events.specs.declared.event.Event.{Event}
 use Rattle.events.specs.declared.event.Call.TheVariants.{Scan}
 use Rattle.map_object.specs.MapObject.{Contents}
-use Rattle.past_choices.specs.Values.{IsCallOf}
+use Rattle.quiet_cuts.specs.Values.{IsCallOf}
 use Rattle.kept_keys.specs.Steps.{IsAnswered, IsOpenCall}
 use Rattle.kept_keys.specs.Views.{KeptView}
 use Rattle.scan_rows.specs.RowView.{RowView}

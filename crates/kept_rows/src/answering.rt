@@ -3,7 +3,7 @@ ghost use Rattle.std.specs.Prelude.{◌≡◌, ◌≢◌, ℕ, ◌<◌, ◌-◌,
 ghost use Rattle.events.specs.declared.event.Event.{Event};
 ghost use Rattle.events.specs.declared.event.Event.TheVariants.{Answer};
 ghost use Rattle.map_object.specs.MapObject.{Contents};
-ghost use Rattle.past_choices.specs.Values.{IsCallOf};
+ghost use Rattle.quiet_cuts.specs.Values.{IsCallOf};
 ghost use Rattle.kept_keys.specs.Steps.{IsOpenCall};
 ghost use Rattle.kept_keys.specs.Views.{place_limit};
 ghost use Rattle.kept_rows.specs.Followed.{AreFollowed};

@@ -5,7 +5,7 @@ ghost use Rattle.events.specs.declared.event.Event.{Event};
 ghost use Rattle.events.specs.declared.event.Event.TheVariants.{Invoke};
 ghost use Rattle.events.specs.Events.{IsWellFormed};
 ghost use Rattle.map_object.specs.MapObject.{Contents};
-ghost use Rattle.past_choices.specs.Values.{IsCallOf};
+ghost use Rattle.quiet_cuts.specs.Values.{IsCallOf};
 ghost use Rattle.kept_keys.specs.Views.{place_limit};
 ghost use Rattle.kept_rows.specs.Beginning.{HasBegun};
 ghost use Rattle.kept_rows.specs.Followed.{AreFollowed};

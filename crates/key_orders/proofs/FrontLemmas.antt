@@ -19,7 +19,7 @@ use Rattle.orders.proofs.OrderLemmas.{IsLegal-append, IsCompletedAt-below, calls
 use Rattle.orders.proofs.CallsAtLemmas.{length-calls_at}
 use Rattle.orders.proofs.PlaceLemmas.{at_places, place_of, All-at_places, IsLegalOrder-numbers, IsCompletedAt-place}
 use Rattle.following.specs.keys.KeyStates.{one_key}
-use Rattle.past_choices.specs.Values.{IsCallOf, MayBeAnswered, value_behind_call}
+use Rattle.quiet_cuts.specs.Values.{IsCallOf, MayBeAnswered, value_behind_call}
 use Rattle.key_orders.specs.Fronts.{IsPath, IsFront, BeginsAt}
 use Rattle.key_orders.specs.Judging.{HasOrder, HasOrderFrom}
 use Rattle.key_configurations.specs.Views.{KeptView}

@@ -15,7 +15,7 @@ use Rattle.map_object.specs.MapObject.{Contents}
 use Rattle.orders.specs.Orders.{IsLegalCall, IsLegal, after_call, after_calls, calls_at, KeepsPrecedence}
 use Rattle.orders.proofs.OrderLemmas.{IsLegal-append, after_calls-push, calls_at-push}
 use Rattle.following.specs.keys.KeyStates.{one_key}
-use Rattle.past_choices.specs.Values.{IsCallOf, MayBeAnswered, value_behind_call}
+use Rattle.quiet_cuts.specs.Values.{IsCallOf, MayBeAnswered, value_behind_call}
 use Rattle.past_choices.proofs.PlaceLemmas.{set_here, set_elsewhere}
 use Rattle.past_choices.proofs.ValueLemmas.{after_call_one, legal_one}
 use Rattle.key_orders.specs.Fronts.{IsPath}

@@ -18,7 +18,7 @@ use Rattle.list_laws.proofs.FilterLemmas.{Contains-filter_map, Contains-from_fil
 use Rattle.map_object.specs.MapObject.{Contents}
 use Rattle.orders.specs.Orders.{IsLegal, IsLegalCall, after_call, calls_at, KeepsPrecedence}
 use Rattle.following.specs.keys.KeyStates.{one_key}
-use Rattle.past_choices.specs.Values.{IsCallOf, value_behind_call}
+use Rattle.quiet_cuts.specs.Values.{IsCallOf, value_behind_call}
 use Rattle.past_choices.proofs.ValueLemmas.{after_call_one}
 use Rattle.key_orders.specs.Few.{IsLeft, AreDone, IsMinimal, MayBegin, IsRest, HasRest}
 

@@ -3,11 +3,11 @@ ghost use Rattle.std.specs.Prelude.{◌≡◌, ◌↔◌, ◌<◌, ◌≤◌, le
 ghost use Rattle.events.specs.Precedence.{NonePrecedesItself};
 ghost use Rattle.orders.specs.Orders.{IsLinearizable};
 ghost use Rattle.following.specs.keys.KeyStates.{one_key};
-ghost use Rattle.past_choices.specs.Values.{IsCallOf};
+ghost use Rattle.quiet_cuts.specs.Values.{IsCallOf};
 ghost use Rattle.key_orders.specs.Few.{AreDone, IsMinimal, MayBegin, HasRest};
 
 use events::{Call, Operation};
-use past_choices::{is_ended, may_be_answered, value_behind};
+use quiet_cuts::{is_ended, may_be_answered, value_behind};
 
 /// The most calls of a key that are few. They are tried in each order, with no memory of positions,
 /// and so with none at all.

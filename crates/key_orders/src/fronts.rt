@@ -14,7 +14,7 @@ use crate::kept_order::KeptOrder;
 use events::{Memory, Operation};
 use key_configurations::{Configuration, is_among};
 use order_guesses::Guess;
-use past_choices::{is_ended, value_behind};
+use quiet_cuts::{is_ended, value_behind};
 use std::alloc::Global;
 use std::mem;
 

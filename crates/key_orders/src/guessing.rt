@@ -3,7 +3,7 @@ ghost use Rattle.std.specs.Prelude.{◌≡◌, ℕ, true, false, length, slice_g
 ghost use Rattle.events.specs.Precedence.{is_before};
 ghost use Rattle.following.specs.keys.KeyStates.{one_key};
 ghost use Rattle.orders.specs.Orders.{IsCompletedAt, IsLinearizable};
-ghost use Rattle.past_choices.specs.Values.{MayBeAnswered};
+ghost use Rattle.quiet_cuts.specs.Values.{MayBeAnswered};
 ghost use Rattle.key_configurations.specs.Calls.{calls_but};
 ghost use Rattle.key_orders.specs.Fronts.{IsChecked};
 ghost use Rattle.key_orders.specs.Judging.{HasOrder, HasOrderFrom};
@@ -16,7 +16,7 @@ use key_configurations::{Configuration, calls_but, is_value_among};
 use order_guesses::{
     Guess, guessed_order, mended_order, numbers_of_guess, order_with, places_but, rounds_for,
 };
-use past_choices::{is_ended, may_be_answered, value_behind};
+use quiet_cuts::{is_ended, may_be_answered, value_behind};
 use std::alloc::Global;
 
 impl KeptOrder {

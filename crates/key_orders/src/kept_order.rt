@@ -6,7 +6,7 @@ use crate::few::FEW_CALLS;
 use crate::fronts::{Front, apart_from};
 use events::{Memory, Operation};
 use order_guesses::{Guess, copied_guess, forget, make_room, note};
-use past_choices::is_ended;
+use quiet_cuts::is_ended;
 use std::alloc::Global;
 use std::mem;
 

@@ -24,7 +24,7 @@ use Rattle.following.specs.rows.ExactMoments.{places_by}
 use Rattle.following.proofs.keys.ChoiceLemmas.{any_to}
 use Rattle.following.proofs.keys.GrownLemmas.{in_later, same_completed}
 use Rattle.following.proofs.moments.KindLemmas.{IsPart, part_is}
-use Rattle.past_choices.specs.Values.{IsCallOf}
+use Rattle.quiet_cuts.specs.Values.{IsCallOf}
 use Rattle.key_configurations.specs.Calls.{AreCallsOf}
 use Rattle.key_outcomes.specs.Puts.{ArePutBy, IsPutBy, WasPutBy, changed_last, has_left_other, has_put, has_put_from, is_same, is_unchanged, last_of, last_put, later, noted_put, or_before}
 use Rattle.key_outcomes.specs.Puts.{put_behind, put_in, puts, puts_of, values_of}

@@ -15,7 +15,7 @@ use Rattle.orders.specs.Orders.{after_calls, IsLegal}
 use Rattle.following.specs.keys.KeyStates.{one_key, Configuration}
 use Rattle.following.specs.keys.Settling.{AreInTurn, found_at, found_in}
 use Rattle.past_choices.specs.PastChoices.{PastChoice, calls_done, IsPastChoice}
-use Rattle.past_choices.specs.Values.{IsCallOf, MayBeAnswered, value_behind_call}
+use Rattle.quiet_cuts.specs.Values.{IsCallOf, MayBeAnswered, value_behind_call}
 use Rattle.past_choices.proofs.ValueLemmas.{one_key_same, after_call_one, legal_one}
 use Rattle.key_outcomes.specs.SettleSteps.{one_start, start_from, starts_from, AreAdded}
 use Rattle.key_outcomes.proofs.SettleOutcomeLemmas.{added_none, added_one, added_same}

@@ -18,7 +18,7 @@ use Rattle.following.proofs.keys.ChoiceLemmas.{any_from, any_to}
 use Rattle.past_choices.specs.PastChoices.{PastChoice, ArePast, IsPastChoice, IsPastChoiceFrom}
 use Rattle.past_choices.specs.Positions.{IsReached, IsReachedFrom, ReachesMoreThan}
 use Rattle.past_choices.specs.Starts.{Start}
-use Rattle.past_choices.specs.Values.{IsCallOf}
+use Rattle.quiet_cuts.specs.Values.{IsCallOf}
 use Rattle.key_outcomes.specs.SettleSteps.{begun, calls_begun, names_begun, names_gone, found_of, names_of, nothing, one_start, start_from, starts_from, starts_of, which_ended}
 use Rattle.key_outcomes.specs.SettleSteps.{AreAdded, AreOutcomes, AreOutcomesOf, HaveGone, IsNotedWith, IsOutcomeOf, IsPlain}
 use Rattle.key_configurations.specs.Views.{KeptView}

@@ -14,7 +14,7 @@ use Rattle.events.specs.Told.{is_told}
 use Rattle.quiet_cuts.specs.Replies.{says_unchanged}
 use Rattle.list_laws.specs.Lists.{has_number}
 use Rattle.following.specs.keys.KeyStates.{Configuration}
-use Rattle.past_choices.specs.Values.{IsCallOf}
+use Rattle.quiet_cuts.specs.Values.{IsCallOf}
 use Rattle.key_outcomes.specs.SettleSteps.{ended_by}
 use Rattle.key_configurations.specs.Views.{KeptView, note_of, resting}
 

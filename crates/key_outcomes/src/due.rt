@@ -3,7 +3,7 @@ ghost use Rattle.std.specs.Prelude.{◌≡◌, ◌++◌, ◌∷◌, [], not, len
 ghost use Rattle.key_outcomes.specs.SettleSteps.{ended_by, which_ended};
 
 use events::{Memory, Operation};
-use past_choices::is_ended;
+use quiet_cuts::is_ended;
 use std::alloc::Global;
 
 /// Some calls, each with its name.

@@ -5,7 +5,7 @@ ghost use Rattle.events.specs.Precedence.{NonePrecedesItself, precedes};
 ghost use Rattle.list_laws.specs.Lists.{has_number};
 ghost use Rattle.past_choices.specs.PastChoices.{ArePast, IsPastChoice, IsPastChoiceFrom, PastChoice as Choice};
 ghost use Rattle.past_choices.specs.Positions.{ReachesMoreThan};
-ghost use Rattle.past_choices.specs.Values.{IsCallOf};
+ghost use Rattle.quiet_cuts.specs.Values.{IsCallOf};
 ghost use Rattle.key_outcomes.specs.SettleSteps.{names_of, found_of, nothing, one_start, starts_from, starts_of, which_ended};
 ghost use Rattle.key_outcomes.specs.SettleSteps.{AreAdded, AreOutcomesOf, HaveGone, IsNotedWith, IsOutcomeOf, IsPlain};
 
@@ -13,9 +13,8 @@ use crate::due::ended_marks;
 use crate::starting::{add_starts, are_plain, starts_of};
 use events::{Memory, Operation};
 use key_configurations::{Ahead, Configuration, copied_ahead, is_among};
-use past_choices::{
-    PastChoice, PastChoices, Start, is_ended, may_be_answered, past_choices, value_behind,
-};
+use past_choices::{PastChoice, PastChoices, Start, past_choices};
+use quiet_cuts::{is_ended, may_be_answered, value_behind};
 use std::alloc::Global;
 
 /// The calls taken that have not ended, and the chosen ones, by rising name, each once.

@@ -10,8 +10,7 @@ ghost use Rattle.key_configurations.specs.Views as view;
 
 use events::{Call, Memory, Operation, Response};
 use key_configurations::{Configuration, is_among};
-use past_choices::is_ended;
-use quiet_cuts::says_unchanged;
+use quiet_cuts::{is_ended, says_unchanged};
 use std::alloc::Global;
 
 /// What is noted of a value: the call that put it, if any did.

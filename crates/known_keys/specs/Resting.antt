@@ -4,7 +4,7 @@ use Rattle.std.specs.Option.{IsSome}
 use Rattle.events.specs.Precedence.{NonePrecedesItself}
 use Rattle.following.specs.keys.KeyStates.{Configuration}
 use Rattle.map_object.specs.MapObject.{Contents, IsRising, value_at}
-use Rattle.past_choices.specs.Values.{IsCallOf}
+use Rattle.quiet_cuts.specs.Values.{IsCallOf}
 use Rattle.kept_keys.specs.Settling.{IsBeyondAt, IsSettledAt}
 use Rattle.kept_keys.specs.Views.{KeptView, fresh, resting}
 use Rattle.known_keys.specs.Entries.{entry_at, or_fresh}

@@ -3,7 +3,7 @@ ghost use Rattle.std.specs.Prelude.{◌≡◌, ◌↔◌, false, IsSomeAnd, IsTr
 ghost use Rattle.events.specs.Precedence.{is_before};
 
 use events::{Memory, Operation};
-use past_choices::{is_ended, value_behind};
+use quiet_cuts::{is_ended, value_behind};
 use std::alloc::Global;
 
 /// An order of the calls left by their places, the calls taken before it by name, and the value, or

@@ -3,8 +3,7 @@
 use crate::guess::value_after;
 use crate::scout::{answer_of, guessed_order, left_by};
 use events::{Memory, Operation};
-use past_choices::{is_ended, may_be_answered, value_behind};
-use quiet_cuts::is_read;
+use quiet_cuts::{is_ended, is_read, may_be_answered, value_behind};
 use std::alloc::Global;
 
 /// An order with one call besides, if it is not there yet: as far behind as it may stand, where

@@ -2,8 +2,7 @@
 ghost use Rattle.std.specs.Prelude.{◌≡◌, ◌<◌, ◌≤◌, ◌^◌, ℕ, IfSome, None};
 
 use events::{Call, Memory, Operation, Reply};
-use past_choices::{may_be_answered, value_behind};
-use quiet_cuts::is_read;
+use quiet_cuts::{is_read, may_be_answered, value_behind};
 use std::alloc::Global;
 
 /// An order of calls of one key from a value, or none, by their places, where one is found soon.

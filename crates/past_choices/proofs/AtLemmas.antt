@@ -22,7 +22,7 @@ use Rattle.past_choices.specs.declared.mark.CallMark.TheVariants.{Left, Taken, F
 use Rattle.past_choices.specs.Positions.{Position, FindsAt, IsAt, IsFrontFrom}
 use Rattle.past_choices.specs.Starts.{Start, IsFree, with_taken}
 use Rattle.past_choices.specs.Steps.{mark_of, start_mark, start_position, next_position, MayCome}
-use Rattle.past_choices.specs.Values.{IsCallOf}
+use Rattle.quiet_cuts.specs.Values.{IsCallOf}
 use Rattle.past_choices.proofs.MarkLemmas.{taken_is_not_left, taken_found_nothing, same_found}
 use Rattle.past_choices.proofs.PlaceLemmas.{set_here, set_elsewhere, is_in_or_not}
 use Rattle.past_choices.proofs.StartLemmas.{calls_free, free_call, preceding_free, precedes_from, precedes_to, start_found, start_left, start_left_from}

@@ -13,7 +13,7 @@ use Rattle.past_choices.specs.Equality.{same_position}
 use Rattle.past_choices.specs.Positions.{Position}
 use Rattle.quiet_cuts.specs.Replies.{IsRead}
 use Rattle.past_choices.specs.Steps.{mark_of, next_position, MayCome, AreEnough, EndedAreDone}
-use Rattle.past_choices.specs.Values.{IsCallOf}
+use Rattle.quiet_cuts.specs.Values.{IsCallOf}
 use Rattle.past_choices.proofs.MarkLemmas.{taken_is_not_left}
 use Rattle.past_choices.proofs.PlaceLemmas.{set_here, set_elsewhere}
 use Rattle.past_choices.proofs.ValueLemmas.{read_leaves}

@@ -17,7 +17,7 @@ use Rattle.following.proofs.keys.BeginLemmas.{one_rises}
 use Rattle.past_choices.specs.declared.mark.CallMark.TheVariants.{Taken}
 use Rattle.quiet_cuts.specs.Replies.{IsRead}
 use Rattle.past_choices.specs.Steps.{mark_of}
-use Rattle.past_choices.specs.Values.{IsCallOf, value_behind, value_behind_reply, value_behind_call, MayBeAnswered}
+use Rattle.quiet_cuts.specs.Values.{IsCallOf, value_behind, value_behind_reply, value_behind_call, MayBeAnswered}
 
 -- the value there
 pub value_one : (key : ℕ) (value : Option ℕ) → value_at (one_key key value) key ≡ value

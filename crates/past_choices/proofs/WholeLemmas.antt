@@ -16,7 +16,7 @@ use Rattle.past_choices.specs.Positions.{Position, IsAt, IsFrontFrom, IsReached,
 use Rattle.past_choices.specs.Starts.{Start, with_taken}
 use Rattle.past_choices.specs.Steps.{start_position, next_position, IsNextOf, AreVisited, IsExpanded, AreEnough, AreExplored, AreReached}
 use Rattle.past_choices.specs.Steps.{HasEnded}
-use Rattle.past_choices.specs.Values.{IsCallOf}
+use Rattle.quiet_cuts.specs.Values.{IsCallOf}
 use Rattle.past_choices.proofs.AtLemmas.{start_at, push_at, front_push, next_of_front}
 use Rattle.past_choices.proofs.PathLemmas.{LeadsOn, comes_to}
 use Rattle.past_choices.proofs.VisitLemmas.{enough_more}

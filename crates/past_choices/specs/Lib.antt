@@ -5,4 +5,3 @@ pub mod PastChoices
 pub mod Positions
 pub mod Starts
 pub mod Steps
-pub mod Values

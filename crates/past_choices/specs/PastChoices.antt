@@ -12,7 +12,7 @@ use Rattle.following.specs.keys.KeyStates.{one_key}
 use Rattle.following.specs.keys.Settling.{AreInTurn}
 use Rattle.past_choices.specs.Positions.{FindsAt}
 use Rattle.past_choices.specs.Starts.{Start}
-use Rattle.past_choices.specs.Values.{IsCallOf}
+use Rattle.quiet_cuts.specs.Values.{IsCallOf}
 
 -- the numbers of the calls that had not ended and were done, the value behind all that were done,
 -- and what those found that have no answer

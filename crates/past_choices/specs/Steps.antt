@@ -10,7 +10,7 @@ use Rattle.past_choices.specs.PastChoices.{PastChoice}
 use Rattle.past_choices.specs.Positions.{Position, IsAt, IsFrontFrom, IsReachedFrom}
 use Rattle.quiet_cuts.specs.Replies.{IsRead}
 use Rattle.past_choices.specs.Starts.{Start, IsFree}
-use Rattle.past_choices.specs.Values.{value_behind_call, MayBeAnswered}
+use Rattle.quiet_cuts.specs.Values.{value_behind_call, MayBeAnswered}
 
 -- the mark of a call that is done at a value
 abbrev pub mark_of : Option Response → Option ℕ → CallMark

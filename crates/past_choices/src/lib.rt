@@ -14,11 +14,9 @@ mod mark;
 mod position;
 mod start;
 mod steps;
-mod values;
 mod visited;
 mod worklist;
 
 pub use answer::{PastChoice, PastChoices};
 pub use start::Start;
-pub use values::{is_ended, may_be_answered, value_behind};
 pub use worklist::past_choices;

@@ -4,8 +4,8 @@ ghost use Rattle.past_choices.specs.Steps.{start_mark, start_position, next_posi
 
 use crate::mark::{CallMark, mark_of, start_mark, with_mark};
 use crate::start::Start;
-use crate::values::value_behind;
 use events::{Memory, Operation};
+use quiet_cuts::value_behind;
 use std::alloc::Global;
 use std::hash::{Hash, Hasher};
 use std::marker::Model;

@@ -6,9 +6,8 @@ ghost use Rattle.past_choices.specs.Steps.{earlier_of, AreSteps, IsEnd, IsNextOf
 
 use crate::mark::CallMark;
 use crate::position::Position;
-use crate::values::may_be_answered;
 use events::{Memory, Operation, Response};
-use quiet_cuts::is_read;
+use quiet_cuts::{is_read, may_be_answered};
 use std::alloc::Global;
 
 /// The positions to go on to: the one after a read that ended before the moment, where such a read

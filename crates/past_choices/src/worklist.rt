@@ -5,7 +5,7 @@ ghost use Rattle.past_choices.specs.Answers.{IsAnswer};
 ghost use Rattle.past_choices.specs.PastChoices.{ArePast};
 ghost use Rattle.past_choices.specs.Positions.{ReachesMoreThan};
 ghost use Rattle.past_choices.specs.Steps.{AreReached, IsExpandedAt};
-ghost use Rattle.past_choices.specs.Values.{IsCallOf};
+ghost use Rattle.quiet_cuts.specs.Values.{IsCallOf};
 
 use crate::answer::PastChoices;
 use crate::choices::choices_of;

@@ -2,7 +2,7 @@
 use Rattle.std.specs.Prelude.{◌≡◌, ℕ, ◌<◌, length, All, AllPairs, ◌≢◌, ◌≤◌, List, [], ◌∷◌, ◌++◌, map, Contains}
 use Rattle.events.specs.Precedence.{NonePrecedesItself}
 use Rattle.map_object.specs.MapObject.{value_at}
-use Rattle.past_choices.specs.Values.{IsCallOf}
+use Rattle.quiet_cuts.specs.Values.{IsCallOf}
 use Rattle.scan_gaps.specs.Views.{KeptView, place_limit}
 use Rattle.scan_gaps.specs.Retiming.{IsRetimed}
 use Rattle.scan_gaps.specs.Steps.{HasGet}

@@ -4,7 +4,7 @@ ghost use Rattle.events.specs.Precedence.{NonePrecedesItself};
 ghost use Rattle.known_keys.specs.Cuts.{IsPlaceOf};
 ghost use Rattle.known_keys.specs.Views.{place_limit};
 ghost use Rattle.scan_rows.specs.Settling.{HasSettled, IsAround, IsClear};
-ghost use Rattle.past_choices.specs.Values.{IsCallOf};
+ghost use Rattle.quiet_cuts.specs.Values.{IsCallOf};
 
 use crate::row::KeptScan;
 use events::{Memory, Operation};

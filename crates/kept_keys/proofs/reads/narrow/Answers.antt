@@ -1,7 +1,7 @@
 use Rattle.std.proofs.Common.{◌==◌, not, rules, ap, ◌∙◌}
 use Rattle.std.specs.Prelude.{All}
 use Rattle.following.specs.keys.KeyStates.{Configuration}
-use Rattle.past_choices.specs.Values.{MayBeAnswered}
+use Rattle.quiet_cuts.specs.Values.{MayBeAnswered}
 use Rattle.kept_keys.proofs.ReadKeepLemmas.{stays_where, narrowed_is}
 use Rattle.kept_keys.proofs.reads.narrow.Goals as goal
 

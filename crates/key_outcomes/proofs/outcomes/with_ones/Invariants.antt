@@ -1,6 +1,6 @@
 use Rattle.std.proofs.Common.{true, [], ◌∷◌, ℕ, map, take}
 use Rattle.past_choices.specs.PastChoices.{PastChoice, IsPastChoiceFrom}
-use Rattle.past_choices.specs.Values.{IsCallOf}
+use Rattle.quiet_cuts.specs.Values.{IsCallOf}
 use Rattle.key_outcomes.specs.SettleSteps.{one_start, AreAdded, IsOutcomeOf}
 use Rattle.key_outcomes.proofs.outcomes.with_ones.Given as goal
 

@@ -4,8 +4,8 @@ ghost use Rattle.events.specs.declared.event.Reply.TheVariants as replies;
 ghost use Rattle.events.specs.Precedence.{is_before};
 ghost use Rattle.map_object.specs.MapObject as object;
 ghost use Rattle.map_object.specs.MapObject.{is_just, value_reply, TellsOf};
-ghost use Rattle.past_choices.specs.Values as spec;
-ghost use Rattle.past_choices.specs.Values.{value_behind_call, MayBeAnswered};
+ghost use Rattle.quiet_cuts.specs.Values as spec;
+ghost use Rattle.quiet_cuts.specs.Values.{value_behind_call, MayBeAnswered};
 
 use events::{Call, Operation, Reply};
 
