@@ -702,6 +702,23 @@ SPELLED_STREAM = r""" { "invoke" : [ "get" , 5 ] , "process" : 1 }
 {"answer":[],"process":2}
 """.replace("@", "\r")
 
+OVERWRITTEN_STREAM = """{"start":[[4,9]],"version":2}
+{"invoke":["get",4],"process":0}
+{"answer":9,"process":0}
+{"invoke":["insert",4,1],"process":0}
+{"invoke":["get",4],"process":1}
+{"answer":1,"process":1}
+{"answer":9,"process":0}
+{"invoke":["get",4],"process":7}
+{"answer":9,"process":7}
+"""
+# 7 is put at key 4 while a scan is open, where key 1 has 5 from the start.
+MEANWHILE_STREAM = """{"start":[[1,5]],"version":2}
+{"invoke":["scan",0,9],"process":0}
+{"invoke":["insert",4,7],"process":1}
+{"answer":null,"process":1}
+"""
+
 # Streams, and the status, the output and the faults.
 STREAMS = [
     (OVERLAPPING_STREAM, 0, '{"calls":2,"overlap":0.50,"verdict":"yes"}\n', ""),
@@ -716,6 +733,28 @@ STREAMS = [
     (APART_STREAM, 0, '{"calls":2,"overlap":0.00,"verdict":"yes"}\n', APART),
     (SPELLED_STREAM, 0, '{"calls":4,"overlap":0.00,"verdict":"yes"}\n', APART),
     ('{"invoke":["get",5],"process":70}', 0, '{"calls":1,"overlap":0.00,"verdict":"yes"}\n', ""),
+    # The insert found what was there at the start, while another get found what it put: so the last get misses it.
+    (
+        OVERWRITTEN_STREAM, 1,
+        '{"call":3,"event":7,"keys":[{"invoked":[6],"key":4,"put":[2],"values":[1]}],"verdict":"no"}\n'
+        '{"events":[{"invoke":["get",4],"process":0},{"answer":9,"process":0}],"start":[[4,1]],"version":2}\n', "",
+    ),
+    # A scan finds what was put meanwhile or not, or is refused; but what was there at the start it finds.
+    (MEANWHILE_STREAM + '{"answer":[[1,5]],"process":0}\n', 0, '{"calls":2,"overlap":0.50,"verdict":"yes"}\n', ""),
+    (MEANWHILE_STREAM + '{"answer":[[1,5],[4,7]],"process":0}\n', 0, '{"calls":2,"overlap":0.50,"verdict":"yes"}\n', ""),
+    (MEANWHILE_STREAM + '{"answer":"refused","process":0}\n', 0, '{"calls":2,"overlap":0.50,"verdict":"yes"}\n', ""),
+    (
+        MEANWHILE_STREAM + '{"answer":[[4,7]],"process":0}\n', 1,
+        '{"call":0,"event":3,"keys":[{"invoked":[0],"key":1,"put":[null],"values":[5]}],"verdict":"no"}\n'
+        '{"events":[{"invoke":["get",1],"process":0},{"answer":null,"process":0}],"start":[[1,5]],"version":2}\n', "",
+    ),
+    (MEANWHILE_STREAM + '{"answer":[[4,7],[1,5]],"process":0}\n', 1, '{"call":0,"event":3,"keys":[],"verdict":"no"}\n', ""),
+    # An insert into an empty map finds nothing.
+    (
+        '{"invoke":["insert",7,1],"process":0}\n{"answer":5,"process":0}\n', 1,
+        '{"call":0,"event":1,"keys":[{"invoked":[0],"key":7,"put":[null],"values":[null]}],"verdict":"no"}\n'
+        '{"events":[{"invoke":["insert",7,1],"process":0},{"answer":5,"process":0}],"version":1}\n', "",
+    ),
 ]
 
 
