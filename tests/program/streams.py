@@ -56,7 +56,7 @@ DEAD_SHARE = 125
 DEAD_CALLS = 3000
 # Streams with a call that is held up, one for so many others; and the seconds of a processor that a recording of such may take.
 HELD_SHARE = 10
-HELD_SECONDS = 5
+HELD_SECONDS = 20
 # All orders of a row of so few events are tried.
 SHORT_ROW = 70
 
