@@ -179,7 +179,7 @@ static inline int potzendai_end_stream(struct potzendai_following *f)
         return potzendai_fail(run, POTZENDAI_NO_MEMORY, "memory: the stream was not followed to its end");
     if (status > POTZENDAI_NO_MEMORY || status == POTZENDAI_IS_REFUSED)
         return potzendai_fail(run, status, "%.150s", f->told.report);
-    if (status == POTZENDAI_IS_NO)
+    if (status == POTZENDAI_IS_NO && !f->tester->is_quiet)
         potzendai_tell_stream(f);
     f->tester->undecided += status == POTZENDAI_IS_UNDECIDED;
     return status;

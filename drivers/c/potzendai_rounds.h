@@ -11,7 +11,7 @@
 
 enum { POTZENDAI_TRIES = 8, POTZENDAI_TRIES_SECONDS = 5, POTZENDAI_GETS = 1000, POTZENDAI_BITS = 40 };
 
-/* A run with what comes of it. `connection` is of the thread that runs all of it. */
+/* A run with what comes of it. `connection` is of the thread that runs all of it. Where it is quiet, a no is not told. */
 struct potzendai_tester {
     struct potzendai_run *run;
     const struct potzendai_options *options;
@@ -21,7 +21,7 @@ struct potzendai_tester {
     size_t pairs_at_start, pairs_next;
     uint64_t rounds, calls, refused, undecided, overlap;
     double began, told, overlap_a_call;
-    bool has_terminal, has_overlap;
+    bool has_terminal, has_overlap, is_quiet;
 };
 
 /* A recording as a text, and what the library says of it. */
@@ -455,7 +455,7 @@ static inline int potzendai_take_round(struct potzendai_tester *tester, struct p
                    ? 0 : potzendai_fail(tester->run, POTZENDAI_BAD_FILE, "standard output: a history was not written");
     switch (potzendai_explained(told)) {
     case POTZENDAI_IS_YES: return POTZENDAI_IS_YES;
-    case POTZENDAI_IS_NO: return potzendai_refuted(tester, told);
+    case POTZENDAI_IS_NO: return tester->is_quiet ? POTZENDAI_IS_NO : potzendai_refuted(tester, told);
     case POTZENDAI_IS_UNDECIDED: tester->undecided++; return POTZENDAI_IS_YES;
     case POTZENDAI_NO_MEMORY: return potzendai_fail(tester->run, POTZENDAI_NO_MEMORY, "memory: a round was not judged");
     default:

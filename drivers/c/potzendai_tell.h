@@ -63,7 +63,7 @@ static inline void potzendai_tell_answer(FILE *out, const char *at)
 {
     static const char *const names[][2] = {
         {"null", "none"}, {"\"done\"", "that it was done"}, {"\"found\"", "that there was a value"}, {"\"other\"", "another value"},
-        {"\"refused\"", "that it was refused"}, {"\"open\"", "nothing"}, {"\"left out\"", "nothing that counts"}
+        {"\"refused\"", "that it was refused"}, {"\"open\"", "nothing"}
     };
     for (size_t i = 0; i < sizeof names / sizeof *names; i++)
         if (strncmp(at, names[i][0], strlen(names[i][0])) == 0) {
@@ -155,6 +155,18 @@ static inline void potzendai_tell_writer(FILE *out, const char *text, const char
         fprintf(out, "; %.*s %s", (int)digits, value, potzendai_at_start(is_left));
     else if (digits > 0)
         fprintf(out, "; %.*s is %s", (int)digits, value, potzendai_nobody(is_left));
+}
+
+/* Writes what the call of a line was answered, and who put that, or that its answer is left out of the line. */
+static inline void potzendai_tell_answered(FILE *out, const char *text, const char *answer, bool is_left)
+{
+    if (strncmp(answer, "\"left out\"", 10) == 0) {
+        fputs(", whatever its answer", out);
+        return;
+    }
+    fputs(", answered ", out);
+    potzendai_tell_answer(out, answer);
+    potzendai_tell_writer(out, text, answer, is_left);
 }
 
 /* Writes who put a value that the few calls read and none of them put. */
@@ -281,12 +293,23 @@ static inline bool potzendai_tell_keys(FILE *out, const char *report, size_t mos
     return told == all && !shown.is_cut;
 }
 
+/* Writes the first line of a report, and of a long list of calls only that it stands there. */
+static inline void potzendai_tell_verdict(FILE *out, const char *report)
+{
+    size_t length = strcspn(report, "\n"), most = 80;
+    const char *calls = potzendai_member(report, "\"calls\":["), *end = calls ? strchr(calls, ']') : NULL;
+    if (end && end < report + length && (size_t)(end - calls) > most)
+        fprintf(out, "%.*s..%.*s\n", (int)(calls - report), report, (int)(report + length - end), end);
+    else
+        fprintf(out, "%.*s\n", (int)length, report);
+}
+
 /* Writes a report of `explain` in words; `text` is the history, of a round or of what a follower still had. Behind an undecided `locate` has a
  * line, which is passed over. Answers the line that is the few calls' history, or NULL. */
 static inline const char *potzendai_tell(FILE *out, const char *text, const char *report, bool is_left)
 {
     const char *few = NULL, *line = potzendai_next_line(report);
-    fprintf(out, "%.*s\n", (int)strcspn(report, "\n"), report);
+    potzendai_tell_verdict(out, report);
     while (line && potzendai_member(line, "\"verdict\":"))
         line = potzendai_next_line(line);
     if (line)
@@ -306,9 +329,7 @@ static inline const char *potzendai_tell(FILE *out, const char *text, const char
             const char *missed = potzendai_member(line, "\"misses\":["), *behind = missed ? strstr(missed, "}],") : line;
             potzendai_tell_events(out, text, potzendai_number(line, "\"event\":"), behind ? potzendai_number(behind, "\"process\":") : 0);
             potzendai_tell_call(out, call);
-            fputs(", answered ", out);
-            potzendai_tell_answer(out, answer);
-            potzendai_tell_writer(out, text, answer, is_left);
+            potzendai_tell_answered(out, text, answer, is_left);
             potzendai_tell_missed(out, missed);
             fputs("\n", out);
         }

@@ -105,6 +105,18 @@ static inline int potzendai_finish(const struct potzendai_tester *tester, int st
     return status == POTZENDAI_IS_YES ? POTZENDAI_BAD_FILE : status;
 }
 
+/* The same of one way to be wrong among others: a line of the verdict, or of what was in its way. */
+static inline int potzendai_finish_quietly(const struct potzendai_tester *tester, int status)
+{
+    struct potzendai_run *run = tester->run;
+    fprintf(stderr, "%s: ", potzendai_breaks[tester->options->broken]);
+    if (status >= 0)
+        potzendai_tell_all(stderr, tester, potzendai_verdicts[status]);
+    else
+        fprintf(stderr, "%s\n", run->complaint);
+    return status < 0 ? (int)atomic_load(&run->fault) : status;
+}
+
 static inline void potzendai_close_tester(struct potzendai_tester *tester)
 {
     struct potzendai_run *run = tester->run;
@@ -149,39 +161,79 @@ static inline int potzendai_run_all(struct potzendai_tester *tester, const struc
     return status;
 }
 
+/* Tests the map by these words: the status, of which a quiet run says the verdict alone. */
+static inline int potzendai_test(const struct potzendai_options *options, const char *program, const struct potzendai_map *map, bool is_quiet)
+{
+    struct potzendai_broken broken;
+    struct potzendai_tester tester;
+    memset(&tester, 0, sizeof tester);
+    memset(&broken, 0, sizeof broken);
+    if (potzendai_open_tester(&tester, options)) {
+        potzendai_close_tester(&tester);
+        fputs("memory: a run has no room\n", stderr);
+        return POTZENDAI_NO_MEMORY;
+    }
+    tester.program = program;
+    tester.is_quiet = is_quiet;
+    tester.has_terminal = isatty(2);
+    tester.began = tester.told = potzendai_now();
+    tester.run->options = options;
+    tester.run->truly = map;
+    tester.run->map = potzendai_break_map(&broken, map, options, &tester.run->round);
+    tester.run->threads = options->threads;
+    tester.run->keys_drawn = options->keys;
+    tester.run->calls = options->calls;
+    int status = potzendai_run_all(&tester, map);
+    status = is_quiet ? potzendai_finish_quietly(&tester, status) : potzendai_finish(&tester, status);
+    potzendai_close_tester(&tester);
+    return status;
+}
+
+/* Each way to go wrong that the drawn calls can show has to be refuted: then the status is that of a no. */
+static inline int potzendai_test_each(const struct potzendai_options *options, const char *program, const struct potzendai_map *map)
+{
+    struct potzendai_options one = *options;
+    int missed = 0;
+    for (int how = 0; how < POTZENDAI_EACH_BREAK; how++) {
+        one.broken = (enum potzendai_break)how;
+        if (!potzendai_is_called(&one, one.broken)) {
+            fprintf(stderr, "%s: what it makes wrong is not called\n", potzendai_breaks[how]);
+            continue;
+        }
+        int status = potzendai_test(&one, program, map, true);
+        if (status > POTZENDAI_IS_UNDECIDED)
+            return status;
+        missed += status != POTZENDAI_IS_NO;
+    }
+    if (missed > 0)
+        printf("yes: %d of the broken maps were not refuted\n", missed);
+    else
+        puts("no: each broken map was refuted");
+    if (fflush(stdout)) {
+        fputs("standard output: not written\n", stderr);
+        return missed > 0 ? POTZENDAI_BAD_FILE : POTZENDAI_IS_NO;
+    }
+    return missed > 0 ? POTZENDAI_IS_YES : POTZENDAI_IS_NO;
+}
+
 /* A whole program: reads the words, tests the map, says the verdict, and answers the status. The map is at rest before, and holds no
  * other keys than those from 0 on. */
 static inline int potzendai_test_main(int argc, char **argv, const struct potzendai_map *map)
 {
     struct potzendai_options options;
-    struct potzendai_broken broken;
-    struct potzendai_tester tester;
     if (potzendai_asks_help(argc, argv))
         return potzendai_help(argv[0]);
     int status = potzendai_read_words(&options, argc, argv, map);
     if (status)
         return status;
-    memset(&tester, 0, sizeof tester);
-    memset(&broken, 0, sizeof broken);
-    if (potzendai_open_tester(&tester, &options)) {
-        potzendai_close_tester(&tester);
-        fputs("memory: a run has no room\n", stderr);
-        return POTZENDAI_NO_MEMORY;
-    }
-    if (potzendai_is_unjudged(&options))
+    if (potzendai_is_unjudged(&options)) {
+        if (options.broken == POTZENDAI_EACH_BREAK)
+            return potzendai_complain("--break", "all: each is judged, and nobody judges here");
         signal(SIGPIPE, SIG_IGN);
-    tester.program = argv[0];
-    tester.has_terminal = isatty(2);
-    tester.began = tester.told = potzendai_now();
-    tester.run->options = &options;
-    tester.run->truly = map;
-    tester.run->map = potzendai_break_map(&broken, map, &options, &tester.run->round);
-    tester.run->threads = options.threads;
-    tester.run->keys_drawn = options.keys;
-    tester.run->calls = options.calls;
-    status = potzendai_finish(&tester, potzendai_run_all(&tester, map));
-    potzendai_close_tester(&tester);
-    return status;
+    }
+    if (options.broken == POTZENDAI_EACH_BREAK)
+        return potzendai_test_each(&options, argv[0], map);
+    return potzendai_test(&options, argv[0], map, false);
 }
 
 #endif

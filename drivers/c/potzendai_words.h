@@ -20,11 +20,11 @@ enum potzendai_void { POTZENDAI_VOID_DONE, POTZENDAI_VOID_TOLD, POTZENDAI_VOID_O
 
 enum potzendai_break {
     POTZENDAI_DROP, POTZENDAI_RACE, POTZENDAI_REPLAY, POTZENDAI_STALE, POTZENDAI_ZOMBIE, POTZENDAI_TORN, POTZENDAI_CAS,
-    POTZENDAI_UNBROKEN
+    POTZENDAI_EACH_BREAK, POTZENDAI_UNBROKEN
 };
 
 static const char *const potzendai_voids[] = {"done", "told", "own", "lock", NULL};
-static const char *const potzendai_breaks[] = {"drop", "race", "replay", "stale", "zombie", "torn", "cas", NULL};
+static const char *const potzendai_breaks[] = {"drop", "race", "replay", "stale", "zombie", "torn", "cas", "all", NULL};
 static const char *const potzendai_scans[] = {"snapshot", "steps", NULL};
 
 struct potzendai_options {
@@ -56,7 +56,7 @@ static const char potzendai_usage[] =
     "                    lock: a lock a key around a get and the put (done)\n"
     "  --scan HOW        snapshot: a scan is of one moment; steps: steps of ceiling (snapshot)\n"
     "  --yield N         of a thousand points between and in calls, so many give way to other threads (0)\n"
-    "  --break HOW       makes the map wrong now and then: drop, race, replay, stale, zombie, torn or cas\n"
+    "  --break HOW       makes the map wrong now and then: drop, race, replay, stale, zombie, torn or cas; all: in each of these ways\n"
     "  --stream          one stream that is followed, in the place of rounds\n"
 #ifdef POTZENDAI_NO_LIBRARY
     "  --out FOLDER      where each round, or the stream, is put as a file, or - for standard output; nobody judges them here\n";
@@ -213,17 +213,25 @@ static inline int potzendai_check_shares(const struct potzendai_options *o, cons
     return 0;
 }
 
-/* Whether what is to be broken is called at all. */
-static inline int potzendai_check_break(const struct potzendai_options *o)
+/* Whether what a broken map makes wrong is called. */
+static inline bool potzendai_is_called(const struct potzendai_options *o, enum potzendai_break how)
 {
     static const enum potzendai_function needed[] = {
         POTZENDAI_PUT, POTZENDAI_PUT, POTZENDAI_PUT, POTZENDAI_GET, POTZENDAI_DEL, POTZENDAI_SCAN, POTZENDAI_REPLACE
     };
+    return o->shares[needed[how]] > 0 && !(how == POTZENDAI_TORN && o->is_steps);
+}
+
+/* Whether what is to be broken is called at all; in each of the ways, whether what one of them makes wrong is. */
+static inline int potzendai_check_break(const struct potzendai_options *o)
+{
     if (o->broken == POTZENDAI_UNBROKEN)
         return 0;
-    if (o->shares[needed[o->broken]] == 0 || (o->broken == POTZENDAI_TORN && o->is_steps))
-        return potzendai_complain("--break", "what it makes wrong is not called");
-    return 0;
+    for (int how = 0; how < POTZENDAI_EACH_BREAK; how++)
+        if ((o->broken == (enum potzendai_break)how || o->broken == POTZENDAI_EACH_BREAK)
+            && potzendai_is_called(o, (enum potzendai_break)how))
+            return 0;
+    return potzendai_complain("--break", "what it makes wrong is not called");
 }
 
 /* How many calls a process may make in a round: those of a thread, or the last gets of all keys. */

@@ -18,6 +18,7 @@ import (
 	"os/exec"
 	"os/signal"
 	"path/filepath"
+	"regexp"
 	"runtime"
 	"sort"
 	"strconv"
@@ -1438,11 +1439,24 @@ func saidAnswer(answer interface{}) string {
 		return saidPairs(pairs)
 	}
 	said, is := map[interface{}]string{nil: "none", "done": "that it was done", "found": "that there was a value", "other": "another value",
-		"refused": "that it was refused", "open": "nothing", "left out": "nothing that counts"}[answer]
+		"refused": "that it was refused", "open": "nothing"}[answer]
 	if !is {
 		said = fmt.Sprint(answer)
 	}
 	return said
+}
+
+// What a call was answered, and who put that, or that its answer is left out of the report.
+func saidAnswered(r *round, answer interface{}) string {
+	if answer == "left out" {
+		return ", whatever its answer"
+	}
+	return ", answered " + saidAnswer(answer) + saidWriter(r, answer)
+}
+
+// The first line of a report, and of a long list of calls only that it stands there.
+func saidVerdict(line string) string {
+	return regexp.MustCompile(`"calls":\[[^\]]{80,}\]`).ReplaceAllString(line, `"calls":[..]`)
 }
 
 func saidCall(call interface{}) string {
@@ -1541,7 +1555,7 @@ func saidMissed(line reported) string {
 // passed over.
 func saidReport(report string, r *round) (said []string, few string) {
 	lines := strings.Split(strings.TrimSpace(report), "\n")
-	said = append(said, lines[0])
+	said = append(said, saidVerdict(lines[0]))
 	for _, text := range lines[1:] {
 		var line reported
 		decoder := json.NewDecoder(strings.NewReader(text))
@@ -1561,8 +1575,8 @@ func saidReport(report string, r *round) (said []string, few string) {
 		case strings.HasPrefix(text, `{"events"`):
 			few = text + "\n"
 		case strings.HasPrefix(text, `{"answer"`):
-			said = append(said, fmt.Sprintf("  %-19s process %-3d %s, answered %s", saidEvents(r, event, process), process,
-				saidCall(line.Call), saidAnswer(line.Answer)+saidWriter(r, line.Answer)+saidMissed(line)))
+			said = append(said, fmt.Sprintf("  %-19s process %-3d %s", saidEvents(r, event, process), process,
+				saidCall(line.Call)+saidAnswered(r, line.Answer)+saidMissed(line)))
 		case strings.HasPrefix(text, `{"from"`):
 			said = append(said, saidFrom(line))
 		case line.Puts != nil:
@@ -1852,9 +1866,14 @@ func readMix(text string) map[string]uint64 {
 	return mix
 }
 
-// Whether what a broken map makes wrong is called.
+// Whether what a broken map makes wrong is called; of all of them, whether what one of them does is.
 func (o *options) isCalled(how string) bool {
-	return o.shares[broken[how]] > 0 && !(how == "torn" && o.scan == "steps")
+	for _, one := range breaks {
+		if (how == one || how == "all") && o.shares[broken[one]] > 0 && !(one == "torn" && o.scan == "steps") {
+			return true
+		}
+	}
+	return false
 }
 
 // The words together, and with what the map has.
@@ -1899,7 +1918,7 @@ func (o *options) fit(has functions) {
 		fail(badWords, "--mix: no share")
 	case o.shares["pop_first"] > 0 && isApart:
 		fail(badWords, "pop_first: takes keys of others, so not with --void own or lock")
-	case o.broken != "" && o.broken != "all" && !o.isCalled(o.broken):
+	case o.broken != "" && !o.isCalled(o.broken):
 		fail(badWords, "--break: what it makes wrong is not called")
 	case o.hot > o.keys:
 		fail(badWords, "--hot: more than there are keys")

@@ -1247,9 +1247,18 @@ public final class Potzendai {
             case "found" -> "that there was a value";
             case "other" -> "another value";
             case "refused" -> "that it was refused";
-            case "open" -> "nothing";
-            default -> "nothing that counts";
+            default -> "nothing";
         };
+    }
+
+    /** What a call was answered, and who put that, or that its answer is left out of the report. */
+    private static String saidAnswered(Round round, Object answer) {
+        return "left out".equals(answer) ? ", whatever its answer" : ", answered " + saidAnswer(answer) + saidWriter(round, answer);
+    }
+
+    /** The first line of a report, and of a long list of calls only that it stands there. */
+    private static String saidVerdict(String line) {
+        return line.replaceFirst("\"calls\":\\[[^\\]]{80,}\\]", "\"calls\":[..]");
     }
 
     private static String saidCall(List<?> call) {
@@ -1315,7 +1324,7 @@ public final class Potzendai {
 
     /** A report of `explain` in words. Behind an undecided `locate` has a line, which is passed over. */
     private static List<String> saidReport(List<String> report, Round round) {
-        List<String> said = new ArrayList<>(report.subList(0, 1));
+        List<String> said = new ArrayList<>(List.of(saidVerdict(report.get(0))));
         List<Map<?, ?>> lines = new ArrayList<>();
         for (String text : report.subList(1, report.size()))
             lines.add((Map<?, ?>) Json.of(text));
@@ -1324,10 +1333,9 @@ public final class Potzendai {
             said.add("these calls have no order, and no other could mend that:");
         for (Map<?, ?> line : lines) {
             if (line.containsKey("answer"))
-                said.add(String.format("  %-19s process %-3d %s, answered %s%s%s",
+                said.add(String.format("  %-19s process %-3d %s%s%s",
                     saidEvents(round, (Long) line.get("event"), (Long) line.get("process")), line.get("process"),
-                    saidCall((List<?>) line.get("call")), saidAnswer(line.get("answer")), saidWriter(round, line.get("answer")),
-                    saidMissed(line)));
+                    saidCall((List<?>) line.get("call")), saidAnswered(round, line.get("answer")), saidMissed(line)));
             if (line.containsKey("from"))
                 said.add(saidFrom(line));
             if (line.containsKey("puts"))
@@ -1579,8 +1587,11 @@ public final class Potzendai {
                 throw new Stop(WORDS, line);
         }
 
-        /** Whether what a broken map makes wrong is called. */
-        boolean isCalled(String how) { return shares.get(BREAKS.get(how)) > 0 && !(how.equals("torn") && isSteps); }
+        /** Whether what a broken map makes wrong is called; of all of them, whether what one of them does is. */
+        boolean isCalled(String how) {
+            return BREAKS.entrySet().stream().anyMatch(one -> (how.equals("all") || how.equals(one.getKey()))
+                && shares.get(one.getValue()) > 0 && !(one.getKey().equals("torn") && isSteps));
+        }
 
         /** The words together, and with what the map has. */
         void fit(Set<Kind> has) {
@@ -1596,7 +1607,7 @@ public final class Potzendai {
             }
             wrong(total() == 0, "--mix: no share");
             wrong(shares.get(Kind.POP_FIRST) > 0 && isApart, "pop_first: takes keys of others, so not with --void own or lock");
-            wrong(BREAKS.containsKey(broken) && !isCalled(broken), "--break: what it makes wrong is not called");
+            wrong(broken != null && !isCalled(broken), "--break: what it makes wrong is not called");
             wrong(hot > keys, "--hot: more than there are keys");
             wrong(isVoid("own") && keys < threads, "--void: own: each thread needs a key");
             calls = calls > 0 || isStream ? calls : Math.min(CALLS / (threads + 2), 200);

@@ -32,6 +32,7 @@ import json
 import multiprocessing
 import os
 import queue
+import re
 import shutil
 import subprocess
 import sys
@@ -995,7 +996,17 @@ def said_answer(answer):
     if isinstance(answer, list):
         return said_pairs(answer)
     return {None: "none", "done": "that it was done", "found": "that there was a value", "other": "another value",
-            "refused": "that it was refused", "open": "nothing", "left out": "nothing that counts"}.get(answer, str(answer))
+            "refused": "that it was refused", "open": "nothing"}.get(answer, str(answer))
+
+
+def said_answered(one, answer):
+    """What a call was answered, and who put that, or that its answer is left out of the report."""
+    return ", whatever its answer" if answer == "left out" else ", answered " + said_answer(answer) + said_writer(one, answer)
+
+
+def said_verdict(line):
+    """The first line of a report, and of a long list of calls only that it stands there."""
+    return re.sub(r'"calls":\[[^]]{80,}\]', '"calls":[..]', line)
 
 
 def said_call(call):
@@ -1052,14 +1063,14 @@ def said_report(report, one):
     texts = report.splitlines()
     texts[1:] = [text for text in texts[1:] if "verdict" not in json.loads(text)]
     lines, few = [json.loads(text) for text in texts], None
-    said = texts[:1] + ["these calls have no order, and no other could mend that:"][:len(texts) - 1]
+    said = [said_verdict(text) for text in texts[:1]] + ["these calls have no order, and no other could mend that:"][:len(texts) - 1]
     for line, text in zip(lines[1:], texts[1:]):
         if "events" in line:
             few = text
         elif "answer" in line:
-            said.append("  %-19s process %-3d %s, answered %s%s%s" % (
-                said_events(one, line["event"], line["process"]), line["process"], said_call(line["call"]), said_answer(line["answer"]),
-                said_writer(one, line["answer"]), said_missed(line)))
+            said.append("  %-19s process %-3d %s%s%s" % (
+                said_events(one, line["event"], line["process"]), line["process"], said_call(line["call"]),
+                said_answered(one, line["answer"]), said_missed(line)))
         elif "from" in line:
             said.append(said_from(line))
         elif "puts" in line:
@@ -1167,7 +1178,7 @@ def fit(options, has):
     if options.shares["pop_first"] and apart:
         wrong("pop_first", "takes keys of others, so not with --void own or lock")
     options.shown_by = {how: options.shares[kind] > 0 and not (how == "torn" and options.scan == "steps") for how, kind in BREAKS.items()}
-    if not options.shown_by.get(options.broken, True):
+    if not options.shown_by.get(options.broken, not options.broken or any(options.shown_by.values())):
         wrong("--break", "what it makes wrong is not called")
     if options.stream and options.rounds:
         wrong("--rounds", "a stream has none; --seconds, or --calls of each thread")

@@ -1578,11 +1578,29 @@ fn said_answer(answer: &Json) -> String {
             "found" => "that there was a value",
             "other" => "another value",
             "refused" => "that it was refused",
-            "open" => "nothing",
-            _ => "nothing that counts",
+            _ => "nothing",
         }
         .to_string(),
         _ => "none".to_string(),
+    }
+}
+
+/// What a call was answered, and who put that, or that its answer is left out of the report.
+fn said_answered(round: &Round, answer: &Json) -> String {
+    match answer {
+        Json::Text(word) if word == "left out" => ", whatever its answer".to_string(),
+        _ => format!(", answered {}{}", said_answer(answer), said_writer(round, answer)),
+    }
+}
+
+/// The first line of a report, and of a long list of calls only that it stands there.
+fn said_verdict(line: &str) -> String {
+    let Some((before, from)) = line.split_once("\"calls\":[") else {
+        return line.to_string();
+    };
+    match from.split_once(']') {
+        Some((calls, behind)) if calls.len() >= 80 => format!("{before}\"calls\":[..]{behind}"),
+        _ => line.to_string(),
     }
 }
 
@@ -1657,7 +1675,7 @@ fn said_missed(line: &Json) -> String {
 /// is passed over.
 fn said_report(report: &str, round: &Round) -> (Vec<String>, Option<String>) {
     let mut lines = report.lines();
-    let (mut said, mut few) = (vec![lines.next().unwrap_or("").to_string()], None);
+    let (mut said, mut few) = (vec![said_verdict(lines.next().unwrap_or(""))], None);
     for text in lines {
         let line = Json::read(&mut &*text);
         if line.has("verdict") {
@@ -1670,11 +1688,10 @@ fn said_report(report: &str, round: &Round) -> (Vec<String>, Option<String>) {
             few = Some(format!("{text}\n"));
         } else if line.has("answer") {
             let (event, process) = (line.member("event").number(), line.member("process").number());
-            let (call, writer) = (said_call(line.member("call")), said_writer(round, line.member("answer")));
-            let answer = said_answer(line.member("answer"));
+            let (call, answered) = (said_call(line.member("call")), said_answered(round, line.member("answer")));
             let missed = said_missed(&line);
             let events = said_events(round, event, process);
-            said.push(format!("  {events:<19} process {process:<3} {call}, answered {answer}{writer}{missed}"));
+            said.push(format!("  {events:<19} process {process:<3} {call}{answered}{missed}"));
         } else if line.has("from") {
             said.push(said_from(&line));
         } else if line.has("puts") {
@@ -1921,10 +1938,10 @@ impl Options {
         Ok(())
     }
 
-    /// Whether what a broken map makes wrong is called.
+    /// Whether what a broken map makes wrong is called; of all of them, whether what one of them does is.
     fn is_called(&self, how: &str) -> bool {
-        let is_steps = how == "torn" && self.scan == "steps";
-        !is_steps && BREAKS.iter().any(|(name, kind)| *name == how && self.shares[*kind as usize] > 0)
+        let is_steps = |name: &str| name == "torn" && self.scan == "steps";
+        BREAKS.iter().any(|(name, kind)| (*name == how || how == "all") && self.shares[*kind as usize] > 0 && !is_steps(name))
     }
 
     /// The words together, and with what the map has.
@@ -1950,7 +1967,7 @@ impl Options {
         let size = format!("at most {most} with {threads} threads, since a round has at most {CALLS} calls");
         let many_keys = format!("--keys: {size}, behind which all keys are got; --stream has no such end");
         let many_calls = format!("--calls: {size}; --stream has no such end");
-        let is_unbroken = self.broken.as_ref().map_or(true, |how| how == "all" || self.is_called(how));
+        let is_unbroken = self.broken.as_ref().map_or(true, |how| self.is_called(how));
         let rows = [
             (self.shares.iter().sum::<u64>() == 0, "--mix: no share"),
             (self.shares[PopFirst as usize] > 0 && is_apart, "pop_first: takes keys of others, so not with --void own or lock"),

@@ -11,7 +11,7 @@ use Rattle.map_object.specs.MapObject.{Contents}
 use Rattle.configurations.proofs.FrontLemmas.{IsNext}
 use Rattle.list_laws.proofs.Lists.{AllPairs-at, All-at}
 use Rattle.search.specs.Remaining.{RemainsBefore, IsEarliestAnswer}
-use Rattle.call_search.specs.Earliest.{earlier_of}
+use Rattle.quiet_cuts.specs.Earliest.{earlier_of}
 
 -- the earliest answer of the calls left with a number below this
 abbrev pub IsEarliestBelow : List Operation → List ℕ → ℕ → Option ℕ → Type 0

@@ -1,22 +1,19 @@
 // The calls that may come next.
-ghost use Rattle.std.specs.Prelude.{◌≡◌, ◌↔◌, ◌+◌, ◌<◌, ◌≤◌, ◌^◌, true, false, length, Some, slice_get, AllPairs, IfOk, MatchOption};
-ghost use Rattle.std.specs.Prelude.{IsTrue};
-ghost use Rattle.std.specs.Prelude.{IsSomeAnd, Contains, slice_index_or};
-ghost use Rattle.list_laws.specs.Lists.{has_number};
+ghost use Rattle.std.specs.Prelude.{◌≡◌, ◌+◌, ◌<◌, ◌≤◌, ◌^◌, true, false, length, Some, slice_get, AllPairs, IfOk, MatchOption};
+ghost use Rattle.std.specs.Prelude.{IsSomeAnd};
 ghost use Rattle.events.specs.Precedence.{NonePrecedesItself};
 ghost use Rattle.map_object.specs.MapObject.{Contents, IsRising};
 ghost use Rattle.orders.specs.Orders.{IsOrder};
 ghost use Rattle.configurations.proofs.FrontLemmas.{IsNext};
 ghost use Rattle.search.specs.Remaining.{IsEarliestAnswer};
-ghost use Rattle.call_search.specs.Earliest.{earlier_of};
 ghost use Rattle.call_search.specs.Idle.{IsPassedOver};
 ghost use Rattle.call_search.specs.Standing.{places, StandsBare, AreChoices};
 
 use crate::idle::{are_idle, is_taken};
 use crate::standing::CallSearch;
-use events::{Memory, Operation, Response};
+use events::{Memory, Operation};
 use orders::may_come_next;
-use quiet_cuts::is_read;
+use quiet_cuts::{earlier_answer, is_behind, is_read};
 use std::alloc::Global;
 
 /// The calls that are to be tried where a search stands, the last one first: one read alone, where
@@ -128,31 +125,8 @@ fn earliest_answer(calls: &[Operation], standing: &CallSearch) -> Option<usize>
             return earliest;
         }
         if !is_taken(standing, place) {
-            earliest = earlier(earliest, &call.response);
+            earliest = earlier_answer(earliest, &call.response);
         }
     }
     earliest
-}
-
-/// Whether a place is behind an answer.
-fn is_behind(answered: Option<usize>, place: usize) -> bool
-    ensures { IsTrue result ↔ IsSomeAnd answered (λ answered. answered < place) }
-{
-    match answered {
-        Some(answered) => answered < place,
-        None => false,
-    }
-}
-
-/// The earlier of two answers, where there are any.
-fn earlier(earliest: Option<usize>, response: &Option<Response>) -> Option<usize>
-    ensures { result ≡ earlier_of earliest response.now }
-{
-    let Some(response) = response else {
-        return earliest;
-    };
-    match earliest {
-        Some(answered) if answered <= response.res => Some(answered),
-        _ => Some(response.res),
-    }
 }

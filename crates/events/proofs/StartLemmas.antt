@@ -17,7 +17,7 @@ use Rattle.events.specs.Starts.{KeysRise, IsStart}
 use Rattle.events.specs.HistoryFaults.{is_above, pair_fault_after}
 
 -- a key above all others is above them
-is_above-true : (before : List (ℕ × ℕ)) (key : ℕ) → All (λ pair. pair.0 < key) before → is_above before key ≡ true
+pub is_above-true : (before : List (ℕ × ℕ)) (key : ℕ) → All (λ pair. pair.0 < key) before → is_above before key ≡ true
 is_above-true [] key h = refl
 is_above-true (pair ∷ before) key h =
     grind (
@@ -29,7 +29,7 @@ is_above-true (pair ∷ before) key h =
     )
 
 -- and back
-is_above-All : (before : List (ℕ × ℕ)) (key : ℕ) → is_above before key ≡ true → All (λ pair. pair.0 < key) before
+pub is_above-All : (before : List (ℕ × ℕ)) (key : ℕ) → is_above before key ≡ true → All (λ pair. pair.0 < key) before
 is_above-All before key h =
     All-weaker (λ (p : ℕ × ℕ). nat_lt p.0 key ≡ true) (λ (p : ℕ × ℕ). p.0 < key) (λ p is. ltb-true p.0 key is) before
     (AllPass-from_list_all (λ (p : ℕ × ℕ). nat_lt p.0 key) before h)

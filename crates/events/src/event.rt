@@ -155,6 +155,17 @@ pub enum Event {
 }
 
 impl Event {
+    ghost use Rattle.events.specs.Events.{process_of};
+
+    /// The process that begins a call, or whose call is answered.
+    pub fn process(&self) -> u8
+        ensures { result ≡ process_of self.now }
+    {
+        match self {
+            Event::Invoke { process, .. } | Event::Answer { process, .. } => *process,
+        }
+    }
+
     /// The same event again.
     pub fn copy(&self, alloc: Global) -> Result<Event, Memory>
         ensures { IfOk result (λ e. e ≡ self.now) }

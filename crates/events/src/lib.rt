@@ -18,6 +18,7 @@ pub use histories::History;
 pub use laws::one_event_fault;
 pub use memory::Memory;
 pub use operation::{Operation, Response};
+pub use starts::is_above;
 pub use turns::Turns;
 
 /// Processes are numbered from 0, each below this.

@@ -5,7 +5,7 @@ ghost use Rattle.events.specs.Events.{process_of, is_invocation};
 ghost use Rattle.events.specs.Histories.{has_range, AreHistoryEvents};
 ghost use Rattle.events.specs.HistoryFaults.{event_fault, fault_after};
 
-use crate::event::{Call, Event, Reply};
+use crate::event::{Call, Event};
 use crate::fault::HistoryFault;
 use crate::{MAX_CALLS, MAX_PAIRS, PROCESSES};
 
@@ -51,7 +51,7 @@ impl OpenCalls {
     fn has_open(&self, event: &Event) -> bool
         ensures { result ≡ slice_index_or self.now.has_open (process_of event.now) false }
     {
-        let process = process_of(event) as usize;
+        let process = event.process() as usize;
         process < 64 && self.has_open[process]
     }
 
@@ -62,7 +62,7 @@ impl OpenCalls {
         ensures { (before : List Event) → AreOpenAfter before self.old
             → AreOpenAfter (before ++ event.now ∷ []) self.new }
     {
-        let process = process_of(event) as usize;
+        let process = event.process() as usize;
         match event {
             Event::Invoke { .. } => {
                 self.has_open[process] = true;
@@ -70,15 +70,6 @@ impl OpenCalls {
             }
             Event::Answer { .. } => self.has_open[process] = false,
         }
-    }
-}
-
-fn process_of(event: &Event) -> u8
-    ensures { result ≡ process_of event.now }
-{
-    match event {
-        Event::Invoke { process, .. } => *process,
-        Event::Answer { process, .. } => *process,
     }
 }
 

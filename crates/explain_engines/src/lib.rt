@@ -8,6 +8,7 @@ mod fronts;
 mod laws;
 mod misses;
 mod parts;
+mod processes;
 mod reports;
 mod writers;
 

@@ -5,7 +5,7 @@ ghost use Rattle.serde_json.specs.View.{view, members_view};
 ghost use Rattle.history_text.specs.Texts.{list_data};
 ghost use Rattle.explain_engines.specs.Reports.{missed_data, with_missed};
 
-use crate::reports::process_at;
+use crate::processes::process_at;
 use events::Event;
 use history_text::call_value;
 use origins::Missed;

@@ -3,7 +3,6 @@ ghost use Rattle.std.specs.Prelude.{◌≡◌, ◌≤◌, if◌then◌else◌, [
 ghost use Rattle.serde_json.specs.Data.{object, put as with_member};
 ghost use Rattle.serde_json.specs.View.{view, members_view};
 ghost use Rattle.serde_json.specs.Written.{compact_text};
-ghost use Rattle.events.specs.Events.{process_of};
 ghost use Rattle.events.specs.Operations.{operations};
 ghost use Rattle.history_text.specs.Texts.{number_data, call_data};
 ghost use Rattle.map_object.specs.MapObject.{IsRising};
@@ -12,12 +11,13 @@ ghost use Rattle.outcomes.specs.Lines.{line};
 ghost use Rattle.orders.specs.Orders.{IsLinearizable};
 ghost use Rattle.small_histories.specs.SmallHistories.{IsWrittenAs};
 ghost use Rattle.explain_engines.specs.Answers.{AreFewLines, AreHistoryLines, AreLinesOf, AreTwoLines, IsFrontOf};
-ghost use Rattle.explain_engines.specs.Reports.{answer_data, was_answered, kept_data, process_at, reason_word, missing_row_data, row_data, rows};
+ghost use Rattle.explain_engines.specs.Reports.{answer_data, was_answered, kept_data, reason_word, missing_row_data, row_data, rows};
 
 use crate::fronts::front_line;
 use crate::misses::put_missed;
+use crate::processes::process_at;
 use crate::writers::outside_lines;
-use events::{Event, History, Memory, Operation, Response};
+use events::{History, Memory, Operation, Response};
 use explaining::{Explanation, Reason};
 use history_text::{call_value, reply_value};
 use origins::{Missed, missed_by};
@@ -277,26 +277,6 @@ pub(crate) fn answer_value(alloc: Global, response: &Option<Response>) -> Result
     match response {
         Some(response) => reply_value(alloc, &response.reply),
         None => Value::try_from_str(alloc, "open"),
-    }
-}
-
-/// The process of the event at a place, and 0 where there is none.
-pub(crate) fn process_at(events: &[Event], place: usize) -> u8
-    ensures { result ≡ process_at events.now place }
-{
-    match events.get(place) {
-        Some(event) => process_of(event),
-        None => 0,
-    }
-}
-
-/// The process of an event.
-fn process_of(event: &Event) -> u8
-    ensures { result ≡ process_of event.now }
-{
-    match event {
-        Event::Invoke { process, .. } => *process,
-        Event::Answer { process, .. } => *process,
     }
 }
 

@@ -10,7 +10,7 @@ ghost use Rattle.outcomes.specs.Lines.{line};
 ghost use Rattle.explain_engines.specs.Answers.{AreOriginLines};
 ghost use Rattle.explain_engines.specs.Origins.{writer_data, pair_origin_data, origin_data, origin_lines};
 
-use crate::reports::process_at;
+use crate::processes::process_at;
 use events::{Event, History, Memory, Operation};
 use map_object::SortedMap;
 use origins::{external_pairs, holds, writers_of};

@@ -1,5 +1,6 @@
 pub mod AtRest
 pub mod Calls
+pub mod Doubts
 pub mod Faults
 pub mod FollowerView
 pub mod Following

@@ -1,4 +1,6 @@
 // What an answer makes of a stream.
+ghost use Rattle.std.specs.Prelude.{◌≡◌};
+
 use crate::fault::FollowFault;
 use crate::follower::Follower;
 use kept_rows::KeyLoss;
@@ -20,6 +22,20 @@ pub enum Doubt {
     /// Scans may have taken effect in more ways than are kept: as many as 4,096, fewer where much
     /// is kept of each.
     Rows,
+}
+
+impl Doubt {
+    ghost use Rattle.follower.specs.Doubts.{doubt_word};
+
+    /// Which of these it is, in a word.
+    pub fn word(&self) -> &'static str
+        ensures { result.now ≡ doubt_word self.now }
+    {
+        match self {
+            Doubt::Budget(_) => "budget",
+            Doubt::Rows => "scans",
+        }
+    }
 }
 
 /// What an answer makes of a stream.

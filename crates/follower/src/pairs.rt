@@ -1,7 +1,8 @@
 // The pairs that a scan was told.
-ghost use Rattle.std.specs.Prelude.{◌↔◌, ◌<◌, IsTrue, All};
-ghost use Rattle.events.specs.Starts.{KeysRise};
+ghost use Rattle.std.specs.Prelude.{◌↔◌, IsTrue};
 ghost use Rattle.following.specs.moments.Timings.{ArePairsOf};
+
+use events::is_above;
 
 /// Whether pairs are some that a scan from one key to another may be told: by rising key, all of
 /// the range.
@@ -14,15 +15,4 @@ pub(crate) fn are_pairs_of(pairs: &[(u64, u64)], low: u64, high: u64) -> bool
         }
     }
     true
-}
-
-/// Whether a key is above those of all pairs before it, whose keys rise.
-fn is_above(before: &[(u64, u64)], key: u64) -> bool
-    requires { KeysRise before.now }
-    ensures { IsTrue result ↔ All (λ pair. pair.0 < key) before.now }
-{
-    match before.last() {
-        Some(last) => last.0 < key,
-        None => true,
-    }
 }

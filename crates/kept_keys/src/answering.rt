@@ -13,6 +13,7 @@ ghost use Rattle.key_configurations.specs.Views.{place_limit};
 use crate::kept::{KeptKey, WIDTH};
 use events::{Call, Memory, Operation, Reply, Response};
 use key_configurations::{Ahead, Configuration};
+use quiet_cuts::misses;
 use std::alloc::Global;
 
 impl KeptKey {
@@ -188,17 +189,6 @@ fn tells(value: Option<u64>, call: &Call, reply: &Reply) -> bool
         Reply::None => value.is_none(),
         Reply::Some(told) => value == Some(*told),
         Reply::Refused | Reply::Pairs(_) => false,
-    }
-}
-
-/// Whether a call is a replace that does not find the value that it expects.
-fn misses(value: Option<u64>, call: &Call) -> bool
-    ensures { result ≡ object.misses call.now (value_reply value) }
-{
-    match (call, value) {
-        (Call::Replace(_, expected, _), Some(found)) => found != *expected,
-        (Call::Replace(_, _, _), None) => true,
-        _ => false,
     }
 }
 

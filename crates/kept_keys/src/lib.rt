@@ -26,4 +26,4 @@ pub use laws::{
     kept_keys_see_scans, kept_keys_settle, kept_keys_take_answers, kept_keys_take_calls,
     kept_keys_take_scans, kept_reads_go,
 };
-pub use reads::is_read_of;
+pub use reads::{is_read_of, may_have};

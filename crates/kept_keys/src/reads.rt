@@ -67,7 +67,7 @@ impl KeptKey {
 }
 
 /// Whether some configuration has this value, or none, among its values.
-fn may_have(configurations: &[Configuration], value: Option<u64>) -> bool
+pub fn may_have(configurations: &[Configuration], value: Option<u64>) -> bool
     ensures { IsTrue result ↔ Any (λ c. Contains c.values value) configurations.now }
 {
     for c in configurations {

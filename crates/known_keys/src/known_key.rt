@@ -1,5 +1,5 @@
 // What is kept of a key: at rest its value, and who put it, alone.
-ghost use Rattle.std.specs.Prelude.{◌≡◌, ◌↔◌, ◌<◌, ℕ, if◌then◌else◌, [], Option, Some, None, Any, Contains, IfOk, IsTrue, MatchOption, OnOk};
+ghost use Rattle.std.specs.Prelude.{◌≡◌, ◌↔◌, ◌<◌, ℕ, if◌then◌else◌, [], Option, Some, None, IfOk, IsTrue, MatchOption, OnOk};
 ghost use Rattle.kept_keys.specs.Steps.{with_call};
 ghost use Rattle.kept_keys.specs.Puts.{noted_put, seen};
 ghost use Rattle.kept_keys.specs.Views.{fresh, note_of, place_limit, resting};
@@ -7,7 +7,7 @@ ghost use Rattle.known_keys.specs.Entries.{MayHave};
 ghost use Rattle.known_keys.specs.Resting.{certain, kept_of, IsAtRest, IsLight, IsUnrested, IsUnrestedAt, MaySettle, Rests, RestsAt};
 
 use events::{Call, Memory};
-use kept_keys::{Configuration, KeptKey, is_same_value};
+use kept_keys::{Configuration, KeptKey, is_same_value, may_have};
 use std::alloc::Global;
 use std::marker::Model;
 use std::mem;
@@ -152,7 +152,7 @@ impl KnownKey {
             Held::Nothing => value.is_none(),
             Held::Value(held) => value == Some(*held),
             Held::Put(held, _) => value == Some(*held),
-            Held::Whole(kept) => some_has(&kept.configurations, value),
+            Held::Whole(kept) => may_have(&kept.configurations, value),
         }
     }
 }
@@ -307,23 +307,4 @@ fn certain_value(c: &Configuration) -> Option<Option<u64>>
         return None;
     }
     Some(c.values[0])
-}
-
-/// Whether some configuration has this value, or none, among its values.
-fn some_has(configurations: &[Configuration], value: Option<u64>) -> bool
-    ensures { IsTrue result ↔ Any (λ c. Contains c.values value) configurations.now }
-{
-    for c in configurations {
-        if has_value(c, value) {
-            return true;
-        }
-    }
-    false
-}
-
-/// Whether a configuration has this value, or none, among its values.
-fn has_value(c: &Configuration, value: Option<u64>) -> bool
-    ensures { IsTrue result ↔ Contains c.now.values value }
-{
-    c.values.contains(&value)
 }

@@ -1,16 +1,10 @@
 -- The report of a location: JSON, with members by rising bytes.
-use Rattle.std.specs.Prelude.{ℕ, List, codes}
+use Rattle.std.specs.Prelude.{codes}
 use Rattle.serde_json.specs.Data.{Data, string, object, no_members, member}
 use Rattle.history_text.specs.Texts.{number_data}
-use Rattle.follower.specs.declared.answered.Doubt.{Doubt}
-use Rattle.follower.specs.declared.answered.Doubt.TheVariants.{Budget, Rows}
+use Rattle.follower.specs.Doubts.{doubt_word}
 use Rattle.locating.specs.declared.location.Location.{Location}
 use Rattle.locating.specs.declared.location.Location.TheVariants.{Yes, No, Undecided}
-
--- the word for why it is not known where a history goes wrong
-abbrev pub reason_word : Doubt → List ℕ
-reason_word (Budget at) = codes "budget"
-reason_word Rows = codes "scans"
 
 -- a location
 abbrev pub location_data : Location → Data
@@ -19,4 +13,4 @@ location_data (No loss) = object (member (codes "call") (number_data loss.number
     (member (codes "event") (number_data loss.event) (member (codes "verdict") (string (codes "no")) no_members)))
 location_data (Undecided event number doubt) = object (member (codes "call") (number_data number)
     (member (codes "event") (number_data event)
-    (member (codes "reason") (string (reason_word doubt)) (member (codes "verdict") (string (codes "undecided")) no_members))))
+    (member (codes "reason") (string (doubt_word doubt)) (member (codes "verdict") (string (codes "undecided")) no_members))))

@@ -1,14 +1,13 @@
 // From a location to its line.
-ghost use Rattle.std.specs.Prelude.{◌≡◌, IfOk, OnOk, codes, string_bytes};
+ghost use Rattle.std.specs.Prelude.{◌≡◌, IfOk, OnOk, string_bytes};
 ghost use Rattle.serde_json.specs.Data.{string, object, no_members, put as with_member};
 ghost use Rattle.serde_json.specs.View.{view, members_view};
 ghost use Rattle.serde_json.specs.Written.{compact_text};
 ghost use Rattle.history_text.specs.Texts.{number_data};
-ghost use Rattle.locating.specs.Reports.{location_data, reason_word};
+ghost use Rattle.locating.specs.Reports.{location_data};
 
 use crate::location::Location;
 use events::Memory;
-use follower::Doubt;
 use serde_json::{Map, Value, put};
 use std::alloc::{AllocError, Global};
 
@@ -51,19 +50,9 @@ fn put_location(
         } => {
             put_number(members, alloc, "call", *number)?;
             put_number(members, alloc, "event", *event)?;
-            put_word(members, alloc, "reason", reason_word(doubt))?;
+            put_word(members, alloc, "reason", doubt.word())?;
             put_word(members, alloc, "verdict", "undecided")
         }
-    }
-}
-
-/// The word for why it is not known where a history goes wrong.
-fn reason_word(doubt: &Doubt) -> &'static str
-    ensures { result.now ≡ reason_word doubt.now }
-{
-    match doubt {
-        Doubt::Budget(_) => "budget",
-        Doubt::Rows => "scans",
     }
 }
 

@@ -12,7 +12,8 @@ use Rattle.list_laws.proofs.NumberLemmas.{slice_get-below}
 use Rattle.past_choices.specs.declared.mark.CallMark.{CallMark}
 use Rattle.past_choices.specs.declared.mark.CallMark.TheVariants.{Left}
 use Rattle.past_choices.specs.Positions.{Position}
-use Rattle.past_choices.specs.Steps.{earlier_of, NoneLeftPrecedes, IsEnd}
+use Rattle.past_choices.specs.Steps.{NoneLeftPrecedes, IsEnd}
+use Rattle.quiet_cuts.specs.Earliest.{earlier_of}
 use Rattle.past_choices.proofs.GatherLemmas.{last_or_before}
 
 -- a call that is left, of the first ones, is answered at a place

@@ -1,5 +1,5 @@
 -- Steps from position to position, and what the worklist has come to.
-use Rattle.std.specs.Prelude.{◌≡◌, ◌≢◌, ◌↔◌, ◌⊎◌, ℕ, ◌<◌, ◌≤◌, min, Bool, true, false, List, [], ◌∷◌, length, map, Option, Some, None}
+use Rattle.std.specs.Prelude.{◌≡◌, ◌≢◌, ◌↔◌, ◌⊎◌, ℕ, ◌<◌, ◌≤◌, Bool, true, false, List, [], ◌∷◌, length, map, Option, Some, None}
 use Rattle.std.specs.Prelude.{slice_get, slice_set, All, AllPairs, Contains}
 use Rattle.events.specs.declared.operation.Operation.{Operation}
 use Rattle.events.specs.declared.operation.Response.{Response}
@@ -75,12 +75,6 @@ pub record IsEnd (calls : List Operation) (p : Position) (end : ℕ) : Type 0 wh
   pub within : end ≤ length calls
   pub before : (n : ℕ) → n < end → NoneLeftPrecedes calls p n
   pub behind : (n : ℕ) → end ≤ n → n < length calls → NoneLeftPrecedes calls p n → ⊥
-
--- the earlier of an answer's place and a response's, where there are any
-abbrev pub earlier_of : Option ℕ → Option Response → Option ℕ
-earlier_of earliest None = earliest
-earlier_of None (Some response) = Some response.res
-earlier_of (Some answered) (Some response) = Some (min answered response.res)
 
 -- the positions visited, with those of a list that were not among them
 pub record AreVisited (positions old new : List Position) : Type 0 where

@@ -1,13 +1,13 @@
 // The positions to go on to from one.
-ghost use Rattle.std.specs.Prelude.{◌≡◌, ◌↔◌, ◌<◌, length, AllPairs, IfOk, IfSome, IsTrue, IsSomeAnd, Contains};
+ghost use Rattle.std.specs.Prelude.{◌≡◌, ◌↔◌, ◌<◌, length, AllPairs, IfOk, IfSome, IsTrue, Contains};
 ghost use Rattle.events.specs.Precedence.{NonePrecedesItself};
 ghost use Rattle.past_choices.specs.Positions.{Position as Standing};
-ghost use Rattle.past_choices.specs.Steps.{earlier_of, AreSteps, IsEnd, IsNextOf, IsReadAt, MayCome, NoneLeftPrecedes};
+ghost use Rattle.past_choices.specs.Steps.{AreSteps, IsEnd, IsNextOf, IsReadAt, MayCome, NoneLeftPrecedes};
 
 use crate::mark::CallMark;
 use crate::position::Position;
-use events::{Memory, Operation, Response};
-use quiet_cuts::{is_read, may_be_answered};
+use events::{Memory, Operation};
+use quiet_cuts::{earlier_answer, is_behind, is_read, may_be_answered};
 use std::alloc::Global;
 
 /// The positions to go on to: the one after a read that ended before the moment, where such a read
@@ -48,7 +48,7 @@ fn end_of(calls: &[Operation], position: &Position) -> usize
             return place;
         }
         if marks[place].is_left() {
-            earliest = earlier(earliest, &call.response);
+            earliest = earlier_answer(earliest, &call.response);
         }
     }
     calls.len()
@@ -99,27 +99,4 @@ fn may_come(calls: &[Operation], position: &Position, place: usize) -> bool
     ensures { IsTrue result ↔ MayCome calls.now position.now place }
 {
     position.marks()[place].is_left() && may_be_answered(position.value(), &calls[place])
-}
-
-/// Whether a place is behind an answer.
-fn is_behind(answered: Option<usize>, place: usize) -> bool
-    ensures { IsTrue result ↔ IsSomeAnd answered (λ answered. answered < place) }
-{
-    match answered {
-        Some(answered) => answered < place,
-        None => false,
-    }
-}
-
-/// The earlier of two answers, where there are any.
-fn earlier(earliest: Option<usize>, response: &Option<Response>) -> Option<usize>
-    ensures { result ≡ earlier_of earliest response.now }
-{
-    let Some(response) = response else {
-        return earliest;
-    };
-    match earliest {
-        Some(answered) if answered <= response.res => Some(answered),
-        _ => Some(response.res),
-    }
 }

@@ -9,7 +9,7 @@ use Rattle.outcomes.specs.Lines.{line}
 use Rattle.outcomes.specs.Outcomes.{IsTextOutcome}
 use Rattle.history_engines.specs.Answers.{IsHistoryRefusal, IsTextOf}
 use Rattle.history_engines.proofs.WholeHistories.{IsTextOf-whole}
-use Rattle.pictures.specs.declared.viewports.View.{View}
+use Rattle.pictures.specs.declared.picture.View.{View}
 use Rattle.picture_engines.specs.Drawings.{IsViewAnswer, IsDrawing}
 
 -- a drawing that is answered with a line feed behind it is an outcome of the text

@@ -20,8 +20,8 @@ use Rattle.explaining.specs.Explained.{IsExplanation}
 use Rattle.origins.specs.External.{AreExternal}
 use Rattle.origins.specs.Writers.{writers_of}
 use Rattle.origins.specs.Missed.{missed_by}
-use Rattle.pictures.specs.declared.pictures_of.Picture.{Picture}
-use Rattle.pictures.specs.declared.viewports.View.{View}
+use Rattle.pictures.specs.declared.picture.Picture.{Picture}
+use Rattle.pictures.specs.declared.picture.View.{View}
 use Rattle.pictures.specs.Few.{IsFewOf}
 use Rattle.pictures.specs.Viewports.{IsShownOf}
 use Rattle.picture_engines.specs.declared.choice.Choice.{Choice}

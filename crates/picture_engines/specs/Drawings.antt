@@ -8,11 +8,11 @@ use Rattle.judge.specs.Exact.{IsExactVerdict}
 use Rattle.locating.specs.declared.location.Location.{Location}
 use Rattle.locating.specs.declared.location.Location.TheVariants as locations
 use Rattle.locating.specs.Locations.{IsLocated}
-use Rattle.pictures.specs.declared.pictures_of.Picture.{Picture}
-use Rattle.pictures.specs.declared.viewports.View.{View}
+use Rattle.pictures.specs.declared.picture.Picture.{Picture}
+use Rattle.pictures.specs.declared.picture.View.{View}
 use Rattle.pictures.specs.Fronts.{IsFrontShown}
 use Rattle.pictures.specs.Pictures.{IsPictureOf}
-use Rattle.picture_text.specs.declared.svg_of.TheConstants.{STYLE}
+use Rattle.picture_text.specs.declared.style.TheConstants.{STYLE}
 use Rattle.picture_text.specs.Svg.{IsSvgOf}
 use Rattle.outcomes.specs.declared.outcome.Answer.{Answer}
 use Rattle.outcomes.specs.Lines.{line}

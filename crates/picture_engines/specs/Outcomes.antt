@@ -4,7 +4,7 @@ use Rattle.outcomes.specs.declared.outcome.RunOutcome.{RunOutcome}
 use Rattle.outcomes.specs.Ends.{Change}
 use Rattle.outcomes.specs.Outcomes.{IsReadOutcome}
 use Rattle.history_engines.specs.Answers.{IsHistoryRefusal}
-use Rattle.pictures.specs.declared.viewports.View.{View}
+use Rattle.pictures.specs.declared.picture.View.{View}
 use Rattle.picture_engines.specs.Drawings.{IsViewAnswer}
 
 -- the outcome of `draw` at this budget, where this view is asked for

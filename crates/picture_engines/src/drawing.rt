@@ -18,7 +18,7 @@ ghost use Rattle.picture_engines.specs.Choices.{IsShownAs};
 ghost use Rattle.picture_engines.specs.Outcomes.{IsDrawOutcome};
 ghost use Rattle.pictures.specs.Marks.{IsMarkable};
 ghost use Rattle.pictures.specs.Pictures.{marked};
-ghost use Rattle.pictures.specs.declared.viewports.View.{View};
+ghost use Rattle.pictures.specs.declared.picture.View.{View};
 ghost use Rattle.search.specs.Limits.{budget_limit};
 
 use crate::choice::{Choice, choice_of};

@@ -1,8 +1,8 @@
 -- What stands in a text, worked out step by step.
 use Rattle.std.proofs.Common.{◌≡◌, ℕ, ◌+◌, ◌-◌, [], ◌∷◌, ◌++◌, Bool, List, Some, length, codes, refl}
-use Rattle.pictures.specs.declared.bars.Bar.{Bar}
-use Rattle.pictures.specs.declared.pictures_of.PicturePart.{PicturePart}
-use Rattle.pictures.specs.declared.pictures_of.Picture.{Picture}
+use Rattle.pictures.specs.declared.picture.Bar.{Bar}
+use Rattle.pictures.specs.declared.picture.PicturePart.{PicturePart}
+use Rattle.pictures.specs.declared.picture.Picture.{Picture}
 use Rattle.picture_text.specs.Bars.{number_text, opening_text, with_shape, with_stripes, with_title, with_words}
 use Rattle.picture_text.specs.Frame.{has_wrong, with_legend}
 use Rattle.picture_text.specs.Layout.{x_of, y_of, column_width, screens_before, width_of}

@@ -1,7 +1,7 @@
 -- The bars of a text. Each definition gives the text so far with one part more behind it.
 use Rattle.std.specs.Prelude.{ℕ, ◌+◌, ◌-◌, nat_lt, Bool, true, false, if◌then◌else◌, List, [], ◌∷◌, ◌++◌, Option, Some, None, option_map, codes}
 use Rattle.std.specs.Prelude.{decimal, string_bytes}
-use Rattle.pictures.specs.declared.bars.Bar.{Bar}
+use Rattle.pictures.specs.declared.picture.Bar.{Bar}
 use Rattle.picture_text.specs.Content.{escaped, shown}
 use Rattle.picture_text.specs.Layout.{x_of, y_of, end_of, room_of}
 

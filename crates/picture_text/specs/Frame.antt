@@ -1,10 +1,10 @@
 -- What stands around the bars of a text.
 use Rattle.std.specs.Prelude.{ℕ, ◌+◌, ◌==◌, nat_le, Bool, true, false, if◌then◌else◌, List, [], ◌∷◌, ◌++◌, length, Option, Some, None, codes, decimal}
 use Rattle.std.specs.List.{list_any}
-use Rattle.pictures.specs.declared.bars.Bar.{Bar}
-use Rattle.pictures.specs.declared.pictures_of.Heading.{Heading}
-use Rattle.pictures.specs.declared.pictures_of.Heading.TheVariants.{Order, NoOrder, Undecided}
-use Rattle.pictures.specs.declared.pictures_of.PicturePart.{PicturePart}
+use Rattle.pictures.specs.declared.picture.Bar.{Bar}
+use Rattle.pictures.specs.declared.picture.Heading.{Heading}
+use Rattle.pictures.specs.declared.picture.Heading.TheVariants.{Order, NoOrder, Undecided}
+use Rattle.pictures.specs.declared.picture.PicturePart.{PicturePart}
 use Rattle.pictures.specs.Words.{pairs_words}
 use Rattle.picture_text.specs.Content.{escaped, shown}
 use Rattle.picture_text.specs.Layout.{y_of}

@@ -1,8 +1,8 @@
 -- Where things stand, in the units of the text, at a width of a column.
 use Rattle.std.specs.Prelude.{ℕ, ◌+◌, ◌-◌, ◌*◌, ◌/◌, ◌≤◌, nat_le, if◌then◌else◌, max, min, List, length, map, Option, Some, None, option_map, string_bytes}
 use Rattle.list_laws.specs.Lists.{greatest}
-use Rattle.pictures.specs.declared.bars.Bar.{Bar}
-use Rattle.pictures.specs.declared.pictures_of.PicturePart.{PicturePart}
+use Rattle.pictures.specs.declared.picture.Bar.{Bar}
+use Rattle.pictures.specs.declared.picture.PicturePart.{PicturePart}
 
 -- how many columns stand between two columns of names: as many as fill 1,200 units with one
 abbrev pub per_screen : ℕ → ℕ

@@ -1,7 +1,7 @@
 -- The marks of a text. The last definition gives the text so far with a mark more behind it.
 use Rattle.std.specs.Prelude.{ℕ, ◌+◌, ◌==◌, nat_lt, if◌then◌else◌, List, [], ◌∷◌, ◌++◌, Option, Some, None, find, codes, decimal}
-use Rattle.pictures.specs.declared.bars.Bar.{Bar}
-use Rattle.pictures.specs.declared.marks.Mark.{Mark}
+use Rattle.pictures.specs.declared.picture.Bar.{Bar}
+use Rattle.pictures.specs.declared.picture.Mark.{Mark}
 use Rattle.picture_text.specs.Bars.{with_call}
 use Rattle.picture_text.specs.Layout.{x_of, y_of}
 

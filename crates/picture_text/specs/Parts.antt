@@ -1,9 +1,9 @@
 -- What stands in a text where it is long, or shows a part of a picture.
 use Rattle.std.specs.Prelude.{ℕ, zero, suc, ◌+◌, ◌==◌, if◌then◌else◌, Bool, true, false, List, [], ◌∷◌, ◌++◌, length, Option, Some, None, codes, decimal}
-use Rattle.pictures.specs.declared.pictures_of.Heading.{Heading}
-use Rattle.pictures.specs.declared.pictures_of.Heading.TheVariants.{Order, NoOrder, Undecided}
-use Rattle.pictures.specs.declared.pictures_of.PicturePart.{PicturePart}
-use Rattle.pictures.specs.declared.pictures_of.Picture.{Picture}
+use Rattle.pictures.specs.declared.picture.Heading.{Heading}
+use Rattle.pictures.specs.declared.picture.Heading.TheVariants.{Order, NoOrder, Undecided}
+use Rattle.pictures.specs.declared.picture.PicturePart.{PicturePart}
+use Rattle.pictures.specs.declared.picture.Picture.{Picture}
 use Rattle.picture_text.specs.Layout.{x_of, y_of, names_at}
 
 -- ---- the names of the lanes once more

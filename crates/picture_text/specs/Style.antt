@@ -1,6 +1,6 @@
 -- How the parts of a picture look, as its text has it: no script, and no name of anything outside.
 use Rattle.std.specs.Prelude.{◌≡◌, ℕ, List, [], ◌∷◌, ◌++◌, codes}
-use Rattle.picture_text.specs.declared.svg_of.TheConstants.{STYLE}
+use Rattle.picture_text.specs.declared.style.TheConstants.{STYLE}
 
 -- lines, each with its line feed
 abbrev pub with_feeds : List (List ℕ) → List ℕ

@@ -1,8 +1,8 @@
 -- The text of a picture: Scalable Vector Graphics 1.1.
 use Rattle.std.specs.Prelude.{◌≡◌, ℕ, ◌+◌, ◌-◌, ◌/◌, List, [], ◌∷◌, ◌++◌, length, codes}
-use Rattle.pictures.specs.declared.bars.Bar.{Bar}
-use Rattle.pictures.specs.declared.marks.Mark.{Mark}
-use Rattle.pictures.specs.declared.pictures_of.Picture.{Picture}
+use Rattle.pictures.specs.declared.picture.Bar.{Bar}
+use Rattle.pictures.specs.declared.picture.Mark.{Mark}
+use Rattle.pictures.specs.declared.picture.Picture.{Picture}
 use Rattle.picture_text.specs.Bars.{with_bar}
 use Rattle.picture_text.specs.Marks.{with_mark}
 use Rattle.picture_text.specs.Frame.{head_text, with_heading, with_start, with_lane, has_wrong, with_legend}

@@ -1,6 +1,6 @@
 // What stands around the bars of a text: its head, the words at its top, and its lanes.
 ghost use Rattle.std.specs.Prelude.{◌≡◌, ◌<◌, ◌^◌, ◌++◌, OnOk, string_bytes};
-ghost use Rattle.pictures.specs.declared.pictures_of.Heading.TheVariants.{NoOrder, Undecided};
+ghost use Rattle.pictures.specs.declared.picture.Heading.TheVariants.{NoOrder, Undecided};
 ghost use Rattle.picture_text.specs.Frame.{head_text, keys_text, verdict_text, with_heading, whole_text, with_start, with_start_words, ground_text, name_text, with_lane, has_wrong, marks_text};
 ghost use Rattle.picture_text.specs.Frame.{bars_text, start_text, with_legend, with_marks_text};
 

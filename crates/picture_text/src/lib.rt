@@ -11,8 +11,10 @@ mod laws;
 mod layout;
 mod mark_text;
 mod part_text;
+mod style;
 mod svg_of;
 
 pub use content::push_content;
 pub use laws::{contents_have_no_markup, few_columns_fit, style_is_literal};
-pub use svg_of::{STYLE, svg};
+pub use style::STYLE;
+pub use svg_of::svg;

@@ -9,7 +9,7 @@ use Rattle.events.specs.declared.event.Event.TheVariants.{Invoke}
 use Rattle.events.specs.Events.{process_of}
 use Rattle.events.specs.Histories.{AreHistoryEvents}
 use Rattle.judge.specs.declared.verdict.Verdict.{Verdict}
-use Rattle.pictures.specs.declared.bars.Bar.{Bar}
+use Rattle.pictures.specs.declared.picture.Bar.{Bar}
 use Rattle.pictures.specs.Bars.{AreSpansOf, IsBarOf, AreBarsOf}
 use Rattle.pictures.specs.Lanes.{lanes}
 use Rattle.pictures.proofs.LaneLemmas.{lane-is}

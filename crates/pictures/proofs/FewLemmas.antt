@@ -12,8 +12,8 @@ use Rattle.list_laws.specs.Lists.{has_number}
 use Rattle.list_laws.proofs.FilterLemmas.{AllPairs-map, Contains-from_map}
 use Rattle.list_laws.proofs.Lists.{AllPairs-at, AllPairs-from_at, All-from_contains, Contains-first, Contains-from_filter, Contains-later}
 use Rattle.list_laws.proofs.Lists.{length-distinct}
-use Rattle.pictures.specs.declared.bars.Bar.{Bar}
-use Rattle.pictures.specs.declared.marks.Mark.{Mark}
+use Rattle.pictures.specs.declared.picture.Bar.{Bar}
+use Rattle.pictures.specs.declared.picture.Mark.{Mark}
 use Rattle.pictures.specs.Few.{is_of_named, named_bar, named_marks, stands_out, FewHaveFewColumns}
 use Rattle.pictures.specs.Marks.{AreMarksOf}
 use Rattle.pictures.specs.Viewports.{columns_of, end_of, start_of}

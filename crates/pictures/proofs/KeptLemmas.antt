@@ -2,7 +2,7 @@
 use Rattle.std.proofs.Common.{◌≡◌, ℕ, Bool, true, false, not, List, [], ◌∷◌, map, Some, None, if◌then◌else◌, refl, ap}
 use Rattle.std.specs.Prelude.{filter, cond}
 use Rattle.std.specs.List.{filter_map, cons_option}
-use Rattle.pictures.specs.declared.bars.Bar.{Bar}
+use Rattle.pictures.specs.declared.picture.Bar.{Bar}
 use Rattle.pictures.specs.Viewports.{bar_in, bars_in, meets, ranked_bar}
 
 -- a bar that is kept stands before the others

@@ -17,8 +17,8 @@ use Rattle.events.specs.Precedence.{is_before}
 use Rattle.events.proofs.TimeLemmas.{NonePrecedesItself-operations}
 use Rattle.merge_orders.specs.Merge.{point_in}
 use Rattle.merge_orders.proofs.PointLemmas.{point_in-invocation, point_in-is, not_before_point, point_in-rises}
-use Rattle.pictures.specs.declared.bars.Bar.{Bar}
-use Rattle.pictures.specs.declared.marks.Mark.{Mark}
+use Rattle.pictures.specs.declared.picture.Bar.{Bar}
+use Rattle.pictures.specs.declared.picture.Mark.{Mark}
 use Rattle.pictures.specs.Columns.{order_points, event_column, mark_column}
 use Rattle.pictures.specs.Bars.{AreSpansOf}
 use Rattle.pictures.specs.Marks.{IsMarkable, IsInside, IsMarkAt, AreMarksOf}

@@ -1,8 +1,8 @@
 -- A viewport with its ends worked out step by step is what a view shows, or a picture of a few calls.
 use Rattle.std.proofs.Common.{◌≡◌, ℕ, ◌+◌, Bool, false, List, length, Option, Result, IfOk, subst, sym}
 use Rattle.std.specs.Prelude.{MatchBool, min}
-use Rattle.pictures.specs.declared.pictures_of.Picture.{Picture}
-use Rattle.pictures.specs.declared.viewports.View.{View}
+use Rattle.pictures.specs.declared.picture.Picture.{Picture}
+use Rattle.pictures.specs.declared.picture.View.{View}
 use Rattle.pictures.specs.Few.{few_room, IsFewOf, IsNarrowedTo}
 use Rattle.pictures.specs.Viewports.{column_of, columns_of, event_meant, event_shown, is_whole, rank, room_for, viewport_from}
 use Rattle.pictures.specs.Viewports.{IsPartOf, IsShownOf, IsViewportAround, IsViewportOf}

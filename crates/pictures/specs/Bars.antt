@@ -9,7 +9,7 @@ use Rattle.events.specs.Operations.{operations}
 use Rattle.list_laws.specs.Lists.{has_number}
 use Rattle.judge.specs.declared.verdict.Verdict.{Verdict}
 use Rattle.judge.specs.declared.verdict.Verdict.TheVariants.{Yes, No, Undecided}
-use Rattle.pictures.specs.declared.bars.Bar.{Bar}
+use Rattle.pictures.specs.declared.picture.Bar.{Bar}
 use Rattle.pictures.specs.Columns.{event_column}
 use Rattle.pictures.specs.Lanes.{lanes}
 use Rattle.pictures.specs.Words.{call_words, reply_words}

@@ -4,9 +4,9 @@ use Rattle.std.specs.Prelude.{◌≡◌, ◌≢◌, ℕ, ◌==◌, ◌*◌, ◌�
 use Rattle.std.specs.List.{list_any}
 use Rattle.events.specs.declared.operation.Operation.{Operation}
 use Rattle.list_laws.specs.Lists.{has_number}
-use Rattle.pictures.specs.declared.bars.Bar.{Bar}
-use Rattle.pictures.specs.declared.marks.Mark.{Mark}
-use Rattle.pictures.specs.declared.pictures_of.Picture.{Picture}
+use Rattle.pictures.specs.declared.picture.Bar.{Bar}
+use Rattle.pictures.specs.declared.picture.Mark.{Mark}
+use Rattle.pictures.specs.declared.picture.Picture.{Picture}
 use Rattle.pictures.specs.Marks.{AreMarksOf}
 use Rattle.pictures.specs.Viewports.{column_of, event_meant, IsViewportAround}
 

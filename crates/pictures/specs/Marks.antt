@@ -3,8 +3,8 @@ use Rattle.std.specs.Prelude.{◌≡◌, ◌≢◌, ℕ, ◌<◌, List, length, 
 use Rattle.events.specs.declared.operation.Operation.{Operation}
 use Rattle.orders.specs.Orders.{calls_at, KeepsPrecedence}
 use Rattle.merge_orders.specs.Merge.{point_in}
-use Rattle.pictures.specs.declared.bars.Bar.{Bar}
-use Rattle.pictures.specs.declared.marks.Mark.{Mark}
+use Rattle.pictures.specs.declared.picture.Bar.{Bar}
+use Rattle.pictures.specs.declared.picture.Mark.{Mark}
 use Rattle.pictures.specs.Columns.{order_points, mark_column}
 
 -- calls that can be marked as an order would be: calls of the history, each once, and none before

@@ -4,9 +4,9 @@ use Rattle.events.specs.HistoryView.{HistoryView}
 use Rattle.events.specs.Operations.{operations}
 use Rattle.judge.specs.declared.verdict.Verdict.{Verdict}
 use Rattle.judge.specs.declared.verdict.Verdict.TheVariants as verdicts
-use Rattle.pictures.specs.declared.pictures_of.Heading.{Heading}
-use Rattle.pictures.specs.declared.pictures_of.Heading.TheVariants.{Order, NoOrder, Undecided}
-use Rattle.pictures.specs.declared.pictures_of.Picture.{Picture}
+use Rattle.pictures.specs.declared.picture.Heading.{Heading}
+use Rattle.pictures.specs.declared.picture.Heading.TheVariants.{Order, NoOrder, Undecided}
+use Rattle.pictures.specs.declared.picture.Picture.{Picture}
 use Rattle.pictures.specs.Bars.{AreBarsOf}
 use Rattle.pictures.specs.Columns.{order_points}
 use Rattle.pictures.specs.Lanes.{lanes}

@@ -6,10 +6,10 @@ use Rattle.std.specs.Prelude.{slice_get, MatchBool}
 use Rattle.std.specs.Prelude.{Contains, IfSome}
 use Rattle.std.specs.List.{filter_map, list_any}
 use Rattle.events.specs.Limits.{call_limit}
-use Rattle.pictures.specs.declared.bars.Bar.{Bar}
-use Rattle.pictures.specs.declared.marks.Mark.{Mark}
-use Rattle.pictures.specs.declared.pictures_of.Picture.{Picture}
-use Rattle.pictures.specs.declared.viewports.View.{View}
+use Rattle.pictures.specs.declared.picture.Bar.{Bar}
+use Rattle.pictures.specs.declared.picture.Mark.{Mark}
+use Rattle.pictures.specs.declared.picture.Picture.{Picture}
+use Rattle.pictures.specs.declared.picture.View.{View}
 use Rattle.pictures.specs.Marks.{IsInside}
 
 -- ---- the event in the middle

@@ -10,45 +10,12 @@ ghost use Rattle.list_laws.specs.Lists.{has_number};
 ghost use Rattle.pictures.specs.Words.{call_words, reply_words};
 
 use crate::columns::event_column;
-use crate::lanes::{lane_of, process_of};
+use crate::lanes::lane_of;
+use crate::picture::Bar;
 use crate::words::{call_words, reply_words};
 use events::{Event, History, Memory, Operation, Response};
 use judge::Verdict;
 use std::alloc::Global;
-
-/// The bar of a call, from its invocation to its response; a pending one is open, to the end of the
-/// picture.
-#[derive(Drop)]
-pub struct Bar {
-    /// The number of the call in the history.
-    pub number: usize,
-    /// The process that calls.
-    pub process: u8,
-    /// The place of its lane among the lanes.
-    pub lane: usize,
-    /// The place of the invocation among the events.
-    pub inv: usize,
-    /// The place of the response among the events.
-    pub res: Option<usize>,
-    /// The column of the invocation.
-    pub from: usize,
-    /// The column of the response.
-    pub to: Option<usize>,
-    /// The least key that the call names.
-    pub low: u64,
-    /// The greatest key that it names.
-    pub high: u64,
-    /// The call in words.
-    pub call: String,
-    /// Its reply in words.
-    pub reply: Option<String>,
-    /// Whether the verdict does not speak of the call.
-    pub is_pale: bool,
-    /// Whether its response is the event at which the history goes wrong.
-    pub is_wrong: bool,
-    /// Whether it begins before what is shown.
-    pub is_cut: bool,
-}
 
 /// What the bars of a picture are drawn from, besides the calls.
 #[derive(Clone, Copy)]
@@ -143,7 +110,7 @@ fn process_at(events: &[Event], place: usize) -> u8
     requires { place < length events.now }
     ensures { IfSome (slice_get events.now place) (λ event. result ≡ process_of event) }
 {
-    process_of(&events[place])
+    events[place].process()
 }
 
 /// The reply of a response in words.

@@ -3,9 +3,7 @@ ghost use Rattle.std.specs.Prelude.{◌≡◌, map, IfOk};
 ghost use Rattle.list_laws.specs.Lists.{has_number};
 ghost use Rattle.pictures.specs.Few.{named_bar, is_of_named, named_marks, IsNarrowedTo, IsFewOf};
 
-use crate::bars::Bar;
-use crate::marks::Mark;
-use crate::pictures_of::Picture;
+use crate::picture::{Bar, Mark, Picture};
 use crate::viewports::{column_of, event_meant, viewport_around};
 use events::Memory;
 use std::alloc::Global;

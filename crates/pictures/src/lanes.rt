@@ -1,6 +1,5 @@
 // The lanes of a picture.
 ghost use Rattle.std.specs.Prelude.{◌≡◌, ◌<◌, IfOk, Some, Contains, slice_get};
-ghost use Rattle.events.specs.Events.{process_of};
 ghost use Rattle.pictures.specs.Lanes.{has_events, lanes};
 
 use events::{Event, Memory, PROCESSES};
@@ -24,17 +23,7 @@ pub fn lanes_of(alloc: Global, events: &[Event]) -> Result<Vec<u8>, Memory>
 fn has_events(events: &[Event], process: u8) -> bool
     ensures { result ≡ has_events events.now process }
 {
-    events.iter().any(|event| process_of(event) == process)
-}
-
-/// The process of an event.
-pub fn process_of(event: &Event) -> u8
-    ensures { result ≡ process_of event.now }
-{
-    match event {
-        Event::Invoke { process, .. } => *process,
-        Event::Answer { process, .. } => *process,
-    }
+    events.iter().any(|event| event.process() == process)
 }
 
 /// The place of a process among the lanes.

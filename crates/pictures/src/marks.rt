@@ -5,26 +5,11 @@ ghost use Rattle.pictures.specs.Columns.{mark_column, order_points};
 ghost use Rattle.pictures.specs.Bars.{AreSpansOf};
 ghost use Rattle.pictures.specs.Marks.{IsMarkable, AreMarksOf};
 
-use crate::bars::{Bar, Scene};
+use crate::bars::Scene;
 use crate::columns::mark_column;
+use crate::picture::{Bar, Mark};
 use events::Memory;
 use std::alloc::Global;
-
-/// The mark of a call of an order, at its linearization point.
-#[derive(Clone, Copy, Debug)]
-pub struct Mark {
-    /// The number of the call in the history.
-    pub number: u32,
-    /// The place of the call in the order, from 0.
-    pub place: usize,
-    /// The place of the event behind which its point is: the greatest of an invocation up to its
-    /// place in the order.
-    pub point: usize,
-    /// The place of its lane among the lanes.
-    pub lane: usize,
-    /// Its column.
-    pub column: usize,
-}
 
 /// One mark for each call of an order, at its point.
 pub fn marks_of(

@@ -8,57 +8,14 @@ ghost use Rattle.pictures.specs.Lanes.{lanes};
 ghost use Rattle.pictures.specs.Marks.{IsMarkable, AreMarksOf};
 ghost use Rattle.pictures.specs.Pictures.{marked, heading_of, IsPictureOf};
 
-use crate::bars::{Bar, Scene, bars_of};
+use crate::bars::{Scene, bars_of};
 use crate::columns::points_of;
 use crate::lanes::lanes_of;
-use crate::marks::{Mark, marks_of};
+use crate::marks::marks_of;
+use crate::picture::{Bar, Heading, Mark, Picture};
 use events::{History, Memory};
 use judge::Verdict;
 use std::alloc::Global;
-
-/// What a picture says at its top.
-#[derive(Clone, Copy, Debug, PartialEq, Eq)]
-pub enum Heading {
-    /// The history is linearizable, and an order is marked.
-    Order,
-    /// The calls on the keys from the one to the other have no order.
-    NoOrder { lo: u64, hi: u64 },
-    /// The search of the calls on the keys from the one to the other met more configurations than
-    /// its budget.
-    Undecided { lo: u64, hi: u64 },
-}
-
-/// A picture of a verdict on a history, from left to right by columns, from 0.
-#[derive(Drop)]
-pub struct Picture {
-    /// What it says at its top.
-    pub heading: Heading,
-    /// The pairs that the map holds at the start; of a part those at keys that its calls name.
-    pub start: Vec<(u64, u64)>,
-    /// The processes that have a call, by rising number: a lane for each.
-    pub lanes: Vec<u8>,
-    /// A bar for each call, by number.
-    pub bars: Vec<Bar>,
-    /// A mark for each call of the order, or of the front, as they stand there.
-    pub marks: Vec<Mark>,
-    /// How many columns there are.
-    pub columns: usize,
-    /// Where it shows a part of the columns of a picture, what it leaves out.
-    pub part: Option<PicturePart>,
-    /// Whether a few calls alone stand out.
-    pub is_few: bool,
-}
-
-/// What a part of a picture leaves out.
-#[derive(Clone, Copy, Debug, PartialEq, Eq)]
-pub struct PicturePart {
-    /// How many columns stand before it.
-    pub before: usize,
-    /// How many columns stand behind it.
-    pub behind: usize,
-    /// The event in its middle.
-    pub event: usize,
-}
 
 /// The picture of a verdict on a history: with the event at which it goes wrong, where that is
 /// known, and in a no or an undecided with a front, whose calls are marked as an order would be.

@@ -6,21 +6,9 @@ ghost use Rattle.pictures.specs.Viewports.{columns_of, start_of, end_of, rank, p
 ghost use Rattle.pictures.specs.Viewports.{viewport_from, event_meant, event_shown, last_point, column_of, is_whole, room_for};
 ghost use Rattle.pictures.specs.Viewports.{IsPartOf, IsShownOf, IsViewportAround};
 
-use crate::bars::Bar;
-use crate::marks::Mark;
-use crate::pictures_of::{Picture, PicturePart};
+use crate::picture::{Bar, Mark, Picture, PicturePart, View};
 use events::{MAX_CALLS, Memory};
 use std::alloc::Global;
-
-/// What part of a picture is asked for.
-#[derive(Clone, Copy, Debug, PartialEq, Eq)]
-pub struct View {
-    /// The event in its middle. One that the history has not names none.
-    pub around: u32,
-    /// For how many calls it has room, three columns each. 0 asks for the whole picture, and more
-    /// than a history can have for none, which is for 20.
-    pub calls: u32,
-}
 
 /// The part of a picture of a history with so many events that a view shows: the picture itself
 /// where all its columns have room, else a viewport of the columns of the calls of which the verdict

@@ -87,7 +87,7 @@ fn may_be_answered_so(value: Option<u64>, call: &Call, reply: &Reply) -> bool
 }
 
 /// Whether a call is a replace that does not find the value that it expects.
-fn misses(value: Option<u64>, call: &Call) -> bool
+pub fn misses(value: Option<u64>, call: &Call) -> bool
     ensures { result ≡ object.misses call.now (value_reply value) }
 {
     match (call, value) {

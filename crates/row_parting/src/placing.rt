@@ -1,6 +1,6 @@
 // A row in one of its ways: the scan is a get of each key of its range, at the number of its
 // moment.
-ghost use Rattle.std.specs.Prelude.{◌≡◌, ◌<◌, ◌-◌, ◌+◌, ◌++◌, ℕ, suc, length, All, IfSome, IfOk, IfErr};
+ghost use Rattle.std.specs.Prelude.{◌≡◌, ◌<◌, ◌-◌, ◌+◌, ◌++◌, suc, length, All, IfOk, IfErr};
 ghost use Rattle.std.specs.List.{AllZip};
 ghost use Rattle.map_object.specs.MapObject.{IsRising};
 ghost use Rattle.scan_gaps.specs.Retiming.{IsRetimed};
@@ -17,7 +17,9 @@ ghost use Rattle.row_parting.specs.Steps.{IsHalt, IfCrowded};
 
 use crate::halt::Halt;
 use events::Memory;
-use scan_gaps::{Judged, KeptKey, KeptScan, KeyLoss, OpenScan, Row, Told, limit_at, settle_key};
+use scan_gaps::{
+    Judged, KeptKey, KeptScan, KeyLoss, OpenScan, Row, Told, limit_at, number_of, settle_key,
+};
 use std::alloc::Global;
 
 /// What is kept of a key with the scan as a get: with an order, or with none.
@@ -51,18 +53,6 @@ fn numbers_of(alloc: Global, scans: &[KeptScan]) -> Result<Vec<(usize, usize)>, 
         numbers.push((scan.name, scan.number))?;
     }
     Ok(numbers)
-}
-
-/// The number of a scan's moment.
-fn number_of(scans: &[KeptScan], name: usize) -> usize
-    ensures { result ≡ rows.number_of scans.now name }
-{
-    for scan in scans {
-        if scan.name == name {
-            return scan.number;
-        }
-    }
-    0
 }
 
 /// Places the scan as a get of a key, and judges the key.

@@ -14,5 +14,5 @@ pub use told::{Told, limit_at};
 
 // What crates above name through this one.
 pub use scan_rows::{
-    Judged, KeptKey, KeptScan, KeyLoss, OpenScan, Row, WIDTH, settle_key, time_scans,
+    Judged, KeptKey, KeptScan, KeyLoss, OpenScan, Row, WIDTH, number_of, settle_key, time_scans,
 };

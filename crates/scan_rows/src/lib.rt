@@ -14,7 +14,7 @@ mod settling;
 pub use forgetting::rows_forgotten;
 pub use joining::rows_joined;
 pub use key_loss::KeyLoss;
-pub use moments::time_scans;
+pub use moments::{number_of, time_scans};
 pub use row::{KeptScan, OpenScan, Row};
 pub use settling::settle_key;
 

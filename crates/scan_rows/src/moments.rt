@@ -110,7 +110,7 @@ fn least_gap(turns: &[(usize, usize)], new: &[KeptScan], scan: &KeptScan) -> usi
 }
 
 /// The number of the scan of a name.
-fn number_of(scans: &[KeptScan], name: usize) -> usize
+pub fn number_of(scans: &[KeptScan], name: usize) -> usize
     ensures { result ≡ number_of scans.now name }
 {
     for scan in scans {

@@ -5,16 +5,14 @@ use Rattle.events.specs.declared.event.Event.TheVariants as events
 use Rattle.std.proofs.Common.{◌≡◌, ◌≢◌, ℕ, ◌<◌, true, false, true≢false, List, [], ◌∷◌, ◌++◌, length, map, codes, get_or, inl, inr, subst}
 use Rattle.std.proofs.Common.{refl, sym, ap, ◌∙◌, arith, Result, Ok, Err, IfOk, IfErr}
 use Rattle.std.specs.Prelude.{◌⊎◌, All, IsTrue}
-use Rattle.std.proofs.lemmas.Bool.{lt-ltb}
 use Rattle.std.proofs.lemmas.List.Elements.{All-head, All-weaker}
-use Rattle.std.proofs.lemmas.List.Sums.{AllPass-from_list_all, list_all-from_AllPass}
 use Rattle.std.proofs.lemmas.List.Quantifiers.{all_pairs_push}
-use Rattle.std.proofs.Common.{ltb-true, nat_lt}
 use Rattle.list_laws.proofs.Lists.{AllPairs-across}
 use Rattle.serde_json.specs.Data.{Data}
 use Rattle.events.specs.declared.event.Event.{Event}
 use Rattle.events.specs.Starts.{KeysRise}
 use Rattle.events.specs.HistoryFaults.{is_above}
+use Rattle.events.proofs.StartLemmas.{is_above-true, is_above-All}
 use Rattle.history_text.specs.declared.version.TextVersion.{TextVersion}
 use Rattle.history_text.specs.declared.version.TextVersion.TheVariants.{One}
 use Rattle.history_text.specs.Versions.{version_number, has_start}
@@ -34,20 +32,11 @@ use Rattle.stream_text.proofs.LineLemmas.{one_line_value, one_event, one_fault_o
 
 -- ---- pairs by rising key
 
--- a key above that of each pair is above them
-is_above-true : (before : List (ℕ × ℕ)) (key : ℕ) → All (λ pair. pair.0 < key) before → is_above before key ≡ true
-is_above-true before key h =
-    list_all-from_AllPass (λ (p : ℕ × ℕ). nat_lt p.0 key) before
-    (All-weaker (λ (p : ℕ × ℕ). p.0 < key) (λ (p : ℕ × ℕ). nat_lt p.0 key ≡ true) (λ p lt. lt-ltb p.0 key lt) before h)
-
 -- one pair more, whose key is above all
 pub KeysRise-push : (before : List (ℕ × ℕ)) (pair : ℕ × ℕ) → KeysRise before → is_above before pair.0 ≡ true
     → KeysRise (before ++ pair ∷ [])
 KeysRise-push before pair rising above =
-    let lower : All (λ (p : ℕ × ℕ). p.0 < pair.0) before =
-    All-weaker (λ (p : ℕ × ℕ). nat_lt p.0 pair.0 ≡ true) (λ (p : ℕ × ℕ). p.0 < pair.0) (λ p is. ltb-true p.0 pair.0 is) before
-    (AllPass-from_list_all (λ (p : ℕ × ℕ). nat_lt p.0 pair.0) before above) in
-    all_pairs_push (λ (a : ℕ × ℕ) (b : ℕ × ℕ). a.0 < b.0) before pair rising lower
+    all_pairs_push (λ (a : ℕ × ℕ) (b : ℕ × ℕ). a.0 < b.0) before pair rising (is_above-All before pair.0 above)
 
 -- of pairs by rising key, each key is above those before it
 KeysRise-here : (before rest : List (ℕ × ℕ)) (pair : ℕ × ℕ) → KeysRise (before ++ pair ∷ rest) → is_above before pair.0 ≡ true

@@ -1,10 +1,8 @@
 // From the bytes of a line to what it spells.
 ghost use Rattle.std.specs.Prelude.{◌≡◌, ◌≤◌, map, IfOk, IfErr};
-ghost use Rattle.serde_json.specs.Data.{Data};
 ghost use Rattle.serde_json.specs.View.{view};
 ghost use Rattle.events.specs.declared.event.Event.{Event};
 ghost use Rattle.events.specs.Starts.{KeysRise};
-ghost use Rattle.events.specs.HistoryFaults.{is_above};
 ghost use Rattle.history_text.specs.Texts.{pair_data, event_data, IsEventData};
 ghost use Rattle.history_text.specs.ValueFaults.{invocation_data, response_data};
 ghost use Rattle.stream_text.specs.declared.line_fault.LineFault.TheVariants as faults;
@@ -17,7 +15,7 @@ ghost use Rattle.stream_text.specs.LineFaults.{IsByteFault, IsEventFault, IsStar
 use crate::MAX_LINE;
 use crate::event::{FirstLine, StreamEvent};
 use crate::line_fault::LineFault;
-use events::Pairs;
+use events::{Pairs, is_above};
 use history_text::{
     JsonFault, TextVersion, call_of, items_of, json_of, pair_of, reply_of, turn_of, two_members,
     version_with_start,
@@ -176,15 +174,4 @@ fn pairs_rising(alloc: Global, items: &[Value]) -> Result<Vec<(u64, u64)>, LineF
         }
     }
     Ok(pairs)
-}
-
-/// Whether a key is above that of the last of some pairs by rising key, so above each.
-fn is_above(pairs: &[(u64, u64)], key: u64) -> bool
-    requires { KeysRise pairs.now }
-    ensures { result ≡ is_above pairs.now key }
-{
-    match pairs.last() {
-        Some(last) => last.0 < key,
-        None => true,
-    }
 }

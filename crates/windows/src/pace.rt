@@ -42,7 +42,7 @@ impl Pace {
 
     /// None could be, behind so many calls. To look costs a look at each key, so it is done less and
     /// less often.
-    pub(crate) fn missed(self, calls: usize) -> Pace {
+    pub(crate) fn with_miss(self, calls: usize) -> Pace {
         let misses = self.misses.saturating_add(1);
         Pace {
             pairs: self.pairs,

@@ -234,7 +234,7 @@ impl WindowFollower {
         let found = self.current.map_at_rest(alloc, REST_BUDGET)?;
         match found {
             Some(pairs) => self.begin_anew(alloc, process, &pairs),
-            None => Ok(self.missed(calls)),
+            None => Ok(self.with_miss(calls)),
         }
     }
 
@@ -268,7 +268,7 @@ impl WindowFollower {
     }
 
     /// It could not be put aside behind so many calls.
-    fn missed(self, calls: usize) -> WindowFollower
+    fn with_miss(self, calls: usize) -> WindowFollower
         ensures { result ≡ self }
     {
         let WindowFollower {
@@ -281,7 +281,7 @@ impl WindowFollower {
             current,
             asides,
             lone,
-            pace: pace.missed(calls),
+            pace: pace.with_miss(calls),
         }
     }
 }

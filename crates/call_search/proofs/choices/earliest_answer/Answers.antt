@@ -39,7 +39,7 @@ loop-place-preserved g c =
     let a = c.index-calls-place.result in
     let here : slice_get calls i ≡ Some a = slice_get_read calls (length calls) i a refl c.loop-place-test.true c.index-calls-place.is in
     elim c.if-not-is_taken.branch [
-      | then-not-is_taken w ↦ subst (IsEarliestBelow calls path (i + 1)) (sym (w.earliest-is ∙ w.earlier-earliest.ensures))
+      | then-not-is_taken w ↦ subst (IsEarliestBelow calls path (i + 1)) (sym (w.earliest-is ∙ w.earlier_answer-earliest.ensures))
           (earliest-take calls path i a c.loop-place.earliest here
           (λ h. both_ways c.is_taken.result w.if-not-is_taken.true (c.is_taken.ensures.1 h))
           c.loop-place.invariant)

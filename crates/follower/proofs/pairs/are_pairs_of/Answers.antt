@@ -1,6 +1,7 @@
 use Rattle.std.proofs.Common.{◌≡◌, ◌+◌, ◌∷◌, ◌++◌, take, drop, get_or, arith, subst, sym, ◌∙◌}
 use Rattle.std.proofs.lemmas.List.{take_more, get_or_default}
 use Rattle.list_laws.proofs.Places.{parts_at}
+use Rattle.events.proofs.StartLemmas.{is_above-true, is_above-All}
 use Rattle.following.specs.moments.Timings.{ArePairsOf}
 use Rattle.follower.proofs.PairLemmas.{pairs_push, pairs_next}
 use Rattle.follower.proofs.pairs.are_pairs_of.Goals as goal
@@ -12,7 +13,7 @@ loop-place-preserved c =
     let place = c.loop-place.place in
     rw (take_more pairs place (0, 0) c.loop-place-test.true)
     (pairs_push c.args.low c.args.high (take place pairs) (get_or pairs place (0, 0)) c.loop-place.invariant (omega arith) (omega arith)
-    (c.is_above.ensures.0 c.if-not-is_above.false))
+    (is_above-All (take place pairs) (get_or pairs place (0, 0)).0 (sym c.is_above.ensures ∙ c.if-not-is_above.false)))
 
 pub returns-then-pair-low : goal.returns-then-pair-low
 returns-then-pair-low c = (
@@ -27,6 +28,6 @@ returns-then-pair-low c = (
       elim c.then-pair-low.branch [
         | then-pair-low-via-then-pair-low w ↦ absurd (omega (arith, next.0))
         | then-pair-low-via-else-pair-low+then-high-pair w ↦ absurd (omega (arith, next.1))
-        | then-pair-low-via-else-pair-low+else-high-pair+then-not-is_above w ↦ sym w.if-not-is_above.true ∙ w.is_above.ensures.1 next.2
+        | then-pair-low-via-else-pair-low+else-high-pair+then-not-is_above w ↦ sym w.if-not-is_above.true ∙ w.is_above.ensures ∙ is_above-true (take place pairs) (get_or pairs place (0, 0)).0 next.2
       ],
 )

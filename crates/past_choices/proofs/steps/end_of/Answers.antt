@@ -33,7 +33,7 @@ loop-place-preserved c =
     ends_more calls p n a c.loop-place.earliest c.if-is_left.earliest c.requires.rising c.requires.apart here
     (λ late. both_ways c.is_behind.result c.if-is_behind.false (c.is_behind.ensures.1 late))
     (elim c.if-is_left.branch [
-      | then-is_left w ↦ subst (IsEarliest calls p.marks (n + 1)) (sym (w.earliest-is ∙ w.earlier-earliest.ensures))
+      | then-is_left w ↦ subst (IsEarliest calls p.marks (n + 1)) (sym (w.earliest-is ∙ w.earlier_answer-earliest.ensures))
           (earliest_take calls p.marks n c.loop-place.earliest a here
           (subst (λ (l : List CallMark). slice_get l n ≡ Some Left) c.marks-marks.ensures
           (left_at marks n _ c.is_left.result (omega (arith, c.requires.each, c.loop-place-test.true, ap length c.marks-marks.ensures))

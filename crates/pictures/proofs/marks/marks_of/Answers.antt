@@ -3,7 +3,7 @@ use Rattle.std.specs.Prelude.{slice_get}
 use Rattle.std.proofs.lemmas.Option.{slice_get_read, slice_get-get_or}
 use Rattle.list_laws.proofs.NumberLemmas.{slice_get-below}
 use Rattle.events.specs.Operations.{operations}
-use Rattle.pictures.specs.declared.bars.Bar.{Bar}
+use Rattle.pictures.specs.declared.picture.Bar.{Bar}
 use Rattle.pictures.proofs.MarkLemmas.{AreMarksBelow, point-at, point-within, mark-in-bar, mark-more, marks-rise}
 use Rattle.pictures.proofs.marks.marks_of.Goals as goal
 

@@ -7,10 +7,10 @@ pub returns-in-Invoke : goal.returns-in-Invoke
 returns-in-Invoke c = λ before h.
     let begins : is_invocation c.args.event.now ≡ true = ap is_invocation c.in-Invoke.is in
     AreOpenAfter-push before c.args.event.now _ _ h (search rules) c.requires.known
-    (rw (begins, c.process_of-process.ensures) refl) (rw begins refl)
+    (rw (begins, c.process-process.ensures) refl) (rw begins refl)
 
 pub returns-in-Answer : goal.returns-in-Answer
 returns-in-Answer c = λ before h.
     let ends : is_invocation c.args.event.now ≡ false = ap is_invocation c.in-Answer.is in
-    AreOpenAfter-push before c.args.event.now _ _ h (search rules) c.requires.known (rw (ends, c.process_of-process.ensures) refl)
+    AreOpenAfter-push before c.args.event.now _ _ h (search rules) c.requires.known (rw (ends, c.process-process.ensures) refl)
     (rw ends (omega arith))

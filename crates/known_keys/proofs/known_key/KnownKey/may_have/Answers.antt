@@ -25,7 +25,7 @@ returns-in-Put c =
 
 pub returns-in-Whole : goal.returns-in-Whole
 returns-in-Whole c =
-    subst (λ (all : List Configuration). IsTrue c.some_has.result ↔ Any (λ d. Contains d.values c.args.value) all)
+    subst (λ (all : List Configuration). IsTrue c.may_have.result ↔ Any (λ d. Contains d.values c.args.value) all)
     (c.deref-in-Whole.ensures.value
     ∙ ap (λ (k : KeptView). k.configurations) (c.behind-kept.view_is ∙ c.deref.ensures ∙ sym (ap kept_of c.in-Whole.is) ∙ c.self.view_is))
-    c.some_has.ensures
+    c.may_have.ensures

@@ -1,0 +1,15 @@
+// Which process an event is of.
+ghost use Rattle.std.specs.Prelude.{◌≡◌};
+ghost use Rattle.explain_engines.specs.Reports.{process_at};
+
+use events::Event;
+
+/// The process of the event at a place, and 0 where there is none.
+pub(crate) fn process_at(events: &[Event], place: usize) -> u8
+    ensures { result ≡ process_at events.now place }
+{
+    match events.get(place) {
+        Some(event) => event.process(),
+        None => 0,
+    }
+}

@@ -1,0 +1,105 @@
+// A picture of a verdict on a history, and what of it is asked for.
+
+/// A picture of a verdict on a history, from left to right by columns, from 0.
+#[derive(Drop)]
+pub struct Picture {
+    /// What it says at its top.
+    pub heading: Heading,
+    /// The pairs that the map holds at the start; of a part those at keys that its calls name.
+    pub start: Vec<(u64, u64)>,
+    /// The processes that have a call, by rising number: a lane for each.
+    pub lanes: Vec<u8>,
+    /// A bar for each call, by number.
+    pub bars: Vec<Bar>,
+    /// A mark for each call of the order, or of the front, as they stand there.
+    pub marks: Vec<Mark>,
+    /// How many columns there are.
+    pub columns: usize,
+    /// Where it shows a part of the columns of a picture, what it leaves out.
+    pub part: Option<PicturePart>,
+    /// Whether a few calls alone stand out.
+    pub is_few: bool,
+}
+
+/// What a picture says at its top.
+#[derive(Clone, Copy, Debug, PartialEq, Eq)]
+pub enum Heading {
+    /// The history is linearizable, and an order is marked.
+    Order,
+    /// The calls on the keys from the one to the other have no order.
+    NoOrder { lo: u64, hi: u64 },
+    /// The search of the calls on the keys from the one to the other met more configurations than
+    /// its budget.
+    Undecided { lo: u64, hi: u64 },
+}
+
+/// The bar of a call, from its invocation to its response; a pending one is open, to the end of the
+/// picture.
+#[derive(Drop)]
+pub struct Bar {
+    /// The number of the call in the history.
+    pub number: usize,
+    /// The process that calls.
+    pub process: u8,
+    /// The place of its lane among the lanes.
+    pub lane: usize,
+    /// The place of the invocation among the events.
+    pub inv: usize,
+    /// The place of the response among the events.
+    pub res: Option<usize>,
+    /// The column of the invocation.
+    pub from: usize,
+    /// The column of the response.
+    pub to: Option<usize>,
+    /// The least key that the call names.
+    pub low: u64,
+    /// The greatest key that it names.
+    pub high: u64,
+    /// The call in words.
+    pub call: String,
+    /// Its reply in words.
+    pub reply: Option<String>,
+    /// Whether the verdict does not speak of the call.
+    pub is_pale: bool,
+    /// Whether its response is the event at which the history goes wrong.
+    pub is_wrong: bool,
+    /// Whether it begins before what is shown.
+    pub is_cut: bool,
+}
+
+/// The mark of a call of an order, at its linearization point.
+#[derive(Clone, Copy, Debug)]
+pub struct Mark {
+    /// The number of the call in the history.
+    pub number: u32,
+    /// The place of the call in the order, from 0.
+    pub place: usize,
+    /// The place of the event behind which its point is: the greatest of an invocation up to its
+    /// place in the order.
+    pub point: usize,
+    /// The place of its lane among the lanes.
+    pub lane: usize,
+    /// Its column.
+    pub column: usize,
+}
+
+/// What a part of a picture leaves out.
+#[derive(Clone, Copy, Debug, PartialEq, Eq)]
+pub struct PicturePart {
+    /// How many columns stand before it.
+    pub before: usize,
+    /// How many columns stand behind it.
+    pub behind: usize,
+    /// The event in its middle.
+    pub event: usize,
+}
+
+/// What part of a picture is asked for.
+#[derive(Clone, Copy, Debug, PartialEq, Eq)]
+pub struct View {
+    /// The event in its middle. One that the history has not names none.
+    pub around: u32,
+    /// For how many calls it has room, three columns each. 0 asks for the whole picture, and more
+    /// than a history can have for none, which is for 20.
+    pub calls: u32,
+}

@@ -1,0 +1,28 @@
+// The earliest answer of some calls, call by call.
+ghost use Rattle.std.specs.Prelude.{◌≡◌, ◌↔◌, ◌<◌, IsTrue, IsSomeAnd};
+ghost use Rattle.quiet_cuts.specs.Earliest.{earlier_of};
+
+use events::Response;
+
+/// Whether a place is behind an answer, where there is one.
+pub fn is_behind(answered: Option<usize>, place: usize) -> bool
+    ensures { IsTrue result ↔ IsSomeAnd answered (λ answered. answered < place) }
+{
+    match answered {
+        Some(answered) => answered < place,
+        None => false,
+    }
+}
+
+/// The earlier of two answers, where there are any.
+pub fn earlier_answer(earliest: Option<usize>, response: &Option<Response>) -> Option<usize>
+    ensures { result ≡ earlier_of earliest response.now }
+{
+    let Some(response) = response else {
+        return earliest;
+    };
+    match earliest {
+        Some(answered) if answered <= response.res => Some(answered),
+        _ => Some(response.res),
+    }
+}
