@@ -1,5 +1,5 @@
 use Rattle.running.specs.Groups.{IsGroupOf}
-use Rattle.tree_tests.proofs.arenas.report_interleaved.Given as goal
+use Rattle.recording_tests.proofs.arenas.report_interleaved.Given as goal
 
 abbrev pub invariant-loop-part : goal.invariant-loop-part
 invariant-loop-part l = record {
