@@ -25,10 +25,10 @@ use Rattle.call_search.specs.Reads.{IsReadNext}
 use Rattle.call_search.specs.Standing.{places, IsDead, IsDeadAt, AreNext, Closes, Remembers, IsSettled, AreMarked, StandsWith, AreChoices}
 use Rattle.call_search.specs.Standing.{IsNextOf}
 use Rattle.call_search.specs.Standing.{HasMoved, IsLooked, IsStep, to_try}
-use Rattle.call_search.specs.declared.standing.CallSearch.{CallSearch}
-use Rattle.call_search.specs.declared.standing.SearchStep.{SearchStep}
-use Rattle.call_search.specs.declared.standing.SearchStep.TheVariants.{Made, Order, NoOrder}
-use Rattle.call_search.specs.declared.standing.Branch.{Branch}
+use Rattle.call_search.specs.declared.branch.CallSearch.{CallSearch}
+use Rattle.call_search.specs.declared.branch.SearchStep.{SearchStep}
+use Rattle.call_search.specs.declared.branch.SearchStep.TheVariants.{Made, Order, NoOrder}
+use Rattle.call_search.specs.declared.branch.Branch.{Branch}
 use Rattle.call_search.proofs.ReadLemmas.{reads_first}
 use Rattle.call_search.proofs.MarkLemmas.{marked-none, marked-push, marked-pop}
 

@@ -13,10 +13,10 @@ use Rattle.configurations.proofs.FrontLemmas.{IsNext}
 use Rattle.search.specs.Standing.{pairs_after, IsConfigurationAt}
 use Rattle.search.specs.Undo.{undone}
 use Rattle.call_search.specs.Reads.{HasOrderAfter}
-use Rattle.call_search.specs.declared.standing.Branch.{Branch}
-use Rattle.call_search.specs.declared.standing.CallSearch.{CallSearch}
-use Rattle.call_search.specs.declared.standing.SearchStep.{SearchStep}
-use Rattle.call_search.specs.declared.standing.SearchStep.TheVariants.{Made, Order, NoOrder}
+use Rattle.call_search.specs.declared.branch.Branch.{Branch}
+use Rattle.call_search.specs.declared.branch.CallSearch.{CallSearch}
+use Rattle.call_search.specs.declared.branch.SearchStep.{SearchStep}
+use Rattle.call_search.specs.declared.branch.SearchStep.TheVariants.{Made, Order, NoOrder}
 
 -- the calls taken, by place
 abbrev pub places : List Branch → List ℕ

@@ -9,8 +9,8 @@ ghost use Rattle.search.specs.Remaining.{IsEarliestAnswer};
 ghost use Rattle.call_search.specs.Idle.{IsPassedOver};
 ghost use Rattle.call_search.specs.Standing.{places, StandsBare, AreChoices};
 
+use crate::branch::CallSearch;
 use crate::idle::{are_idle, is_taken};
-use crate::standing::CallSearch;
 use events::{Memory, Operation};
 use orders::may_come_next;
 use quiet_cuts::{earlier_answer, is_behind, is_read};

@@ -9,7 +9,7 @@ ghost use Rattle.segments.proofs.RangeLemmas.{IsOutside};
 ghost use Rattle.call_search.specs.Idle.{AreIdle, WaitsForNone, IsDoneNext, IsOpenNext, IsFree, MissesPair, IsMissing};
 ghost use Rattle.call_search.specs.Standing.{places, StandsBare};
 
-use crate::standing::CallSearch;
+use crate::branch::CallSearch;
 use events::{Call, Operation, Reply};
 use map_object::SortedMap;
 

@@ -10,6 +10,7 @@
 //! own. The exact search of a segment, which counts what its definitions say, is `search`'s.
 #![tactic(auto)]
 
+mod branch;
 mod choices;
 mod found;
 mod idle;

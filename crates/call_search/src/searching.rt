@@ -5,8 +5,9 @@ ghost use Rattle.map_object.specs.MapObject.{Contents, IsRising};
 ghost use Rattle.call_search.specs.Found.{IsFound};
 ghost use Rattle.call_search.specs.Standing.{places, StandsBare};
 
+use crate::branch::{CallSearch, SearchStep};
 use crate::found::SearchEnd;
-use crate::standing::{CallSearch, SearchStep, look_on, make_step, open};
+use crate::standing::{look_on, make_step, open};
 use events::{Memory, Operation};
 use map_object::SortedMap;
 use std::alloc::Global;

@@ -6,7 +6,7 @@ use Rattle.std.proofs.lemmas.Option.{same_Some}
 use Rattle.clap.specs.Words.{Row, Text}
 use Rattle.command_line.specs.Requests.{AreCallsOf, AreFlagsOf, AreNumbersOf, AreWithinFrom, Asked, Asks, Fits, IsAskable, IsRequestOf, asked_of, flags_of, numbers_from}
 use Rattle.command_line.specs.Tables.{Flag, Usage, usage_named}
-use Rattle.command_line.specs.declared.request.Request.{Request}
+use Rattle.command_line.specs.declared.asked.Request.{Request}
 use Rattle.command_line.proofs.TableLemmas.{same_swapped}
 
 -- the numbers from the next place on are those of the rest

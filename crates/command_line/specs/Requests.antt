@@ -9,7 +9,7 @@ use Rattle.clap.specs.Words.{Row, Text, all_of, first_of}
 use Rattle.command_line.specs.Numbers.{IsNumber, IsSpelled, number_of}
 use Rattle.command_line.specs.Tables.{Choice, Flag, Usage, among, greatest_of, is_among, least_of, place_named}
 use Rattle.command_line.specs.Tables.{usage_named, usage_of, within}
-use Rattle.command_line.specs.declared.request.Request.{Request}
+use Rattle.command_line.specs.declared.asked.Request.{Request}
 
 -- a subcommand, the numbers of its options in the order of the table, and the numbers of its calls
 pub record Asked : Type 0 where

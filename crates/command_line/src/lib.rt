@@ -5,6 +5,7 @@
 //! as they are. One fault alone is found after it: a value that is none of the words of its option.
 #![tactic(auto)]
 
+mod asked;
 mod command;
 mod fault;
 mod line;

@@ -15,10 +15,11 @@ ghost use Rattle.command_line.specs.Requests.{AreFlagsOf, IsAskable, IsRequestOf
 ghost use Rattle.command_line.specs.Tables.{Usage};
 ghost use Rattle.command_line.specs.Words.{Given, Gives, IsUse};
 
+use crate::asked::Request;
 use crate::fault::WordsFault;
 use crate::line::{Line, Tree};
 use crate::program::{ABOUT, NAME, SUBCOMMANDS};
-use crate::request::{Request, read_request};
+use crate::request::read_request;
 use std::alloc::Global;
 
 /// What `words` ask for, the program's name first.

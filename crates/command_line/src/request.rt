@@ -14,22 +14,12 @@ ghost use Rattle.command_line.specs.Requests.{is_named, number_named, values_of}
 ghost use Rattle.command_line.specs.Tables.{Usage, choice_of, flag_of, is_table, place_named, usage_named, usage_of};
 ghost use Rattle.command_line.specs.Words.{Given, Gives, IsUse};
 
+use crate::asked::Request;
 use crate::command::command_of;
 use crate::fault::WordsFault;
 use crate::table::{Subcommand, ValueOption, Values};
 use clap::ArgMatches;
 use std::alloc::{AllocError, Global};
-
-/// What words ask for: a subcommand of a table, with its numbers.
-#[derive(Drop)]
-pub(crate) struct Request<'a> {
-    /// The subcommand.
-    pub(crate) subcommand: &'a Subcommand<'a>,
-    /// The number of each of its options, in their order.
-    pub(crate) numbers: Vec<u64>,
-    /// The numbers of its calls.
-    pub(crate) calls: Vec<u32>,
-}
 
 impl Request<'_> {
     /// The number of the option of this name.

@@ -1,4 +1,10 @@
-mod ScriptLemmas
 mod AnswerLemmas
-mod RoomLemmas
+mod ArenaDriveLemmas
+mod ArenaScriptLemmas
 mod DriveLemmas
+mod JoinLemmas
+mod PartLemmas
+mod RoomLemmas
+mod RunLemmas
+mod ScriptLemmas
+mod StepLemmas

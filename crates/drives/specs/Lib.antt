@@ -1,2 +1,4 @@
+pub mod ArenaDrives
 pub mod Drives
+pub mod Groups
 pub mod Passes

@@ -1,9 +1,14 @@
-//! Drives: each process does the calls of its script at one subject, in a thread of its own, and all of it is recorded.
+//! Drives: each process does the calls of its script in a thread of its own, at one subject, and all of it is recorded; or on one tree on
+//! shared words, and what it logs is a history.
 #![tactic(auto)]
 
+mod arena_script;
+mod parts;
 mod room;
 mod script;
 mod subject;
+mod tree;
 
 pub use room::{is_drivable, most_calls};
 pub use subject::drive_subject;
+pub use tree::drive_arena;

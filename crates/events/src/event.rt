@@ -56,9 +56,15 @@ impl Call {
 }
 
 /// The pairs that a scan was answered, in the order in which they came. Contracts see the list.
-#[derive(Debug, Drop)]
+#[derive(Debug)]
 pub struct Pairs {
     items: Vec<(u64, u64)>,
+}
+
+impl Drop for Pairs {
+    fn drop(self) {
+        let Pairs { items: _items } = self;
+    }
 }
 
 impl Model for Pairs {
@@ -94,7 +100,7 @@ impl Pairs {
 }
 
 /// What the map answers.
-#[derive(Debug, Drop)]
+#[derive(Debug)]
 pub enum Reply {
     /// No value was at the key.
     None,
@@ -110,6 +116,20 @@ pub enum Reply {
     Found,
     /// A replace found another value than the one that it expects, or none, and changed nothing.
     Other,
+}
+
+impl Drop for Reply {
+    fn drop(self) {
+        match self {
+            Reply::Pairs(_pairs) => {}
+            Reply::None
+            | Reply::Some(_)
+            | Reply::Refused
+            | Reply::Done
+            | Reply::Found
+            | Reply::Other => {}
+        }
+    }
 }
 
 impl Reply {
@@ -148,10 +168,25 @@ impl Reply {
 }
 
 /// One event of a history: a process begins a call, or its open call is answered.
-#[derive(Debug, Drop)]
+#[derive(Debug)]
 pub enum Event {
     Invoke { process: u8, call: Call },
     Answer { process: u8, reply: Reply },
+}
+
+impl Drop for Event {
+    fn drop(self) {
+        match self {
+            Event::Invoke {
+                process: _,
+                call: _call,
+            } => {}
+            Event::Answer {
+                process: _,
+                reply: _reply,
+            } => {}
+        }
+    }
 }
 
 impl Event {

@@ -14,11 +14,21 @@ use std::marker::Model;
 
 /// A history: the pairs that the map holds at the start, and events, well formed and within the limits.
 /// Contracts see the two lists.
-#[derive(Debug, Drop)]
+#[derive(Debug)]
 pub struct History {
     start: Vec<(u64, u64)>,
     events: Vec<Event>,
     calls: Vec<Operation>,
+}
+
+impl Drop for History {
+    fn drop(self) {
+        let History {
+            start: _start,
+            events: _events,
+            calls: _calls,
+        } = self;
+    }
 }
 
 impl Model for History {

@@ -6,10 +6,19 @@ use crate::memory::Memory;
 use std::alloc::Global;
 
 /// The answer of a call, and the place of that event in the history, from 0.
-#[derive(Debug, Drop)]
+#[derive(Debug)]
 pub struct Response {
     pub res: usize,
     pub reply: Reply,
+}
+
+impl Drop for Response {
+    fn drop(self) {
+        let Response {
+            res: _,
+            reply: _reply,
+        } = self;
+    }
 }
 
 impl Response {
@@ -27,11 +36,21 @@ impl Response {
 
 /// One call of a history: what was asked, the place of its invocation among the events, from 0, and
 /// its response. A call without a response is pending.
-#[derive(Debug, Drop)]
+#[derive(Debug)]
 pub struct Operation {
     pub call: Call,
     pub inv: usize,
     pub response: Option<Response>,
+}
+
+impl Drop for Operation {
+    fn drop(self) {
+        let Operation {
+            call: _call,
+            inv: _,
+            response: _response,
+        } = self;
+    }
 }
 
 impl Operation {

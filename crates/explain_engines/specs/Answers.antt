@@ -20,7 +20,7 @@ use Rattle.explaining.specs.Explained.{IsExplanation}
 use Rattle.locating.specs.declared.location.Location.{Location}
 use Rattle.locating.specs.Locations.{IsLocated}
 use Rattle.locating.specs.Reports.{location_data}
-use Rattle.own_parts.specs.OwnParts.{OwnPart}
+use Rattle.located_calls.specs.OwnParts.{OwnPart}
 use Rattle.located_calls.specs.declared.evidence.Evidence.{Evidence}
 use Rattle.located_calls.specs.declared.evidence.Evidence.TheVariants.{OfEvents, OfKey, Missing}
 use Rattle.located_calls.specs.Evidences.{IsEvidenceOf}

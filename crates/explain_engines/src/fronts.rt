@@ -14,10 +14,10 @@ use crate::reports::answer_value;
 use events::{Call, Memory, Operation, Reply};
 use explaining::precedes;
 use history_text::{pairs_value, reply_value};
+use located_calls::event_of;
 use map_object::SortedMap;
 use orders::apply;
 use outcomes::line_of;
-use own_parts::event_of;
 use serde_json::{Map, Value, put};
 use std::alloc::{AllocError, Global};
 

@@ -8,8 +8,8 @@ ghost use Rattle.explain_engines.specs.Parts.{put_data, part_data};
 
 use crate::writers::writer_value;
 use events::{Event, History, Memory};
+use located_calls::OwnPart;
 use outcomes::line_of;
-use own_parts::OwnPart;
 use serde_json::{Map, Value, put};
 use small_histories::value_or_null;
 use std::alloc::{AllocError, Global};

@@ -12,10 +12,10 @@ use Rattle.explaining.specs.Relaxed.{IsRelaxed}
 use Rattle.explaining.specs.declared.explanation.Reason.{Reason}
 use Rattle.explaining.specs.declared.explanation.Reason.TheVariants as reasons
 use Rattle.explaining.specs.declared.explanation.Explanation.{Explanation}
-use Rattle.explaining.specs.declared.leaving.Without.{Without}
-use Rattle.explaining.specs.declared.leaving.Without.TheVariants.{Rest, Kept}
-use Rattle.explaining.specs.declared.lessening.Reduction.{Reduction}
-use Rattle.explaining.specs.declared.lessening.Reduction.TheVariants.{Less, Least}
+use Rattle.explaining.specs.declared.explanation.Without.{Without}
+use Rattle.explaining.specs.declared.explanation.Without.TheVariants.{Rest, Kept}
+use Rattle.explaining.specs.declared.explanation.Reduction.{Reduction}
+use Rattle.explaining.specs.declared.explanation.Reduction.TheVariants.{Less, Least}
 
 -- some of the calls, each as it is or without its answer, that have no order; and none of those
 -- left out could mend that: each order of all would be one of these (the law

@@ -3,7 +3,8 @@ ghost use Rattle.std.specs.Prelude.{◌≡◌, ◌<◌, map, AllPairs, IfOk};
 ghost use Rattle.events.specs.Precedence.{NonePrecedesItself};
 ghost use Rattle.explaining.specs.Explained.{AreEnough};
 
-use crate::leaving::{Without, leave_out};
+use crate::explanation::Without;
+use crate::leaving::leave_out;
 use events::{Memory, Operation};
 use map_object::SortedMap;
 use std::alloc::Global;

@@ -5,8 +5,8 @@ ghost use Rattle.orders.specs.Orders.{IsLinearizable};
 ghost use Rattle.explaining.specs.Explained.{AreEnough, IsExplanation, few_configurations};
 
 use crate::ends::{first_calls, last_calls};
-use crate::explanation::Explanation;
-use crate::lessening::{Reduction, lessen, look_at_each};
+use crate::explanation::{Explanation, Reduction};
+use crate::lessening::{lessen, look_at_each};
 use events::{Memory, Operation};
 use map_object::SortedMap;
 use std::alloc::Global;

@@ -3,21 +3,12 @@ ghost use Rattle.std.specs.Prelude.{◌≡◌, ◌<◌, ◌^◌, AllPairs, IfOk}
 ghost use Rattle.events.specs.Precedence.{NonePrecedesItself};
 ghost use Rattle.explaining.specs.Explained.{IsWithout};
 
-use crate::explanation::Reason;
+use crate::explanation::{Reason, Without};
 use crate::rests::{are_held, gone_of, puts_of, rest_of};
 use call_search::{SearchEnd, search_calls};
 use events::{Memory, Operation};
 use map_object::SortedMap;
 use std::alloc::Global;
-
-/// What became of calls that were to go.
-#[derive(Drop)]
-pub enum Without {
-    /// The others have no order.
-    Rest(Vec<Operation>),
-    /// They are kept.
-    Kept(Reason),
-}
 
 /// Leaves out the calls but those that were invoked at these places, where these have no order
 /// either.

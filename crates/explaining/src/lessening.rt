@@ -3,20 +3,11 @@ ghost use Rattle.std.specs.Prelude.{◌≡◌, ◌<◌, ◌≤◌, AllPairs, IfO
 ghost use Rattle.events.specs.Precedence.{NonePrecedesItself};
 ghost use Rattle.explaining.specs.Explained.{AreEnough, IsReduction, others_than};
 
-use crate::explanation::Reason;
-use crate::leaving::{Without, leave_out};
+use crate::explanation::{Reason, Reduction, Without};
+use crate::leaving::leave_out;
 use events::{Memory, Operation};
 use map_object::SortedMap;
 use std::alloc::Global;
-
-/// What a look at each call kept came to.
-#[derive(Drop)]
-pub enum Reduction {
-    /// One of them can be left out, and these are the others.
-    Less(Vec<Operation>),
-    /// None can be left out, and each has its reason to stay.
-    Least(Vec<Reason>),
-}
 
 /// Tries to leave out so many of the calls kept at a time, each once, those with the greatest keys
 /// first, and of one key the last ones.

@@ -7,8 +7,8 @@ ghost use Rattle.explaining.specs.declared.explanation.Reason.{Reason};
 
 use crate::ends::places_of;
 use crate::explaining::{by_halves, few_configurations, least_of};
-use crate::explanation::Explanation;
-use crate::leaving::{Without, leave_out};
+use crate::explanation::{Explanation, Without};
+use crate::leaving::leave_out;
 use crate::rests::{precedes, says_put};
 use crate::telling::tells_put;
 use events::{Call, History, Memory, Operation};

@@ -1,10 +1,14 @@
-pub mod AnewLemmas
-pub mod FaultLemmas
+mod AnewLemmas
+mod AskingLemmas
+mod CloseLemmas
+mod FaultLemmas
 mod FollowLemmas
-pub mod JudgeLemmas
+mod JudgeLemmas
 mod NextLemmas
-pub mod OpenLemmas
+mod OpenLemmas
 mod PairLemmas
 mod RestLemmas
 mod RowLemmas
 mod ScanLemmas
+mod StandLemmas
+mod StretchLemmas

@@ -1,9 +1,13 @@
+pub mod Asking
 pub mod AtRest
 pub mod Calls
 pub mod Doubts
 pub mod Faults
+pub mod Followed
 pub mod FollowerView
 pub mod Following
 pub mod Lone
 pub mod Outcomes
 pub mod Steps
+pub mod WindowOutcomes
+pub mod WindowsView

@@ -7,21 +7,40 @@ use kept_rows::KeyLoss;
 
 /// Where a stream goes wrong: the event, the number of the call that it answers, and keys at which
 /// there is no order any more, with what was kept of them.
-#[derive(Debug, Drop)]
+#[derive(Debug)]
 pub struct Loss {
     pub event: usize,
     pub number: usize,
     pub keys: Vec<KeyLoss>,
 }
 
+impl Drop for Loss {
+    fn drop(self) {
+        let Loss {
+            event: _,
+            number: _,
+            keys: _keys,
+        } = self;
+    }
+}
+
 /// Why it is not known whether a stream goes wrong.
-#[derive(Debug, Drop)]
+#[derive(Debug)]
 pub enum Doubt {
     /// A search at this key reaches more positions than the budget.
     Budget(KeyLoss),
     /// Scans may have taken effect in more ways than are kept: as many as 4,096, fewer where much
     /// is kept of each.
     Rows,
+}
+
+impl Drop for Doubt {
+    fn drop(self) {
+        match self {
+            Doubt::Budget(_budget) => {}
+            Doubt::Rows => {}
+        }
+    }
 }
 
 impl Doubt {

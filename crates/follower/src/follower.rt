@@ -31,13 +31,24 @@ const EVENT_LIMIT: usize = (1 << 44) - 2;
 
 /// Follows a stream of events: the rows, the open calls by process, those of them that are scans,
 /// and how many events and calls were taken.
-#[derive(Drop)]
 pub struct Follower {
     rows: Rows,
     open_calls: BTreeMap<u16, OpenCall>,
     open_scans: Vec<OpenScan>,
     events: usize,
     calls: usize,
+}
+
+impl Drop for Follower {
+    fn drop(self) {
+        let Follower {
+            rows: _rows,
+            open_calls: _open_calls,
+            open_scans: _open_scans,
+            events: _,
+            calls: _,
+        } = self;
+    }
 }
 
 impl Model for Follower {

@@ -177,7 +177,7 @@ fn take_scan_answer(
         reply still_open.now) }
 {
     rows_pass_by();
-    match reply {
+    match &reply {
         Reply::Refused => Ok(AnsweredRows::Going(rows)),
         Reply::Done => Ok(AnsweredRows::Going(rows)),
         Reply::Pairs(pairs) => {

@@ -2,7 +2,7 @@
 use segments::Segment;
 
 /// What the judge finds out of a history.
-#[derive(Debug, Drop)]
+#[derive(Debug)]
 pub enum Verdict {
     /// The history is linearizable: an order of all its completed calls and some pending ones, by their
     /// numbers.
@@ -11,4 +11,14 @@ pub enum Verdict {
     No(Segment),
     /// The search of this segment met more configurations than the budget.
     Undecided(Segment),
+}
+
+impl Drop for Verdict {
+    fn drop(self) {
+        match self {
+            Verdict::Yes(_yes) => {}
+            Verdict::No(_no) => {}
+            Verdict::Undecided(_undecided) => {}
+        }
+    }
 }

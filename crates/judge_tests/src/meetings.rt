@@ -69,7 +69,7 @@ fn judge_history<R: Threads + Sync + Abort>(
     requires { (1 ≤ workers) × (workers ≤ MAX_WORKERS) }
 {
     let judged = judge(rt, alloc, history, 1000, workers, gate)?;
-    assert!(rt; matches!(judged, Verdict::Yes(_)));
+    assert!(rt; matches!(&judged, Verdict::Yes(_)));
     Ok(())
 }
 

@@ -20,7 +20,7 @@ use std::mem;
 
 /// The first calls of an order, from a value, or none, where they were checked: the value behind
 /// them, their latest invocation, and the places of the others among so many calls.
-#[derive(Debug, Drop)]
+#[derive(Debug)]
 pub struct Front {
     pub key: u64,
     pub first: Option<u64>,
@@ -28,6 +28,19 @@ pub struct Front {
     pub latest: usize,
     pub seen: usize,
     pub rest: Vec<usize>,
+}
+
+impl Drop for Front {
+    fn drop(self) {
+        let Front {
+            key: _,
+            first: _,
+            value: _,
+            latest: _,
+            seen: _,
+            rest: _rest,
+        } = self;
+    }
 }
 
 /// Where more calls of a key than these are left, the first ones of an order stay checked. Where

@@ -12,10 +12,19 @@ use std::mem;
 
 /// The order of the calls left of a key that was found last, if one was, near which the next one is
 /// looked for, and its first calls, where they were checked.
-#[derive(Debug, Drop)]
+#[derive(Debug)]
 pub struct KeptOrder {
     pub guess: Option<Box<Guess>>,
     pub front: Option<Box<Front>>,
+}
+
+impl Drop for KeptOrder {
+    fn drop(self) {
+        let KeptOrder {
+            guess: _guess,
+            front: _front,
+        } = self;
+    }
 }
 
 impl KeptOrder {
@@ -41,10 +50,11 @@ impl KeptOrder {
     pub fn without_front(self) -> KeptOrder
         ensures { result.front ≡ None }
     {
-        KeptOrder {
-            guess: self.guess,
-            front: None,
-        }
+        let KeptOrder {
+            guess,
+            front: _front,
+        } = self;
+        KeptOrder { guess, front: None }
     }
 
     /// The calls of this name are answered. What was checked stays where none of them is among it.

@@ -13,9 +13,14 @@ use std::alloc::Global;
 use std::marker::Model;
 
 /// What is kept of keys. One of which nothing is kept has no value, and no call left.
-#[derive(Drop)]
 pub struct Known {
     keys: PackedMap<KnownKey>,
+}
+
+impl Drop for Known {
+    fn drop(self) {
+        let Known { keys: _keys } = self;
+    }
 }
 
 impl Model for Known {

@@ -27,9 +27,14 @@ enum Held {
 
 /// What is kept of a key. While the key is at rest, where no call is left of it and it is certain
 /// what it has, that takes 24 bytes.
-#[derive(Drop)]
 pub struct KnownKey {
     held: Held,
+}
+
+impl Drop for KnownKey {
+    fn drop(self) {
+        let KnownKey { held: _held } = self;
+    }
 }
 
 impl Model for KnownKey {
@@ -70,7 +75,8 @@ impl KnownKey {
     pub fn into_kept(self, alloc: Global) -> Result<KeptKey, Memory>
         ensures { IfOk result (λ kept. kept ≡ self) }
     {
-        whole_of(alloc, self.held)
+        let KnownKey { held } = self;
+        whole_of(alloc, held)
     }
 
     /// Takes the invocation of a call of the key, at its place in the stream.

@@ -5,8 +5,8 @@ use Rattle.events.specs.HistoryView.{HistoryView}
 use Rattle.map_object.specs.MapObject.{Contents}
 use Rattle.follower.specs.declared.answered.Loss.{Loss}
 use Rattle.locating.specs.Locations.{IsLostAt}
-use Rattle.own_parts.specs.Laws.{IsOwnPartOf, OwnPartsHaveNoOrder}
-use Rattle.own_parts.specs.OwnParts.{OwnPart, own_part}
+use Rattle.located_calls.specs.Laws.{IsOwnPartOf, OwnPartsHaveNoOrder}
+use Rattle.located_calls.specs.OwnParts.{OwnPart, own_part}
 use Rattle.located_calls.specs.declared.evidence.Evidence.{Evidence}
 use Rattle.located_calls.specs.declared.evidence.Evidence.TheVariants.{OfEvents, OfKey, Missing}
 use Rattle.located_calls.specs.Evidences.{IsLossEvidence, IsOwnEvidence, ShowsNoneUpTo}

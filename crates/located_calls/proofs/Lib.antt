@@ -1,1 +1,3 @@
 mod EvidenceLemmas
+mod LeftLemmas
+mod PartLemmas

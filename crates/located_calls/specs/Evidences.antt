@@ -10,7 +10,7 @@ use Rattle.explaining.specs.declared.explanation.Explanation.{Explanation}
 use Rattle.follower.specs.declared.answered.Loss.{Loss}
 use Rattle.locating.specs.declared.location.Location.{Location}
 use Rattle.locating.specs.declared.location.Location.TheVariants as locations
-use Rattle.own_parts.specs.OwnParts.{own_part}
+use Rattle.located_calls.specs.OwnParts.{own_part}
 use Rattle.located_calls.specs.declared.evidence.Evidence.{Evidence}
 use Rattle.located_calls.specs.declared.evidence.Evidence.TheVariants.{OfEvents, OfKey, Missing}
 

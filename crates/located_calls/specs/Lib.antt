@@ -1,2 +1,4 @@
 pub mod Evidences
+pub mod Laws
+pub mod OwnParts
 pub mod Told

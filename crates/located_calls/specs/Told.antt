@@ -2,7 +2,7 @@
 use Rattle.std.specs.Prelude.{ℕ, ◌==◌, if◌then◌else◌, List, [], ◌∷◌, map, Option, Some, None, is_some}
 use Rattle.events.specs.declared.operation.Operation.{Operation}
 use Rattle.explaining.specs.Rest.{opened}
-use Rattle.own_parts.specs.OwnParts.{event_of}
+use Rattle.located_calls.specs.OwnParts.{event_of}
 
 -- the call that was invoked at an event
 abbrev pub call_at : List Operation → ℕ → Option Operation

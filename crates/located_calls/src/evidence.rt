@@ -7,12 +7,13 @@ ghost use Rattle.map_object.specs.MapObject.{IsRising};
 ghost use Rattle.orders.specs.Orders.{IsLinearizable};
 ghost use Rattle.located_calls.specs.Evidences.{IsEvidenceOf, IsLossEvidence, IsOwnEvidence, IsDoubtEvidence, Refutes};
 
+use crate::laws::own_parts_have_no_order;
+use crate::parts::{OwnPart, own_part};
 use events::{History, Memory};
 use explaining::{Explanation, explain_calls, explain_history};
 use follower::Loss;
 use locating::{Location, history_up_to};
 use map_object::SortedMap;
-use own_parts::{OwnPart, own_part, own_parts_have_no_order};
 use std::alloc::Global;
 
 /// What shows that a history goes wrong at an event, or may.

@@ -2,9 +2,9 @@
 ghost use Rattle.std.specs.Prelude.{◌≡◌, IfOk};
 ghost use Rattle.located_calls.specs.Told.{call_at, answered_as, told_as, told_of, told_calls};
 
+use crate::parts::event_of;
 use events::{Memory, Operation};
 use explaining::without_answer;
-use own_parts::event_of;
 use std::alloc::Global;
 
 /// The calls of a history that few calls are which stand at places of a part of it, each by the

@@ -28,11 +28,11 @@ use Rattle.prefixes.specs.Prefixes.{GoesWrongAt, IsAnswerOf}
 use Rattle.follower.specs.Faults.{event_limit, invocation_fault, answer_fault}
 use Rattle.follower.specs.declared.answered.Doubt.{Doubt}
 use Rattle.follower.specs.declared.answered.Loss.{Loss}
-use Rattle.windows.specs.Followed.{IsFollowed}
-use Rattle.windows.specs.Outcomes.{IsLost, IsSpent, IsAnswered, IsDoubtOfOne, IsCountedAs}
-use Rattle.windows.specs.WindowsView.{WindowsView}
-use Rattle.windows.specs.declared.answered.AnsweredWindows.{AnsweredWindows}
-use Rattle.windows.specs.declared.answered.AnsweredWindows.TheVariants.{Lost, Spent}
+use Rattle.follower.specs.Followed.{IsFollowed}
+use Rattle.follower.specs.WindowOutcomes.{IsLost, IsSpent, IsAnswered, IsDoubtOfOne, IsCountedAs}
+use Rattle.follower.specs.WindowsView.{WindowsView}
+use Rattle.follower.specs.declared.answered_windows.AnsweredWindows.{AnsweredWindows}
+use Rattle.follower.specs.declared.answered_windows.AnsweredWindows.TheVariants.{Lost, Spent}
 use Rattle.locating.specs.Locations.{IsAnswerFollowed, IsLostAt, IsUndecidedAt}
 
 -- what an event that is sound is: it has its range, and comes in turn

@@ -7,11 +7,11 @@ use Rattle.orders.specs.Orders.{IsLinearizableHistory}
 use Rattle.prefixes.specs.Prefixes.{prefix_of, IsAnswerOf, GoesWrongAt}
 use Rattle.follower.specs.declared.answered.Doubt.{Doubt}
 use Rattle.follower.specs.declared.answered.Loss.{Loss}
-use Rattle.windows.specs.Followed.{IsFollowed}
-use Rattle.windows.specs.Outcomes.{IsAnswered, IsCountedAs}
-use Rattle.windows.specs.WindowsView.{WindowsView}
-use Rattle.windows.specs.declared.answered.AnsweredWindows.{AnsweredWindows}
-use Rattle.windows.specs.declared.answered.AnsweredWindows.TheVariants as outcomes
+use Rattle.follower.specs.Followed.{IsFollowed}
+use Rattle.follower.specs.WindowOutcomes.{IsAnswered, IsCountedAs}
+use Rattle.follower.specs.WindowsView.{WindowsView}
+use Rattle.follower.specs.declared.answered_windows.AnsweredWindows.{AnsweredWindows}
+use Rattle.follower.specs.declared.answered_windows.AnsweredWindows.TheVariants as outcomes
 use Rattle.locating.specs.declared.location.Location.{Location}
 use Rattle.locating.specs.declared.location.Location.TheVariants.{Yes, No, Undecided}
 

@@ -1,7 +1,7 @@
 -- What an event makes of the pass of a history's events.
 use Rattle.std.specs.Prelude.{ℕ, ◌+◌, take}
 use Rattle.events.specs.HistoryView.{HistoryView}
-use Rattle.windows.specs.Followed.{IsFollowed}
+use Rattle.follower.specs.Followed.{IsFollowed}
 use Rattle.locating.specs.declared.passing.Passed.{Passed}
 use Rattle.locating.specs.declared.passing.Passed.TheVariants.{Going, Ended}
 use Rattle.locating.specs.Locations.{IsLocated}

@@ -5,13 +5,13 @@ ghost use Rattle.events.specs.Histories.{IsHistory};
 ghost use Rattle.follower.specs.Faults.{shown};
 ghost use Rattle.locating.specs.Locations.{IsLocated};
 ghost use Rattle.locating.specs.Passing.{IsPassed};
-ghost use Rattle.windows.specs.Followed.{IsFollowed};
+ghost use Rattle.follower.specs.Followed.{IsFollowed};
 
 use crate::location::Location;
 use events::{Call, Event, History, Memory, Reply};
+use follower::{AnsweredWindows, FollowFault, WindowFollower};
 use prefixes::histories_have_few_events;
 use std::alloc::Global;
-use windows::{AnsweredWindows, FollowFault, WindowFollower};
 
 /// What an event makes of the pass.
 #[derive(Drop)]

@@ -53,7 +53,7 @@ impl Answer {
 }
 
 /// How a run comes out. Each text ends with a line feed.
-#[derive(Debug, Drop)]
+#[derive(Debug)]
 pub enum RunOutcome {
     /// The input is answered, with this line for standard output.
     Answered {
@@ -79,6 +79,28 @@ pub enum RunOutcome {
     Words(String),
     /// The input could not be read.
     Failed,
+}
+
+impl Drop for RunOutcome {
+    fn drop(self) {
+        match self {
+            RunOutcome::Answered {
+                answer: _,
+                line: _line,
+            } => {}
+            RunOutcome::Noted {
+                answer: _,
+                line: _line,
+                note: _note,
+            } => {}
+            RunOutcome::Refused {
+                line: _line,
+                hint: _hint,
+            } => {}
+            RunOutcome::Words(_words) => {}
+            RunOutcome::Memory | RunOutcome::Failed => {}
+        }
+    }
 }
 
 impl RunOutcome {

@@ -10,7 +10,7 @@ use Rattle.map_object.specs.MapObject.{Contents}
 use Rattle.judge.specs.declared.verdict.Verdict.{Verdict}
 use Rattle.judge.specs.declared.verdict.Verdict.TheVariants as verdicts
 use Rattle.locating.specs.declared.location.Location.{Location}
-use Rattle.own_parts.specs.OwnParts.{OwnPart}
+use Rattle.located_calls.specs.OwnParts.{OwnPart}
 use Rattle.located_calls.specs.declared.evidence.Evidence.{Evidence}
 use Rattle.located_calls.specs.declared.evidence.Evidence.TheVariants.{OfEvents, OfKey, Missing}
 use Rattle.located_calls.specs.Evidences.{IsEvidenceOf}

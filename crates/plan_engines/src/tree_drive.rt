@@ -11,8 +11,8 @@ ghost use Rattle.plan_engines.specs.Drives.{IsTreeDriveAnswer, IsDriveRefusal, W
 ghost use Rattle.plan_engines.specs.Outcomes.{IsTreeDriveOutcome};
 
 use crate::drivable::{drivable_plan, history_outcome};
-use arena_drives::drive_arena;
 use art::{Shape, Variant};
+use drives::drive_arena;
 use history_text::MAX_TEXT;
 use outcomes::{RunOutcome, run_text};
 use pool::Gate;

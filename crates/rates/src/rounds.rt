@@ -2,16 +2,15 @@
 ghost use Rattle.std.specs.Prelude.{◌≤◌};
 ghost use Rattle.recorder.specs.Recorders.{IsPassOf};
 
-use arena_drives::drive_arena;
 use art::{Shape, Variant};
-use drives::is_drivable;
+use drives::{drive_arena, is_drivable};
 use events::{Call, Memory, Reply};
 use pool::OpenGate;
 use recorder::{Pass, Recorder};
 use std::alloc::Global;
 use std::sync::atomic::{AtomicU64, Ordering};
-use std::thread;
 use std::thread::Threads;
+use std::thread;
 use workload::{Mix, plan};
 
 /// How many calls a thread notes in a round.

@@ -2,17 +2,16 @@
 ghost use Rattle.std.specs.Prelude.{⊤};
 
 use crate::shapes::eights;
-use arena_drives::drive_arena;
 use art::Variant;
-use drives::is_drivable;
+use drives::{drive_arena, is_drivable};
 use events::History;
 use plan_text::read_plan;
 use pool::Gate;
 use std::alloc::Global;
 use std::sync::atomic::{AtomicBool, AtomicU64, Ordering};
 use std::test::Fail;
-use std::thread;
 use std::thread::Threads;
+use std::thread;
 
 /// How often a thread yields before it gives up waiting.
 const TURNS: u32 = 10_000_000;

@@ -114,12 +114,12 @@ fn two_threads_are_recorded(rt: HostRuntime) -> Result<(), Fail> {
 fn a_locked_map_answers_and_refuses(rt: HostRuntime) -> Result<(), Fail> {
     let alloc = rt.alloc();
     let map = LockedMap::new(&rt, alloc);
-    assert!(rt; matches!(map.call(&Call::Insert(5, 7)), Reply::None));
-    assert!(rt; matches!(map.call(&Call::Remove(5)), Reply::Some(7)));
+    assert!(rt; matches!(&map.call(&Call::Insert(5, 7)), Reply::None));
+    assert!(rt; matches!(&map.call(&Call::Remove(5)), Reply::Some(7)));
     for key in 0..4097 {
-        assert!(rt; matches!(map.call(&Call::Insert(key, 1)), Reply::None));
+        assert!(rt; matches!(&map.call(&Call::Insert(key, 1)), Reply::None));
     }
-    assert!(rt; matches!(map.call(&Call::Scan(0, 5000)), Reply::Refused));
-    assert!(rt; matches!(map.call(&Call::Scan(1, 5000)), Reply::Pairs(_)));
+    assert!(rt; matches!(&map.call(&Call::Scan(0, 5000)), Reply::Refused));
+    assert!(rt; matches!(&map.call(&Call::Scan(1, 5000)), Reply::Pairs(_)));
     Ok(())
 }

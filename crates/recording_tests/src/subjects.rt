@@ -123,7 +123,7 @@ fn check_answers<R: Abort>(rt: &R, history: &History, round: i32) {
 /// The answers are refuted.
 fn check_refuted<R: Abort>(rt: &R, alloc: Global, history: &History) -> Result<(), Fail> {
     let verdict = judge_alone(alloc, history, MAX_BUDGET)?;
-    assert!(rt; matches!(verdict, Verdict::No(_)), "nothing was inserted");
+    assert!(rt; matches!(&verdict, Verdict::No(_)), "nothing was inserted");
     Ok(())
 }
 
@@ -169,6 +169,6 @@ fn answers_that_tell_less_are_recorded(rt: HostRuntime) -> Result<(), Fail> {
     assert!(rt; history.calls().len() == 3);
     assert!(rt; are_done(&history));
     let verdict = judge_alone(rt.alloc(), &history, MAX_BUDGET)?;
-    assert!(rt; matches!(verdict, Verdict::Yes(_)), "nothing is told");
+    assert!(rt; matches!(&verdict, Verdict::Yes(_)), "nothing is told");
     Ok(())
 }

@@ -21,8 +21,8 @@ use Rattle.row_parting.proofs.ScanGapLemmas.{AreTriedUpTo, are_rivals, no_turns,
 use Rattle.row_parting.proofs.ScanTryLemmas.{have_both, last_turns, ways_last}
 use Rattle.row_parting.specs.declared.halt.Halt.{Halt}
 use Rattle.row_parting.specs.declared.halt.Halt.TheVariants as halts
-use Rattle.row_parting.specs.declared.parting.Parted.{Parted}
-use Rattle.row_parting.specs.declared.placing.Tried.{Tried}
+use Rattle.row_parting.specs.declared.parted.Parted.{Parted}
+use Rattle.row_parting.specs.declared.placed.Tried.{Tried}
 
 -- ---- where they do
 

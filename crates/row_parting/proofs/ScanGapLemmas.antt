@@ -15,7 +15,7 @@ use Rattle.scan_gaps.specs.RowView.{RowView, names_of}
 use Rattle.row_parting.specs.Steps.{TellsOtherwise, HaveOthers, AreMeeting, Meets}
 use Rattle.row_parting.specs.Trying.{HaveTried, HasTriedGap, HasTriedIfNeeded, HasPartedRow, HaveParted, ways_with}
 use Rattle.scan_gaps.specs.KeyLoss.{KeyLoss}
-use Rattle.row_parting.specs.declared.parting.Parted.{Parted}
+use Rattle.row_parting.specs.declared.parted.Parted.{Parted}
 use Rattle.scan_gaps.specs.KeptScan.{KeptScan}
 use Rattle.scan_gaps.proofs.NameLemmas.{name_is}
 use Rattle.row_parting.proofs.RivalLemmas.{rivals_of}

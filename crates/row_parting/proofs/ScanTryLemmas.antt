@@ -13,9 +13,9 @@ use Rattle.scan_gaps.specs.RowView.{RowView, comparisons_of, names_of}
 use Rattle.row_parting.specs.Scannable.{IsSoundRow, MayTakeGets}
 use Rattle.row_parting.specs.Trying.{IsAddedAs, IsScanOf, IsTurnAmong, HaveTried, ways_with}
 use Rattle.scan_gaps.specs.KeyLoss.{KeyLoss}
-use Rattle.row_parting.specs.declared.parting.Parted.{Parted}
-use Rattle.row_parting.specs.declared.placing.Tried.{Tried}
-use Rattle.row_parting.specs.declared.placing.Tried.TheVariants.{Taken, Lost}
+use Rattle.row_parting.specs.declared.parted.Parted.{Parted}
+use Rattle.row_parting.specs.declared.placed.Tried.{Tried}
+use Rattle.row_parting.specs.declared.placed.Tried.TheVariants.{Taken, Lost}
 use Rattle.scan_gaps.specs.KeptScan.{KeptScan}
 use Rattle.row_parting.proofs.HoldLemmas.{hold_fewer, more_said}
 

@@ -17,7 +17,7 @@ use Rattle.row_parting.specs.Placed.{IsNextAmong}
 use Rattle.row_parting.specs.Spending.{IsSpentAmong}
 use Rattle.row_parting.specs.Steps.{HaveOthers, AreMeeting}
 use Rattle.row_parting.specs.Trying.{IsScanOf, HaveTried, HaveSpent, HasSpentGap, HasSpentIfNeeded, HasSpentRow, HaveParted, ways_with}
-use Rattle.row_parting.specs.declared.parting.Parted.{Parted}
+use Rattle.row_parting.specs.declared.parted.Parted.{Parted}
 use Rattle.row_parting.proofs.ScanGapLemmas.{AreTriedUpTo, are_rivals, no_turns, place_more, AreNamedApart}
 use Rattle.row_parting.proofs.ScanTryLemmas.{have_none, have_both, ways_last}
 

@@ -8,12 +8,12 @@ use Rattle.row_parting.specs.Parting.{Way, HasPlacedGet, IsWayTaken, IsWayLost}
 use Rattle.scan_gaps.specs.RowView.{RowView}
 use Rattle.row_parting.specs.Scannable.{IsSound}
 use Rattle.scan_gaps.specs.KeyLoss.{KeyLoss}
-use Rattle.row_parting.specs.declared.placing.Placed.{Placed}
-use Rattle.row_parting.specs.declared.placing.Placed.TheVariants.{Ordered, Unordered}
-use Rattle.row_parting.specs.declared.placing.PlacedKeys.{PlacedKeys}
-use Rattle.row_parting.specs.declared.placing.PlacedKeys.TheVariants as keys
-use Rattle.row_parting.specs.declared.placing.Tried.{Tried}
-use Rattle.row_parting.specs.declared.placing.Tried.TheVariants as tried
+use Rattle.row_parting.specs.declared.placed.Placed.{Placed}
+use Rattle.row_parting.specs.declared.placed.Placed.TheVariants.{Ordered, Unordered}
+use Rattle.row_parting.specs.declared.placed.PlacedKeys.{PlacedKeys}
+use Rattle.row_parting.specs.declared.placed.PlacedKeys.TheVariants as keys
+use Rattle.row_parting.specs.declared.placed.Tried.{Tried}
+use Rattle.row_parting.specs.declared.placed.Tried.TheVariants as tried
 use Rattle.scan_gaps.specs.KeptScan.{KeptScan}
 
 -- a key with the scan at its number has an order, or none

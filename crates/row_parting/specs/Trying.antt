@@ -9,9 +9,9 @@ use Rattle.row_parting.specs.Spending.{IsSpentIn}
 use Rattle.scan_gaps.specs.Passing.{IsLeftOut}
 use Rattle.scan_gaps.specs.RowView.{RowView}
 use Rattle.scan_gaps.specs.KeyLoss.{KeyLoss}
-use Rattle.row_parting.specs.declared.parting.Parted.{Parted}
-use Rattle.row_parting.specs.declared.placing.Tried.{Tried}
-use Rattle.row_parting.specs.declared.placing.Tried.TheVariants.{Taken, Lost}
+use Rattle.row_parting.specs.declared.parted.Parted.{Parted}
+use Rattle.row_parting.specs.declared.placed.Tried.{Tried}
+use Rattle.row_parting.specs.declared.placed.Tried.TheVariants.{Taken, Lost}
 use Rattle.scan_gaps.specs.KeptScan.{KeptScan}
 
 -- one more is added

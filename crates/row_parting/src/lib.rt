@@ -4,14 +4,17 @@
 #![tactic(auto)]
 
 mod halt;
+mod parted;
 mod parting;
+mod placed;
 mod placing;
 mod seeing;
 mod sizes;
 mod ways;
 
 pub use halt::Halt;
-pub use parting::{Parted, part_rows};
+pub use parted::Parted;
+pub use parting::part_rows;
 pub use seeing::see_others;
 
 // What crates above name through this one.

@@ -1,97 +1,24 @@
 // Rows part, by all ways in which a scan may have taken effect in each.
-ghost use Rattle.std.specs.Prelude.{◌≡◌, ◌≤◌, ◌<◌, ◌-◌, ◌+◌, ◌++◌, ◌∷◌, [], ℕ, suc, length, All, Contains, IfOk, IfErr, OnOk, IsTrue, ◌↔◌};
+ghost use Rattle.std.specs.Prelude.{◌≡◌, ◌≤◌, ◌<◌, ◌-◌, ◌+◌, ◌++◌, ◌∷◌, [], ℕ, suc, length, All, Contains, IfOk, IfErr, OnOk};
 ghost use Rattle.following.specs.moments.Timings.{ArePairsOf};
 ghost use Rattle.scan_gaps.specs.Views.{place_limit, width};
 ghost use Rattle.row_parting.specs.Crowding.{AreCrowding};
 ghost use Rattle.row_parting.specs.Crowds.{AreTooMany};
 ghost use Rattle.scan_gaps.specs.Limits.{limit_of};
-ghost use Rattle.scan_gaps.specs.ScanAnswers.{ScanAnswer};
 ghost use Rattle.row_parting.specs.Placed.{IsPlacedByOne, IsPlacedInGap, IsPlacedInRow, IsPlacedInRows, WasPlaced};
 ghost use Rattle.scan_gaps.specs.RowView.{names_of};
 ghost use Rattle.row_parting.specs.Scannable.{IsSoundRow};
 ghost use Rattle.row_parting.specs.Spending.{IsSpentAmong};
 ghost use Rattle.row_parting.specs.Steps.{IsHalt, IfCrowded, HaveOthers};
-ghost use Rattle.row_parting.specs.Trying.{AreFew, HasSize, HaveCrowded, HasCrowdedGap, HasCrowdedIfNeeded, IsRowFull, HaveSpent, HasSpentGap, HasSpentIfNeeded, HasSpentRow, IsAddedAs, HaveTried, HasTriedGap, HasTriedIfNeeded, HasPartedRow, HaveParted, IsScanOf, IsTurnAmong, ways_with};
+ghost use Rattle.row_parting.specs.Trying.{AreFew, HaveCrowded, HasCrowdedGap, HasCrowdedIfNeeded, IsRowFull, HaveSpent, HasSpentGap, HasSpentIfNeeded, HasSpentRow, HaveTried, HasTriedGap, HasTriedIfNeeded, HasPartedRow, HaveParted, IsScanOf, IsTurnAmong, ways_with};
 
 use crate::halt::Halt;
-use crate::placing::{Tried, try_way};
-use crate::sizes::size_of;
+use crate::parted::Parted;
+use crate::placing::try_way;
 use crate::ways::{names_meeting, others_of};
 use events::Memory;
-use scan_gaps::{
-    KeptScan, KeyLoss, OpenScan, Row, Told, WIDTH, is_left_out, places_within, time_scans,
-};
+use scan_gaps::{KeptScan, OpenScan, Row, Told, WIDTH, is_left_out, places_within, time_scans};
 use std::alloc::Global;
-
-/// So many rows are kept behind a scan.
-const MOST_ROWS: usize = 4096;
-
-/// And so much is kept of them in all, where they are two or more.
-const MOST_SIZE: usize = 262144;
-
-/// The rows to which rows come, how much is kept of them, and keys that have no order in a way of a
-/// row.
-#[derive(Drop)]
-pub struct Parted {
-    pub next: Vec<Row>,
-    pub size: usize,
-    pub losses: Vec<KeyLoss>,
-}
-
-impl Parted {
-    /// Before any row has parted.
-    fn new(alloc: Global) -> Parted
-        ensures rows { result.next.items ≡ [] }
-        ensures losses { result.losses.items ≡ [] }
-        ensures few { AreFew result }
-    {
-        Parted {
-            next: Vec::new(alloc),
-            size: 0,
-            losses: Vec::new(alloc),
-        }
-    }
-
-    /// Whether too many rows are there, or too much is kept of them.
-    fn are_too_many(&self) -> bool
-        requires { HasSize self.now }
-        ensures { IsTrue result ↔ AreTooMany self.now.next.items }
-    {
-        self.next.len() > MOST_ROWS || (self.next.len() > 1 && self.size > MOST_SIZE)
-    }
-
-    /// Adds what a row comes to in one of its ways. The row with which there are too many is added,
-    /// too.
-    fn add(&mut self, tried: Tried) -> Result<(), Halt>
-        requires { AreFew self.old }
-        ensures added { OnOk result (IsAddedAs tried self.old self.new) }
-        ensures few { OnOk result (AreFew self.new) }
-        ensures halt { (s : ScanAnswer) (budget : ℕ) → IfErr result (IsHalt s budget) }
-        ensures crowded { IfErr result (IfCrowded
-            (IsAddedAs tried self.old self.new × AreTooMany self.new.next.items)) }
-        ensures spent { IfErr result (WasPlaced (λ loss. ⊥)) }
-    {
-        match tried {
-            Tried::Taken(row) => {
-                self.size = self.size.saturating_add(size_of(&row));
-                self.next.push(row)?;
-                if self.are_too_many() {
-                    return Err(Halt::Crowded);
-                }
-            }
-            Tried::Lost(loss) => self.losses.push(loss)?,
-        }
-        Ok(())
-    }
-
-    /// Whether there are so many rows and losses.
-    fn has(&self, rows: usize, losses: usize) -> bool
-        ensures { IsTrue result ↔ ((length self.now.next.items ≡ rows)
-            × (length self.now.losses.items ≡ losses)) }
-    {
-        self.next.len() == rows && self.losses.len() == losses
-    }
-}
 
 /// A turn before others.
 fn with_turn(

@@ -16,33 +16,12 @@ ghost use Rattle.row_parting.specs.Scannable.{MayTakeGet, MayTakeGets};
 ghost use Rattle.row_parting.specs.Steps.{IsHalt, IfCrowded};
 
 use crate::halt::Halt;
+use crate::placed::{Placed, PlacedKeys, Tried};
 use events::Memory;
 use scan_gaps::{
     Judged, KeptKey, KeptScan, KeyLoss, OpenScan, Row, Told, limit_at, number_of, settle_key,
 };
 use std::alloc::Global;
-
-/// What is kept of a key with the scan as a get: with an order, or with none.
-#[derive(Drop)]
-pub(crate) enum Placed {
-    Ordered(KeptKey),
-    Unordered(KeptKey),
-}
-
-/// What is kept of the keys of a row with the scan as a get, where they are in its range; or of one
-/// that then has no order.
-#[derive(Drop)]
-pub(crate) enum PlacedKeys {
-    All(Vec<Option<KeptKey>>),
-    Lost(KeyLoss),
-}
-
-/// What a row comes to in one of its ways: another row, or a key of it has no order.
-#[derive(Drop)]
-pub(crate) enum Tried {
-    Taken(Row),
-    Lost(KeyLoss),
-}
 
 /// The names of scans with the numbers of their moments.
 fn numbers_of(alloc: Global, scans: &[KeptScan]) -> Result<Vec<(usize, usize)>, Memory>

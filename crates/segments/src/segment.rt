@@ -16,13 +16,25 @@ use std::marker::Model;
 
 /// Some calls of a history by rising number, at least one, with the least and the greatest key that they
 /// name, and the pairs of the history's start from the one to the other. Contracts see these five.
-#[derive(Debug, Drop)]
+#[derive(Debug)]
 pub struct Segment {
     numbers: Vec<u32>,
     calls: Vec<Operation>,
     lo: u64,
     hi: u64,
     start: Vec<(u64, u64)>,
+}
+
+impl Drop for Segment {
+    fn drop(self) {
+        let Segment {
+            numbers: _numbers,
+            calls: _calls,
+            lo: _,
+            hi: _,
+            start: _start,
+        } = self;
+    }
 }
 
 impl Model for Segment {

@@ -16,8 +16,8 @@ use Rattle.answer_hints.proofs.OverlapLemmas.{pending-room, overlap-room, pendin
 use Rattle.stream_text.specs.Lines.{SpellsEvent}
 use Rattle.follower.specs.Faults.{event_limit, invocation_fault}
 use Rattle.follower.specs.declared.fault.FollowFault.{FollowFault}
-use Rattle.windows.specs.Followed.{IsFollowed as IsFollowedBy}
-use Rattle.windows.specs.WindowsView.{WindowsView}
+use Rattle.follower.specs.Followed.{IsFollowed as IsFollowedBy}
+use Rattle.follower.specs.WindowsView.{WindowsView}
 use Rattle.stream_engines.specs.declared.followed.Followed.{Followed}
 use Rattle.stream_engines.specs.Followed.{IsFollowed}
 use Rattle.stream_engines.proofs.StreamLemmas.{SpellStream-push}

@@ -8,7 +8,7 @@ use Rattle.stream_text.specs.Cuts.{lines_of}
 use Rattle.stream_text.specs.Lines.{SpellsEvent}
 use Rattle.follower.specs.declared.answered.Doubt.{Doubt}
 use Rattle.follower.specs.declared.answered.Loss.{Loss}
-use Rattle.windows.specs.Outcomes.{IsLost}
+use Rattle.follower.specs.WindowOutcomes.{IsLost}
 use Rattle.outcomes.specs.declared.outcome.Answer as answers
 use Rattle.outcomes.specs.declared.outcome.Answer.TheVariants.{Yes, Undecided}
 use Rattle.outcomes.specs.declared.outcome.RunOutcome.{RunOutcome}

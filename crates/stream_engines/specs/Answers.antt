@@ -17,9 +17,9 @@ use Rattle.stream_text.specs.Cuts.{lines_of}
 use Rattle.stream_text.specs.Lines.{SpellsEvent}
 use Rattle.follower.specs.declared.answered.Doubt.{Doubt}
 use Rattle.follower.specs.declared.answered.Loss.{Loss}
-use Rattle.windows.specs.Followed.{IsFollowed}
-use Rattle.windows.specs.Outcomes.{IsLost, IsSpent, IsDoubtOfOne}
-use Rattle.windows.specs.WindowsView.{WindowsView}
+use Rattle.follower.specs.Followed.{IsFollowed}
+use Rattle.follower.specs.WindowOutcomes.{IsLost, IsSpent, IsDoubtOfOne}
+use Rattle.follower.specs.WindowsView.{WindowsView}
 use Rattle.outcomes.specs.declared.outcome.Answer as outcomes
 use Rattle.outcomes.specs.declared.outcome.Answer.TheVariants as verdicts
 use Rattle.outcomes.specs.Lines.{line}
@@ -28,7 +28,7 @@ use Rattle.answer_hints.specs.Overlaps.{overlap_of}
 use Rattle.answer_hints.specs.Hints.{yes_hint}
 use Rattle.stream_engines.specs.Refusals.{stream_fault_line, StopsFor}
 use Rattle.stream_engines.specs.Reports.{yes_line, lost_data, spent_data}
-use Rattle.own_parts.specs.OwnParts.{own_part}
+use Rattle.located_calls.specs.OwnParts.{own_part}
 
 -- all lines spell a stream, whose events have an order; the hint is that on its calls and how much
 -- they overlap

@@ -1,7 +1,7 @@
 -- Where a run stands after some lines of a stream.
 use Rattle.std.specs.Prelude.{◌≡◌, ℕ, List}
 use Rattle.events.specs.HistoryView.{HistoryView}
-use Rattle.windows.specs.Followed.{IsFollowed as IsFollowedBy}
+use Rattle.follower.specs.Followed.{IsFollowed as IsFollowedBy}
 use Rattle.stream_engines.specs.declared.followed.Followed.{Followed}
 use Rattle.stream_engines.specs.StreamTexts.{SpellStream}
 use Rattle.answer_hints.specs.Overlaps.{pending_after, overlap_of}

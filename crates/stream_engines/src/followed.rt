@@ -11,11 +11,11 @@ ghost use Rattle.stream_engines.specs.StreamTexts.{BeginsWith};
 use crate::refusals::{refused_event, refused_first, refused_line};
 use crate::reports::{lost_outcome, spent_outcome, yes_outcome};
 use events::{Call, Memory, Pairs, Reply};
+use follower::{AnsweredWindows, WindowFollower};
 use history_text::TextVersion;
 use outcomes::RunOutcome;
 use std::alloc::Global;
 use stream_text::{FirstLine, StreamEvent, read_event_line, read_first_line};
-use windows::{AnsweredWindows, WindowFollower};
 
 /// A stream, as far as it was followed: its follower, its version, how many calls are open, and how
 /// many other calls were open at the invocations, in all.

@@ -1,7 +1,7 @@
 use Rattle.std.proofs.Common.{List, ℕ, ◌≡◌, ◌≤◌, ◌+◌, ◌∙◌, [], ◌∷◌, ◌++◌, length, take, sym, ap, subst, arith}
 use Rattle.std.specs.List.{AllZip}
 use Rattle.std.proofs.lemmas.List.{take_more}
-use Rattle.explaining.specs.declared.leaving.Without.{Without}
+use Rattle.explaining.specs.declared.explanation.Without.{Without}
 use Rattle.explaining.specs.Explained.{IsWithout, IsReasonFor, IsReasonForOne, others_than}
 use Rattle.explaining.proofs.EnoughLemmas.{others_fewer}
 use Rattle.explaining.proofs.lessening.look_at_each.Goals as goal

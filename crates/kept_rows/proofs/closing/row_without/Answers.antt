@@ -3,7 +3,7 @@ use Rattle.std.specs.List.{remove}
 use Rattle.kept_keys.specs.Views.{KeptView}
 use Rattle.scan_rows.specs.RowView.{RowView}
 use Rattle.kept_rows.proofs.closing.row_without.Goals as goal
-use Rattle.kept_rows.proofs.closing.row_without.Goals.{then-column-len+in-Some-1, then-column-len+in-None-1, else-column-len}
+use Rattle.kept_rows.proofs.closing.row_without.Goals.{then-column-len, else-column-len}
 
 pub returns : goal.returns
 returns c =
@@ -15,8 +15,7 @@ returns c =
       scans = ap (λ (r : RowView). r.scans) c.row.view_is;
       turns = ap (λ (r : RowView). r.turns) c.row.view_is;
       keys = λ within. elim c.if-column-len.branch [
-        | then-column-len+in-Some-1 w ↦ rw (w.keys-is) (w.remove.ensures.items ∙ less)
-        | then-column-len+in-None-1 w ↦ rw (w.keys-is) (w.remove.ensures.items ∙ less)
+        | then-column-len w ↦ rw (w.keys-is) (w.remove.ensures.items ∙ less)
         | else-column-len w ↦ absurd (omega (arith, w.if-column-len.false, size, long, within))
       ];
     }

@@ -1,6 +1,6 @@
 -- The follower has taken the events so far.
 use Rattle.std.proofs.Common.{take}
-use Rattle.windows.specs.Followed.{IsFollowed}
+use Rattle.follower.specs.Followed.{IsFollowed}
 use Rattle.locating.proofs.passing.locate.Given as goal
 
 abbrev pub invariant-loop-place : goal.invariant-loop-place

@@ -1,8 +1,8 @@
 use Rattle.std.proofs.Common.{◌∙◌, take, sym, subst}
 use Rattle.std.proofs.lemmas.Option.{none-some}
 use Rattle.events.specs.declared.event.Event.TheVariants.{Answer}
-use Rattle.windows.specs.Followed.{IsFollowed}
-use Rattle.windows.specs.Outcomes.{IsAnswered, IsCountedAs}
+use Rattle.follower.specs.Followed.{IsFollowed}
+use Rattle.follower.specs.WindowOutcomes.{IsAnswered, IsCountedAs}
 use Rattle.locating.proofs.PassLemmas.{fine_answer, lost, next, spent}
 use Rattle.locating.proofs.passing.pass_answer.Goals as goal
 

@@ -1,6 +1,6 @@
 use Rattle.std.proofs.Common.{◌∙◌, take, sym, subst}
 use Rattle.events.specs.declared.event.Event.TheVariants.{Invoke}
-use Rattle.windows.specs.Followed.{IsFollowed}
+use Rattle.follower.specs.Followed.{IsFollowed}
 use Rattle.locating.proofs.PassLemmas.{fine_call, next}
 use Rattle.locating.proofs.passing.pass_invocation.Goals as goal
 

@@ -1,6 +1,6 @@
 use Rattle.std.proofs.Common.{rules}
 use Rattle.history_text.specs.Limits.{text_limit}
-use Rattle.arena_drives.specs.ArenaDrives.{IsArenaDriveOf}
+use Rattle.drives.specs.ArenaDrives.{IsArenaDriveOf}
 use Rattle.outcomes.proofs.ReadText.{IsRun-read}
 use Rattle.outcomes.proofs.Reading.{made-status}
 use Rattle.plan_engines.specs.Drives.{IsTreeDriveAnswer, IsDriveRefusal, WasPassedForPlan}

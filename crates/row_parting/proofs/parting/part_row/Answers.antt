@@ -16,7 +16,7 @@ use Rattle.row_parting.proofs.CrowdLemmas.{if_crowded, err_crowded, row_crowded,
 use Rattle.row_parting.proofs.ScanGapLemmas.{AreTriedUpTo, tried_none, more_if_needed, all_if_needed, place_within, tried_all, gap_parts, HasNotGrown, grown_by, none_by}
 use Rattle.scan_gaps.proofs.ScanListLemmas.{here_is, take_whole}
 use Rattle.scan_gaps.specs.KeyLoss.{KeyLoss}
-use Rattle.row_parting.specs.declared.parting.Parted.{Parted}
+use Rattle.row_parting.specs.declared.parted.Parted.{Parted}
 use Rattle.row_parting.proofs.PlacedLemmas.{placed_weaker, placed_in_row}
 use Rattle.row_parting.proofs.ScanTryLemmas.{ok_map}
 use Rattle.row_parting.proofs.SpentLemmas.{row_spent, row_spent_last}

@@ -1,5 +1,5 @@
 use Rattle.std.proofs.Common.{ℕ, List, [], refl, subst}
-use Rattle.windows.specs.Followed.{IsFollowed as IsFollowedBy}
+use Rattle.follower.specs.Followed.{IsFollowed as IsFollowedBy}
 use Rattle.stream_engines.proofs.FirstLemmas.{start_alone}
 use Rattle.stream_engines.proofs.followed.Followed.from_start.Goals as goal
 

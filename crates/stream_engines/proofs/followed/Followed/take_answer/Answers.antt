@@ -3,8 +3,8 @@ use Rattle.std.proofs.lemmas.List.Elements.{All-weaker}
 use Rattle.events.specs.declared.event.Event.TheVariants.{Answer}
 use Rattle.kept_rows.specs.Outcomes.{HasNoOrder}
 use Rattle.follower.specs.Steps.{IsLostKey}
-use Rattle.windows.specs.Outcomes.{IsAnswered, IsCountedAs}
-use Rattle.windows.specs.declared.answered.AnsweredWindows.{AnsweredWindows}
+use Rattle.follower.specs.WindowOutcomes.{IsAnswered, IsCountedAs}
+use Rattle.follower.specs.declared.answered_windows.AnsweredWindows.{AnsweredWindows}
 use Rattle.stream_engines.proofs.FollowedLemmas.{answered}
 use Rattle.stream_engines.proofs.JudgedLemmas.{lost_at, spent_at}
 use Rattle.stream_engines.proofs.RefusalLemmas.{refused_turn}

@@ -1,6 +1,0 @@
-mod RunLemmas
-mod ScriptLemmas
-mod PartLemmas
-mod StepLemmas
-mod JoinLemmas
-mod DriveLemmas

@@ -1,2 +1,0 @@
-pub mod ArenaDrives
-pub mod Groups

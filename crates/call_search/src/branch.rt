@@ -1,0 +1,53 @@
+// Where a search stands.
+use events::Call;
+use map_object::SortedMap;
+use memo::Memo;
+
+/// A call taken: by its place, with what undoes it on the map, the configuration before it, by its
+/// place in the memo, and the calls that are to be tried in its stead.
+#[derive(Drop)]
+pub struct Branch {
+    pub place: u32,
+    pub undo: Option<Call>,
+    pub at: usize,
+    pub rest: Vec<u32>,
+}
+
+/// Where a search stands: the calls taken, those that are to be tried next, the last one first, the
+/// configuration that it stands at, the map there, the configurations visited, which calls are
+/// taken, and a place below which all are.
+pub struct CallSearch {
+    pub levels: Vec<Branch>,
+    pub rest: Vec<u32>,
+    pub at: usize,
+    pub map: SortedMap,
+    pub memo: Memo,
+    pub taken: Vec<bool>,
+    pub low: usize,
+}
+
+// All its parts are let go in one place.
+impl Drop for CallSearch {
+    fn drop(self) {
+        let CallSearch {
+            levels: _levels,
+            rest: _rest,
+            at: _at,
+            map: _map,
+            memo: _memo,
+            taken: _taken,
+            low: _low,
+        } = self;
+    }
+}
+
+/// What a step of a search came to.
+#[derive(Drop)]
+pub enum SearchStep {
+    /// A call was tried, or the search went back by one.
+    Made,
+    /// The calls taken are an order.
+    Order,
+    /// All is tried.
+    NoOrder,
+}

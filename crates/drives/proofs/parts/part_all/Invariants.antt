@@ -1,0 +1,15 @@
+use Rattle.std.proofs.Common.{◌≡◌, ◌+◌, ◌-◌}
+use Rattle.std.specs.Prelude.{vec_len, All}
+use Rattle.art_shared.specs.Views.{view}
+use Rattle.running.specs.Groups.{shows, opened_for, IsGroupOf}
+use Rattle.drives.specs.Groups.{IsReady}
+use Rattle.drives.proofs.PartLemmas.{first_idle}
+use Rattle.drives.proofs.parts.part_all.Given as goal
+
+abbrev pub invariant-loop-given : goal.invariant-loop-given
+invariant-loop-given l = record {
+  many : vec_len l.groups + 1 ≡ l._given;
+  ready : All (IsReady l.arena) l.groups.items;
+  own : IsGroupOf l.arena l.rest;
+  left : shows l.rest ≡ view (opened_for l.arena) (first_idle (l.processes - vec_len l.groups));
+}

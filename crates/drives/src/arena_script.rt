@@ -1,0 +1,52 @@
+// One process enters the gate, and then does its script.
+ghost use Rattle.std.specs.Prelude.{◌≡◌, ◌≤◌, IfOk, length};
+ghost use Rattle.running.specs.Groups.{shows, opened_for, IsGroup, IsGroupOf};
+ghost use Rattle.running.specs.Steps.{least_process};
+ghost use Rattle.drives.specs.Groups.{IsReady, ShowsDone};
+
+use art::TreeCall;
+use events::Memory;
+use pool::Gate;
+use running::{Arena, CallProgress, ProcessGroup};
+use std::alloc::Global;
+
+/// A group whose process has entered the gate. Steps are made with such a group alone, and only `enter` gives one.
+#[derive(Drop)]
+pub(crate) struct Entered {
+    group: ProcessGroup,
+}
+
+/// The group's process enters the gate, with its number.
+pub(crate) fn enter<G: Gate>(gate: &G, group: ProcessGroup) -> Entered
+    requires { IsGroup group }
+    ensures same { result.group ≡ group }
+    ensures passed { G.was_passed gate.now (least_process (shows group)) }
+{
+    gate.enter(usize::from(group.process()));
+    Entered { group }
+}
+
+/// Begins the calls of a script, one after another, and makes at most so many steps of each, until one is still open after
+/// them. `Err` is want of memory.
+pub(crate) fn do_script(
+    alloc: Global,
+    arena: &Arena,
+    entered: Entered,
+    script: &[TreeCall],
+    limit: u32,
+) -> Result<ProcessGroup, Memory>
+    requires ready { IsReady arena.now entered.group }
+    requires room { length script.now ≤ (opened_for arena.now).calls_each }
+    ensures own { IfOk result (IsGroupOf arena.now) }
+    ensures done { IfOk result (λ p. ShowsDone (opened_for arena.now) (least_process (shows entered.group)) limit script.now (shows p)) }
+{
+    let mut group = entered.group;
+    for call in script {
+        arena.begin(&mut group, *call)?;
+        match arena.advance(alloc, &mut group, limit)? {
+            CallProgress::Done(_) => {}
+            CallProgress::Going => return Ok(group),
+        }
+    }
+    Ok(group)
+}

@@ -1,0 +1,54 @@
+// A group for each process, and one for all again.
+ghost use Rattle.std.specs.Prelude.{◌≡◌, ◌<◌, ◌≤◌, All, IfOk, Some, vec_len};
+ghost use Rattle.art_shared.specs.Views.{all_idle};
+ghost use Rattle.running.specs.Groups.{shows, opened_for, IsGroupOf};
+ghost use Rattle.drives.specs.Groups.{IsReady, joined};
+
+use events::Memory;
+use running::{Arena, ProcessGroup};
+use std::alloc::Global;
+
+/// A group for each of the processes, by falling number. `Err` is want of memory.
+pub(crate) fn part_all(
+    alloc: Global,
+    arena: &Arena,
+    group: ProcessGroup,
+    processes: u8,
+) -> Result<Vec<ProcessGroup>, Memory>
+    requires own { IsGroupOf arena.now group }
+    requires all { shows group ≡ all_idle (opened_for arena.now) }
+    requires processes { processes ≡ (opened_for arena.now).processes }
+    requires some { 1 ≤ processes }
+    ensures ready { IfOk result (λ groups. All (IsReady arena.now) groups.items) }
+    ensures many { IfOk result (λ groups. vec_len groups ≡ processes) }
+{
+    let mut groups = Vec::with_capacity(alloc, usize::from(processes))?;
+    let mut rest = group;
+    for _given in 1..processes {
+        let last = arena.split(alloc, &mut rest)?;
+        groups.push(last)?;
+    }
+    groups.push(rest)?;
+    Ok(groups)
+}
+
+/// One group with the processes of all, unless one of them wanted memory.
+pub(crate) fn join_all(
+    arena: &Arena,
+    done: Vec<Result<ProcessGroup, Memory>>,
+) -> Result<ProcessGroup, Memory>
+    requires some { 0 < vec_len done }
+    requires own { All (λ d. IfOk d (IsGroupOf arena.now)) done.items }
+    ensures own { IfOk result (IsGroupOf arena.now) }
+    ensures joined { IfOk result (λ all. joined done.items ≡ Some (shows all).processes) }
+{
+    let mut done = done.into_iter();
+    let mut all = match done.next() {
+        Some(first) => first?,
+        None => unreachable!(),
+    };
+    for group in done {
+        arena.join(&mut all, group?);
+    }
+    Ok(all)
+}

@@ -1,2 +1,0 @@
-mod LeftLemmas
-mod PartLemmas

@@ -1,2 +1,0 @@
-pub mod OwnParts
-pub mod Laws

@@ -1,4 +1,0 @@
-mod AskingLemmas
-mod CloseLemmas
-mod StandLemmas
-mod StretchLemmas

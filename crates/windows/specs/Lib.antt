@@ -1,4 +1,0 @@
-pub mod Asking
-pub mod Followed
-pub mod Outcomes
-pub mod WindowsView
