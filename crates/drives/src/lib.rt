@@ -9,6 +9,6 @@ mod script;
 mod subject;
 mod tree;
 
-pub use room::{is_drivable, most_calls};
+pub use room::is_drivable;
 pub use subject::drive_subject;
 pub use tree::drive_arena;

@@ -15,8 +15,8 @@ use plans::Plan;
 use pool::Gate;
 use running::{Arena, ArenaClose, ProcessGroup};
 use std::alloc::{AllocError, Global};
-use std::thread::Threads;
 use std::thread;
+use std::thread::Threads;
 
 /// What happens when each process of the plan does its script on one tree, which is empty at first, one call after another,
 /// in a thread of its own: it enters the gate once, with its number, and then begins each call and makes at most `limit` steps

@@ -19,9 +19,7 @@ mod pairs;
 mod taking;
 mod window_follower;
 
-pub use answered::{AnsweredStream, Doubt, Loss};
+pub use answered::{Doubt, Loss};
 pub use answered_windows::AnsweredWindows;
 pub use fault::FollowFault;
-pub use follower::Follower;
-pub use open_calls::OpenCall;
 pub use window_follower::WindowFollower;

@@ -9,8 +9,8 @@ use pool::OpenGate;
 use recorder::{Pass, Recorder};
 use std::alloc::Global;
 use std::sync::atomic::{AtomicU64, Ordering};
-use std::thread::Threads;
 use std::thread;
+use std::thread::Threads;
 use workload::{Mix, plan};
 
 /// How many calls a thread notes in a round.

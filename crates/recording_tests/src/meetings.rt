@@ -10,8 +10,8 @@ use pool::Gate;
 use std::alloc::Global;
 use std::sync::atomic::{AtomicBool, AtomicU64, Ordering};
 use std::test::Fail;
-use std::thread::Threads;
 use std::thread;
+use std::thread::Threads;
 
 /// How often a thread yields before it gives up waiting.
 const TURNS: u32 = 10_000_000;
