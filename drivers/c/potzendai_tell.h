@@ -296,9 +296,9 @@ static inline bool potzendai_tell_keys(FILE *out, const char *report, size_t mos
 /* Writes the first line of a report, and of a long list of calls only that it stands there. */
 static inline void potzendai_tell_verdict(FILE *out, const char *report)
 {
-    size_t length = strcspn(report, "\n"), most = 80;
+    size_t length = strcspn(report, "\n");
     const char *calls = potzendai_member(report, "\"calls\":["), *end = calls ? strchr(calls, ']') : NULL;
-    if (end && end < report + length && (size_t)(end - calls) > most)
+    if (end && end < report + length && end - calls >= 80)
         fprintf(out, "%.*s..%.*s\n", (int)(calls - report), report, (int)(report + length - end), end);
     else
         fprintf(out, "%.*s\n", (int)length, report);
