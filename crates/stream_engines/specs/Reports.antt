@@ -9,6 +9,7 @@ use Rattle.kept_rows.specs.KeyLoss.{KeyLoss}
 use Rattle.follower.specs.declared.answered.Loss.{Loss}
 use Rattle.follower.specs.declared.answered.Doubt.{Doubt}
 use Rattle.follower.specs.declared.answered.Doubt.TheVariants.{Budget, Rows}
+use Rattle.follower.specs.Doubts.{doubt_word}
 use Rattle.small_histories.specs.Values.{value_data}
 use Rattle.outcomes.specs.Lines.{line}
 use Rattle.answer_hints.specs.Averages.{average_text}
@@ -50,11 +51,7 @@ lost_data loss =
     object (member (codes "call") (number_data loss.number) (member (codes "event") (number_data loss.event)
     (member (codes "keys") (keys_data loss.keys.items) (member (codes "verdict") (string (codes "no")) no_members))))
 
--- why it is not known whether they do, in a word, and the keys of which that is said
-abbrev pub reason_word : Doubt → List ℕ
-reason_word (Budget at) = codes "budget"
-reason_word Rows = codes "scans"
-
+-- the keys of which it is said that it is not known
 abbrev pub doubted_keys : Doubt → List KeyLoss
 doubted_keys (Budget at) = at ∷ []
 doubted_keys Rows = []
@@ -63,5 +60,5 @@ doubted_keys Rows = []
 abbrev pub spent_data : ℕ → ℕ → Doubt → Data
 spent_data event number doubt =
     object (member (codes "call") (number_data number) (member (codes "event") (number_data event)
-    (member (codes "keys") (keys_data (doubted_keys doubt)) (member (codes "reason") (string (reason_word doubt))
+    (member (codes "keys") (keys_data (doubted_keys doubt)) (member (codes "reason") (string (doubt_word doubt))
     (member (codes "verdict") (string (codes "undecided")) no_members)))))

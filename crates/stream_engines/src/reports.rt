@@ -1,5 +1,6 @@
 // The lines that a stream is answered with.
 ghost use Rattle.std.specs.Prelude.{◌≡◌, ◌++◌, [], map, All, IfOk, OnOk, MatchOption, codes, string_bytes};
+ghost use Rattle.follower.specs.Doubts.{doubt_word};
 ghost use Rattle.history_text.specs.Texts.{number_data};
 ghost use Rattle.kept_rows.specs.Puts.{put_in};
 ghost use Rattle.kept_rows.specs.Outcomes.{HasNoOrder};
@@ -13,7 +14,7 @@ ghost use Rattle.stream_engines.specs.Leaves.{IsAnsweredBy, IsLostOutcome, IsYes
 ghost use Rattle.small_histories.specs.Values.{value_data};
 ghost use Rattle.located_calls.specs.OwnParts.{own_part};
 ghost use Rattle.stream_engines.specs.Reports.{yes_line, numbers_data, values_data, puts_data, key_data, keys_data, lost_data};
-ghost use Rattle.stream_engines.specs.Reports.{reason_word, doubted_keys, spent_data};
+ghost use Rattle.stream_engines.specs.Reports.{doubted_keys, spent_data};
 
 use crate::small_lines::small_line;
 use answer_hints::{average_text, hinted_yes};
@@ -189,7 +190,7 @@ fn put_doubt(
     doubt: &Doubt,
 ) -> Result<(), AllocError>
     ensures { OnOk result (members_view members.new.entries
-        ≡ with_member (codes "reason") (string (reason_word doubt.now))
+        ≡ with_member (codes "reason") (string (doubt_word doubt.now))
         (with_member (codes "keys") (keys_data (doubted_keys doubt.now))
         (members_view members.old.entries))) }
 {
@@ -198,18 +199,8 @@ fn put_doubt(
         members,
         alloc,
         "reason",
-        Value::try_from_str(alloc, reason_word(doubt))?,
+        Value::try_from_str(alloc, doubt.word())?,
     )
-}
-
-/// Why it is not known, in a word.
-fn reason_word(doubt: &Doubt) -> &'static str
-    ensures { result.now ≡ reason_word doubt.now }
-{
-    match doubt {
-        Doubt::Budget(_) => "budget",
-        Doubt::Rows => "scans",
-    }
 }
 
 /// The keys of which that is said.
