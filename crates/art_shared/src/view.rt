@@ -5,7 +5,7 @@ use art_steps::{TreeCall, Variant};
 use std::collections::LinkedList;
 
 /// What a core is opened for.
-#[derive(Clone, Copy, Debug, PartialEq, Eq)]
+#[derive(Clone, Copy)]
 pub struct Setup {
     pub shape: Shape,
     pub variant: Variant,

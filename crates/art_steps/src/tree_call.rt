@@ -6,7 +6,7 @@ use events::Call;
 use std::marker::Model;
 
 /// A call whose keys and values a tree can hold, with a scan's first key not above its last. Contracts see the call.
-#[derive(Clone, Copy, Debug)]
+#[derive(Clone, Copy)]
 pub struct TreeCall {
     call: Call,
 }

@@ -1,7 +1,7 @@
 // What a search of calls found.
 
 /// What a search of calls found.
-#[derive(Debug, PartialEq, Eq, Drop)]
+#[derive(Drop)]
 pub enum SearchEnd {
     /// The calls have this order, by their places in the list.
     Order(Vec<u32>),

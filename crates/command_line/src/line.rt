@@ -71,7 +71,7 @@ pub enum Line {
 }
 
 /// What a drive does its calls at.
-#[derive(Clone, Copy, Debug, PartialEq, Eq)]
+#[derive(Clone, Copy)]
 pub enum Tree {
     /// It is a sorted map under one lock.
     Locked,

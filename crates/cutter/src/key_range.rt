@@ -10,7 +10,7 @@ use events::{Memory, Operation};
 use std::alloc::Global;
 
 /// The least and the greatest key that a call names, with the call's number.
-#[derive(Clone, Copy, Debug)]
+#[derive(Clone, Copy)]
 pub struct KeyRange {
     pub low: u64,
     pub high: u64,

@@ -8,7 +8,7 @@ use std::alloc::Global;
 use std::marker::Model;
 
 /// What a process asks of the map.
-#[derive(Clone, Copy, Debug, PartialEq, Eq)]
+#[derive(Clone, Copy, PartialEq, Eq)]
 pub enum Call {
     /// The value at a key.
     Get(u64),
@@ -56,7 +56,6 @@ impl Call {
 }
 
 /// The pairs that a scan was answered, in the order in which they came. Contracts see the list.
-#[derive(Debug)]
 pub struct Pairs {
     items: Vec<(u64, u64)>,
 }
@@ -100,7 +99,6 @@ impl Pairs {
 }
 
 /// What the map answers.
-#[derive(Debug)]
 pub enum Reply {
     /// No value was at the key.
     None,
@@ -168,7 +166,6 @@ impl Reply {
 }
 
 /// One event of a history: a process begins a call, or its open call is answered.
-#[derive(Debug)]
 pub enum Event {
     Invoke { process: u8, call: Call },
     Answer { process: u8, reply: Reply },

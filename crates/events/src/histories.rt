@@ -14,7 +14,6 @@ use std::marker::Model;
 
 /// A history: the pairs that the map holds at the start, and events, well formed and within the limits.
 /// Contracts see the two lists.
-#[derive(Debug)]
 pub struct History {
     start: Vec<(u64, u64)>,
     events: Vec<Event>,

@@ -6,7 +6,6 @@ use crate::memory::Memory;
 use std::alloc::Global;
 
 /// The answer of a call, and the place of that event in the history, from 0.
-#[derive(Debug)]
 pub struct Response {
     pub res: usize,
     pub reply: Reply,
@@ -36,7 +35,6 @@ impl Response {
 
 /// One call of a history: what was asked, the place of its invocation among the events, from 0, and
 /// its response. A call without a response is pending.
-#[derive(Debug)]
 pub struct Operation {
     pub call: Call,
     pub inv: usize,

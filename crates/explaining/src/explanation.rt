@@ -3,7 +3,7 @@
 use events::Operation;
 
 /// Why a call is kept.
-#[derive(Debug, PartialEq, Eq, Drop)]
+#[derive(Drop)]
 pub enum Reason {
     /// The others have this order, by their places in the list that is left where the call goes,
     /// and with it the answers that tell what it put.
@@ -16,7 +16,6 @@ pub enum Reason {
 
 /// Few calls that have no order, by rising invocation. A call that has no answer here may have had
 /// one.
-#[derive(Debug)]
 pub struct Explanation {
     pub calls: Vec<Operation>,
     /// Why each of the calls is kept, in their order.

@@ -211,7 +211,7 @@ fn told_places(alloc: Global, calls: &[Operation], events: usize) -> Result<Vec<
 }
 
 /// What a call may have to do with one that was answered wrongly.
-#[derive(Clone, Copy, Debug, PartialEq, Eq)]
+#[derive(Clone, Copy)]
 enum Nearness {
     /// It is that call, or may have put what that call tells.
     Told,

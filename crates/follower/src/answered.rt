@@ -7,7 +7,6 @@ use kept_rows::KeyLoss;
 
 /// Where a stream goes wrong: the event, the number of the call that it answers, and keys at which
 /// there is no order any more, with what was kept of them.
-#[derive(Debug)]
 pub struct Loss {
     pub event: usize,
     pub number: usize,
@@ -25,7 +24,6 @@ impl Drop for Loss {
 }
 
 /// Why it is not known whether a stream goes wrong.
-#[derive(Debug)]
 pub enum Doubt {
     /// A search at this key reaches more positions than the budget.
     Budget(KeyLoss),

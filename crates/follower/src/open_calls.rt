@@ -9,7 +9,7 @@ use std::collections::BTreeMap;
 
 /// An open call: the place of its invocation, its number among the calls of the stream, and the
 /// call.
-#[derive(Clone, Copy, Debug)]
+#[derive(Clone, Copy)]
 pub struct OpenCall {
     pub place: usize,
     pub number: usize,

@@ -7,7 +7,7 @@ ghost use Rattle.history_text.specs.Versions.{version_number, has_start, may_tel
 use events::{Call, Reply};
 
 /// The version of a text: what it may say.
-#[derive(Clone, Copy, Debug, PartialEq, Eq)]
+#[derive(Clone, Copy)]
 pub enum TextVersion {
     /// The map is empty at the start, and there is no replace.
     One,

@@ -2,7 +2,6 @@
 use segments::Segment;
 
 /// What the judge finds out of a history.
-#[derive(Debug)]
 pub enum Verdict {
     /// The history is linearizable: an order of all its completed calls and some pending ones, by their
     /// numbers.

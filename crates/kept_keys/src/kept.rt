@@ -22,7 +22,7 @@ pub const PLACE_LIMIT: usize = 1 << 44;
 /// as a get, by the name of the scan, at the number of its moment. Of values that calls put which
 /// are gone, `puts` has these by name: where it has none, the value was there at the start, or one
 /// of the calls left put it.
-#[derive(Debug, Drop)]
+#[derive(Drop)]
 pub struct KeptKey {
     pub configurations: Vec<Configuration>,
     pub names: Vec<usize>,

@@ -15,6 +15,7 @@ mod puts;
 mod reads;
 mod retiming;
 mod settling;
+mod still;
 
 pub use gone::gone_calls_are_answered;
 pub use kept::{KeptKey, PLACE_LIMIT, WIDTH};

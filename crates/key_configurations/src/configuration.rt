@@ -3,7 +3,7 @@ use std::marker::Model;
 
 /// What a call may have found that took effect ahead of its answer: the place of its invocation,
 /// and values.
-#[derive(Debug, Drop)]
+#[derive(Drop)]
 pub struct Ahead {
     pub call: usize,
     pub found: Vec<Option<u64>>,
@@ -20,7 +20,7 @@ impl Model for Ahead {
 /// One choice of the calls that took effect by past moments: those of the calls left that did, by
 /// the places of their invocations, what the key may hold behind them, and what those of them may
 /// have found that are not answered.
-#[derive(Debug, Drop)]
+#[derive(Drop)]
 pub struct Configuration {
     pub taken: Vec<usize>,
     pub values: Vec<Option<u64>>,

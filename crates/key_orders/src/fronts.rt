@@ -20,7 +20,6 @@ use std::mem;
 
 /// The first calls of an order, from a value, or none, where they were checked: the value behind
 /// them, their latest invocation, and the places of the others among so many calls.
-#[derive(Debug)]
 pub struct Front {
     pub key: u64,
     pub first: Option<u64>,

@@ -16,7 +16,7 @@ use map_object::SortedMap;
 use std::alloc::Global;
 
 /// Whether the calls left of a key have an order.
-#[derive(Clone, Copy, Debug)]
+#[derive(Clone, Copy)]
 pub enum Judged {
     /// From some value of some configuration they have one.
     Order,

@@ -12,7 +12,6 @@ use std::mem;
 
 /// The order of the calls left of a key that was found last, if one was, near which the next one is
 /// looked for, and its first calls, where they were checked.
-#[derive(Debug)]
 pub struct KeptOrder {
     pub guess: Option<Box<Guess>>,
     pub front: Option<Box<Front>>,

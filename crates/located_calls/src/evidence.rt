@@ -17,7 +17,7 @@ use map_object::SortedMap;
 use std::alloc::Global;
 
 /// What shows that a history goes wrong at an event, or may.
-#[derive(Debug, Drop)]
+#[derive(Drop)]
 pub enum Evidence {
     /// Few calls of the events up to it do, from the pairs that the map holds at the start.
     OfEvents(Explanation),

@@ -15,7 +15,7 @@ use std::marker::Model;
 /// Calls of one key at places of their own, from a value that it may have had. They are those that
 /// a follower keeps, which spreads the events of a stream so that there is room for the moments of
 /// scans between them; a scan stands there as the get of the key that it is at its moment.
-#[derive(Debug, Drop)]
+#[derive(Drop)]
 pub struct OwnPart {
     pub key: u64,
     /// The value, or none.

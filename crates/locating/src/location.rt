@@ -3,7 +3,7 @@ use follower::{Doubt, Loss};
 
 /// Where a history goes wrong, as far as searches within a budget tell. Events and calls are
 /// numbered from 0.
-#[derive(Debug, Drop)]
+#[derive(Drop)]
 pub enum Location {
     /// It goes wrong nowhere: the history is linearizable.
     Yes,

@@ -22,7 +22,7 @@ use std::alloc::Global;
 use std::marker::Model;
 
 /// An ordered map from `u64` to `u64`. Contracts see the list of its pairs, by rising key.
-#[derive(Debug, Drop)]
+#[derive(Drop)]
 pub struct SortedMap {
     pairs: Vec<(u64, u64)>,
 }

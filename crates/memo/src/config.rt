@@ -16,7 +16,7 @@ use std::marker::Model;
 /// Where a search stands: the set of calls taken, each named by its place in the list of calls, and of the pairs
 /// that the map then holds those that are not so at the start of the search, with those at the start whose keys
 /// are gone. So it takes as much memory as the calls taken, and their keys, and not as the map.
-#[derive(Debug, Drop)]
+#[derive(Drop)]
 pub(crate) struct Config {
     places: Places,
     put: Vec<(u64, u64)>,

@@ -10,7 +10,7 @@ use std::marker::Model;
 
 /// A set of places: the least one that is not in it, and the bits of those above that one. The last word of bits
 /// is not 0. Contracts see the places by rising number.
-#[derive(Debug, Drop)]
+#[derive(Drop)]
 pub(crate) struct Places {
     least: usize,
     words: Vec<u64>,

@@ -8,7 +8,7 @@ use events::{Memory, Operation};
 use std::alloc::Global;
 
 /// A call by its number, with its point: the greatest place of an invocation up to it in its order.
-#[derive(Clone, Copy, Debug)]
+#[derive(Clone, Copy)]
 pub struct CallAtPoint {
     pub point: usize,
     pub number: u32,

@@ -9,7 +9,6 @@ use std::alloc::Global;
 /// An order of the calls left by their places, the calls taken before it by name, and the value, or
 /// none, that it goes on from; and the place of a call that came since. It may be none by now: the
 /// next order is looked for near it, and nothing rests on it.
-#[derive(Debug)]
 pub struct Guess {
     pub taken: Vec<usize>,
     pub value: Option<u64>,

@@ -10,7 +10,7 @@ use explaining::{depends_on, is_sure, names_key, precedes, put_by, tells_put};
 use std::alloc::Global;
 
 /// A call that another one misses: what was called, and the event of its invocation.
-#[derive(Clone, Copy, Debug)]
+#[derive(Clone, Copy)]
 pub struct Missed {
     pub call: Call,
     pub event: usize,

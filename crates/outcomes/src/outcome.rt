@@ -29,7 +29,7 @@ pub const WORDS: u8 = 5;
 pub const FAILED: u8 = 6;
 
 /// What is answered to an input.
-#[derive(Clone, Copy, Debug)]
+#[derive(Clone, Copy)]
 pub enum Answer {
     /// It is yes, `ok`, or a text.
     Yes,
@@ -53,7 +53,6 @@ impl Answer {
 }
 
 /// How a run comes out. Each text ends with a line feed.
-#[derive(Debug)]
 pub enum RunOutcome {
     /// The input is answered, with this line for standard output.
     Answered {

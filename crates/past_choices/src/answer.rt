@@ -5,7 +5,7 @@ use std::marker::Model;
 
 /// What calls of a key may leave that were done by a past moment. Calls are named by their places
 /// in the list, by rising place.
-#[derive(Debug, Drop)]
+#[derive(Drop)]
 pub struct PastChoice {
     chosen: Vec<usize>,
     value: Option<u64>,
@@ -61,7 +61,7 @@ impl PastChoice {
 }
 
 /// What was found of calls that were done by a past moment.
-#[derive(Debug, Drop)]
+#[derive(Drop)]
 pub enum PastChoices {
     /// These are all choices, each once.
     All(Vec<PastChoice>),

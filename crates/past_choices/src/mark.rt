@@ -7,7 +7,7 @@ ghost use Rattle.past_choices.specs.Steps.{mark_of, start_mark};
 use events::Response;
 
 /// What became of a call at a position.
-#[derive(Clone, Copy, Debug)]
+#[derive(Clone, Copy)]
 pub enum CallMark {
     /// It is not done.
     Left,

@@ -11,7 +11,7 @@ use std::hash::{Hash, Hasher};
 use std::marker::Model;
 
 /// Where the worklist stands: a mark for each call, and the value behind those that are done.
-#[derive(Debug, Drop)]
+#[derive(Drop)]
 pub(crate) struct Position {
     marks: Vec<CallMark>,
     value: Option<u64>,

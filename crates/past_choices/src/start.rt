@@ -3,7 +3,7 @@ use std::marker::Model;
 
 /// Where calls of a key go on from: which of them are taken already, whatever they found, and the
 /// value behind those, if there is one.
-#[derive(Debug, Drop)]
+#[derive(Drop)]
 pub struct Start {
     pub taken: Vec<bool>,
     pub value: Option<u64>,

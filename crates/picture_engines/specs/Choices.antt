@@ -24,8 +24,8 @@ use Rattle.pictures.specs.declared.picture.Picture.{Picture}
 use Rattle.pictures.specs.declared.picture.View.{View}
 use Rattle.pictures.specs.Few.{IsFewOf}
 use Rattle.pictures.specs.Viewports.{IsShownOf}
-use Rattle.picture_engines.specs.declared.choice.Choice.{Choice}
-use Rattle.picture_engines.specs.declared.choice.Choice.TheVariants.{Few, Part}
+use Rattle.picture_engines.specs.declared.shown.Choice.{Choice}
+use Rattle.picture_engines.specs.declared.shown.Choice.TheVariants.{Few, Part}
 
 -- whether a view of a history with so many events asks for no event and for no number of calls
 abbrev pub asks_for_nothing : ℕ → View → Bool

@@ -17,7 +17,7 @@ use Rattle.picture_text.specs.Svg.{IsSvgOf}
 use Rattle.outcomes.specs.declared.outcome.Answer.{Answer}
 use Rattle.outcomes.specs.Lines.{line}
 use Rattle.history_engines.specs.Answers.{IsTextOf, answer_of}
-use Rattle.picture_engines.specs.declared.choice.Choice.{Choice}
+use Rattle.picture_engines.specs.declared.shown.Choice.{Choice}
 use Rattle.picture_engines.specs.Choices.{IsChoiceOf, IsShownAs}
 
 -- the event at which a location says that the history goes wrong

@@ -14,6 +14,7 @@ ghost use Rattle.picture_engines.specs.Choices.{asks_for_nothing, places_before,
 ghost use Rattle.picture_engines.specs.Choices.{IsChoiceOf, IsUnaskedChoice, IsChoiceAt, IsChoiceFor, IsFewChoice, IsPartChoice};
 ghost use Rattle.picture_engines.specs.Choices.{IsShownFew};
 
+use crate::shown::Choice;
 use events::{History, MAX_CALLS, Memory, Operation};
 use explaining::{Explanation, explain_calls};
 use judge::Verdict;
@@ -24,15 +25,6 @@ use origins::{Missed, external_pairs, missed_by, writers_of};
 use pictures::View;
 use segments::Segment;
 use std::alloc::Global;
-
-/// What a picture shows of a history.
-#[derive(Debug, Drop)]
-pub(crate) enum Choice {
-    /// The calls are shown that were invoked at these events alone.
-    Few(Vec<usize>),
-    /// The part is shown that a view asks for.
-    Part,
-}
 
 /// What is shown of a verdict and of where the history goes wrong. Where nothing is asked for: of a
 /// no few calls that show it, with those that put what these read from outside and those that these

@@ -21,7 +21,8 @@ ghost use Rattle.pictures.specs.Pictures.{marked};
 ghost use Rattle.pictures.specs.declared.picture.View.{View};
 ghost use Rattle.search.specs.Limits.{budget_limit};
 
-use crate::choice::{Choice, choice_of};
+use crate::choice::choice_of;
+use crate::shown::Choice;
 use events::{History, Memory};
 use history_engines::{answer_of, refused_text};
 use history_text::{MAX_TEXT, read_history};

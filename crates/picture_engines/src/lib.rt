@@ -4,6 +4,7 @@
 
 mod choice;
 mod drawing;
+mod shown;
 mod views;
 
 pub use drawing::{draw_outcome, run_draw};

@@ -22,7 +22,7 @@ pub struct Picture {
 }
 
 /// What a picture says at its top.
-#[derive(Clone, Copy, Debug, PartialEq, Eq)]
+#[derive(Clone, Copy)]
 pub enum Heading {
     /// The history is linearizable, and an order is marked.
     Order,
@@ -68,7 +68,7 @@ pub struct Bar {
 }
 
 /// The mark of a call of an order, at its linearization point.
-#[derive(Clone, Copy, Debug)]
+#[derive(Clone, Copy)]
 pub struct Mark {
     /// The number of the call in the history.
     pub number: u32,
@@ -84,7 +84,7 @@ pub struct Mark {
 }
 
 /// What a part of a picture leaves out.
-#[derive(Clone, Copy, Debug, PartialEq, Eq)]
+#[derive(Clone, Copy)]
 pub struct PicturePart {
     /// How many columns stand before it.
     pub before: usize,
@@ -95,7 +95,7 @@ pub struct PicturePart {
 }
 
 /// What part of a picture is asked for.
-#[derive(Clone, Copy, Debug, PartialEq, Eq)]
+#[derive(Clone, Copy)]
 pub struct View {
     /// The event in its middle. One that the history has not names none.
     pub around: u32,

@@ -9,7 +9,7 @@ use std::marker::Model;
 
 /// A script of calls for each process, within the limits: from 1 to `PROCESSES` scripts, with at most `MAX_CALLS` calls
 /// in all, each of which a tree can do. Contracts see the list of the scripts.
-#[derive(Debug, Drop)]
+#[derive(Drop)]
 pub struct Plan {
     scripts: Vec<Vec<TreeCall>>,
 }

@@ -14,7 +14,7 @@ use std::alloc::Global;
 use tickets::{Hand, Tickets};
 
 /// What a worker found of a segment, which it names by its place in the list.
-#[derive(Debug, Drop)]
+#[derive(Drop)]
 pub(crate) struct SegmentAnswer {
     pub segment: usize,
     pub found: Found,

@@ -2,7 +2,7 @@
 use events::Reply;
 
 /// How far an open call has come.
-#[derive(Debug, Drop)]
+#[derive(Drop)]
 pub enum CallProgress {
     /// It was answered, and its response is in the log of its process.
     Done(Reply),

@@ -2,7 +2,7 @@
 use known_keys::KeptKey;
 
 /// A key, with what was kept of it.
-#[derive(Debug, Drop)]
+#[derive(Drop)]
 pub struct KeyLoss {
     pub key: u64,
     pub kept: KeptKey,

@@ -3,7 +3,7 @@ use known_keys::KeptKey;
 use std::marker::Model;
 
 /// A scan that is open: the place of its invocation, and its range.
-#[derive(Clone, Copy, Debug)]
+#[derive(Clone, Copy)]
 pub struct OpenScan {
     pub name: usize,
     pub low: u64,
@@ -13,7 +13,7 @@ pub struct OpenScan {
 /// A scan that was told pairs and is left at some key of a row: it took effect behind the event at
 /// the place `behind` and before the one at `before`. Its name is the place of its invocation, and
 /// `number` is that of its moment in a timing of the row.
-#[derive(Clone, Copy, Debug)]
+#[derive(Clone, Copy)]
 pub struct KeptScan {
     pub name: usize,
     pub low: u64,
@@ -25,7 +25,7 @@ pub struct KeptScan {
 
 /// A way in which the scans may have taken effect: those that are left at some key, which of two
 /// came first, by name, and what is kept of the keys at which rows may differ, by rising key.
-#[derive(Debug, Drop)]
+#[derive(Drop)]
 pub struct Row {
     pub scans: Vec<KeptScan>,
     pub turns: Vec<(usize, usize)>,

@@ -16,7 +16,6 @@ use std::marker::Model;
 
 /// Some calls of a history by rising number, at least one, with the least and the greatest key that they
 /// name, and the pairs of the history's start from the one to the other. Contracts see these five.
-#[derive(Debug)]
 pub struct Segment {
     numbers: Vec<u32>,
     calls: Vec<Operation>,

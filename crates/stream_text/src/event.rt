@@ -3,14 +3,14 @@ use events::{Call, Pairs, Reply};
 use history_text::TextVersion;
 
 /// One event of a stream: a process begins a call, or its open call is answered.
-#[derive(Debug, Drop)]
+#[derive(Drop)]
 pub enum StreamEvent {
     Invoke { process: u16, call: Call },
     Answer { process: u16, reply: Reply },
 }
 
 /// What the first line of a stream spells.
-#[derive(Debug, Drop)]
+#[derive(Drop)]
 pub enum FirstLine {
     /// It says the version of the stream, 2 or 3, and the pairs that the map holds at the start, by
     /// rising key.

@@ -1,7 +1,7 @@
 // What calls are drawn.
 
 /// What calls are drawn: how many of a hundred are of each kind, and the least and the greatest of their keys.
-#[derive(Clone, Copy, Debug, PartialEq, Eq)]
+#[derive(Clone, Copy)]
 pub struct Mix {
     /// Gets of a hundred calls.
     pub get: u32,

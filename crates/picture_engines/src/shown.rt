@@ -1,0 +1,10 @@
+// What a picture shows.
+
+/// What a picture shows of a history.
+#[derive(Drop)]
+pub(crate) enum Choice {
+    /// The calls are shown that were invoked at these events alone.
+    Few(Vec<usize>),
+    /// The part is shown that a view asks for.
+    Part,
+}
