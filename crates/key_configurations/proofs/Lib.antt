@@ -1,1 +1,1 @@
-mod ValueLemmas
+pub mod ValueLemmas

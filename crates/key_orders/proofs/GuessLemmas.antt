@@ -1,5 +1,5 @@
 -- Orders that are guessed at, checked call by call.
-use Rattle.std.proofs.Common.{◌≡◌, ◌≢◌, ℕ, ◌<◌, ◌≤◌, Bool, true, false, List, [], ◌∷◌, ◌++◌, length, get_or, Option, Some, None}
+use Rattle.std.proofs.Common.{◌≡◌, ◌≢◌, ℕ, zero, suc, ◌<◌, ◌≤◌, Bool, true, false, List, [], ◌∷◌, ◌++◌, length, get_or, Option, Some, None}
 use Rattle.std.proofs.Common.{refl, sym, ap, ◌∙◌, subst, ⊎_elim, inl, inr, arith}
 use Rattle.std.specs.Prelude.{◌⊎◌, ◌↔◌, slice_get, slice_set, All, Any, AllPairs, Contains}
 use Rattle.std.proofs.lemmas.Bool.{cases_order, ltb-false, le-ltb}
@@ -16,9 +16,21 @@ use Rattle.orders.specs.Orders.{IsLegalCall, IsLegal, after_call, after_calls, c
 use Rattle.orders.proofs.OrderLemmas.{IsLegal-append, after_calls-push, calls_at-push}
 use Rattle.following.specs.keys.KeyStates.{one_key}
 use Rattle.quiet_cuts.specs.Values.{IsCallOf, MayBeAnswered, value_behind_call}
-use Rattle.past_choices.proofs.PlaceLemmas.{set_here, set_elsewhere}
 use Rattle.past_choices.proofs.ValueLemmas.{after_call_one, legal_one}
 use Rattle.key_orders.specs.Fronts.{IsPath}
+
+-- what was put at a place, and what stands at the others
+set_here : {X : Type 0} (xs : List X) (n : ℕ) (x : X) → n < length xs → slice_get (slice_set xs n x) n ≡ Some x
+set_here [] n x within = absurd (omega (arith, within))
+set_here (y ∷ xs) zero x within = refl
+set_here (y ∷ xs) (suc n) x within = set_here xs n x (omega (arith, within))
+
+set_elsewhere : {X : Type 0} (xs : List X) (n m : ℕ) (x : X) → m ≢ n → slice_get (slice_set xs n x) m ≡ slice_get xs m
+set_elsewhere [] n m x apart = refl
+set_elsewhere (y ∷ xs) zero zero x apart = absurd (apart refl)
+set_elsewhere (y ∷ xs) zero (suc m) x apart = refl
+set_elsewhere (y ∷ xs) (suc n) zero x apart = refl
+set_elsewhere (y ∷ xs) (suc n) (suc m) x apart = set_elsewhere xs n m x (λ e. apart (omega (arith, e)))
 
 -- some of a list, by place
 pub any_at : {X : Type 0} (P : X → Type 0) (xs : List X) (i : ℕ) (x : X) → i < length xs → x ≡ get_or xs i x → P x → Any P xs

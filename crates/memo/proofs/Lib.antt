@@ -1,6 +1,6 @@
 mod BitLemmas
 mod DifferenceLemmas
-mod DigestLemmas
+pub mod DigestLemmas
 mod KeptLemmas
 mod KeyLemmas
 mod PlacesLemmas

@@ -23,13 +23,13 @@ module _ (least : ℕ) (words : List ℕ) (place more : ℕ) (longer : List ℕ)
             (⊎_elim (λ old. inl ((Contains-places_of least words n).1 old)) (λ is. inr is) ((same n).0 h)),
       )))
 
-  -- its numbers have 32 bits
-  pub places_small : All (λ n. n < 2 ^ 32) (places_of least words) → place < 2 ^ 32 → All (λ n. n < 2 ^ 32) (places_of more longer)
-  places_small small here = All-from_contains (λ n. n < 2 ^ 32) (places_of more longer)
-      (λ n h. ⊎_elim (λ old. All-contains (λ m. m < 2 ^ 32) (places_of least words) n small ((Contains-places_of least words n).1 old))
+  -- its numbers have 64 bits
+  pub places_small : All (λ n. n < 2 ^ 64 - 1) (places_of least words) → place < 2 ^ 64 - 1 → All (λ n. n < 2 ^ 64 - 1) (places_of more longer)
+  places_small small here = All-from_contains (λ n. n < 2 ^ 64 - 1) (places_of more longer)
+      (λ n h. ⊎_elim (λ old. All-contains (λ m. m < 2 ^ 64 - 1) (places_of least words) n small ((Contains-places_of least words n).1 old))
       (λ is. rw is here) ((same n).0 ((Contains-places_of more longer n).0 h)))
 
-  pub ArePlaces-with : ArePlaces least words → place < 2 ^ 32 → AreWords longer → IsTrimmed longer → ArePlaces more longer
+  pub ArePlaces-with : ArePlaces least words → place < 2 ^ 64 - 1 → AreWords longer → IsTrimmed longer → ArePlaces more longer
   ArePlaces-with is here each trimmed = record { each = each; trimmed = trimmed; small = places_small is.small here }
 
 -- a number that is neither below the least missing one nor that one itself is above it

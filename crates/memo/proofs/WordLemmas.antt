@@ -140,26 +140,17 @@ same_places l m a b is_a is_b same =
         (λ not_b. omega (arith, bit_of-lt a n, bit_of-lt b n, not_a, not_b)) (cases_eq (bit_of b n) 1))
         (cases_eq (bit_of a n) 1)
 
--- the least number that is not in a set of numbers of 32 bits has at most one bit more
-pub least_small : (least : ℕ) (words : List ℕ) → All (λ n. n < 2 ^ 32) (places_of least words) → least ≤ 2 ^ 32
-least_small least words small =
-    ⊎_elim (λ none. omega (arith, none))
-    (λ some.
-    let last : Contains (places_of least words) (least - 1) = (Contains-places_of least words (least - 1)).1 (inl (omega (arith, some))) in
-    omega (arith, All-contains (λ n. n < 2 ^ 32) (places_of least words) (least - 1) small last))
-    (cases_lt least 1)
-
--- after a run of ones each number is of 32 bits too
-pub run_small : (least : ℕ) (words : List ℕ) (run : ℕ) → All (λ n. n < 2 ^ 32) (places_of least words)
+-- the end of a run of ones above a place that may be put in is one too
+pub run_small : (least : ℕ) (words : List ℕ) (run : ℕ) → least < 2 ^ 64 - 1 → All (λ n. n < 2 ^ 64 - 1) (places_of least words)
     → ((n : ℕ) → n < run → bit_of words n ≡ 1)
-    → least + run ≤ 2 ^ 32
-run_small least words run small ones =
-    ⊎_elim (λ none. omega (arith, none, least_small least words small))
+    → least + run < 2 ^ 64 - 1
+run_small least words run here small ones =
+    ⊎_elim (λ none. omega (arith, none, here))
     (λ some.
     let at : least + run - (least + 1) ≡ run - 1 = omega arith in
     let last : Contains (places_of least words) (least + run) = (Contains-places_of least words (least + run)).1
     (inr (omega (arith, some), ap (bit_of words) at ∙ ones (run - 1) (omega (arith, some)))) in
-    omega (arith, All-contains (λ n. n < 2 ^ 32) (places_of least words) (least + run) small last))
+    All-contains (λ n. n < 2 ^ 64 - 1) (places_of least words) (least + run) small last)
     (cases_lt run 1)
 
 -- with no words and nothing below, no number is in the set
@@ -178,5 +169,5 @@ pub ArePlaces-none : ArePlaces 0 []
 ArePlaces-none = record {
   each = λ k. omega (arith, get_or_past {X = ℕ} [] k 0 (omega arith));
   trimmed = λ k some. absurd (omega (arith, some));
-  small = subst (All (λ n. n < 2 ^ 32)) (sym places_of-none) (λ k d within. absurd (omega (arith, within)));
+  small = subst (All (λ n. n < 2 ^ 64 - 1)) (sym places_of-none) (λ k d within. absurd (omega (arith, within)));
 }

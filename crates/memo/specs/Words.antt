@@ -28,8 +28,8 @@ places_of least words = filter (is_among least words) (range_with_len 0 (least +
 abbrev pub shifted_word : List ℕ → ℕ → ℕ → ℕ
 shifted_word words count k = bit_or (slice_index words k / 2 ^ count / 2 ^ 1) (slice_index words (k + 1) * 2 ^ (63 - count) % 2 ^ 64)
 
--- the form of a set of places, which are numbers of 32 bits
+-- the form of a set of places, which are numbers of 64 bits, and not the last of these
 pub record ArePlaces (least : ℕ) (words : List ℕ) : Type 0 where
   pub each : AreWords words
   pub trimmed : IsTrimmed words
-  pub small : All (λ n. n < 2 ^ 32) (places_of least words)
+  pub small : All (λ n. n < 2 ^ 64 - 1) (places_of least words)

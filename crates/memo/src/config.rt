@@ -110,7 +110,7 @@ impl Config {
         ensures is { IfOk result (λ c. configuration_from start.now c
             ≡ after_one (configuration_from start.now self.now) place after.now) }
     {
-        let places = self.places.with(alloc, place)?;
+        let places = self.places.with(alloc, place as usize)?;
         let digest = self.digest.wrapping_add(mix(place as u64 + 1));
         let Some(key) = key else {
             let put = Vec::from_slice(alloc, &self.put)?;

@@ -6,8 +6,8 @@ ghost use Rattle.memo.specs.Digest.{mix, mix_pair, mix_value};
 /// An odd number near 2^64 divided by the golden ratio: Knuth's multiplicative hashing.
 const MULTIPLIER: u64 = 11400714819323198485;
 
-/// Mixes a number.
-pub(crate) fn mix(number: u64) -> u64
+/// Mixes a number, so that sums of mixed numbers tell most lists apart. It costs a multiplication.
+pub fn mix(number: u64) -> u64
     ensures { result ≡ mix number }
 {
     let product = number.wrapping_mul(MULTIPLIER);
@@ -22,7 +22,7 @@ pub(crate) fn mix_pair(pair: (u64, u64)) -> u64
 }
 
 /// Mixes a key with its value: 0 where it has none.
-pub(crate) fn mix_value(key: u64, value: Option<u64>) -> u64
+pub fn mix_value(key: u64, value: Option<u64>) -> u64
     ensures { result ≡ mix_value key value }
 {
     match value {

@@ -1,17 +1,18 @@
 // Places of calls taken.
-ghost use Rattle.std.specs.Prelude.{◌≡◌, ◌↔◌, [], IsTrue, IfOk, Contains};
+ghost use Rattle.std.specs.Prelude.{◌≡◌, ◌↔◌, ◌<◌, ◌-◌, ◌^◌, ℕ, [], IsTrue, IfOk, Contains};
 ghost use Rattle.std.specs.List.Sorted.{IsStrictlyIncreasing};
 ghost use Rattle.memo.specs.Taking.{with_place};
 
-use crate::words::{ones_of, with_bit, without_lowest};
+use crate::words::{is_set, ones_of, with_bit, without_lowest};
 use events::Memory;
 use std::alloc::Global;
 use std::marker::Model;
 
-/// A set of places: the least one that is not in it, and the bits of those above that one. The last word of bits
-/// is not 0. Contracts see the places by rising number.
+/// A set of places of calls: the least one that is not in it, and the bits of those above that one. The last word of
+/// bits is not 0. Contracts see the places by rising number. So it takes as much memory as the places behind the first
+/// that is missing.
 #[derive(Drop)]
-pub(crate) struct Places {
+pub struct Places {
     least: usize,
     words: Vec<u64>,
 }
@@ -29,7 +30,7 @@ impl Model for Places {
 
 impl Places {
     /// No place. It takes no memory.
-    pub(crate) fn new(alloc: Global) -> Places
+    pub fn new(alloc: Global) -> Places
         ensures { result ≡ [] }
     {
         Places {
@@ -39,19 +40,37 @@ impl Places {
     }
 
     /// Whether the same places are in both sets.
-    pub(crate) fn is_same(&self, other: &Places) -> bool
+    pub fn is_same(&self, other: &Places) -> bool
         ensures { IsTrue result ↔ (self.now ≡ other.now) }
     {
         self.least == other.least && self.words == other.words
     }
 
-    /// The set with one more place.
-    pub(crate) fn with(&self, alloc: Global, place: u32) -> Result<Places, Memory>
-        requires { Contains self.now place → ⊥ }
+    /// Whether a place is in the set. It costs the same for each.
+    pub fn contains(&self, place: usize) -> bool
+        ensures { IsTrue result ↔ Contains self.now place }
+    {
+        if place < self.least {
+            return true;
+        }
+        place > self.least && is_set(&self.words, place - (self.least + 1))
+    }
+
+    /// The least place that is not in the set.
+    pub fn least_missing(&self) -> usize
+        ensures below { (n : ℕ) → n < result → Contains self.now n }
+        ensures missing { Contains self.now result → ⊥ }
+    {
+        self.least
+    }
+
+    /// The set with one more place, or `Memory` where there is none. It costs as much as the bits that it copies.
+    pub fn with(&self, alloc: Global, place: usize) -> Result<Places, Memory>
+        requires new { Contains self.now place → ⊥ }
+        requires small { place < 2 ^ 64 - 1 }
         ensures is { IfOk result (λ p. p ≡ with_place self.now place) }
         ensures rising { IfOk result IsStrictlyIncreasing }
     {
-        let place = place as usize;
         if place > self.least {
             let words = with_bit(alloc, &self.words, place - (self.least + 1))?;
             return Ok(Places {

@@ -1,5 +1,5 @@
 // Bits of words.
-ghost use Rattle.std.specs.Prelude.{◌==◌, ◌≡◌, ◌≢◌, ℕ, ◌+◌, ◌-◌, ◌*◌, ◌/◌, ◌%◌, ◌^◌, ◌<◌, ◌≤◌, length, map, take, slice_index, All, IfOk};
+ghost use Rattle.std.specs.Prelude.{◌==◌, ◌≡◌, ◌≢◌, ◌↔◌, IsTrue, ℕ, ◌+◌, ◌-◌, ◌*◌, ◌/◌, ◌%◌, ◌^◌, ◌<◌, ◌≤◌, length, map, take, slice_index, All, IfOk};
 ghost use Rattle.std.specs.Prelude.{bit_or};
 ghost use Rattle.std.specs.List.{range_with_len};
 ghost use Rattle.memo.specs.Words.{bit_of, IsTrimmed, AreWords, shifted_word};
@@ -15,6 +15,13 @@ fn word_at(words: &[u64], at: usize) -> u64
         Some(word) => *word,
         None => 0,
     }
+}
+
+/// Whether a bit is set.
+pub(crate) fn is_set(words: &[u64], bit: usize) -> bool
+    ensures { IsTrue result ↔ (bit_of words.now bit ≡ 1) }
+{
+    (word_at(words, bit / 64) >> (bit % 64)) % 2 == 1
 }
 
 /// The words with one more bit set.

@@ -1,23 +1,23 @@
 -- The choices of all positions that are reachable are the choices of all orders.
-use Rattle.std.proofs.Common.{◌≡◌, ◌≢◌, ℕ, Bool, List, length}
+use Rattle.std.proofs.Common.{◌≡◌, ◌≢◌, ℕ, Bool, List, length, sym, subst}
 use Rattle.std.specs.Prelude.{◌↔◌, All, AllPairs, Contains}
 use Rattle.std.proofs.lemmas.List.Elements.{All-contains}
 use Rattle.events.specs.declared.operation.Operation.{Operation}
 use Rattle.list_laws.proofs.Lists.{All-from_contains}
 use Rattle.following.proofs.keys.ChoiceLemmas.{any_from, any_to}
 use Rattle.past_choices.specs.PastChoices.{PastChoice, ArePast, IsPastChoice, IsPastChoiceFrom}
-use Rattle.past_choices.specs.Positions.{Position, IsReached, IsReachedFrom}
+use Rattle.past_choices.specs.Positions.{Position, HasPlaces, IsReached, IsReachedFrom}
 use Rattle.past_choices.specs.Starts.{Start}
 use Rattle.past_choices.specs.Steps.{AreReached, AreChoicesOf}
 use Rattle.past_choices.proofs.TurnLemmas.{choice_in_turn, choice_at}
 
--- each position has a mark for each call
-pub sizes : (key : ℕ) (starts : List Start) (calls : List Operation) (visited : List Position) → All (IsReachedFrom key starts calls) visited
-    → All (λ p. length p.marks ≡ length calls) visited
-sizes key starts calls visited reached =
-    All-from_contains (λ p. length p.marks ≡ length calls) visited
+-- the places of each position are of calls
+pub places_known : (key : ℕ) (starts : List Start) (calls : List Operation) (count : ℕ) (visited : List Position) → count ≡ length calls
+    → All (IsReachedFrom key starts calls) visited → All (HasPlaces count) visited
+places_known key starts calls count visited same reached =
+    subst (λ (n : ℕ). All (HasPlaces n) visited) (sym same) (All-from_contains (HasPlaces (length calls)) visited
     (λ p h. let (first, first_in, from) = any_to (IsReached key calls p) starts
-    (All-contains (IsReachedFrom key starts calls) visited p reached h) in from.at.each)
+    (All-contains (IsReachedFrom key starts calls) visited p reached h) in from.at.places))
 
 pub answer_all : (key : ℕ) (starts : List Start) (calls : List Operation) (ended : List Bool) (visited : List Position)
     (choices : List PastChoice) → ArePast key calls ended → AreReached key starts calls ended visited → AreChoicesOf ended visited choices

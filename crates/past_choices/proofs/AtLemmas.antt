@@ -1,15 +1,14 @@
 -- Positions that fronts lead to: the first one, and one more call.
-use Rattle.std.proofs.Common.{◌≡◌, ◌≢◌, ℕ, ◌<◌, List, [], ◌∷◌, ◌++◌, length, Option, Some, None}
+use Rattle.std.proofs.Common.{◌≡◌, ℕ, ◌<◌, false, List, [], ◌∷◌, ◌++◌, length, Option, Some, None}
 use Rattle.std.proofs.Common.{refl, sym, ap, ◌∙◌, subst, ⊎_elim, inl, inr, arith}
-use Rattle.std.specs.Prelude.{◌⊎◌, ◌↔◌, slice_get, slice_set, All, AllPairs, Contains}
-use Rattle.std.proofs.lemmas.Bool.{cases_order}
-use Rattle.std.proofs.lemmas.List.{length-set, length-map}
-use Rattle.std.proofs.lemmas.List.Elements.{Contains-append_left, Contains-append_right, Contains-append_cases, Contains-push}
+use Rattle.std.specs.Prelude.{◌↔◌, slice_get, slice_index_or, All, AllPairs, Contains}
+use Rattle.std.proofs.lemmas.Bool.{both_ways, cases_order}
+use Rattle.std.proofs.lemmas.List.Elements.{All-contains, Contains-append_left, Contains-append_right, Contains-append_cases, Contains-push}
 use Rattle.std.proofs.lemmas.List.Elements.{Contains-push_cases}
-use Rattle.std.proofs.lemmas.Option.{same_Some, slice_get_within}
+use Rattle.std.proofs.lemmas.Option.{none-some, slice_get_within}
 use Rattle.events.specs.declared.operation.Operation.{Operation}
 use Rattle.events.specs.declared.operation.Response.{Response}
-use Rattle.list_laws.proofs.Lists.{All-at, AllPairs-at, Contains-first, Contains-nil, Contains-cases, Contains-later}
+use Rattle.list_laws.proofs.Lists.{All-at, All-from_contains, AllPairs-at, AllPairs-nil, Contains-first, Contains-nil, Contains-cases, Contains-later}
 use Rattle.list_laws.proofs.FilterLemmas.{Contains-from_filter_map}
 use Rattle.map_object.specs.MapObject.{Contents, value_at}
 use Rattle.orders.specs.Orders.{after_call, after_calls, calls_at, IsLegalCall}
@@ -17,15 +16,15 @@ use Rattle.orders.proofs.OrderLemmas.{after_calls-push, calls_at-push}
 use Rattle.configurations.proofs.FrontLemmas.{IsNext, IsFront-push}
 use Rattle.following.specs.keys.KeyStates.{one_key}
 use Rattle.following.specs.keys.Settling.{found_at, found_in}
-use Rattle.past_choices.specs.declared.mark.CallMark.{CallMark}
-use Rattle.past_choices.specs.declared.mark.CallMark.TheVariants.{Left, Taken, Found}
 use Rattle.past_choices.specs.Positions.{Position, FindsAt, IsAt, IsFrontFrom}
 use Rattle.past_choices.specs.Starts.{Start, IsFree, with_taken}
-use Rattle.past_choices.specs.Steps.{mark_of, start_mark, start_position, next_position, MayCome}
+use Rattle.past_choices.specs.Steps.{places_taken, start_position, next_position, MayCome}
 use Rattle.quiet_cuts.specs.Values.{IsCallOf}
-use Rattle.past_choices.proofs.MarkLemmas.{taken_is_not_left, taken_found_nothing, same_found}
-use Rattle.past_choices.proofs.PlaceLemmas.{set_here, set_elsewhere, is_in_or_not}
-use Rattle.past_choices.proofs.StartLemmas.{calls_free, free_call, preceding_free, precedes_from, precedes_to, start_found, start_left, start_left_from}
+use Rattle.memo.specs.Taking.{with_place}
+use Rattle.memo.proofs.TakingLemmas.{Contains-with_place, with_place-rises}
+use Rattle.past_choices.proofs.FoundLemmas.{Contains-found_with, found_with-rises}
+use Rattle.past_choices.proofs.StartLemmas.{calls_free, free_call, free_or_taken, preceding_free, precedes_from, precedes_to}
+use Rattle.past_choices.proofs.StartLemmas.{taken_within, Contains-places_taken, places_taken-rises}
 use Rattle.past_choices.proofs.ValueLemmas.{value_one, after_call_one, legal_one}
 
 -- ---- what is found in a list of calls
@@ -69,18 +68,18 @@ found_push key m (y ∷ order) x =
 -- what one call notes
 noted : (key place : ℕ) (response : Option Response) (value : Option ℕ) (other : ℕ) (found : Option ℕ)
     → Contains (found_at place response value []) (other, found)
-    ↔ ((other ≡ place) × (mark_of response value ≡ Found found))
+    ↔ ((other ≡ place) × (response ≡ None) × (value ≡ found))
 noted key place None value other found = (
   λ h. ⊎_elim
-      (λ is. (sym (ap (λ (f : ℕ × Option ℕ). f.0) is), ap (λ (f : ℕ × Option ℕ). Found f.1) is))
+      (λ is. (sym (ap (λ (f : ℕ × Option ℕ). f.0) is), refl, ap (λ (f : ℕ × Option ℕ). f.1) is))
       (λ later. absurd (Contains-nil (other, found) later))
       (Contains-cases (place, value) [] (other, found) h),
   λ h. subst (λ (f : ℕ × Option ℕ). Contains ((place, value) ∷ []) f)
-      (ap (λ (v : Option ℕ). (place, v)) (same_found value found h.1) ∙ ap (λ (p : ℕ). (p, found)) (sym h.0))
+      (ap (λ (v : Option ℕ). (place, v)) h.2 ∙ ap (λ (p : ℕ). (p, found)) (sym h.0))
       (Contains-first (place, value) []),
 )
 noted key place (Some r) value other found =
-    (λ h. absurd (Contains-nil (other, found) h), λ h. absurd (taken_found_nothing found h.1))
+    (λ h. absurd (Contains-nil (other, found) h), λ h. absurd (none-some r (sym h.1)))
 
 -- ---- calls by number
 
@@ -103,25 +102,34 @@ number_in calls numbers a h = Contains-from_filter_map (slice_get calls) numbers
 pub start_at : (key : ℕ) (first : Start) (calls : List Operation) → length first.taken ≡ length calls
     → IsAt key first calls [] (start_position first)
 start_at key first calls sized = record {
-  each = length-map first.taken start_mark ∙ sized;
-  left = λ n. (
-    λ h. let it = start_left first.taken n h in (omega (arith, sized, it.0), λ in_none. Contains-nil n in_none, it.1),
-    λ h. start_left_from first.taken n (omega (arith, sized, h.0)) h.2,
+  places = record {
+    rising = places_taken-rises first.taken (length first.taken);
+    known = All-from_contains (λ n. n < length calls) (places_taken first.taken (length first.taken))
+        (λ n h. let it = (Contains-places_taken first.taken (length first.taken) n).0 h in omega (arith, it.0, sized));
+  };
+  done = λ n. (
+    λ h. inl ((Contains-places_taken first.taken (length first.taken) n).0 h).1,
+    λ h. ⊎_elim (λ is. (Contains-places_taken first.taken (length first.taken) n).1 (taken_within first.taken n is, is))
+        (λ none. absurd (Contains-nil n none)) h,
   );
-  found = λ n value. (
-    λ h. absurd (start_found first.taken n value h),
-    λ h. absurd (Contains-nil (h.0.inv, value) h.2),
-  );
+  found_rise = AllPairs-nil (λ a b. a.0 < b.0);
+  found = λ n value. (λ h. absurd (Contains-nil (n, value) h), λ h. absurd (Contains-nil (h.0.inv, value) h.2));
   value = refl;
 }
 
 -- ---- one more call
 
--- a call that is not taken, and not left, is done
-pub done_from_mark : (key : ℕ) (first : Start) (calls : List Operation) (path : List ℕ) (p : Position) (n : ℕ)
-    → IsAt key first calls path p → n < length calls → IsFree first.taken n → slice_get p.marks n ≢ Some Left → Contains path n
-done_from_mark key first calls path p n at within free not_left =
-    ⊎_elim (λ yes. yes) (λ no. absurd (not_left ((at.left n).1 (within, no, free)))) (is_in_or_not path n)
+-- a call that is done, and was not taken, is on the path
+pub done_on_path : (key : ℕ) (first : Start) (calls : List Operation) (path : List ℕ) (p : Position) (n : ℕ)
+    → IsAt key first calls path p → IsFree first.taken n → Contains p.done n → Contains path n
+done_on_path key first calls path p n at free done =
+    ⊎_elim (λ taken. absurd (both_ways (slice_index_or first.taken n false) free taken)) (λ on. on) ((at.done n).0 done)
+
+-- a call that is left was not taken
+left_is_free : (key : ℕ) (first : Start) (calls : List Operation) (path : List ℕ) (p : Position) (n : ℕ)
+    → IsAt key first calls path p → (Contains p.done n → ⊥) → IsFree first.taken n
+left_is_free key first calls path p n at left =
+    ⊎_elim (λ free. free) (λ taken. absurd (left ((at.done n).1 (inl taken)))) (free_or_taken first.taken n)
 
 -- the map behind a front has the value of its position
 legal_there : (key : ℕ) (first : Start) (calls : List Operation) (path : List ℕ) (p : Position) (a : Operation)
@@ -139,10 +147,9 @@ pub front_push : (key : ℕ) (first : Start) (calls : List Operation) (path : Li
     → IsFrontFrom key first calls (path ++ n ∷ [])
 front_push key first calls path p n of_key front at next = record {
   front = IsFront-push (one_key key first.value) (with_taken first.taken calls) path n next.call front.front
-      (free_call first.taken calls n free ∙ next.here) ((at.left n).0 next.left).1
-      (λ m before. let earlier = precedes_from first.taken calls m n free before in
-      done_from_mark key first calls path p m at (slice_get_within calls m earlier.0 earlier.2)
-      (preceding_free first.taken calls m n before) (next.preceded m earlier))
+      (free_call first.taken calls n free ∙ next.here) (λ on. next.left ((at.done n).1 (inr on)))
+      (λ m before. done_on_path key first calls path p m at (preceding_free first.taken calls m n before)
+      (next.preceded m (precedes_from first.taken calls m n free before)))
       (subst (λ (l : List Operation). IsLegalCall (after_calls (one_key key first.value) l) next.call.call next.call.response)
       (sym (calls_free first.taken calls path front.free))
       ((legal_there key first calls path p next.call at of_it).0
@@ -154,7 +161,7 @@ front_push key first calls path p n of_key front at next = record {
     of_it = All-at (λ a. IsCallOf key a.call) calls n next.call of_key next.here
 
     free : IsFree first.taken n
-    free = ((at.left n).0 next.left).2
+    free = left_is_free key first calls path p n at next.left
 
 -- and the call after a front may come next
 pub next_of_front : (key : ℕ) (first : Start) (calls : List Operation) (path : List ℕ) (p : Position) (n : ℕ)
@@ -163,9 +170,10 @@ pub next_of_front : (key : ℕ) (first : Start) (calls : List Operation) (path :
 next_of_front key first calls path p n of_key at before free next = record {
   call = next.call;
   here = here;
-  left = (at.left n).1 (slice_get_within calls n next.call here, next.new, free);
-  preceded = λ m earlier is_left. let it = (at.left m).0 is_left in
-      it.1 (next.preceded m (precedes_to first.taken calls m n it.2 free earlier));
+  left = λ done. next.new (done_on_path key first calls path p n at free done);
+  preceded = λ m earlier. (at.done m).1 (⊎_elim
+      (λ free_m. inr (next.preceded m (precedes_to first.taken calls m n free_m free earlier)))
+      (λ taken. inl taken) (free_or_taken first.taken m));
   legal = (legal_one key p.value next.call.call next.call.response of_it).0
       ((legal_there key first calls path p next.call at of_it).1
       (subst (λ (l : List Operation). IsLegalCall (after_calls (one_key key first.value) l) next.call.call next.call.response)
@@ -181,56 +189,58 @@ next_of_front key first calls path p n of_key at before free next = record {
 -- where one more call leads to
 pub push_at : (key : ℕ) (first : Start) (calls : List Operation) (path : List ℕ) (p : Position) (n : ℕ) (a : Operation)
     → All (λ a. IsCallOf key a.call) calls → AllPairs (λ a b. a.inv < b.inv) calls → IsAt key first calls path p
-    → slice_get calls n ≡ Some a → slice_get p.marks n ≡ Some Left → IsAt key first calls (path ++ n ∷ []) (next_position p n a)
-push_at key first calls path p n a of_key rising at here is_left = record {
-  each = length-set p.marks n mark ∙ at.each;
-  left = λ m. ⊎_elim (λ same. left_here m same) (λ apart. left_elsewhere m apart) (same_or_apart m);
-  found = λ m value. ⊎_elim (λ same. found_here m value same) (λ apart. found_elsewhere m value apart) (same_or_apart m);
+    → slice_get calls n ≡ Some a → (Contains p.done n → ⊥) → IsAt key first calls (path ++ n ∷ []) (next_position p n a)
+push_at key first calls path p n a of_key rising at here left = record {
+  places = record {
+    rising = with_place-rises p.done n at.places.rising;
+    known = All-from_contains (λ m. m < length calls) (with_place p.done n) (λ m h. ⊎_elim
+        (λ old. All-contains (λ m. m < length calls) p.done m at.places.known old)
+        (λ is. let within = slice_get_within calls n a here in omega (arith, is, within))
+        ((Contains-with_place p.done n m).0 h));
+  };
+  done = λ m. (
+    λ h. ⊎_elim
+        (λ old. ⊎_elim (λ taken. inl taken) (λ on. inr (Contains-append_left path (n ∷ []) m on)) ((at.done m).0 old))
+        (λ is. inr (subst (Contains (path ++ n ∷ [])) (sym is) (Contains-push path n)))
+        ((Contains-with_place p.done n m).0 h),
+    λ h. (Contains-with_place p.done n m).1 (⊎_elim
+        (λ taken. inl ((at.done m).1 (inl taken)))
+        (λ pushed. ⊎_elim (λ on. inl ((at.done m).1 (inr on))) (λ is. inr (sym is)) (Contains-push_cases path n m pushed)) h),
+  );
+  found_rise = found_with-rises n a.response p.value p.found at.found_rise (λ value h. new_here value ((at.found n value).0 h));
+  found = λ m value. (
+    λ h. ⊎_elim
+        (λ old. let before = (at.found m value).0 old in (
+          before.0,
+          before.1,
+          subst (λ (l : List (ℕ × Option ℕ)). Contains l (before.0.inv, value)) (sym found_is)
+              (Contains-append_left (found_in key (one_key key first.value) order) more (before.0.inv, value) before.2),
+        ))
+        (λ now. (
+          a,
+          ap (slice_get calls) now.0 ∙ here,
+          subst (λ (l : List (ℕ × Option ℕ)). Contains l (a.inv, value)) (sym found_is)
+              (Contains-append_right (found_in key (one_key key first.value) order) more (a.inv, value)
+              ((more_is a.inv value).1 (refl, now.1, now.2))),
+        ))
+        ((Contains-found_with n a.response p.value p.found m value).0 h),
+    λ h. (Contains-found_with n a.response p.value p.found m value).1 (⊎_elim
+        (λ old. inl ((at.found m value).1 (h.0, h.1, old)))
+        (λ added. let now = (more_is h.0.inv value).0 added in
+        inr (same_number calls m n h.0 a rising h.1 here now.0, now.1, now.2))
+        (Contains-append_cases (found_in key (one_key key first.value) order) more (h.0.inv, value)
+        (subst (λ (l : List (ℕ × Option ℕ)). Contains l (h.0.inv, value)) found_is h.2))),
+  );
   value = sym (after_call_one key p.value a.call a.response of_it)
       ∙ ap (λ (c : Contents). after_call c a.call a.response) at.value
       ∙ sym (after_calls-push (one_key key first.value) calls path n a here);
 }
   where
-    mark : CallMark
-    mark = mark_of a.response p.value
-
     order : List Operation
     order = calls_at calls path
 
     of_it : IsCallOf key a.call
     of_it = All-at (λ a. IsCallOf key a.call) calls n a of_key here
-
-    within : n < length p.marks
-    within = slice_get_within p.marks n Left is_left
-
-    new : Contains path n → ⊥
-    new = ((at.left n).0 is_left).1
-
-    same_or_apart : (m : ℕ) → (m ≡ n) ⊎ (m ≢ n)
-    same_or_apart m = ⊎_elim (λ is. inl is)
-        (λ apart. inr (⊎_elim (λ below. λ e. absurd (omega (arith, below, e))) (λ above. λ e. absurd (omega (arith, above, e))) apart))
-        (cases_order m n)
-
-    mark_here : (m : ℕ) (x : CallMark) → m ≡ n → slice_get (slice_set p.marks n mark) m ≡ Some x → mark ≡ x
-    mark_here m x same h =
-        same_Some mark x (sym (set_here p.marks n mark within) ∙ ap (slice_get (slice_set p.marks n mark)) (sym same) ∙ h)
-
-    left_here : (m : ℕ) → m ≡ n
-        → slice_get (slice_set p.marks n mark) m ≡ Some Left
-        ↔ ((m < length calls) × (Contains (path ++ n ∷ []) m → ⊥) × IsFree first.taken m)
-    left_here m same = (
-      λ h. absurd (taken_is_not_left a.response p.value (mark_here m Left same h)),
-      λ h. absurd (h.1 (subst (λ (k : ℕ). Contains (path ++ n ∷ []) k) (sym same) (Contains-push path n))),
-    )
-
-    left_elsewhere : (m : ℕ) → m ≢ n
-        → slice_get (slice_set p.marks n mark) m ≡ Some Left
-        ↔ ((m < length calls) × (Contains (path ++ n ∷ []) m → ⊥) × IsFree first.taken m)
-    left_elsewhere m apart = (
-      λ h. let old = (at.left m).0 (sym (set_elsewhere p.marks n m mark apart) ∙ h) in
-          (old.0, λ pushed. ⊎_elim old.1 (λ is. apart (sym is)) (Contains-push_cases path n m pushed), old.2),
-      λ h. set_elsewhere p.marks n m mark apart ∙ (at.left m).1 (h.0, λ old. h.1 (Contains-append_left path (n ∷ []) m old), h.2),
-    )
 
     more : List (ℕ × Option ℕ)
     more = found_at a.inv a.response (value_at (after_calls (one_key key first.value) order) key) []
@@ -241,52 +251,15 @@ push_at key first calls path p n a of_key rising at here is_left = record {
     value_there : value_at (after_calls (one_key key first.value) order) key ≡ p.value
     value_there = ap (λ (c : Contents). value_at c key) (sym at.value) ∙ value_one key p.value
 
-    more_is : (place : ℕ) (value : Option ℕ) → Contains more (place, value) ↔ ((place ≡ a.inv) × (mark ≡ Found value))
+    more_is : (place : ℕ) (value : Option ℕ) → Contains more (place, value) ↔ ((place ≡ a.inv) × (a.response ≡ None) × (p.value ≡ value))
     more_is place value =
         subst (λ (v : Option ℕ). Contains (found_at a.inv a.response v []) (place, value)
-        ↔ ((place ≡ a.inv) × (mark ≡ Found value)))
+        ↔ ((place ≡ a.inv) × (a.response ≡ None) × (p.value ≡ value)))
         (sym value_there) (noted key a.inv a.response p.value place value)
 
-    not_before : (value : Option ℕ) → Contains (found_in key (one_key key first.value) order) (a.inv, value) → ⊥
-    not_before value h =
-        let (x, x_in, x_inv) = found_by key (one_key key first.value) order a.inv value h in
+    -- nothing was found at this place yet
+    new_here : (value : Option ℕ) → FindsAt key first.value calls (calls_at calls path) n value → ⊥
+    new_here value found =
+        let (x, x_in, x_inv) = found_by key (one_key key first.value) order found.0.inv value found.2 in
         let (k, k_in, k_here) = number_in calls path x x_in in
-        new (subst (Contains path) (same_number calls k n x a rising k_here here x_inv) k_in)
-
-    found_here : (m : ℕ) (value : Option ℕ) → m ≡ n → slice_get (slice_set p.marks n mark) m ≡ Some (Found value)
-        ↔ FindsAt key first.value calls (calls_at calls (path ++ n ∷ [])) m value
-    found_here m value same = (
-      λ h. (
-        a,
-        ap (slice_get calls) same ∙ here,
-        subst (λ (l : List (ℕ × Option ℕ)). Contains l (a.inv, value)) (sym found_is)
-            (Contains-append_right (found_in key (one_key key first.value) order) more (a.inv, value)
-            ((more_is a.inv value).1 (refl, mark_here m (Found value) same h))),
-      ),
-      λ h. let is_a = same_Some h.0 a (sym h.1 ∙ ap (slice_get calls) same ∙ here) in
-          let there = subst (λ (l : List (ℕ × Option ℕ)). Contains l (a.inv, value)) found_is
-          (subst (λ (x : Operation). Contains (found_in key (one_key key first.value) (calls_at calls (path ++ n ∷ []))) (x.inv, value)) is_a
-          h.2) in
-          ap (slice_get (slice_set p.marks n mark)) same ∙ set_here p.marks n mark within
-          ∙ ap (λ (x : CallMark). Some x) (⊎_elim (λ old. absurd (not_before value old)) (λ now. ((more_is a.inv value).0 now).1)
-          (Contains-append_cases (found_in key (one_key key first.value) order) more (a.inv, value) there)),
-    )
-
-    found_elsewhere : (m : ℕ) (value : Option ℕ) → m ≢ n → slice_get (slice_set p.marks n mark) m ≡ Some (Found value)
-        ↔ FindsAt key first.value calls (calls_at calls (path ++ n ∷ [])) m value
-    found_elsewhere m value apart = (
-      λ h. let old = (at.found m value).0 (sym (set_elsewhere p.marks n m mark apart) ∙ h) in (
-        old.0,
-        old.1,
-        subst (λ (l : List (ℕ × Option ℕ)). Contains l (old.0.inv, value)) (sym found_is)
-            (Contains-append_left (found_in key (one_key key first.value) order) more (old.0.inv, value) old.2),
-      ),
-      λ h. set_elsewhere p.marks n m mark apart ∙ (at.found m value).1 (
-        h.0,
-        h.1,
-        ⊎_elim (λ old. old)
-            (λ now. absurd (apart (same_number calls m n h.0 a rising h.1 here ((more_is h.0.inv value).0 now).0)))
-            (Contains-append_cases (found_in key (one_key key first.value) order) more (h.0.inv, value)
-            (subst (λ (l : List (ℕ × Option ℕ)). Contains l (h.0.inv, value)) found_is h.2)),
-      ),
-    )
+        left ((at.done n).1 (inr (subst (Contains path) (same_number calls k n x found.0 rising k_here found.1 x_inv) k_in)))

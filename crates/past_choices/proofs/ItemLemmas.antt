@@ -1,26 +1,20 @@
--- What the loops over marks, calls and positions gather.
-use Rattle.std.proofs.Common.{◌≡◌, ◌≢◌, ℕ, ◌+◌, ◌<◌, ◌≤◌, Bool, true, false, List, [], ◌∷◌, ◌++◌, length, Option, Some, None}
+-- What the loops over calls and positions gather.
+use Rattle.std.proofs.Common.{◌≡◌, ◌≢◌, ℕ, ◌+◌, ◌<◌, ◌≤◌, Bool, false, List, [], ◌∷◌, ◌++◌, length, Option, Some, None}
 use Rattle.std.proofs.Common.{refl, sym, ap, ◌∙◌, subst, ⊎_elim, arith}
-use Rattle.std.specs.Prelude.{◌↔◌, IsTrue, MatchOption, get_or, slice_get, AllPairs, Contains}
-use Rattle.std.proofs.lemmas.Bool.{both_ways, cases_lt}
-use Rattle.std.proofs.lemmas.Option.{same_Some, slice_get_within, slice_get-get_or, get_or_from_slice_get}
+use Rattle.std.specs.Prelude.{◌↔◌, MatchOption, get_or, slice_get, AllPairs, Contains}
+use Rattle.std.proofs.lemmas.Bool.{cases_lt}
+use Rattle.std.proofs.lemmas.Option.{same_Some, slice_get_within, slice_get-get_or}
 use Rattle.events.specs.declared.operation.Operation.{Operation}
-use Rattle.list_laws.proofs.Lists.{Contains-at, place_of-Contains}
-use Rattle.past_choices.specs.declared.mark.CallMark.{CallMark}
-use Rattle.past_choices.specs.declared.mark.CallMark.TheVariants.{Left, Taken, Found}
+use Rattle.list_laws.proofs.Lists.{Contains-at, Contains-nil, place_of-Contains}
 use Rattle.past_choices.specs.PastChoices.{PastChoice}
-use Rattle.past_choices.specs.Positions.{Position}
-use Rattle.past_choices.specs.Steps.{next_position, MayCome, IsNextOf, IsEnd, AreChosen, AreFound, IsChoiceOf, AreChoicesOf}
+use Rattle.past_choices.specs.Positions.{Position, HasPlaces}
+use Rattle.past_choices.specs.Steps.{next_position, MayCome, IsNextOf, IsEnd, AreChosen, IsChoiceOf, AreChoicesOf}
 use Rattle.past_choices.proofs.ChoiceLemmas.{same_choice, same_position_from}
 use Rattle.past_choices.proofs.GatherLemmas.{Gathers, gather_push, gather_skip, pairs_push}
 
 -- a call that had not ended and is done
-abbrev pub IsChosenAt : List Bool → List CallMark → ℕ → ℕ → Type 0
-IsChosenAt ended marks n m = (m ≡ n) × (slice_get ended n ≡ Some false) × (slice_get marks n ≢ Some Left)
-
--- what a call found
-abbrev pub IsFoundAt : List CallMark → ℕ → ℕ × Option ℕ → Type 0
-IsFoundAt marks n found = (found.0 ≡ n) × (slice_get marks n ≡ Some (Found found.1))
+abbrev pub IsChosenAt : List Bool → List ℕ → ℕ → ℕ → Type 0
+IsChosenAt ended done n m = (m ≡ n) × (slice_get ended n ≡ Some false) × Contains done n
 
 -- the choice of a position
 abbrev pub IsChoiceAt : List Bool → List Position → ℕ → PastChoice → Type 0
@@ -30,108 +24,53 @@ IsChoiceAt ended visited n c = (p : Position) × (slice_get visited n ≡ Some p
 abbrev pub IsNextAt : List Operation → Position → ℕ → Position → Type 0
 IsNextAt calls p n q = (may_come : MayCome calls p n) × (q ≡ next_position p n may_come.call)
 
--- ---- marks and words by place
+-- ---- words by place
 
 pub word_at : (words : List Bool) (n : ℕ) (word : Bool) → n < length words → get_or words n false ≡ word → slice_get words n ≡ Some word
 word_at words n word within is = slice_get-get_or words n false within ∙ ap (λ (t : Bool). Some t) is
 
-pub mark_at : (marks : List CallMark) (n : ℕ) (d mark : CallMark) → n < length marks → get_or marks n d ≡ mark → slice_get marks n ≡ Some mark
-mark_at marks n d mark within is = slice_get-get_or marks n d within ∙ ap (λ (m : CallMark). Some m) is
-
-pub left_at : (marks : List CallMark) (n : ℕ) (d : CallMark) (result : Bool) → n < length marks → IsTrue result ↔ (get_or marks n d ≡ Left)
-    → result ≡ true → slice_get marks n ≡ Some Left
-left_at marks n d result within is told =
-    slice_get-get_or marks n d within ∙ ap (λ (m : CallMark). Some m) (is.0 told)
-
-pub not_left_at : (marks : List CallMark) (n : ℕ) (d : CallMark) (result : Bool) → IsTrue result ↔ (get_or marks n d ≡ Left)
-    → result ≡ false → slice_get marks n ≢ Some Left
-not_left_at marks n d result is told h = both_ways result told (is.1 (get_or_from_slice_get marks n Left d h))
-
 -- ---- the calls chosen
 
-abbrev pub ChosenBelow : List Bool → List CallMark → ℕ → List ℕ → Type 0
-ChosenBelow ended marks size chosen = Gathers (IsChosenAt ended marks) size chosen × AllPairs (λ m n. m < n) chosen
+abbrev pub ChosenBelow : List Bool → List ℕ → ℕ → List ℕ → Type 0
+ChosenBelow ended done size chosen = Gathers (IsChosenAt ended done) size chosen × AllPairs (λ m n. m < n) chosen
 
-pub chosen_push : (ended : List Bool) (marks : List CallMark) (n : ℕ) (chosen more : List ℕ) → more ≡ chosen ++ n ∷ []
-    → slice_get ended n ≡ Some false → slice_get marks n ≢ Some Left → ChosenBelow ended marks n chosen
-    → ChosenBelow ended marks (n + 1) more
-chosen_push ended marks n chosen more is had_not done h = (
-  gather_push (IsChosenAt ended marks) n chosen more n is h.0 (refl, had_not, done) (λ m item. item.0),
-  pairs_push (λ a b. a < b) (IsChosenAt ended marks) n chosen more n is h.0 h.1 (λ k m below item. omega (arith, below, item.0)),
+pub chosen_push : (ended : List Bool) (done : List ℕ) (n : ℕ) (chosen more : List ℕ) → more ≡ chosen ++ n ∷ []
+    → slice_get ended n ≡ Some false → Contains done n → ChosenBelow ended done n chosen → ChosenBelow ended done (n + 1) more
+chosen_push ended done n chosen more is had_not is_done h = (
+  gather_push (IsChosenAt ended done) n chosen more n is h.0 (refl, had_not, is_done) (λ m item. item.0),
+  pairs_push (λ a b. a < b) (IsChosenAt ended done) n chosen more n is h.0 h.1 (λ k m below item. omega (arith, below, item.0)),
 )
 
-pub chosen_skip : (ended : List Bool) (marks : List CallMark) (n : ℕ) (chosen more : List ℕ) → more ≡ chosen
-    → ((slice_get ended n ≡ Some false) × (slice_get marks n ≢ Some Left) → ⊥) → ChosenBelow ended marks n chosen
-    → ChosenBelow ended marks (n + 1) more
-chosen_skip ended marks n chosen more is none h = (
-  gather_skip (IsChosenAt ended marks) n chosen more is h.0 (λ m item. none (item.1, item.2)),
+pub chosen_skip : (ended : List Bool) (done : List ℕ) (n : ℕ) (chosen more : List ℕ) → more ≡ chosen
+    → ((slice_get ended n ≡ Some false) × Contains done n → ⊥) → ChosenBelow ended done n chosen → ChosenBelow ended done (n + 1) more
+chosen_skip ended done n chosen more is none h = (
+  gather_skip (IsChosenAt ended done) n chosen more is h.0 (λ m item. none (item.1, item.2)),
   subst (AllPairs (λ m n. m < n)) (sym is) h.1,
 )
 
-pub chosen_all : (ended : List Bool) (marks : List CallMark) (size : ℕ) (chosen : List ℕ) → length marks ≡ length ended → length ended ≤ size
-    → ChosenBelow ended marks size chosen → AreChosen ended marks chosen
-chosen_all ended marks size chosen same all h = record {
+pub chosen_all : (ended : List Bool) (done : List ℕ) (size : ℕ) (chosen : List ℕ) → length ended ≤ size
+    → ChosenBelow ended done size chosen → AreChosen ended done chosen
+chosen_all ended done size chosen all h = record {
   rising = h.1;
   each = λ n. (
-    λ in_chosen. let item = (h.0 n).0 in_chosen in
-        let had_not = subst (λ (k : ℕ). slice_get ended k ≡ Some false) (sym item.is.0) item.is.1 in (
-          had_not,
-          omega (arith, same, slice_get_within ended n false had_not),
-          subst (λ (k : ℕ). slice_get marks k ≢ Some Left) (sym item.is.0) item.is.2,
-        ),
-    λ is. (h.0 n).1 (record { number = n; below = omega (arith, all, same, is.1); is = (refl, is.0, is.2) }),
-  );
-}
-
--- ---- what calls found
-
-abbrev pub FoundBelow : List CallMark → ℕ → List (ℕ × Option ℕ) → Type 0
-FoundBelow marks size found = Gathers (IsFoundAt marks) size found × AllPairs (λ a b. a.0 < b.0) found
-
-pair_of : ℕ → Option ℕ → ℕ × Option ℕ
-pair_of n value = (n, value)
-
-same_pair : (f : ℕ × Option ℕ) (n : ℕ) (value : Option ℕ) → f.0 ≡ n → f.1 ≡ value → f ≡ (n, value)
-unfolding pair_of
-same_pair f n value number is = ap (λ (k : ℕ). pair_of k f.1) number ∙ ap (pair_of n) is
-
-value_of : Option ℕ → CallMark → Option ℕ
-value_of other Left = other
-value_of other Taken = other
-value_of other (Found value) = value
-
-same_value : (a b : Option ℕ) → Found a ≡ Found b → a ≡ b
-unfolding value_of
-same_value a b h = ap (value_of a) h
-
-pub found_push : (marks : List CallMark) (n : ℕ) (value : Option ℕ) (found more : List (ℕ × Option ℕ)) → more ≡ found ++ (n, value) ∷ []
-    → slice_get marks n ≡ Some (Found value) → FoundBelow marks n found → FoundBelow marks (n + 1) more
-found_push marks n value found more is here h = (
-  gather_push (IsFoundAt marks) n found more (n, value) is h.0 (refl, here)
-      (λ f item. same_pair f n value item.0 (same_value f.1 value (same_Some (Found f.1) (Found value) (sym item.1 ∙ here)))),
-  pairs_push (λ a b. a.0 < b.0) (IsFoundAt marks) n found more (n, value) is h.0 h.1 (λ k f below item. omega (arith, below, item.0)),
-)
-
-pub found_skip : (marks : List CallMark) (n : ℕ) (found more : List (ℕ × Option ℕ)) → more ≡ found
-    → ((value : Option ℕ) → slice_get marks n ≢ Some (Found value)) → FoundBelow marks n found → FoundBelow marks (n + 1) more
-found_skip marks n found more is none h = (
-  gather_skip (IsFoundAt marks) n found more is h.0 (λ f item. none f.1 item.1),
-  subst (AllPairs (λ a b. a.0 < b.0)) (sym is) h.1,
-)
-
-pub found_all : (marks : List CallMark) (size : ℕ) (found : List (ℕ × Option ℕ)) → length marks ≤ size → FoundBelow marks size found
-    → AreFound marks found
-found_all marks size found all h = record {
-  rising = h.1;
-  each = λ n value. (
-    λ in_found. let item = (h.0 (n, value)).0 in_found in
-        subst (λ (k : ℕ). slice_get marks k ≡ Some (Found value)) (sym item.is.0) item.is.1,
-    λ is. (h.0 (n, value)).1
-        (record { number = n; below = omega (arith, all, slice_get_within marks n (Found value) is); is = (refl, is) }),
+    λ in_chosen. let item = (h.0 n).0 in_chosen in (
+      subst (λ (k : ℕ). slice_get ended k ≡ Some false) (sym item.is.0) item.is.1,
+      subst (Contains done) (sym item.is.0) item.is.2,
+    ),
+    λ is. (h.0 n).1
+        (record { number = n; below = let within = slice_get_within ended n false is.0 in omega (arith, all, within); is = (refl, is.0, is.1) }),
   );
 }
 
 -- ---- the positions that follow one
+
+-- those that are done lead to none
+pub next_none : (calls : List Operation) (p : Position) (first : ℕ) (next : List Position) → next ≡ []
+    → ((n : ℕ) → n < first → Contains p.done n) → Gathers (IsNextAt calls p) first next
+next_none calls p first next none all q = (
+  λ h. absurd (Contains-nil q (subst (λ (l : List Position). Contains l q) none h)),
+  λ item. absurd (item.is.0.left (all item.number item.below)),
+)
 
 pub next_push : (calls : List Operation) (p : Position) (n : ℕ) (a : Operation) (next more : List Position) (q : Position)
     → more ≡ next ++ q ∷ [] → MayCome calls p n → slice_get calls n ≡ Some a → q ≡ next_position p n a
@@ -167,7 +106,7 @@ abbrev pub ChoicesBelow : List Bool → List Position → ℕ → List PastChoic
 ChoicesBelow ended visited size choices = Gathers (IsChoiceAt ended visited) size choices × AllPairs (λ c d. c ≢ d) choices
 
 pub choices_push : (ended : List Bool) (visited : List Position) (n : ℕ) (p : Position) (choices more : List PastChoice) (c : PastChoice)
-    → more ≡ choices ++ c ∷ [] → ((i : ℕ) (q : Position) → slice_get visited i ≡ Some q → length q.marks ≡ length ended)
+    → more ≡ choices ++ c ∷ [] → ((i : ℕ) (q : Position) → slice_get visited i ≡ Some q → HasPlaces (length ended) q)
     → ((i j : ℕ) (q r : Position) → i < j → slice_get visited i ≡ Some q → slice_get visited j ≡ Some r → q ≢ r)
     → slice_get visited n ≡ Some p → IsChoiceOf ended p c → ChoicesBelow ended visited n choices → ChoicesBelow ended visited (n + 1) more
 choices_push ended visited n p choices more c is each distinct here choice h = (

@@ -1,12 +1,15 @@
 mod AnswerLemmas
 mod AtLemmas
 mod ChoiceLemmas
+mod ComesToLemmas
+mod DigestLemmas
 mod EarliestLemmas
+mod FeedLemmas
+mod FoundLemmas
 mod GatherLemmas
 mod ItemLemmas
-mod MarkLemmas
 mod PathLemmas
-pub mod PlaceLemmas
+mod PlaceLemmas
 mod StartLemmas
 mod StepLemmas
 mod TurnLemmas

@@ -1,26 +1,14 @@
--- Lists by place, and lists that rise.
-use Rattle.std.proofs.Common.{◌≡◌, ◌≢◌, ℕ, zero, suc, ◌<◌, List, [], ◌∷◌, length, Some}
+-- Numbers in lists, and lists that rise.
+use Rattle.std.proofs.Common.{◌≡◌, ℕ, ◌<◌, eqb, Option, List, [], ◌∷◌}
 use Rattle.std.proofs.Common.{refl, sym, ap, ◌∙◌, ⊎_elim, inl, inr, arith}
-use Rattle.std.specs.Prelude.{◌⊎◌, slice_get, slice_set, All, AllPairs, Contains}
+use Rattle.std.specs.Option.{option_eq}
+use Rattle.std.specs.Prelude.{◌⊎◌, ◌≢◌, All, AllPairs, Contains}
 use Rattle.std.proofs.lemmas.Bool.{both_ways, cases_Bool}
 use Rattle.std.proofs.lemmas.List.Elements.{All-contains}
-use Rattle.std.proofs.lemmas.Option.{none-some, same_Some}
+use Rattle.key_configurations.proofs.ValueLemmas.{Decides-values}
 use Rattle.list_laws.specs.Lists.{has_number}
 use Rattle.list_laws.proofs.Lists.{AllPairs-head, AllPairs-tail, Contains-first, Contains-later, Contains-nil, Contains-cases}
 use Rattle.list_laws.proofs.NumberLemmas.{has_number-Contains, has_number-from_Contains}
-
--- what was put at a place, and what stands at the others
-pub set_here : {X : Type 0} (xs : List X) (n : ℕ) (x : X) → n < length xs → slice_get (slice_set xs n x) n ≡ Some x
-set_here [] n x within = absurd (omega (arith, within))
-set_here (y ∷ xs) zero x within = refl
-set_here (y ∷ xs) (suc n) x within = set_here xs n x (omega (arith, within))
-
-pub set_elsewhere : {X : Type 0} (xs : List X) (n m : ℕ) (x : X) → m ≢ n → slice_get (slice_set xs n x) m ≡ slice_get xs m
-set_elsewhere [] n m x apart = refl
-set_elsewhere (y ∷ xs) zero zero x apart = absurd (apart refl)
-set_elsewhere (y ∷ xs) zero (suc m) x apart = refl
-set_elsewhere (y ∷ xs) (suc n) zero x apart = refl
-set_elsewhere (y ∷ xs) (suc n) (suc m) x apart = set_elsewhere xs n m x (λ e. apart (omega (arith, e)))
 
 -- a number is in a list or not
 pub is_in_or_not : (numbers : List ℕ) (n : ℕ) → Contains numbers n ⊎ (Contains numbers n → ⊥)
@@ -28,6 +16,13 @@ is_in_or_not numbers n = ⊎_elim
     (λ yes. inl (has_number-Contains numbers n yes))
     (λ no. inr (λ h. both_ways (has_number numbers n) no (has_number-from_Contains numbers n h)))
     (cases_Bool (has_number numbers n))
+
+-- a value is another one or not
+pub same_value_or_not : (a b : Option ℕ) → (a ≡ b) ⊎ (a ≢ b)
+same_value_or_not a b = ⊎_elim
+    (λ yes. inl ((Decides-values a b).0 yes))
+    (λ no. inr (λ is. both_ways (option_eq eqb a b) no ((Decides-values a b).1 is)))
+    (cases_Bool (option_eq eqb a b))
 
 -- the first of two lists that rise by a number and have the same members is the same
 same_first : {X : Type 0} (number : X → ℕ) (x : X) (xs : List X) (y : X) (ys : List X) → All (λ b. number x < number b) xs
@@ -65,13 +60,3 @@ rising_same {X} number (x ∷ xs) (y ∷ ys) up_x up_y to from =
     (AllPairs-tail (λ a b. number a < number b) y ys up_y)
     (members_after number x y xs ys one low_x to) (members_after number y x ys xs (sym one) low_y from) in
     ap (λ (z : X). z ∷ xs) one ∙ ap (λ (zs : List X). y ∷ zs) rest
-
--- lists that are the same at each place are the same
-pub same_by_place : {X : Type 0} (xs ys : List X) → length xs ≡ length ys
-    → ((n : ℕ) (x y : X) → slice_get xs n ≡ Some x → slice_get ys n ≡ Some y → x ≡ y) → xs ≡ ys
-same_by_place [] [] size same = refl
-same_by_place [] (y ∷ ys) size same = absurd (omega (arith, size))
-same_by_place (x ∷ xs) [] size same = absurd (omega (arith, size))
-same_by_place {X} (x ∷ xs) (y ∷ ys) size same =
-    ap (λ (z : X). z ∷ xs) (same 0 x y refl refl)
-    ∙ ap (λ (zs : List X). y ∷ zs) (same_by_place xs ys (omega (arith, size)) (λ n a b here there. same (suc n) a b here there))

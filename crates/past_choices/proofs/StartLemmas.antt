@@ -1,20 +1,22 @@
 -- The position of a start, and the calls that it has not taken.
-use Rattle.std.proofs.Common.{◌≡◌, ◌≢◌, ℕ, zero, suc, ◌<◌, Bool, true, false, List, [], ◌∷◌, length, map, Option, Some, None}
-use Rattle.std.proofs.Common.{refl, sym, ap, ap₂, ◌∙◌, ⊎_elim, inl, inr, arith}
-use Rattle.std.specs.Prelude.{◌⊎◌, slice_get, slice_index_or, Contains}
+use Rattle.std.proofs.Common.{◌≡◌, ℕ, zero, suc, ◌+◌, ◌<◌, Bool, true, false, List, [], ◌∷◌, length, Option, Some, None}
+use Rattle.std.proofs.Common.{refl, sym, ap, ap₂, ◌∙◌, subst, ⊎_elim, inl, inr, arith}
+use Rattle.std.specs.Prelude.{◌⊎◌, ◌↔◌, if◌then◌else◌, slice_get, slice_index_or, Contains}
 use Rattle.std.specs.List.{cons_option}
-use Rattle.std.proofs.lemmas.Bool.{both_ways, cases_Bool}
+use Rattle.std.specs.List.Sorted.{IsStrictlyIncreasing}
+use Rattle.std.proofs.lemmas.Bool.{both_ways, cases_Bool, cases_lt}
 use Rattle.std.proofs.lemmas.Option.{same_Some, none-some}
 use Rattle.events.specs.declared.operation.Operation.{Operation}
 use Rattle.events.specs.declared.operation.Response.{Response}
 use Rattle.events.specs.Precedence.{is_before}
-use Rattle.list_laws.proofs.Lists.{Contains-first, Contains-later}
+use Rattle.list_laws.proofs.Lists.{Contains-first, Contains-later, Contains-nil}
+use Rattle.list_laws.proofs.RisingLemmas.{IsStrictlyIncreasing-range}
 use Rattle.configurations.specs.Fronts.{PrecedesAt}
 use Rattle.orders.specs.Orders.{calls_at}
-use Rattle.past_choices.specs.declared.mark.CallMark.TheVariants.{Left, Taken, Found}
-use Rattle.past_choices.specs.Starts.{IsFree, with_taken}
-use Rattle.past_choices.specs.Steps.{start_mark}
-use Rattle.past_choices.proofs.MarkLemmas.{left_found_nothing, left_is_not_taken, taken_found_nothing}
+use Rattle.memo.specs.Taking.{with_place}
+use Rattle.memo.proofs.TakingLemmas.{Contains-with_place, with_place-rises}
+use Rattle.past_choices.specs.Starts.{IsTaken, IsFree, with_taken}
+use Rattle.past_choices.specs.Steps.{places_taken}
 
 -- a call that is not taken is as it was
 pub free_call : (taken : List Bool) (calls : List Operation) (n : ℕ) → IsFree taken n → slice_get (with_taken taken calls) n ≡ slice_get calls n
@@ -31,7 +33,7 @@ length-with_taken (is ∷ taken) [] = refl
 length-with_taken (is ∷ taken) (a ∷ calls) = ap suc (length-with_taken taken calls)
 
 -- a call is taken or not
-pub free_or_taken : (taken : List Bool) (n : ℕ) → IsFree taken n ⊎ (slice_index_or taken n false ≡ true)
+pub free_or_taken : (taken : List Bool) (n : ℕ) → IsFree taken n ⊎ IsTaken taken n
 free_or_taken taken n = ⊎_elim (λ yes. inr yes) (λ no. inl no) (cases_Bool (slice_index_or taken n false))
 
 -- a taken call has no answer
@@ -84,20 +86,55 @@ calls_free taken calls (n ∷ path) free =
 
 -- ---- the position of a start
 
-pub start_left : (taken : List Bool) (n : ℕ) → slice_get (map start_mark taken) n ≡ Some Left → (n < length taken) × IsFree taken n
-start_left [] n h = absurd (none-some Left h)
-start_left (true ∷ taken) zero h = absurd (left_is_not_taken (sym (same_Some Taken Left h)))
-start_left (false ∷ taken) zero h = (omega arith, refl)
-start_left (is ∷ taken) (suc n) h = let rest = start_left taken n h in (omega (arith, rest.0), rest.1)
+-- a taken call is one of those that are named
+pub taken_within : (taken : List Bool) (n : ℕ) → IsTaken taken n → n < length taken
+taken_within [] n is = absurd (both_ways false refl is)
+taken_within (b ∷ taken) zero is = omega arith
+taken_within (b ∷ taken) (suc n) is = let rest = taken_within taken n is in omega (arith, rest)
 
-pub start_left_from : (taken : List Bool) (n : ℕ) → n < length taken → IsFree taken n → slice_get (map start_mark taken) n ≡ Some Left
-start_left_from [] n within free = absurd (omega (arith, within))
-start_left_from (true ∷ taken) zero within free = absurd (both_ways true free refl)
-start_left_from (false ∷ taken) zero within free = refl
-start_left_from (is ∷ taken) (suc n) within free = start_left_from taken n (omega (arith, within)) free
+-- of the first calls, exactly those that are taken
+pub Contains-places_taken : (taken : List Bool) (count n : ℕ) → Contains (places_taken taken count) n ↔ ((n < count) × IsTaken taken n)
+Contains-places_taken taken zero n = (λ h. absurd (Contains-nil n h), λ h. absurd (omega (arith, h.0)))
+Contains-places_taken taken (suc k) n = by_test (slice_index_or taken k false) refl (Contains-places_taken taken k n)
+  where
+    by_test : (t : Bool) → slice_index_or taken k false ≡ t → Contains (places_taken taken k) n ↔ ((n < k) × IsTaken taken n)
+        → Contains (if t then with_place (places_taken taken k) k else places_taken taken k) n ↔ ((n < suc k) × IsTaken taken n)
+    by_test true is rest = (
+      λ h. ⊎_elim (λ old. let it = rest.0 old in (omega (arith, it.0), it.1))
+          (λ same. (omega (arith, same), subst (IsTaken taken) (sym same) is))
+          ((Contains-with_place (places_taken taken k) k n).0 h),
+      λ h. (Contains-with_place (places_taken taken k) k n).1
+          (⊎_elim (λ lt. inl (rest.1 (lt, h.1))) (λ ge. inr (omega (arith, h.0, ge))) (cases_lt n k)),
+    )
+    by_test false is_not rest = (
+      λ h. let it = rest.0 h in (omega (arith, it.0), it.1),
+      λ h. ⊎_elim (λ lt. rest.1 (lt, h.1))
+          (λ ge. let same : n ≡ k = omega (arith, h.0, ge) in
+          absurd (both_ways (slice_index_or taken k false) is_not (subst (IsTaken taken) same h.1)))
+          (cases_lt n k),
+    )
 
-pub start_found : (taken : List Bool) (n : ℕ) (value : Option ℕ) → slice_get (map start_mark taken) n ≡ Some (Found value) → ⊥
-start_found [] n value h = absurd (none-some (Found value) h)
-start_found (true ∷ taken) zero value h = taken_found_nothing value (same_Some Taken (Found value) h)
-start_found (false ∷ taken) zero value h = left_found_nothing value (same_Some Left (Found value) h)
-start_found (is ∷ taken) (suc n) value h = start_found taken n value h
+-- they rise
+pub places_taken-rises : (taken : List Bool) (count : ℕ) → IsStrictlyIncreasing (places_taken taken count)
+places_taken-rises taken zero = IsStrictlyIncreasing-range 0
+places_taken-rises taken (suc k) = by_test (slice_index_or taken k false) (places_taken-rises taken k)
+  where
+    by_test : (t : Bool) → IsStrictlyIncreasing (places_taken taken k)
+        → IsStrictlyIncreasing (if t then with_place (places_taken taken k) k else places_taken taken k)
+    by_test true rest = with_place-rises (places_taken taken k) k rest
+    by_test false rest = rest
+
+-- one call more, which is taken or not
+pub places_taken-more : (taken : List Bool) (n : ℕ) (done : List ℕ) → slice_index_or taken n false ≡ true
+    → done ≡ with_place (places_taken taken n) n → done ≡ places_taken taken (n + 1)
+places_taken-more taken n done is done_is =
+    let next : suc n ≡ n + 1 = omega arith in
+    let more : done ≡ places_taken taken (suc n) = rw is done_is in
+    subst (λ (k : ℕ). done ≡ places_taken taken k) next more
+
+pub places_taken-same : (taken : List Bool) (n : ℕ) (done : List ℕ) → slice_index_or taken n false ≡ false → done ≡ places_taken taken n
+    → done ≡ places_taken taken (n + 1)
+places_taken-same taken n done is_not done_is =
+    let next : suc n ≡ n + 1 = omega arith in
+    let more : done ≡ places_taken taken (suc n) = rw is_not done_is in
+    subst (λ (k : ℕ). done ≡ places_taken taken k) next more

@@ -5,6 +5,7 @@ use Rattle.std.proofs.lemmas.List.Elements.{Contains-push}
 use Rattle.std.proofs.lemmas.Option.{same_Some}
 use Rattle.events.specs.declared.operation.Operation.{Operation}
 use Rattle.list_laws.proofs.Lists.{Contains-cases, Contains-nil}
+use Rattle.past_choices.specs.Feeding.{IsLost}
 use Rattle.past_choices.specs.Positions.{Position}
 use Rattle.quiet_cuts.specs.Replies.{IsRead}
 use Rattle.past_choices.specs.Steps.{next_position, MayCome, IsNextOf, IsReadAt, AreSteps}
@@ -19,6 +20,14 @@ pub steps_all : (calls : List Operation) (ended : List Bool) (p : Position) (nex
     → ((q : Position) → Contains next q ↔ IsNextOf calls p q) → AreSteps calls ended p next
 steps_all calls ended p next each = record { follow = λ q h. (each q).0 h; enough = inl (λ q h. (each q).1 h) }
 
+-- none
+pub steps_none : (calls : List Operation) (ended : List Bool) (p : Position) (next : List Position) → next ≡ [] → IsLost calls ended p
+    → AreSteps calls ended p next
+steps_none calls ended p next none lost = record {
+  follow = λ q h. absurd (Contains-nil q (subst (λ (l : List Position). Contains l q) none h));
+  enough = inr (inr lost);
+}
+
 -- the one after a read
 pub steps_read : (calls : List Operation) (ended : List Bool) (p : Position) (n : ℕ) (a : Operation) (q : Position) (next : List Position)
     → next ≡ [] ++ q ∷ [] → slice_get calls n ≡ Some a → q ≡ next_position p n a → IsReadAt calls ended p n
@@ -28,12 +37,12 @@ steps_read calls ended p n a q next is here leads read = record {
       (λ one. record { place = n; may_come = read.may_come; leads = sym one ∙ to })
       (λ later. absurd (Contains-nil x later))
       (Contains-cases q [] x (subst (λ (l : List Position). Contains l x) is h));
-  enough = inr (
+  enough = inr (inl (
     n,
     read,
     subst (λ (l : List Position). Contains l (next_position p n read.may_come.call)) (sym is)
         (subst (Contains ([] ++ q ∷ [])) to (Contains-push [] q)),
-  );
+  ));
 }
   where
     to : q ≡ next_position p n read.may_come.call

@@ -19,12 +19,12 @@ use Rattle.configurations.specs.Fronts.{PrecedesAt}
 use Rattle.configurations.proofs.FrontLemmas.{IsLegalOrder-from_front}
 use Rattle.following.specs.keys.KeyStates.{one_key}
 use Rattle.following.specs.keys.Settling.{AreInTurn}
-use Rattle.past_choices.specs.declared.mark.CallMark.TheVariants.{Left}
 use Rattle.past_choices.specs.PastChoices.{PastChoice, ArePast, calls_done, IsPastChoice}
 use Rattle.past_choices.specs.Positions.{Position, FindsAt, IsAt, IsFrontFrom, IsReached}
 use Rattle.past_choices.specs.Starts.{Start, IsFree, with_taken}
 use Rattle.past_choices.specs.Steps.{IsChoiceOf, AreReached}
-use Rattle.past_choices.proofs.AtLemmas.{same_number, number_in, done_from_mark}
+use Rattle.past_choices.proofs.AtLemmas.{same_number, number_in, done_on_path}
+use Rattle.past_choices.proofs.PlaceLemmas.{rising_same}
 use Rattle.past_choices.proofs.StartLemmas.{calls_free, free_or_taken, length-with_taken, preceding_free, precedes_from}
 use Rattle.past_choices.proofs.ValueLemmas.{one_key_same}
 
@@ -138,27 +138,20 @@ front_numbers : (key : ℕ) (first : Start) (calls : List Operation) (ended : Li
     → Contains path n ↔ Contains (done_numbers calls ended first.taken c.chosen) n
 front_numbers key first calls ended path p c each front at choice n = (to, from)
   where
-    is_done : (m : ℕ) → Contains path m → slice_get p.marks m ≡ Some Left → ⊥
-    is_done m h is_left = ((at.left m).0 is_left).1 h
-
     to : Contains path n → Contains (done_numbers calls ended first.taken c.chosen) n
     to h =
         let within = All-contains (λ n. n < length calls) path n (known_front key first calls path front) h in
         in_done calls ended first.taken c.chosen n within (front.free n h)
         (⊎_elim (λ had. inl had)
-        (λ had_not. inr ((choice.chosen.each n).1 (had_not, omega (arith, at.each, within), is_done n h)))
+        (λ had_not. inr ((choice.chosen.each n).1 (had_not, (at.done n).1 (inr h))))
         (ended_or_not ended n (omega (arith, each, within))))
-
-    below : slice_get ended n ≡ Some true → n < length calls
-    below is = omega (arith, each, slice_get_within ended n true is)
 
     from : Contains (done_numbers calls ended first.taken c.chosen) n → Contains path n
     from h =
         let parts = done_parts calls ended first.taken c.chosen n h in
         ⊎_elim
-        (λ had. done_from_mark key first calls path p n at (below had) parts.1 (choice.whole n had))
-        (λ in_chosen. let each = (choice.chosen.each n).0 in_chosen in
-        done_from_mark key first calls path p n at (omega (arith, at.each, each.1)) parts.1 each.2)
+        (λ had. done_on_path key first calls path p n at parts.1 (choice.whole n had))
+        (λ in_chosen. done_on_path key first calls path p n at parts.1 ((choice.chosen.each n).0 in_chosen).1)
         parts.0
 
 -- the calls of distinct numbers are distinct
@@ -175,11 +168,7 @@ pub choice_in_turn : (key : ℕ) (first : Start) (calls : List Operation) (ended
 choice_in_turn key first calls ended p c past reached choice = record {
   rising = choice.chosen.rising;
   were_open = λ n h. ((choice.chosen.each n).0 h).0;
-  holds = λ n taken had_not. (choice.chosen.each n).1 (
-    had_not,
-    omega (arith, reached.at.each, past.each, slice_get_within ended n false had_not),
-    λ is_left. both_ways (slice_index_or first.taken n false) ((reached.at.left n).0 is_left).2 taken,
-  );
+  holds = λ n taken had_not. (choice.chosen.each n).1 (had_not, (reached.at.done n).1 (inl taken));
   order = calls_at calls path;
   in_turn = record {
     all = λ a. (
@@ -193,10 +182,10 @@ choice_in_turn key first calls ended p c past reached choice = record {
     legal = subst (IsLegal (one_key key first.value)) as_they_were legal_order.legal;
   };
   left = ap (one_key key) choice.value ∙ reached.at.value;
-  found_rise = choice.found.rising;
+  found_rise = subst (AllPairs (λ a b. a.0 < b.0)) (sym choice.found) reached.at.found_rise;
   found = λ n value. (
-    λ h. (reached.at.found n value).0 ((choice.found.each n value).0 h),
-    λ h. (choice.found.each n value).1 ((reached.at.found n value).1 h),
+    λ h. (reached.at.found n value).0 (subst (λ (l : List (ℕ × Option ℕ)). Contains l (n, value)) choice.found h),
+    λ h. subst (λ (l : List (ℕ × Option ℕ)). Contains l (n, value)) (sym choice.found) ((reached.at.found n value).1 h),
   );
 }
   where
@@ -282,34 +271,25 @@ choice_at key starts calls ended visited c first past first_in reached choice = 
   leads.0,
   leads.1,
   record {
-    whole = λ n had is_left. let it = (at.left n).0 is_left in
-        it.1 (to_path n (below n had) (in_done calls ended first.taken c.chosen n (below n had) it.2 (inl had)));
+    whole = λ n had. all_done n (below n had) (inl had);
     chosen = record {
       rising = choice.rising;
       each = λ n. (
         λ h. let had_not = choice.were_open n h in
-            let within : n < length calls = omega (arith, past.each, slice_get_within ended n false had_not) in (
-              had_not,
-              omega (arith, at.each, within),
-              λ is_left. let it = (at.left n).0 is_left in
-                  it.1 (to_path n within (in_done calls ended first.taken c.chosen n within it.2 (inr h))),
-            ),
-        λ h. let within : n < length calls = omega (arith, at.each, h.1) in
-            ⊎_elim
+            (had_not, all_done n (omega (arith, past.each, slice_get_within ended n false had_not)) (inr h)),
+        λ h. ⊎_elim
             (λ free. ⊎_elim (λ had. absurd (not_both n had h.0)) (λ in_chosen. in_chosen)
-            (done_parts calls ended first.taken c.chosen n (from_path n (done_from_mark key first calls numbered.0 leads.0 n at within free h.2))).0)
+            (done_parts calls ended first.taken c.chosen n (from_path n (done_on_path key first calls numbered.0 leads.0 n at free h.1))).0)
             (λ taken. choice.holds n taken h.0)
             (free_or_taken first.taken n),
       );
     };
     value = one_key_same key c.value leads.0.value (choice.left ∙ ap (after_calls (one_key key first.value)) (sym is) ∙ sym at.value);
-    found = record {
-      rising = choice.found_rise;
-      each = λ n value. (
-        λ h. (at.found n value).1 (subst (λ (l : List Operation). FindsAt key first.value calls l n value) (sym is) ((choice.found n value).0 h)),
-        λ h. (choice.found n value).1 (subst (λ (l : List Operation). FindsAt key first.value calls l n value) is ((at.found n value).0 h)),
-      );
-    };
+    found = rising_same (λ f. f.0) c.found leads.0.found choice.found_rise at.found_rise
+        (λ f h. (at.found f.0 f.1).1
+        (subst (λ (l : List Operation). FindsAt key first.value calls l f.0 f.1) (sym is) ((choice.found f.0 f.1).0 h)))
+        (λ f h. (choice.found f.0 f.1).1
+        (subst (λ (l : List Operation). FindsAt key first.value calls l f.0 f.1) is ((at.found f.0 f.1).0 h)));
   },
 )
   where
@@ -342,6 +322,12 @@ choice_at key starts calls ended visited c first past first_in reached choice = 
 
     at : IsAt key first calls numbered.0 leads.0
     at = leads.2
+
+    all_done : (n : ℕ) → n < length calls → (slice_get ended n ≡ Some true) ⊎ Contains c.chosen n → Contains leads.0.done n
+    all_done n within h = (at.done n).1 (⊎_elim
+        (λ free. inr (to_path n within (in_done calls ended first.taken c.chosen n within free h)))
+        (λ taken. inl taken)
+        (free_or_taken first.taken n))
 
     not_both : (n : ℕ) → slice_get ended n ≡ Some true → slice_get ended n ≡ Some false → ⊥
     not_both n had had_not = both_ways true (same_Some true false (sym had ∙ had_not)) refl

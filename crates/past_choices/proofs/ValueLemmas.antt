@@ -1,6 +1,6 @@
 -- What a call of a key does at the pairs of that key alone: what it does at its value.
 use Rattle.events.specs.declared.event.Reply.TheVariants as replies
-use Rattle.std.proofs.Common.{◌≡◌, ℕ, Bool, true, false, [], ◌++◌, Option, Some, None, refl, sym, ap, ◌∙◌, subst, arith}
+use Rattle.std.proofs.Common.{◌≡◌, ℕ, Bool, true, false, List, [], ◌++◌, Option, Some, None, refl, sym, ap, ◌∙◌, subst, arith}
 use Rattle.std.specs.Prelude.{◌⊎◌, ◌↔◌, if◌then◌else◌, IsSomeAnd}
 use Rattle.std.proofs.lemmas.Bool.{eq-eqb, le-ltb}
 use Rattle.events.specs.declared.event.Call.{Call}
@@ -14,9 +14,8 @@ use Rattle.following.specs.keys.KeyStates.{one_key}
 use Rattle.quiet_cuts.specs.Replies.{says_unchanged}
 use Rattle.quiet_cuts.proofs.ReplyLemmas.{unchanged}
 use Rattle.following.proofs.keys.BeginLemmas.{one_rises}
-use Rattle.past_choices.specs.declared.mark.CallMark.TheVariants.{Taken}
 use Rattle.quiet_cuts.specs.Replies.{IsRead}
-use Rattle.past_choices.specs.Steps.{mark_of}
+use Rattle.past_choices.specs.Steps.{found_with}
 use Rattle.quiet_cuts.specs.Values.{IsCallOf, value_behind, value_behind_reply, value_behind_call, MayBeAnswered}
 
 -- the value there
@@ -96,13 +95,15 @@ legal_one key value call (Some r) is = (
   λ h. subst (λ (whole : Reply). (r.reply ≡ replies.Refused) ⊎ TellsOf call whole r.reply) (sym (reply_one key value call is)) h,
 )
 
--- a read is done at the value where it may be answered so, and leaves it
-pub read_leaves : (key : ℕ) (value : Option ℕ) (a : Operation) → IsCallOf key a.call → IsRead a → MayBeAnswered value a.call a.response
-    → (mark_of a.response value ≡ Taken) × (value_behind_call value a.call a.response ≡ value)
-read_leaves key value a is read legal = by_response a.response read legal
+-- a read is done at the value where it may be answered so, and leaves it, and finds nothing that is not told
+pub read_leaves : (key n : ℕ) (value : Option ℕ) (found : List (ℕ × Option ℕ)) (a : Operation) → IsCallOf key a.call → IsRead a
+    → MayBeAnswered value a.call a.response
+    → (found_with n a.response value found ≡ found) × (value_behind_call value a.call a.response ≡ value)
+read_leaves key n value found a is read legal = by_response a.response read legal
   where
     by_response : (response : Option Response) → IsSomeAnd response (λ r. says_unchanged a.call r.reply ≡ true)
-        → MayBeAnswered value a.call response → (mark_of response value ≡ Taken) × (value_behind_call value a.call response ≡ value)
+        → MayBeAnswered value a.call response
+        → (found_with n response value found ≡ found) × (value_behind_call value a.call response ≡ value)
     by_response None read legal = absurd read
     by_response (Some r) read legal = (
       refl,

@@ -71,7 +71,7 @@ pub enough_more : (calls : List Operation) (ended : List Bool) (p : Position) (x
     → ((q : Position) → Contains xs q → Contains ys q) → AreEnough calls ended p xs → AreEnough calls ended p ys
 enough_more calls ended p xs ys to enough =
     ⊎_elim (λ all. inl (λ q next. to q (all q next)))
-    (λ read. inr (read.0, read.1, to (next_position p read.0 read.1.may_come.call) read.2)) enough
+    (λ rest. inr (⊎_elim (λ read. inl (read.0, read.1, to (next_position p read.0 read.1.may_come.call) read.2)) (λ lost. inr lost) rest)) enough
 
 -- with enough of those that follow a position
 pub expanded : (calls : List Operation) (ended : List Bool) (p : Position) (next old new : List Position)

@@ -1,12 +1,12 @@
 -- The worklist comes to all positions at which the calls that ended are done: it has the first one, and with each enough of those that follow.
-use Rattle.std.proofs.Common.{◌≡◌, ℕ, ◌<◌, ◌≤◌, Bool, true, List, [], ◌∷◌, ◌++◌, length, map, Some}
+use Rattle.std.proofs.Common.{◌≡◌, ℕ, ◌<◌, ◌≤◌, Bool, List, [], ◌∷◌, ◌++◌, length, map, Some}
 use Rattle.std.proofs.Common.{refl, sym, ap, ◌∙◌, subst, ⊎_elim, inl, inr, arith, append-nil, append_assoc}
 use Rattle.std.specs.Prelude.{◌≢◌, ◌+◌, ◌⊎◌, slice_get, All, AllPairs, Contains}
 use Rattle.std.proofs.lemmas.Bool.{cases_lt}
 use Rattle.std.proofs.lemmas.List.Elements.{All-contains, Contains-append_left, Contains-append_right}
 use Rattle.std.proofs.lemmas.Option.{same_Some, slice_get_within}
 use Rattle.events.specs.declared.operation.Operation.{Operation}
-use Rattle.list_laws.proofs.Lists.{All-from_contains, Contains-at, Contains-first, Contains-nil, Contains-cases, place_of-Contains}
+use Rattle.list_laws.proofs.Lists.{All-from_contains, Contains-at, Contains-first, Contains-nil, place_of-Contains}
 use Rattle.list_laws.proofs.NumberLemmas.{slice_get-below}
 use Rattle.list_laws.proofs.FilterLemmas.{Contains-map, Contains-from_map}
 use Rattle.configurations.proofs.FrontLemmas.{IsFront-nil, IsNext-from_front}
@@ -18,7 +18,9 @@ use Rattle.past_choices.specs.Steps.{start_position, next_position, IsNextOf, Ar
 use Rattle.past_choices.specs.Steps.{HasEnded}
 use Rattle.quiet_cuts.specs.Values.{IsCallOf}
 use Rattle.past_choices.proofs.AtLemmas.{start_at, push_at, front_push, next_of_front}
-use Rattle.past_choices.proofs.PathLemmas.{LeadsOn, comes_to}
+use Rattle.past_choices.proofs.ComesToLemmas.{comes_to}
+use Rattle.past_choices.proofs.PathLemmas.{LeadsOn}
+use Rattle.past_choices.proofs.StartLemmas.{free_or_taken}
 use Rattle.past_choices.proofs.VisitLemmas.{enough_more}
 
 -- what follows a position that is reached is reached
@@ -115,11 +117,12 @@ whole key starts calls ended visited at of_key rising sized all explored first f
     let (q, leads, is_at) = leads_on key first calls of_key rising [] path front (start_position first)
     (start_at key first calls (All-contains (λ s. length s.taken ≡ length calls) starts first sized first_in)) in (
       q,
-      comes_to key calls ended visited of_key
+      comes_to key calls ended visited of_key (λ p visits. let (first, first_in, from) = any_to (IsReached key calls p) starts
+          (All-contains (IsReachedFrom key starts calls) visited p explored.reached visits) in from.at.places.rising)
           (λ p visits. let (i, here) = place_of-Contains visited p visits in
           explored.closed i p (let lt = slice_get_within visited i p here in omega (arith, all, lt)) here)
           (length path) path (omega arith) (start_position first) q (explored.start first first_in) leads
-          (λ n had is_left. let it = (is_at.left n).0 is_left in it.1 (holds n had it.2)),
+          (λ n had. (is_at.done n).1 (⊎_elim (λ free. inr (holds n had free)) (λ taken. inl taken) (free_or_taken first.taken n))),
       is_at,
     )
 

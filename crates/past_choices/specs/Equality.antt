@@ -1,74 +1,50 @@
--- When two marks, or two positions, are the same, as a test, with the proof that the test tells
--- exactly this.
-use Rattle.std.specs.Prelude.{◌≡◌, ℕ, zero, suc, Bool, true, ◌==◌, ◌&&◌, List, Option, Some, None}
-use Rattle.std.proofs.Common.{refl, sym, ap, ap₂, ◌∙◌}
+-- When two positions are the same, as a test, with the proof that the test tells exactly this.
+use Rattle.std.specs.Prelude.{◌≡◌, ℕ, Bool, true, ◌==◌, ◌&&◌, List, Option}
+use Rattle.std.proofs.Common.{ap, ap₂, ◌∙◌}
 use Rattle.std.specs.Bool.{Decides}
+use Rattle.std.specs.Option.{option_eq}
 use Rattle.std.specs.Cmp.{IsEquivalence, decided, unsigned_Decides}
 use Rattle.std.specs.Cmp.Lexicographic.{pointwise, pointwise_decides}
 use Rattle.std.proofs.lemmas.Bool.Decides.{Decides-and, Decides-like}
-use Rattle.past_choices.specs.declared.mark.CallMark.{CallMark}
-use Rattle.past_choices.specs.declared.mark.CallMark.TheVariants.{Left, Taken, Found}
-use Rattle.past_choices.specs.Marks.{kind_of, told_of, digest_of}
+use Rattle.key_configurations.proofs.ValueLemmas.{Decides-values}
+use Rattle.past_choices.specs.Digests.{digest_of}
 use Rattle.past_choices.specs.Positions.{Position}
 
--- two marks are of the same kind, with the same value
-abbrev pub is_same_mark : CallMark → CallMark → Bool
-is_same_mark a b = kind_of a == kind_of b && told_of a == told_of b
+-- two calls found the same
+abbrev pub is_same_found : ℕ × Option ℕ → ℕ × Option ℕ → Bool
+is_same_found a b = a.0 == b.0 && option_eq ◌==◌ a.1 b.1
 
--- two positions have the same marks and the same value
+-- the same calls are done, they left the same value, and found the same
 abbrev pub is_same : Position → Position → Bool
-is_same p q = is_same_mark (Found p.value) (Found q.value) && pointwise is_same_mark p.marks q.marks
+is_same p q = pointwise ◌==◌ p.done q.done && (option_eq ◌==◌ p.value q.value && pointwise is_same_found p.found q.found)
 
--- the mark of a kind, with a value
-abbrev mark_from : ℕ → ℕ → CallMark
-mark_from zero told = Left
-mark_from (suc zero) told = Taken
-mark_from (suc (suc zero)) told = Found None
-mark_from (suc (suc (suc kind))) told = Found (Some told)
+found_of : ℕ → Option ℕ → ℕ × Option ℕ
+found_of place value = (place, value)
 
-found_back : (value : Option ℕ) → mark_from (kind_of (Found value)) (told_of (Found value)) ≡ Found value
-found_back None = refl
-found_back (Some value) = refl
+-- what was found is the same where its places and values are
+Decides-is_same_found : (a b : ℕ × Option ℕ) → Decides (is_same_found a b) (a ≡ b)
+unfolding found_of
+Decides-is_same_found a b =
+    Decides-like (is_same_found a b) (λ e. ap₂ found_of e.0 e.1) (λ e. (ap (λ (f : ℕ × Option ℕ). f.0) e, ap (λ (f : ℕ × Option ℕ). f.1) e))
+    (Decides-and (a.0 == b.0) (option_eq ◌==◌ a.1 b.1) (unsigned_Decides a.0 b.0) (Decides-values a.1 b.1))
 
-mark_back : (a : CallMark) → mark_from (kind_of a) (told_of a) ≡ a
-mark_back Left = refl
-mark_back Taken = refl
-mark_back (Found value) = found_back value
-
-same_mark : (a b : CallMark) → kind_of a ≡ kind_of b → told_of a ≡ told_of b → a ≡ b
-same_mark a b kind told = sym (mark_back a) ∙ ap₂ mark_from kind told ∙ mark_back b
-
--- marks are the same where their kinds and their values are
-pub Decides-is_same_mark : (a b : CallMark) → Decides (is_same_mark a b) (a ≡ b)
-Decides-is_same_mark a b =
-    Decides-like (is_same_mark a b) (λ e. same_mark a b e.0 e.1) (λ e. (ap kind_of e, ap told_of e))
-    (Decides-and (kind_of a == kind_of b) (told_of a == told_of b) (unsigned_Decides (kind_of a) (kind_of b))
-    (unsigned_Decides (told_of a) (told_of b)))
-
-pub is_same_mark-equivalence : IsEquivalence is_same_mark
-is_same_mark-equivalence = decided is_same_mark Decides-is_same_mark
-
--- what a mark found
-abbrev found_of_mark : CallMark → Option ℕ
-found_of_mark Left = None
-found_of_mark Taken = None
-found_of_mark (Found value) = value
-
-abbrev position_of : List CallMark → Option ℕ → Position
-position_of marks value = record { marks = marks; value = value }
+abbrev position_of : List ℕ → List (ℕ × Option ℕ) → Option ℕ → Position
+position_of done found value = record { done = done; found = found; value = value }
 
 -- positions with the same parts are the same
-pub same_position : (p q : Position) → p.marks ≡ q.marks → p.value ≡ q.value → p ≡ q
-same_position p q marks value = ap₂ position_of marks value
+pub same_position : (p q : Position) → p.done ≡ q.done → p.found ≡ q.found → p.value ≡ q.value → p ≡ q
+same_position p q done found value =
+    ap₂ (λ (d : List ℕ) (f : List (ℕ × Option ℕ)). position_of d f p.value) done found ∙ ap (position_of q.done q.found) value
 
--- positions are the same where their marks and their values are
+-- positions are the same where their parts are
 pub Decides-is_same : (p q : Position) → Decides (is_same p q) (p ≡ q)
 Decides-is_same p q =
-    Decides-like (is_same p q) (λ e. same_position p q e.1 (ap found_of_mark e.0))
-    (λ e. (ap (λ (r : Position). Found r.value) e, ap (λ (r : Position). r.marks) e))
-    (Decides-and (is_same_mark (Found p.value) (Found q.value)) (pointwise is_same_mark p.marks q.marks)
-    (Decides-is_same_mark (Found p.value) (Found q.value))
-    (pointwise_decides Decides-is_same_mark p.marks q.marks))
+    Decides-like (is_same p q) (λ e. same_position p q e.0 e.1.1 e.1.0)
+    (λ e. (ap (λ (r : Position). r.done) e, (ap (λ (r : Position). r.value) e, ap (λ (r : Position). r.found) e)))
+    (Decides-and (pointwise ◌==◌ p.done q.done) (option_eq ◌==◌ p.value q.value && pointwise is_same_found p.found q.found)
+    (pointwise_decides unsigned_Decides p.done q.done)
+    (Decides-and (option_eq ◌==◌ p.value q.value) (pointwise is_same_found p.found q.found)
+    (Decides-values p.value q.value) (pointwise_decides Decides-is_same_found p.found q.found)))
 
 -- the test is an equivalence
 pub is_same-equivalence : IsEquivalence is_same

@@ -1,18 +1,18 @@
 -- Positions: which calls of one key are done, what it holds behind them, and what those found that
 -- are not answered.
-use Rattle.std.specs.Prelude.{◌≡◌, ◌≢◌, ◌↔◌, ℕ, ◌<◌, List, length, Option, Some, slice_get, All, Any, AllPairs, Contains}
+use Rattle.std.specs.Prelude.{◌≡◌, ◌≢◌, ◌↔◌, ◌⊎◌, ℕ, ◌<◌, List, length, Option, Some, slice_get, All, Any, AllPairs, Contains}
+use Rattle.std.specs.List.Sorted.{IsStrictlyIncreasing}
 use Rattle.events.specs.declared.operation.Operation.{Operation}
 use Rattle.orders.specs.Orders.{after_calls, calls_at}
 use Rattle.configurations.specs.Fronts.{IsFront}
 use Rattle.following.specs.keys.KeyStates.{one_key}
 use Rattle.following.specs.keys.Settling.{found_in}
-use Rattle.past_choices.specs.declared.mark.CallMark.{CallMark}
-use Rattle.past_choices.specs.declared.mark.CallMark.TheVariants.{Left, Found}
-use Rattle.past_choices.specs.Starts.{Start, IsFree, with_taken}
+use Rattle.past_choices.specs.Starts.{Start, IsTaken, IsFree, with_taken}
 
--- a mark for each call, and the value behind those that are done
+-- the places of the calls that are done, what those found that have no answer, and the value behind all that are done
 pub record Position : Type 0 where
-  pub marks : List CallMark
+  pub done : List ℕ
+  pub found : List (ℕ × Option ℕ)
   pub value : Option ℕ
 
 -- call n found a value or none, where calls are done in turn, and has no answer
@@ -20,12 +20,21 @@ abbrev pub FindsAt : ℕ → Option ℕ → List Operation → List Operation �
 FindsAt key first calls order n found =
     (a : Operation) × (slice_get calls n ≡ Some a) × Contains (found_in key (one_key key first) order) (a.inv, found)
 
+-- a start has taken a call, or it is on a path
+abbrev pub IsDoneBy : Start → List ℕ → ℕ → Type 0
+IsDoneBy first path n = IsTaken first.taken n ⊎ Contains path n
+
+-- the places of a position rise, and are some of the first ones
+pub record HasPlaces (count : ℕ) (p : Position) : Type 0 where
+  pub rising : IsStrictlyIncreasing p.done
+  pub known : All (λ n. n < count) p.done
+
 -- the position that some calls lead to, done in turn from a start
 pub record IsAt (key : ℕ) (first : Start) (calls : List Operation) (path : List ℕ) (p : Position) : Type 0 where
-  pub each : length p.marks ≡ length calls
-  pub left : (n : ℕ) → slice_get p.marks n ≡ Some Left ↔ ((n < length calls) × (Contains path n → ⊥) × IsFree first.taken n)
-  pub found : (n : ℕ) (value : Option ℕ) → slice_get p.marks n ≡ Some (Found value)
-      ↔ FindsAt key first.value calls (calls_at calls path) n value
+  pub places : HasPlaces (length calls) p
+  pub done : (n : ℕ) → Contains p.done n ↔ IsDoneBy first path n
+  pub found_rise : AllPairs (λ a b. a.0 < b.0) p.found
+  pub found : (n : ℕ) (value : Option ℕ) → Contains p.found (n, value) ↔ FindsAt key first.value calls (calls_at calls path) n value
   pub value : one_key key p.value ≡ after_calls (one_key key first.value) (calls_at calls path)
 
 -- a front of the calls that a start has not taken: distinct calls, each after all of them that

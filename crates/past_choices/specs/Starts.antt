@@ -8,6 +8,10 @@ pub record Start : Type 0 where
   pub taken : List Bool
   pub value : Option ℕ
 
+-- call n is taken
+abbrev pub IsTaken : List Bool → ℕ → Type 0
+IsTaken taken n = slice_index_or taken n false ≡ true
+
 -- call n is not taken
 abbrev pub IsFree : List Bool → ℕ → Type 0
 IsFree taken n = slice_index_or taken n false ≡ false

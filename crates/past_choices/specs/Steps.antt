@@ -1,47 +1,58 @@
 -- Steps from position to position, and what the worklist has come to.
-use Rattle.std.specs.Prelude.{◌≡◌, ◌≢◌, ◌↔◌, ◌⊎◌, ℕ, ◌<◌, ◌≤◌, Bool, true, false, List, [], ◌∷◌, length, map, Option, Some, None}
-use Rattle.std.specs.Prelude.{slice_get, slice_set, All, AllPairs, Contains}
+use Rattle.std.specs.Prelude.{◌≡◌, ◌≢◌, ◌↔◌, ◌⊎◌, ℕ, zero, suc, ◌<◌, ◌≤◌, nat_lt, Bool, true, false, if◌then◌else◌, List, [], ◌∷◌, length}
+use Rattle.std.specs.Prelude.{Option, Some, None, slice_get, slice_index_or, All, AllPairs, Contains}
 use Rattle.events.specs.declared.operation.Operation.{Operation}
 use Rattle.events.specs.declared.operation.Response.{Response}
 use Rattle.configurations.specs.Fronts.{PrecedesAt}
-use Rattle.past_choices.specs.declared.mark.CallMark.{CallMark}
-use Rattle.past_choices.specs.declared.mark.CallMark.TheVariants.{Left, Taken, Found}
+use Rattle.memo.specs.Taking.{with_place}
+use Rattle.past_choices.specs.Feeding.{IsLost}
 use Rattle.past_choices.specs.PastChoices.{PastChoice}
 use Rattle.past_choices.specs.Positions.{Position, IsAt, IsFrontFrom, IsReachedFrom}
 use Rattle.quiet_cuts.specs.Replies.{IsRead}
 use Rattle.past_choices.specs.Starts.{Start, IsFree}
 use Rattle.quiet_cuts.specs.Values.{value_behind_call, MayBeAnswered}
 
--- the mark of a call that is done at a value
-abbrev pub mark_of : Option Response → Option ℕ → CallMark
-mark_of None value = Found value
-mark_of (Some response) value = Taken
-
--- the mark of a call where nothing is done
-abbrev pub start_mark : Bool → CallMark
-start_mark true = Taken
-start_mark false = Left
+-- of the first calls, those that are taken
+abbrev pub places_taken : List Bool → ℕ → List ℕ
+places_taken taken zero = []
+places_taken taken (suc n) = if slice_index_or taken n false then with_place (places_taken taken n) n else places_taken taken n
 
 -- the position of a start: no call is done but those that are taken
 abbrev pub start_position : Start → Position
-start_position first = record { marks = map start_mark first.taken; value = first.value }
+start_position first = record { done = places_taken first.taken (length first.taken); found = []; value = first.value }
+
+-- what was found, with what one more call finds, in its place
+abbrev pub with_found_at : ℕ → Option ℕ → List (ℕ × Option ℕ) → List (ℕ × Option ℕ)
+with_found_at place value [] = (place, value) ∷ []
+with_found_at place value (f ∷ found) = if nat_lt f.0 place then f ∷ with_found_at place value found else (place, value) ∷ f ∷ found
+
+-- if it has no answer
+abbrev pub found_with : ℕ → Option Response → Option ℕ → List (ℕ × Option ℕ) → List (ℕ × Option ℕ)
+found_with place None value found = with_found_at place value found
+found_with place (Some response) value found = found
+
+-- how many calls found something before the first that stands no earlier than a place
+abbrev pub first_behind : ℕ → List (ℕ × Option ℕ) → ℕ
+first_behind place [] = 0
+first_behind place (f ∷ found) = if nat_lt f.0 place then suc (first_behind place found) else 0
 
 -- one more call is done
 abbrev pub next_position : Position → ℕ → Operation → Position
 next_position p n a = record {
-  marks = slice_set p.marks n (mark_of a.response p.value);
+  done = with_place p.done n;
+  found = found_with n a.response p.value p.found;
   value = value_behind_call p.value a.call a.response;
 }
 
 -- no call that is left precedes call n
 abbrev pub NoneLeftPrecedes : List Operation → Position → ℕ → Type 0
-NoneLeftPrecedes calls p n = (m : ℕ) → PrecedesAt calls m n → slice_get p.marks m ≢ Some Left
+NoneLeftPrecedes calls p n = (m : ℕ) → PrecedesAt calls m n → Contains p.done m
 
 -- call n may come next
 pub record MayCome (calls : List Operation) (p : Position) (n : ℕ) : Type 0 where
   pub call : Operation
   pub here : slice_get calls n ≡ Some call
-  pub left : slice_get p.marks n ≡ Some Left
+  pub left : Contains p.done n → ⊥
   pub preceded : NoneLeftPrecedes calls p n
   pub legal : MayBeAnswered p.value call.call call.response
 
@@ -58,12 +69,13 @@ pub record IsReadAt (calls : List Operation) (ended : List Bool) (p : Position) 
   pub read : IsRead may_come.call
 
 -- Some positions are enough to go on to from one: all that follow it, or the one after a read that
--- ended before the moment. Such a read stands in each order of all calls that ended, and changes
--- nothing in it, so it may as well come at once.
+-- ended before the moment, or none where a call that ended is lost. Such a read stands in each order
+-- of all calls that ended, and changes nothing in it, so it may as well come at once; a call that is
+-- lost stands in none.
 abbrev pub AreEnough : List Operation → List Bool → Position → List Position → Type 0
 AreEnough calls ended p positions =
     ((q : Position) → IsNextOf calls p q → Contains positions q)
-    ⊎ ((n : ℕ) × (read : IsReadAt calls ended p n) × Contains positions (next_position p n read.may_come.call))
+    ⊎ (((n : ℕ) × (read : IsReadAt calls ended p n) × Contains positions (next_position p n read.may_come.call)) ⊎ IsLost calls ended p)
 
 -- the positions that the worklist goes on to from one
 pub record AreSteps (calls : List Operation) (ended : List Bool) (p : Position) (next : List Position) : Type 0 where
@@ -116,25 +128,20 @@ pub record AreReached (key : ℕ) (starts : List Start) (calls : List Operation)
       → (p : Position) × Contains visited p × IsAt key first calls path p
 
 -- all calls that ended are done
-abbrev pub EndedAreDone : List Bool → List CallMark → Type 0
-EndedAreDone ended marks = (n : ℕ) → slice_get ended n ≡ Some true → slice_get marks n ≢ Some Left
+abbrev pub EndedAreDone : List Bool → List ℕ → Type 0
+EndedAreDone ended done = (n : ℕ) → slice_get ended n ≡ Some true → Contains done n
 
 -- the calls done that had not ended
-pub record AreChosen (ended : List Bool) (marks : List CallMark) (chosen : List ℕ) : Type 0 where
+pub record AreChosen (ended : List Bool) (done chosen : List ℕ) : Type 0 where
   pub rising : AllPairs (λ m n. m < n) chosen
-  pub each : (n : ℕ) → Contains chosen n ↔ ((slice_get ended n ≡ Some false) × (n < length marks) × (slice_get marks n ≢ Some Left))
-
--- what calls found
-pub record AreFound (marks : List CallMark) (found : List (ℕ × Option ℕ)) : Type 0 where
-  pub rising : AllPairs (λ a b. a.0 < b.0) found
-  pub each : (n : ℕ) (value : Option ℕ) → Contains found (n, value) ↔ (slice_get marks n ≡ Some (Found value))
+  pub each : (n : ℕ) → Contains chosen n ↔ ((slice_get ended n ≡ Some false) × Contains done n)
 
 -- a position at which all calls that ended are done, as a choice
 pub record IsChoiceOf (ended : List Bool) (p : Position) (c : PastChoice) : Type 0 where
-  pub whole : EndedAreDone ended p.marks
-  pub chosen : AreChosen ended p.marks c.chosen
+  pub whole : EndedAreDone ended p.done
+  pub chosen : AreChosen ended p.done c.chosen
   pub value : c.value ≡ p.value
-  pub found : AreFound p.marks c.found
+  pub found : c.found ≡ p.found
 
 -- the choices of positions, each once
 pub record AreChoicesOf (ended : List Bool) (visited : List Position) (choices : List PastChoice) : Type 0 where

@@ -1,10 +1,10 @@
 // The choices of positions.
 ghost use Rattle.std.specs.Prelude.{◌≡◌, ◌↔◌, length, All, IfOk, IsTrue, MatchOption};
 ghost use Rattle.past_choices.specs.PastChoices.{PastChoice as Choice};
-ghost use Rattle.past_choices.specs.Steps.{AreChoicesOf, AreChosen, AreFound, EndedAreDone, IsChoiceOf};
+ghost use Rattle.past_choices.specs.Positions.{HasPlaces};
+ghost use Rattle.past_choices.specs.Steps.{AreChoicesOf, AreChosen, EndedAreDone, IsChoiceOf};
 
 use crate::answer::PastChoice;
-use crate::mark::CallMark;
 use crate::position::Position;
 use crate::visited::Visited;
 use events::Memory;
@@ -16,7 +16,7 @@ pub(crate) fn choices_of(
     visited: &Visited,
     ended: &[bool],
 ) -> Result<Vec<PastChoice>, Memory>
-    requires { All (λ p. length p.marks ≡ length ended.now) visited.now }
+    requires { All (HasPlaces (length ended.now)) visited.now }
     ensures { IfOk result (λ v. AreChoicesOf ended.now visited.now v.items) }
 {
     let mut choices = Vec::new(alloc);
@@ -34,26 +34,24 @@ fn choice_of(
     position: &Position,
     ended: &[bool],
 ) -> Result<Option<PastChoice>, Memory>
-    requires { length position.now.marks ≡ length ended.now }
     ensures { IfOk result (λ found. MatchOption found
-        (EndedAreDone ended.now position.now.marks → ⊥)
+        (EndedAreDone ended.now position.now.done → ⊥)
         (IsChoiceOf ended.now position.now)) }
 {
-    if !ended_are_done(position.marks(), ended) {
+    if !ended_are_done(position, ended) {
         return Ok(None);
     }
-    let chosen = chosen_of(alloc, position.marks(), ended)?;
-    let found = found_of(alloc, position.marks())?;
+    let chosen = chosen_of(alloc, position, ended)?;
+    let found = Vec::from_slice(alloc, position.found())?;
     Ok(Some(PastChoice::new(chosen, position.value(), found)))
 }
 
 /// Whether all calls that ended are done.
-fn ended_are_done(marks: &[CallMark], ended: &[bool]) -> bool
-    requires { length marks.now ≡ length ended.now }
-    ensures { IsTrue result ↔ EndedAreDone ended.now marks.now }
+fn ended_are_done(position: &Position, ended: &[bool]) -> bool
+    ensures { IsTrue result ↔ EndedAreDone ended.now position.now.done }
 {
-    for place in 0..ended.len() {
-        if ended[place] && marks[place].is_left() {
+    for place in position.first_left()..ended.len() {
+        if ended[place] && !position.is_done(place) {
             return false;
         }
     }
@@ -61,28 +59,14 @@ fn ended_are_done(marks: &[CallMark], ended: &[bool]) -> bool
 }
 
 /// The calls done that had not ended.
-fn chosen_of(alloc: Global, marks: &[CallMark], ended: &[bool]) -> Result<Vec<usize>, Memory>
-    requires { length marks.now ≡ length ended.now }
-    ensures { IfOk result (λ v. AreChosen ended.now marks.now v.items) }
+fn chosen_of(alloc: Global, position: &Position, ended: &[bool]) -> Result<Vec<usize>, Memory>
+    ensures { IfOk result (λ v. AreChosen ended.now position.now.done v.items) }
 {
     let mut chosen = Vec::new(alloc);
     for place in 0..ended.len() {
-        if !ended[place] && !marks[place].is_left() {
+        if !ended[place] && position.is_done(place) {
             chosen.push(place)?;
         }
     }
     Ok(chosen)
-}
-
-/// What calls found.
-fn found_of(alloc: Global, marks: &[CallMark]) -> Result<Vec<(usize, Option<u64>)>, Memory>
-    ensures { IfOk result (λ v. AreFound marks.now v.items) }
-{
-    let mut found = Vec::new(alloc);
-    for place in 0..marks.len() {
-        if let CallMark::Found(value) = marks[place] {
-            found.push((place, value))?;
-        }
-    }
-    Ok(found)
 }

@@ -5,16 +5,19 @@
 //! The worklist goes from position to position, each once, from all starts at once: which calls are
 //! done, the value behind them, and what those found that are not answered (Lowe 2017, whose memo
 //! it is, here for all that is left and not for one order). Where a call may come next that ended
-//! before the moment and says that it changed nothing, it goes on with this call alone.
+//! before the moment and says that it changed nothing, it goes on with this call alone; where one
+//! that ended is lost, as no call is left that may put what it tells of, with none.
 #![tactic(auto)]
 
 mod answer;
 mod choices;
-mod mark;
+mod feeding;
+mod found;
 mod position;
 mod start;
 mod steps;
 mod visited;
+mod way;
 mod worklist;
 
 pub use answer::{PastChoice, PastChoices};

@@ -2,9 +2,13 @@ use Rattle.std.proofs.Common.{◌≡◌, ◌∙◌, Some, length, refl, ap, arit
 use Rattle.std.specs.Prelude.{slice_get}
 use Rattle.std.proofs.lemmas.Bool.{both_ways}
 use Rattle.std.proofs.lemmas.Option.{slice_get_read}
-use Rattle.past_choices.proofs.ItemLemmas.{next_push, next_skip, next_all}
+use Rattle.past_choices.proofs.ItemLemmas.{next_none, next_push, next_skip, next_all}
 use Rattle.past_choices.proofs.steps.after_each.Goals as goal
 use Rattle.past_choices.proofs.steps.after_each.Goals.{then-may_come+in_ok-with+in_ok-push, else-may_come}
+
+pub loop-place-init : goal.loop-place-init
+loop-place-init c =
+    next_none c.args.calls.now c.args.position.now c.first_left-first.result c.in_ok-next.next.items c.in_ok-next.ensures.items c.first_left-first.ensures
 
 pub loop-place-preserved : goal.loop-place-preserved
 loop-place-preserved c =

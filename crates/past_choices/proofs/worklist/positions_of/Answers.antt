@@ -1,14 +1,9 @@
 use Rattle.std.proofs.Common.{arith}
-use Rattle.past_choices.proofs.AnswerLemmas.{sizes}
 use Rattle.past_choices.proofs.WholeLemmas.{explored_start, explored_more, reached_all}
 use Rattle.past_choices.proofs.worklist.positions_of.Goals as goal
 
 pub loop-at-init : goal.loop-at-init
 loop-at-init c = explored_start c.args.key c.args.starts.now c.args.calls.now c.args.ended.now c.in_ok-visited.visited c.requires.sized c.in_ok-visited.ensures
-
-pub go_on_from-requires-clause-each : goal.go_on_from-requires-clause-each
-go_on_from-requires-clause-each c =
-    sizes c.args.key c.args.starts.now c.args.calls.now c.loop-at.visited c.loop-at.invariant.reached
 
 pub loop-at-preserved : goal.loop-at-preserved
 loop-at-preserved c =

@@ -1,4 +1,4 @@
-use Rattle.std.proofs.Common.{◌≡◌, ◌+◌, ◌*◌, ◌^◌, ◌<◌, ◌≤◌, ◌∙◌, ℕ, List, drop, sym, subst, ap, arith}
+use Rattle.std.proofs.Common.{◌≡◌, ◌+◌, ◌-◌, ◌-◌, ◌*◌, ◌^◌, ◌<◌, ◌∙◌, ℕ, List, drop, sym, subst, ap, arith}
 use Rattle.std.specs.Prelude.{◌↔◌, ◌⊎◌, Contains}
 use Rattle.std.proofs.lemmas.List.{take_rest}
 use Rattle.memo.specs.Taking.{with_place}
@@ -20,7 +20,7 @@ pub invariant_of-result : goal.invariant_of-result
 invariant_of-result c =
     ArePlaces-with c.self.inside.least c.self.inside.words.items c.args.place c.self.inside.least c.in_ok-words.words.items
     (set c) c.self.invariant
-    (omega (arith, c.ranges.place.fits)) c.in_ok-words.ensures.each c.in_ok-words.ensures.trimmed
+    c.requires.small c.in_ok-words.ensures.each c.in_ok-words.ensures.trimmed
 
 pub returns-then-place-self-clause-is : goal.returns-then-place-self-clause-is
 returns-then-place-self-clause-is c =
@@ -36,10 +36,6 @@ run c = 64 * c.ones_of-full.result.0 + c.ones_of-full.result.1
 
 ones : (c : goal.In_ok-words-2) → (n : ℕ) → n < run c → bit_of c.self.inside.words.items n ≡ 1
 ones c n within = ap (λ (words : List ℕ). bit_of words n) (sym c.deref-2.ensures.value) ∙ c.ones_of-full.ensures.ones n within
-
--- they are few
-few : (c : goal.In_ok-words-2) → c.self.inside.least + run c ≤ 2 ^ 32
-few c = run_small c.self.inside.least c.self.inside.words.items (run c) c.self.invariant.small (ones c)
 
 -- the next is not
 zero : (c : goal.In_ok-words-2) → bit_of c.self.inside.words.items (run c) ≡ 0
@@ -59,7 +55,11 @@ kept c n =
 -- the place is the least missing one
 at_least : (c : goal.In_ok-words-2) → c.args.place ≡ c.self.inside.least
 at_least c = place_above c.self.inside.least c.self.inside.words.items c.args.place
-    (λ h. c.requires (subst (λ (places : List ℕ). Contains places c.args.place) c.self.view_is h)) c.if-place-self.false
+    (λ h. c.requires.new (subst (λ (places : List ℕ). Contains places c.args.place) c.self.view_is h)) c.if-place-self.false
+
+-- they are few
+few : (c : goal.In_ok-words-2) → c.self.inside.least + run c < 2 ^ 64 - 1
+few c = run_small c.self.inside.least c.self.inside.words.items (run c) (omega (arith, at_least c, c.requires.small)) c.self.invariant.small (ones c)
 
 -- the least missing place is put in
 filled : (c : goal.In_ok-words-2) → (n : ℕ) → IsAmong (c.self.inside.least + run c + 1) c.in_ok-words-2.words.items n
@@ -89,7 +89,7 @@ invariant_of-result-2 c =
     subst (λ (least : ℕ). ArePlaces least c.in_ok-words-2.words.items) (sum_is c)
     (ArePlaces-with c.self.inside.least c.self.inside.words.items c.args.place (c.self.inside.least + run c + 1)
     c.in_ok-words-2.words.items (filled c)
-    c.self.invariant (omega (arith, c.ranges.place.fits)) c.in_ok-words-2.ensures.each c.in_ok-words-2.ensures.trimmed)
+    c.self.invariant c.requires.small c.in_ok-words-2.ensures.each c.in_ok-words-2.ensures.trimmed)
 
 pub returns-clause-is : goal.returns-clause-is
 returns-clause-is c =

@@ -1,5 +1,5 @@
 use Rattle.past_choices.proofs.EarliestLemmas.{EndsBehind}
-use Rattle.past_choices.proofs.steps.end_of.Given as goal
+use Rattle.past_choices.proofs.steps.way_on.Given as goal
 
 -- of the calls so far
 abbrev pub invariant-loop-place : goal.invariant-loop-place
