@@ -1,63 +1,19 @@
 -- A call that is lost stays so: none that is left puts what it tells of.
-use Rattle.events.specs.declared.event.Reply.TheVariants as replies
-use Rattle.std.proofs.Common.{◌≡◌, ◌≢◌, ℕ, ◌<◌, ◌≤◌, Bool, true, false, List, [], ◌∷◌, ◌++◌, ◌+◌, length, Option, Some, None, refl, sym, ap, ◌∙◌, subst, ⊎_elim, inl, inr, arith}
-use Rattle.std.specs.Prelude.{◌⊎◌, if◌then◌else◌, slice_get, Contains}
+use Rattle.std.proofs.Common.{◌≡◌, ◌≢◌, ℕ, ◌<◌, ◌≤◌, Bool, true, List, [], ◌∷◌, ◌++◌, ◌+◌, length, Option, Some, sym, ap, ◌∙◌, subst, ⊎_elim, inl, arith}
+use Rattle.std.specs.Prelude.{slice_get, Contains}
 use Rattle.std.proofs.lemmas.List.{length-append}
 use Rattle.std.proofs.lemmas.Option.{same_Some}
-use Rattle.events.specs.declared.event.Call.{Call}
-use Rattle.events.specs.declared.event.Call.TheVariants.{Get, Insert, Remove, Scan, Replace}
-use Rattle.events.specs.declared.event.Reply.{Reply}
 use Rattle.events.specs.declared.operation.Operation.{Operation}
-use Rattle.events.specs.declared.operation.Response.{Response}
 use Rattle.list_laws.proofs.Lists.{place-push}
-use Rattle.map_object.specs.MapObject.{is_just}
 use Rattle.memo.proofs.TakingLemmas.{Contains-with_place}
-use Rattle.past_choices.specs.Feeding.{changed_to, MayFeed, IsRange, IsLost}
+use Rattle.past_choices.specs.Feeding.{MayFeed, IsRange, IsLost}
 use Rattle.past_choices.specs.Positions.{Position}
 use Rattle.past_choices.specs.Steps.{next_position, EndedAreDone, MayCome}
 use Rattle.past_choices.proofs.PathLemmas.{LeadsOn}
 use Rattle.past_choices.proofs.PlaceLemmas.{same_value_or_not}
-use Rattle.quiet_cuts.specs.Values.{value_behind, value_behind_reply, value_behind_call, MayBeAnswered}
+use Rattle.quiet_cuts.specs.Values.{value_behind_call, MayBeAnswered}
 
--- ---- what calls leave
-
--- a call leaves what it found, or what it changes it to
-behind_cases : (x : Option ℕ) (call : Call) → (value_behind x call ≡ x) ⊎ (changed_to call ≡ Some (value_behind x call))
-behind_cases x (Get key) = inl refl
-behind_cases x (Insert key value) = inr refl
-behind_cases x (Remove key) = inr refl
-behind_cases x (Scan low high) = inl refl
-behind_cases x (Replace key expected value) = by_test (is_just x expected)
-  where
-    by_test : (t : Bool) → ((if t then Some value else x) ≡ x) ⊎ (Some (Some value) ≡ Some (if t then Some value else x))
-    by_test true = inr refl
-    by_test false = inl refl
-
-reply_cases : (x : Option ℕ) (call : Call) (reply : Reply)
-    → (value_behind_reply x call reply ≡ x) ⊎ (changed_to call ≡ Some (value_behind_reply x call reply))
-reply_cases x call replies.None = behind_cases x call
-reply_cases x call (replies.Some told) = behind_cases x call
-reply_cases x call (replies.Pairs pairs) = behind_cases x call
-reply_cases x call replies.Refused = inl refl
-reply_cases x call replies.Done = behind_cases x call
-reply_cases x call replies.Found = behind_cases x call
-reply_cases x call replies.Other = behind_cases x call
-
-changes : (x : Option ℕ) (call : Call) (response : Option Response)
-    → (value_behind_call x call response ≡ x) ⊎ (changed_to call ≡ Some (value_behind_call x call response))
-changes x call None = behind_cases x call
-changes x call (Some r) = reply_cases x call r.reply
-
--- what feeds a call is what it changes the value to
-pub feeds_by : (b a : Operation) (value : Option ℕ) → MayFeed b a → changed_to b.call ≡ Some value → MayBeAnswered value a.call a.response
-feeds_by b a value feeds is = ⊎_elim (λ same. absurd (feeds.1 same))
-    (λ to. subst (λ (v : Option ℕ). MayBeAnswered v a.call a.response) (same_Some (value_behind_call feeds.0 b.call b.response) value (sym to ∙ is))
-    feeds.2)
-    (changes feeds.0 b.call b.response)
-
-pub feeds_none : (b a : Operation) → MayFeed b a → (value : Option ℕ) × (changed_to b.call ≡ Some value)
-feeds_none b a feeds = ⊎_elim (λ same. absurd (feeds.1 same)) (λ to. (value_behind_call feeds.0 b.call b.response, to))
-    (changes feeds.0 b.call b.response)
+-- ---- ranges
 
 -- the range of one call more
 pub ranges_push : (calls : List Operation) (ranges more : List (ℕ × ℕ)) (k : ℕ) (one : Operation) (new : ℕ × ℕ)
