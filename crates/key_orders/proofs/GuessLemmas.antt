@@ -1,8 +1,8 @@
 -- Orders that are guessed at, checked call by call.
 use Rattle.std.proofs.Common.{◌≡◌, ◌≢◌, ℕ, zero, suc, ◌<◌, ◌≤◌, Bool, true, false, List, [], ◌∷◌, ◌++◌, length, get_or, Option, Some, None}
-use Rattle.std.proofs.Common.{refl, sym, ap, ◌∙◌, subst, ⊎_elim, inl, inr, arith}
-use Rattle.std.specs.Prelude.{◌⊎◌, ◌↔◌, slice_get, slice_set, All, Any, AllPairs, Contains}
-use Rattle.std.proofs.lemmas.Bool.{cases_order, ltb-false, le-ltb}
+use Rattle.std.proofs.Common.{refl, sym, ap, ◌∙◌, subst, ⊎_elim, arith}
+use Rattle.std.specs.Prelude.{◌↔◌, slice_get, slice_set, All, Any, AllPairs, Contains}
+use Rattle.std.proofs.lemmas.Bool.{cases_eq, ltb-false, le-ltb}
 use Rattle.std.proofs.lemmas.List.{get_or_default, length-set}
 use Rattle.std.proofs.lemmas.List.Elements.{All-push, All-contains, Contains-append_left, Contains-push, Contains-push_cases, Contains-get_or}
 use Rattle.std.proofs.lemmas.List.Quantifiers.{all_pairs_push}
@@ -47,11 +47,6 @@ pub record IsChecked (key : ℕ) (first : Option ℕ) (calls : List Operation) (
   pub leads : one_key key value ≡ after_calls (one_key key first) (calls_at calls path)
   pub size : length taken ≡ length calls
   pub marks : (n : ℕ) → slice_get taken n ≡ Some true ↔ Contains path n
-
-same_or_apart : (m n : ℕ) → (m ≡ n) ⊎ (m ≢ n)
-same_or_apart m n = ⊎_elim (λ is. inl is)
-    (λ apart. inr (⊎_elim (λ below. λ e. absurd (omega (arith, below, e))) (λ above. λ e. absurd (omega (arith, above, e))) apart))
-    (cases_order m n)
 
 -- what is not before a place is not before an earlier one
 pub not_earlier : (o : Option Response) (n m : ℕ) → is_before o m ≡ false → n ≤ m → is_before o n ≡ false
@@ -136,5 +131,5 @@ checked_more key first calls path more n a value latest later taken marked is ma
       legal = more_path.legal;
       leads = more_path.leads;
       size = length-set taken n true ∙ c.size;
-      marks = λ m. ⊎_elim (λ same. marks_here m same) (λ apart. marks_elsewhere m apart) (same_or_apart m n);
+      marks = λ m. ⊎_elim (λ same. marks_here m same) (λ apart. marks_elsewhere m apart) (cases_eq m n);
     }

@@ -103,14 +103,13 @@ pub start_at : (key : ℕ) (first : Start) (calls : List Operation) → length f
     → IsAt key first calls [] (start_position first)
 start_at key first calls sized = record {
   places = record {
-    rising = places_taken-rises first.taken (length first.taken);
-    known = All-from_contains (λ n. n < length calls) (places_taken first.taken (length first.taken))
-        (λ n h. let it = (Contains-places_taken first.taken (length first.taken) n).0 h in omega (arith, it.0, sized));
+    rising = places_taken-rises first.taken;
+    known = All-from_contains (λ n. n < length calls) (places_taken first.taken)
+        (λ n h. let it = taken_within first.taken n ((Contains-places_taken first.taken n).0 h) in omega (arith, it, sized));
   };
   done = λ n. (
-    λ h. inl ((Contains-places_taken first.taken (length first.taken) n).0 h).1,
-    λ h. ⊎_elim (λ is. (Contains-places_taken first.taken (length first.taken) n).1 (taken_within first.taken n is, is))
-        (λ none. absurd (Contains-nil n none)) h,
+    λ h. inl ((Contains-places_taken first.taken n).0 h),
+    λ h. ⊎_elim (λ is. (Contains-places_taken first.taken n).1 is) (λ none. absurd (Contains-nil n none)) h,
   );
   found_rise = AllPairs-nil (λ a b. a.0 < b.0);
   found = λ n value. (λ h. absurd (Contains-nil (n, value) h), λ h. absurd (Contains-nil (h.0.inv, value) h.2));

@@ -1,5 +1,5 @@
 -- What was found, with what one more call finds.
-use Rattle.std.proofs.Common.{◌≡◌, ℕ, zero, suc, ◌<◌, ◌≤◌, Bool, true, false, List, [], ◌∷◌, ◌++◌, length, take, drop, Option, Some, None}
+use Rattle.std.proofs.Common.{◌≡◌, ℕ, zero, suc, ◌<◌, ◌≤◌, Bool, true, false, List, [], ◌∷◌, ◌++◌, take, drop, Option, Some, None}
 use Rattle.std.proofs.Common.{refl, sym, ap, ◌∙◌, subst, ⊎_elim, inl, inr, arith}
 use Rattle.std.specs.Prelude.{◌⊎◌, ◌↔◌, if◌then◌else◌, nat_lt, slice_get, All, AllPairs, Contains}
 use Rattle.std.proofs.lemmas.Bool.{cases_lt}
@@ -9,7 +9,7 @@ use Rattle.std.proofs.lemmas.List.Kept.{AllPairs-cons}
 use Rattle.std.proofs.lemmas.Option.{none-some}
 use Rattle.events.specs.declared.operation.Response.{Response}
 use Rattle.list_laws.proofs.Lists.{All-from_contains, AllPairs-head, AllPairs-tail, AllPairs-nil, Contains-first, Contains-later, Contains-nil, Contains-cases}
-use Rattle.past_choices.specs.Steps.{first_behind, found_with, with_found_at}
+use Rattle.past_choices.specs.Steps.{found_with, with_found_at}
 
 earlier : (m n : ℕ) → nat_lt m n ≡ true → m < n
 earlier m n h = grind (arith, nat_tests)
@@ -83,23 +83,28 @@ module _ (place : ℕ) (value : Option ℕ) where
           (All-from_contains (λ b. place < b.0) found (λ z h. let more = All-contains (λ b. f.0 < b.0) found z low h in omega (arith, lt, more))))
           up
 
-  -- it stands where the first stands that is no earlier
-  with_found_at-split : (found : List (ℕ × Option ℕ))
-      → with_found_at place value found ≡ take (first_behind place found) found ++ (place, value) ∷ drop (first_behind place found) found
-  with_found_at-split [] = refl
-  with_found_at-split (f ∷ found) = by_test (nat_lt f.0 place) (with_found_at-split found)
+  -- it stands before the first that is no earlier
+  pub with_found_at-split : (found : List (ℕ × Option ℕ)) (k : ℕ)
+      → ((n : ℕ) (f : ℕ × Option ℕ) → n < k → slice_get found n ≡ Some f → f.0 < place)
+      → ((f : ℕ × Option ℕ) → slice_get found k ≡ Some f → place ≤ f.0)
+      → with_found_at place value found ≡ take k found ++ (place, value) ∷ drop k found
+  with_found_at-split [] zero before behind = refl
+  with_found_at-split [] (suc k) before behind = refl
+  with_found_at-split (f ∷ found) zero before behind = by_test (nat_lt f.0 place) refl
     where
-      by_test : (t : Bool)
-          → with_found_at place value found ≡ take (first_behind place found) found ++ (place, value) ∷ drop (first_behind place found) found
+      by_test : (t : Bool) → nat_lt f.0 place ≡ t
+          → (if t then f ∷ with_found_at place value found else (place, value) ∷ f ∷ found) ≡ (place, value) ∷ f ∷ found
+      by_test true e = let lt = earlier f.0 place e in absurd (omega (arith, lt, behind f refl))
+      by_test false e = refl
+  with_found_at-split (f ∷ found) (suc k) before behind =
+      by_test (nat_lt f.0 place) refl
+      (with_found_at-split found k (λ n g lt here. before (suc n) g (omega (arith, lt)) here) behind)
+    where
+      by_test : (t : Bool) → nat_lt f.0 place ≡ t → with_found_at place value found ≡ take k found ++ (place, value) ∷ drop k found
           → (if t then f ∷ with_found_at place value found else (place, value) ∷ f ∷ found)
-          ≡ take (if t then suc (first_behind place found) else 0) (f ∷ found)
-          ++ (place, value) ∷ drop (if t then suc (first_behind place found) else 0) (f ∷ found)
-      by_test true rest = ap (λ (l : List (ℕ × Option ℕ)). f ∷ l) rest
-      by_test false rest = refl
-
-pub with_found_at-is : (place : ℕ) (value : Option ℕ) (found : List (ℕ × Option ℕ)) → with_found_at place value found
-    ≡ take (first_behind place found) found ++ (place, value) ∷ drop (first_behind place found) found
-with_found_at-is place value found = with_found_at-split place value found
+          ≡ f ∷ take k found ++ (place, value) ∷ drop k found
+      by_test true e rest = ap (λ (l : List (ℕ × Option ℕ)). f ∷ l) rest
+      by_test false e rest = let le = no_earlier f.0 place e in absurd (omega (arith, le, before 0 f (omega arith) refl))
 
 found_of : ℕ → Option ℕ → ℕ × Option ℕ
 found_of place value = (place, value)
@@ -127,22 +132,3 @@ pub found_with-rises : (place : ℕ) (response : Option Response) (value : Optio
     → AllPairs (λ a b. a.0 < b.0) (found_with place response value found)
 found_with-rises place None value found up new = with_found_at-rises place value found up new
 found_with-rises place (Some r) value found up new = up
-
--- ---- the first that stands no earlier
-
-pub first_behind-is : (place : ℕ) (found : List (ℕ × Option ℕ)) (k : ℕ)
-    → ((i : ℕ) (f : ℕ × Option ℕ) → i < k → slice_get found i ≡ Some f → f.0 < place) → k ≤ length found
-    → ((f : ℕ × Option ℕ) → slice_get found k ≡ Some f → place ≤ f.0) → k ≡ first_behind place found
-first_behind-is place [] k before within behind = omega (arith, within)
-first_behind-is place (f ∷ found) zero before within behind = by_test (nat_lt f.0 place) refl
-  where
-    by_test : (t : Bool) → nat_lt f.0 place ≡ t → 0 ≡ (if t then suc (first_behind place found) else 0)
-    by_test true e = let lt = earlier f.0 place e in absurd (omega (arith, lt, behind f refl))
-    by_test false e = refl
-first_behind-is place (f ∷ found) (suc k) before within behind =
-    by_test (nat_lt f.0 place) refl
-    (first_behind-is place found k (λ i g lt here. before (suc i) g (omega (arith, lt)) here) (omega (arith, within)) behind)
-  where
-    by_test : (t : Bool) → nat_lt f.0 place ≡ t → k ≡ first_behind place found → suc k ≡ (if t then suc (first_behind place found) else 0)
-    by_test true e rest = ap suc rest
-    by_test false e rest = let le = no_earlier f.0 place e in absurd (omega (arith, le, before 0 f (omega arith) refl))

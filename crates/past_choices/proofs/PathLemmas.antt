@@ -1,9 +1,9 @@
 -- Paths from position to position, and a read on one that is taken first.
 use Rattle.std.proofs.Common.{◌≡◌, ◌≢◌, ℕ, suc, List, [], ◌∷◌, ◌++◌, length, Some}
 use Rattle.std.proofs.Common.{refl, sym, ap, ◌∙◌, subst, ⊎_elim, inl, inr, arith}
-use Rattle.std.specs.Prelude.{◌⊎◌, slice_get, All, Contains}
+use Rattle.std.specs.Prelude.{slice_get, All, Contains}
 use Rattle.std.specs.List.Sorted.{IsStrictlyIncreasing}
-use Rattle.std.proofs.lemmas.Bool.{cases_order}
+use Rattle.std.proofs.lemmas.Bool.{cases_eq}
 use Rattle.std.proofs.lemmas.List.{length-append}
 use Rattle.std.proofs.lemmas.Option.{same_Some}
 use Rattle.events.specs.declared.operation.Operation.{Operation}
@@ -22,11 +22,6 @@ use Rattle.past_choices.proofs.ValueLemmas.{read_leaves}
 abbrev pub LeadsOn : List Operation → Position → List ℕ → Position → Type 0
 LeadsOn calls p [] q = p ≡ q
 LeadsOn calls p (n ∷ path) q = (next : MayCome calls p n) × LeadsOn calls (next_position p n next.call) path q
-
-pub same_or_apart : (m n : ℕ) → (m ≡ n) ⊎ (m ≢ n)
-same_or_apart m n = ⊎_elim (λ is. inl is)
-    (λ apart. inr (⊎_elim (λ below. λ e. absurd (omega (arith, below, e))) (λ above. λ e. absurd (omega (arith, above, e))) apart))
-    (cases_order m n)
 
 -- a call that is left after another was left before it, and is another one
 left_before : (calls : List Operation) (p : Position) (k : ℕ) (next : MayCome calls p k) (n : ℕ)
@@ -51,7 +46,7 @@ is_on calls p q (k ∷ path) n leads left done = ⊎_elim
     (λ same. subst (Contains (k ∷ path)) (sym same) (Contains-first k path))
     (λ apart. Contains-later k path n (is_on calls (next_position p k leads.0.call) q path n leads.1
     (λ had. ⊎_elim left apart ((Contains-with_place p.done k n).0 had)) done))
-    (same_or_apart n k)
+    (cases_eq n k)
 
 -- one call is done, and nothing else changes
 pub with_done : Position → ℕ → Position

@@ -1,16 +1,17 @@
 -- The position of a start, and the calls that it has not taken.
 use Rattle.std.proofs.Common.{◌≡◌, ℕ, zero, suc, ◌+◌, ◌<◌, Bool, true, false, List, [], ◌∷◌, length, Option, Some, None}
 use Rattle.std.proofs.Common.{refl, sym, ap, ap₂, ◌∙◌, subst, ⊎_elim, inl, inr, arith}
-use Rattle.std.specs.Prelude.{◌⊎◌, ◌↔◌, if◌then◌else◌, slice_get, slice_index_or, Contains}
-use Rattle.std.specs.List.{cons_option}
+use Rattle.std.specs.Prelude.{◌⊎◌, ◌↔◌, ◌≤◌, slice_get, slice_index_or, Contains}
+use Rattle.std.specs.List.{cons_option, range_with_len}
 use Rattle.std.specs.List.Sorted.{IsStrictlyIncreasing}
 use Rattle.std.proofs.lemmas.Bool.{both_ways, cases_Bool, cases_lt}
+use Rattle.std.proofs.lemmas.List.Kept.{IsStrictlyIncreasing-filter}
 use Rattle.std.proofs.lemmas.Option.{same_Some, none-some}
 use Rattle.events.specs.declared.operation.Operation.{Operation}
 use Rattle.events.specs.declared.operation.Response.{Response}
 use Rattle.events.specs.Precedence.{is_before}
-use Rattle.list_laws.proofs.Lists.{Contains-first, Contains-later, Contains-nil}
-use Rattle.list_laws.proofs.RisingLemmas.{IsStrictlyIncreasing-range}
+use Rattle.list_laws.proofs.Lists.{Contains-first, Contains-later, Contains-nil, Contains-filter, Contains-from_filter, Contains-range}
+use Rattle.list_laws.proofs.RisingLemmas.{IsStrictlyIncreasing-range, rising_unique}
 use Rattle.configurations.specs.Fronts.{PrecedesAt}
 use Rattle.orders.specs.Orders.{calls_at}
 use Rattle.memo.specs.Taking.{with_place}
@@ -92,49 +93,67 @@ taken_within [] n is = absurd (both_ways false refl is)
 taken_within (b ∷ taken) zero is = omega arith
 taken_within (b ∷ taken) (suc n) is = let rest = taken_within taken n is in omega (arith, rest)
 
--- of the first calls, exactly those that are taken
-pub Contains-places_taken : (taken : List Bool) (count n : ℕ) → Contains (places_taken taken count) n ↔ ((n < count) × IsTaken taken n)
-Contains-places_taken taken zero n = (λ h. absurd (Contains-nil n h), λ h. absurd (omega (arith, h.0)))
-Contains-places_taken taken (suc k) n = by_test (slice_index_or taken k false) refl (Contains-places_taken taken k n)
-  where
-    by_test : (t : Bool) → slice_index_or taken k false ≡ t → Contains (places_taken taken k) n ↔ ((n < k) × IsTaken taken n)
-        → Contains (if t then with_place (places_taken taken k) k else places_taken taken k) n ↔ ((n < suc k) × IsTaken taken n)
-    by_test true is rest = (
-      λ h. ⊎_elim (λ old. let it = rest.0 old in (omega (arith, it.0), it.1))
-          (λ same. (omega (arith, same), subst (IsTaken taken) (sym same) is))
-          ((Contains-with_place (places_taken taken k) k n).0 h),
-      λ h. (Contains-with_place (places_taken taken k) k n).1
-          (⊎_elim (λ lt. inl (rest.1 (lt, h.1))) (λ ge. inr (omega (arith, h.0, ge))) (cases_lt n k)),
-    )
-    by_test false is_not rest = (
-      λ h. let it = rest.0 h in (omega (arith, it.0), it.1),
-      λ h. ⊎_elim (λ lt. rest.1 (lt, h.1))
-          (λ ge. let same : n ≡ k = omega (arith, h.0, ge) in
-          absurd (both_ways (slice_index_or taken k false) is_not (subst (IsTaken taken) same h.1)))
-          (cases_lt n k),
-    )
+-- exactly those that are taken
+pub Contains-places_taken : (taken : List Bool) (n : ℕ) → Contains (places_taken taken) n ↔ IsTaken taken n
+Contains-places_taken taken n = (
+  λ h. (Contains-from_filter (λ k. slice_index_or taken k false) (range_with_len 0 (length taken)) n h).1,
+  λ is. Contains-filter (λ k. slice_index_or taken k false) (range_with_len 0 (length taken)) n
+      (Contains-range (length taken) n (taken_within taken n is)) is,
+)
 
 -- they rise
-pub places_taken-rises : (taken : List Bool) (count : ℕ) → IsStrictlyIncreasing (places_taken taken count)
-places_taken-rises taken zero = IsStrictlyIncreasing-range 0
-places_taken-rises taken (suc k) = by_test (slice_index_or taken k false) (places_taken-rises taken k)
-  where
-    by_test : (t : Bool) → IsStrictlyIncreasing (places_taken taken k)
-        → IsStrictlyIncreasing (if t then with_place (places_taken taken k) k else places_taken taken k)
-    by_test true rest = with_place-rises (places_taken taken k) k rest
-    by_test false rest = rest
+pub places_taken-rises : (taken : List Bool) → IsStrictlyIncreasing (places_taken taken)
+places_taken-rises taken =
+    IsStrictlyIncreasing-filter (λ k. slice_index_or taken k false) (range_with_len 0 (length taken)) (IsStrictlyIncreasing-range (length taken))
 
--- one call more, which is taken or not
-pub places_taken-more : (taken : List Bool) (n : ℕ) (done : List ℕ) → slice_index_or taken n false ≡ true
-    → done ≡ with_place (places_taken taken n) n → done ≡ places_taken taken (n + 1)
-places_taken-more taken n done is done_is =
-    let next : suc n ≡ n + 1 = omega arith in
-    let more : done ≡ places_taken taken (suc n) = rw is done_is in
-    subst (λ (k : ℕ). done ≡ places_taken taken k) next more
+-- the places of those that are taken of the first calls
+pub record AreFirstTaken (taken : List Bool) (count : ℕ) (places : List ℕ) : Type 0 where
+  pub rising : IsStrictlyIncreasing places
+  pub each : (n : ℕ) → Contains places n ↔ ((n < count) × IsTaken taken n)
 
-pub places_taken-same : (taken : List Bool) (n : ℕ) (done : List ℕ) → slice_index_or taken n false ≡ false → done ≡ places_taken taken n
-    → done ≡ places_taken taken (n + 1)
-places_taken-same taken n done is_not done_is =
-    let next : suc n ≡ n + 1 = omega arith in
-    let more : done ≡ places_taken taken (suc n) = rw is_not done_is in
-    subst (λ (k : ℕ). done ≡ places_taken taken k) next more
+pub none_taken : (taken : List Bool) (places : List ℕ) → places ≡ [] → AreFirstTaken taken 0 places
+none_taken taken places none = record {
+  rising = subst IsStrictlyIncreasing (sym none) (IsStrictlyIncreasing-range 0);
+  each = λ n. (
+    λ h. absurd (Contains-nil n (subst (λ (l : List ℕ). Contains l n) none h)),
+    λ h. absurd (omega (arith, h.0)),
+  );
+}
+
+-- the next one is taken
+pub one_taken : (taken : List Bool) (count : ℕ) (places : List ℕ) → IsTaken taken count → AreFirstTaken taken count places
+    → AreFirstTaken taken (count + 1) (with_place places count)
+one_taken taken count places is first = record {
+  rising = with_place-rises places count first.rising;
+  each = λ n. (
+    λ h. ⊎_elim (λ old. let it = (first.each n).0 old in (omega (arith, it.0), it.1))
+        (λ same. (omega (arith, same), subst (IsTaken taken) (sym same) is))
+        ((Contains-with_place places count n).0 h),
+    λ h. (Contains-with_place places count n).1
+        (⊎_elim (λ lt. inl ((first.each n).1 (lt, h.1))) (λ ge. inr (omega (arith, h.0, ge))) (cases_lt n count)),
+  );
+}
+
+-- or it is not
+pub one_free : (taken : List Bool) (count : ℕ) (places : List ℕ) → IsFree taken count → AreFirstTaken taken count places
+    → AreFirstTaken taken (count + 1) places
+one_free taken count places free first = record {
+  rising = first.rising;
+  each = λ n. (
+    λ h. let it = (first.each n).0 h in (omega (arith, it.0), it.1),
+    λ h. ⊎_elim (λ lt. (first.each n).1 (lt, h.1))
+        (λ ge. let same : n ≡ count = omega (arith, h.0, ge) in
+        absurd (both_ways (slice_index_or taken count false) free (subst (IsTaken taken) same h.1)))
+        (cases_lt n count),
+  );
+}
+
+-- all of them
+pub all_taken : (taken : List Bool) (count : ℕ) (places : List ℕ) → length taken ≤ count → AreFirstTaken taken count places
+    → places ≡ places_taken taken
+all_taken taken count places all first =
+    rising_unique places (places_taken taken) first.rising (places_taken-rises taken) (λ n. (
+      λ h. (Contains-places_taken taken n).1 ((first.each n).0 h).1,
+      λ h. let is = (Contains-places_taken taken n).0 h in
+          let within = taken_within taken n is in (first.each n).1 (omega (arith, within, all), is),
+    ))

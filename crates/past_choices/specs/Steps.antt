@@ -1,6 +1,7 @@
 -- Steps from position to position, and what the worklist has come to.
-use Rattle.std.specs.Prelude.{◌≡◌, ◌≢◌, ◌↔◌, ◌⊎◌, ℕ, zero, suc, ◌<◌, ◌≤◌, nat_lt, Bool, true, false, if◌then◌else◌, List, [], ◌∷◌, length}
+use Rattle.std.specs.Prelude.{◌≡◌, ◌≢◌, ◌↔◌, ◌⊎◌, ℕ, ◌<◌, ◌≤◌, nat_lt, Bool, true, false, if◌then◌else◌, List, [], ◌∷◌, length, filter}
 use Rattle.std.specs.Prelude.{Option, Some, None, slice_get, slice_index_or, All, AllPairs, Contains}
+use Rattle.std.specs.List.{range_with_len}
 use Rattle.events.specs.declared.operation.Operation.{Operation}
 use Rattle.events.specs.declared.operation.Response.{Response}
 use Rattle.configurations.specs.Fronts.{PrecedesAt}
@@ -12,14 +13,13 @@ use Rattle.quiet_cuts.specs.Replies.{IsRead}
 use Rattle.past_choices.specs.Starts.{Start, IsFree}
 use Rattle.quiet_cuts.specs.Values.{value_behind_call, MayBeAnswered}
 
--- of the first calls, those that are taken
-abbrev pub places_taken : List Bool → ℕ → List ℕ
-places_taken taken zero = []
-places_taken taken (suc n) = if slice_index_or taken n false then with_place (places_taken taken n) n else places_taken taken n
+-- the places of the calls that are taken
+abbrev pub places_taken : List Bool → List ℕ
+places_taken taken = filter (λ n. slice_index_or taken n false) (range_with_len 0 (length taken))
 
 -- the position of a start: no call is done but those that are taken
 abbrev pub start_position : Start → Position
-start_position first = record { done = places_taken first.taken (length first.taken); found = []; value = first.value }
+start_position first = record { done = places_taken first.taken; found = []; value = first.value }
 
 -- what was found, with what one more call finds, in its place
 abbrev pub with_found_at : ℕ → Option ℕ → List (ℕ × Option ℕ) → List (ℕ × Option ℕ)
@@ -30,11 +30,6 @@ with_found_at place value (f ∷ found) = if nat_lt f.0 place then f ∷ with_fo
 abbrev pub found_with : ℕ → Option Response → Option ℕ → List (ℕ × Option ℕ) → List (ℕ × Option ℕ)
 found_with place None value found = with_found_at place value found
 found_with place (Some response) value found = found
-
--- how many calls found something before the first that stands no earlier than a place
-abbrev pub first_behind : ℕ → List (ℕ × Option ℕ) → ℕ
-first_behind place [] = 0
-first_behind place (f ∷ found) = if nat_lt f.0 place then suc (first_behind place found) else 0
 
 -- one more call is done
 abbrev pub next_position : Position → ℕ → Operation → Position

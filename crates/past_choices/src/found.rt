@@ -1,6 +1,6 @@
 // What calls found that have no answer.
-ghost use Rattle.std.specs.Prelude.{◌≡◌, ◌≤◌, length, IfOk};
-ghost use Rattle.past_choices.specs.Steps.{first_behind, found_with};
+ghost use Rattle.std.specs.Prelude.{◌≡◌, ◌<◌, ◌≤◌, ℕ, length, slice_get, Option, Some, IfOk};
+ghost use Rattle.past_choices.specs.Steps.{found_with};
 
 use events::{Memory, Response};
 use std::alloc::Global;
@@ -29,7 +29,9 @@ pub(crate) fn found_with(
 /// How many calls found something before the first that stands no earlier than a place.
 fn first_behind(found: &[(usize, Option<u64>)], place: usize) -> usize
     ensures within { result ≤ length found.now }
-    ensures is { result ≡ first_behind place found.now }
+    ensures before { (n : ℕ) (f : ℕ × Option ℕ) → n < result → slice_get found.now n ≡ Some f
+        → f.0 < place }
+    ensures behind { (f : ℕ × Option ℕ) → slice_get found.now result ≡ Some f → place ≤ f.0 }
 {
     let mut at = 0;
     while at < found.len() && found[at].0 < place {

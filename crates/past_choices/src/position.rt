@@ -104,7 +104,8 @@ impl Position {
 
     /// The first call that is left, by its place: all before it are done.
     pub(crate) fn first_left(&self) -> usize
-        ensures { (n : ℕ) → n < result → Contains self.now.done n }
+        ensures before { (n : ℕ) → n < result → Contains self.now.done n }
+        ensures left { Contains self.now.done result → ⊥ }
     {
         self.done.least_missing()
     }

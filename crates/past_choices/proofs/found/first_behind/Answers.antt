@@ -1,7 +1,6 @@
 use Rattle.std.proofs.Common.{◌≡◌, ℕ, List, Option, Some, None, get_or, ap, subst, ⊎_elim, arith}
 use Rattle.std.specs.Prelude.{slice_get}
 use Rattle.std.proofs.lemmas.Option.{get_or_from_slice_get, slice_get_within}
-use Rattle.past_choices.proofs.FoundLemmas.{first_behind-is}
 use Rattle.past_choices.proofs.GatherLemmas.{last_or_before}
 use Rattle.past_choices.proofs.found.first_behind.Goals as goal
 
@@ -18,12 +17,9 @@ loop-at-preserved c = (
       (last_or_before i c.loop-at.at before),
 )
 
-pub returns-else-found-at-clause-is : goal.returns-else-found-at-clause-is
-returns-else-found-at-clause-is c =
-    first_behind-is c.args.place c.args.found.now c.loop-at.at c.loop-at.invariant.1 c.loop-at.invariant.0
-    (λ f here. omega (arith, read c.args.found.now c.loop-at.at f here, c.if-found-at.false))
+pub returns-else-found-at-clause-behind : goal.returns-else-found-at-clause-behind
+returns-else-found-at-clause-behind c f here = omega (arith, read c.args.found.now c.loop-at.at f here, c.if-found-at.false)
 
-pub returns-after-loop-at-clause-is : goal.returns-after-loop-at-clause-is
-returns-after-loop-at-clause-is c =
-    first_behind-is c.args.place c.args.found.now c.loop-at.at c.loop-at.invariant.1 c.loop-at.invariant.0
-    (λ f here. let within = slice_get_within c.args.found.now c.loop-at.at f here in absurd (omega (arith, within, c.loop-at-test.false)))
+pub returns-after-loop-at-clause-behind : goal.returns-after-loop-at-clause-behind
+returns-after-loop-at-clause-behind c f here =
+    let within = slice_get_within c.args.found.now c.loop-at.at f here in absurd (omega (arith, within, c.loop-at-test.false))

@@ -3,7 +3,7 @@ use Rattle.std.proofs.lemmas.Bool.{both_ways}
 use Rattle.std.proofs.lemmas.List.{take_rest}
 use Rattle.events.specs.declared.operation.Response.{Response}
 use Rattle.past_choices.specs.Steps.{found_with, with_found_at}
-use Rattle.past_choices.proofs.FoundLemmas.{with_found_at-is}
+use Rattle.past_choices.proofs.FoundLemmas.{with_found_at-split}
 use Rattle.past_choices.proofs.found.found_with.Goals as goal
 
 -- what a call finds that has no answer
@@ -24,6 +24,5 @@ returns c =
     ∙ ap (λ (l : List (ℕ × Option ℕ)). l ++ now)
     (c.in_ok-extend_from_slice.ensures.items ∙ ap (λ (l : List (ℕ × Option ℕ)). l ++ take at found) c.in_ok-with.ensures.items))
     ∙ append_assoc (take at found) now (drop at found)
-    ∙ ap (λ (k : ℕ). take k found ++ (c.args.place, c.args.value) ∷ drop k found) c.first_behind-at.ensures.is
-    ∙ sym (with_found_at-is c.args.place c.args.value found)
+    ∙ sym (with_found_at-split c.args.place c.args.value found at c.first_behind-at.ensures.before c.first_behind-at.ensures.behind)
     ∙ unanswered c.args.place c.args.response.now c.args.value found (sym c.is_some.ensures ∙ c.if-is_some.false)

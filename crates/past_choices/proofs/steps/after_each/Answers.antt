@@ -8,7 +8,7 @@ use Rattle.past_choices.proofs.steps.after_each.Goals.{then-may_come+in_ok-with+
 
 pub loop-place-init : goal.loop-place-init
 loop-place-init c =
-    next_none c.args.calls.now c.args.position.now c.first_left-first.result c.in_ok-next.next.items c.in_ok-next.ensures.items c.first_left-first.ensures
+    next_none c.args.calls.now c.args.position.now c.first_left-first.result c.in_ok-next.next.items c.in_ok-next.ensures.items c.first_left-first.ensures.before
 
 pub loop-place-preserved : goal.loop-place-preserved
 loop-place-preserved c =

@@ -8,7 +8,7 @@ use Rattle.past_choices.proofs.steps.way_on.Goals.{then-not-is_done+in_default, 
 
 pub loop-place-init : goal.loop-place-init
 loop-place-init c =
-    ends_start c.args.calls.now c.args.position.now c.first_left-place.result c.requires.rising c.requires.apart c.first_left-place.ensures
+    ends_start c.args.calls.now c.args.position.now c.first_left-place.result c.requires.rising c.requires.apart c.first_left-place.ensures.before
 
 pub returns-then-is_behind : goal.returns-then-is_behind
 returns-then-is_behind c =
