@@ -6,8 +6,8 @@ use Rattle.events.specs.Operations.{operations}
 use Rattle.map_object.specs.MapObject.{Contents}
 use Rattle.explaining.specs.declared.explanation.Explanation.{Explanation}
 use Rattle.explaining.specs.Explained.{IsExplanation}
-use Rattle.located_calls.specs.OwnParts.{OwnPart}
-use Rattle.located_calls.specs.Told.{told_calls}
+use Rattle.follower.specs.OwnParts.{OwnPart}
+use Rattle.locating.specs.Told.{told_calls}
 use Rattle.explain_engines.specs.Reports.{rows}
 use Rattle.explain_engines.specs.Answers.{AreHistoryLines, AreOriginLines, AreFew, AreFewLines}
 

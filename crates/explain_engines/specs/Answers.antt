@@ -20,11 +20,11 @@ use Rattle.explaining.specs.Explained.{IsExplanation}
 use Rattle.locating.specs.declared.location.Location.{Location}
 use Rattle.locating.specs.Locations.{IsLocated}
 use Rattle.locating.specs.Reports.{location_data}
-use Rattle.located_calls.specs.OwnParts.{OwnPart}
-use Rattle.located_calls.specs.declared.evidence.Evidence.{Evidence}
-use Rattle.located_calls.specs.declared.evidence.Evidence.TheVariants.{OfEvents, OfKey, Missing}
-use Rattle.located_calls.specs.Evidences.{IsEvidenceOf}
-use Rattle.located_calls.specs.Told.{told_calls}
+use Rattle.follower.specs.OwnParts.{OwnPart}
+use Rattle.locating.specs.declared.evidence.Evidence.{Evidence}
+use Rattle.locating.specs.declared.evidence.Evidence.TheVariants.{OfEvents, OfKey, Missing}
+use Rattle.locating.specs.Evidences.{IsEvidenceOf}
+use Rattle.locating.specs.Told.{told_calls}
 use Rattle.outcomes.specs.declared.outcome.Answer.{Answer}
 use Rattle.outcomes.specs.Lines.{line}
 use Rattle.history_engines.specs.Answers.{IsTextOf, answer_of}

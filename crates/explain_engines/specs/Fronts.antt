@@ -9,7 +9,7 @@ use Rattle.events.specs.Precedence.{precedes}
 use Rattle.map_object.specs.MapObject.{Contents, reply_to}
 use Rattle.orders.specs.Orders.{calls_at, after_calls}
 use Rattle.history_text.specs.Texts.{number_data, pair_data, reply_data, list_data}
-use Rattle.located_calls.specs.OwnParts.{event_of}
+use Rattle.follower.specs.OwnParts.{event_of}
 use Rattle.explain_engines.specs.Reports.{answer_data}
 
 -- whether a call is one of those taken, and whether one of some calls precedes it

@@ -5,7 +5,7 @@ use Rattle.serde_json.specs.Data.{Data, null, object, no_members, member}
 use Rattle.events.specs.declared.event.Event.{Event}
 use Rattle.history_text.specs.Texts.{number_data}
 use Rattle.small_histories.specs.Values.{value_data}
-use Rattle.located_calls.specs.OwnParts.{OwnPart}
+use Rattle.follower.specs.OwnParts.{OwnPart}
 use Rattle.explain_engines.specs.Origins.{writer_data}
 
 -- the call that put it, by the event of its invocation, with its process; none where it was there

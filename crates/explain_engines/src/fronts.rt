@@ -13,8 +13,8 @@ ghost use Rattle.explain_engines.specs.Fronts.{is_taken, is_preceded, left_by, u
 use crate::reports::answer_value;
 use events::{Call, Memory, Operation, Reply};
 use explaining::precedes;
+use follower::event_of;
 use history_text::{pairs_value, reply_value};
-use located_calls::event_of;
 use map_object::SortedMap;
 use orders::apply;
 use outcomes::line_of;

@@ -8,7 +8,7 @@ ghost use Rattle.explain_engines.specs.Parts.{put_data, part_data};
 
 use crate::writers::writer_value;
 use events::{Event, History, Memory};
-use located_calls::OwnPart;
+use follower::OwnPart;
 use outcomes::line_of;
 use serde_json::{Map, Value, put};
 use small_histories::value_or_null;

@@ -4,9 +4,11 @@ mod CloseLemmas
 mod FaultLemmas
 mod FollowLemmas
 mod JudgeLemmas
+mod LeftLemmas
 mod NextLemmas
 mod OpenLemmas
 mod PairLemmas
+mod PartLemmas
 mod RestLemmas
 mod RowLemmas
 mod ScanLemmas

@@ -6,8 +6,10 @@ pub mod Faults
 pub mod Followed
 pub mod FollowerView
 pub mod Following
+pub mod Laws
 pub mod Lone
 pub mod Outcomes
+pub mod OwnParts
 pub mod Steps
 pub mod WindowOutcomes
 pub mod WindowsView

@@ -1,2 +1,3 @@
 mod AgreeLemmas
+mod EvidenceLemmas
 mod PassLemmas

@@ -10,11 +10,11 @@ use Rattle.map_object.specs.MapObject.{Contents}
 use Rattle.judge.specs.declared.verdict.Verdict.{Verdict}
 use Rattle.judge.specs.declared.verdict.Verdict.TheVariants as verdicts
 use Rattle.locating.specs.declared.location.Location.{Location}
-use Rattle.located_calls.specs.OwnParts.{OwnPart}
-use Rattle.located_calls.specs.declared.evidence.Evidence.{Evidence}
-use Rattle.located_calls.specs.declared.evidence.Evidence.TheVariants.{OfEvents, OfKey, Missing}
-use Rattle.located_calls.specs.Evidences.{IsEvidenceOf}
-use Rattle.located_calls.specs.Told.{told_calls}
+use Rattle.follower.specs.OwnParts.{OwnPart}
+use Rattle.locating.specs.declared.evidence.Evidence.{Evidence}
+use Rattle.locating.specs.declared.evidence.Evidence.TheVariants.{OfEvents, OfKey, Missing}
+use Rattle.locating.specs.Evidences.{IsEvidenceOf}
+use Rattle.locating.specs.Told.{told_calls}
 use Rattle.explaining.specs.declared.explanation.Explanation.{Explanation}
 use Rattle.explaining.specs.Explained.{IsExplanation}
 use Rattle.origins.specs.External.{AreExternal}

@@ -9,7 +9,7 @@ use Rattle.kept_rows.specs.Judging.{HasOrderFrom}
 use Rattle.kept_rows.specs.Views.{KeptView}
 use Rattle.kept_rows.specs.Outcomes.{HasNoOrder}
 use Rattle.kept_rows.specs.KeyLoss.{KeyLoss}
-use Rattle.located_calls.specs.OwnParts.{OwnPart, part_from, part_of, part_at}
+use Rattle.follower.specs.OwnParts.{OwnPart, part_from, part_of, part_at}
 
 abbrev pub IsRefuted : OwnPart → Type 0
 IsRefuted part = IsLinearizable part.start part.calls → ⊥

@@ -28,7 +28,7 @@ use Rattle.answer_hints.specs.Overlaps.{overlap_of}
 use Rattle.answer_hints.specs.Hints.{yes_hint}
 use Rattle.stream_engines.specs.Refusals.{stream_fault_line, StopsFor}
 use Rattle.stream_engines.specs.Reports.{yes_line, lost_data, spent_data}
-use Rattle.located_calls.specs.OwnParts.{own_part}
+use Rattle.follower.specs.OwnParts.{own_part}
 
 -- all lines spell a stream, whose events have an order; the hint is that on its calls and how much
 -- they overlap

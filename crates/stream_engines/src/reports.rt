@@ -12,16 +12,15 @@ ghost use Rattle.serde_json.specs.Written.{compact_text};
 ghost use Rattle.stream_engines.specs.Answers.{IsLostText, IsSmallLine};
 ghost use Rattle.stream_engines.specs.Leaves.{IsAnsweredBy, IsLostOutcome, IsYesOutcome};
 ghost use Rattle.small_histories.specs.Values.{value_data};
-ghost use Rattle.located_calls.specs.OwnParts.{own_part};
+ghost use Rattle.follower.specs.OwnParts.{own_part};
 ghost use Rattle.stream_engines.specs.Reports.{yes_line, numbers_data, values_data, puts_data, key_data, keys_data, lost_data};
 ghost use Rattle.stream_engines.specs.Reports.{doubted_keys, spent_data};
 
 use crate::small_lines::small_line;
 use answer_hints::{average_text, hinted_yes};
 use events::Memory;
-use follower::{Doubt, Loss};
+use follower::{Doubt, Loss, own_part};
 use kept_rows::{Configuration, KeptKey, KeyLoss};
-use located_calls::own_part;
 use outcomes::{Answer, RunOutcome, line_of};
 use serde_json::{Map, Value, put};
 use small_histories::value_or_null;

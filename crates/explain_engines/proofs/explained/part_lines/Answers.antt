@@ -1,7 +1,7 @@
 -- The line of the value, and behind it those of the calls.
 use Rattle.std.proofs.Common.{ℕ, List, ◌≡◌, ◌++◌, string_bytes, ap, ◌∙◌, rules}
 use Rattle.events.specs.Operations.{operations}
-use Rattle.located_calls.specs.Told.{told_calls}
+use Rattle.locating.specs.Told.{told_calls}
 use Rattle.outcomes.specs.Lines.{line}
 use Rattle.serde_json.specs.Written.{compact_text}
 use Rattle.explain_engines.specs.Parts.{part_data}

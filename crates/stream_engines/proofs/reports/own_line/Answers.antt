@@ -4,7 +4,7 @@ use Rattle.events.specs.declared.operation.Operation.{Operation}
 use Rattle.map_object.specs.MapObject.{Contents}
 use Rattle.orders.specs.Orders.{IsLinearizable}
 use Rattle.stream_engines.specs.Answers.{IsSmallLine}
-use Rattle.located_calls.specs.OwnParts.{OwnPart}
+use Rattle.follower.specs.OwnParts.{OwnPart}
 use Rattle.stream_engines.proofs.OwnLemmas.{IsRefuted, own_refuted}
 use Rattle.stream_engines.proofs.reports.own_line.Goals as goal
 

@@ -1,3 +1,0 @@
-mod EvidenceLemmas
-mod LeftLemmas
-mod PartLemmas

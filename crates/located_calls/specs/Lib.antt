@@ -1,4 +1,0 @@
-pub mod Evidences
-pub mod Laws
-pub mod OwnParts
-pub mod Told

@@ -1,0 +1,107 @@
+// The calls that show a location.
+ghost use Rattle.std.specs.Prelude.{◌≡◌, ◌<◌, AllPairs, IfOk};
+ghost use Rattle.events.specs.Precedence.{NonePrecedesItself};
+ghost use Rattle.explaining.specs.Explained.{IsExplanation};
+ghost use Rattle.locating.specs.Locations.{IsLocated, IsLostAt};
+ghost use Rattle.map_object.specs.MapObject.{IsRising};
+ghost use Rattle.orders.specs.Orders.{IsLinearizable};
+ghost use Rattle.locating.specs.Evidences.{IsEvidenceOf, IsLossEvidence, IsOwnEvidence, IsDoubtEvidence, Refutes};
+
+use crate::beginning::history_up_to;
+use crate::evidence::Evidence;
+use crate::location::Location;
+use events::{History, Memory};
+use explaining::{Explanation, explain_calls, explain_history};
+use follower::{Loss, OwnPart, own_part, own_parts_have_no_order};
+use map_object::SortedMap;
+use std::alloc::Global;
+
+/// Few calls that show a location. Of the events up to where the history goes wrong, or may, they
+/// are sought where short searches of the last calls show that there is no order
+/// (`explain_history`), and else of what a follower lost, where that is one key with one value: as
+/// `explain_calls` finds them.
+pub fn evidence_of(
+    alloc: Global,
+    history: &History,
+    location: &Location,
+    budget: u32,
+) -> Result<Evidence, Memory>
+    requires located { IsLocated budget history.now location.now }
+    ensures shows { IfOk result (IsEvidenceOf budget history.now location.now) }
+    ensures refutes { IfOk result (Refutes history.now) }
+{
+    match location {
+        Location::Yes => Ok(Evidence::Missing),
+        Location::No(loss) => loss_evidence(alloc, history, loss, budget),
+        Location::Undecided { event, .. } => doubt_evidence(alloc, history, *event, budget),
+    }
+}
+
+/// Few calls that show a loss.
+fn loss_evidence(
+    alloc: Global,
+    history: &History,
+    loss: &Loss,
+    budget: u32,
+) -> Result<Evidence, Memory>
+    requires lost { IsLostAt budget history.now loss.now }
+    ensures shows { IfOk result (IsLossEvidence budget history.now loss.now) }
+    ensures refutes { IfOk result (Refutes history.now) }
+{
+    let first = history_up_to(alloc, history, loss.event)?;
+    match explain_history(alloc, &first, budget)? {
+        Some(few) => Ok(Evidence::OfEvents(few)),
+        None => own_evidence(alloc, history, loss, budget),
+    }
+}
+
+/// Few calls of what goes wrong by itself, where something does.
+fn own_evidence(
+    alloc: Global,
+    history: &History,
+    loss: &Loss,
+    budget: u32,
+) -> Result<Evidence, Memory>
+    requires lost { IsLostAt budget history.now loss.now }
+    ensures shows { IfOk result (IsOwnEvidence budget loss.now) }
+    ensures refutes { IfOk result (Refutes history.now) }
+{
+    own_parts_have_no_order();
+    match own_part(alloc, loss)? {
+        Some(part) => {
+            let few = explain_part(alloc, &part, budget)?;
+            Ok(Evidence::OfKey(part, few))
+        }
+        None => Ok(Evidence::Missing),
+    }
+}
+
+/// Few of the calls of a part that has no order.
+fn explain_part(alloc: Global, part: &OwnPart, budget: u32) -> Result<Explanation, Memory>
+    requires sorted { IsRising part.now.start }
+    requires rising { AllPairs (λ a b. a.inv < b.inv) part.now.calls }
+    requires apart { NonePrecedesItself part.now.calls }
+    requires none { IsLinearizable part.now.start part.now.calls → ⊥ }
+    ensures { IfOk result (IsExplanation part.now.start part.now.calls budget) }
+{
+    let start = SortedMap::of(alloc, &part.start)?;
+    explain_calls(alloc, &start, &part.calls, budget)
+}
+
+/// Few calls that show that the events up to one have no order, where it is not known whether they
+/// have one.
+fn doubt_evidence(
+    alloc: Global,
+    history: &History,
+    event: usize,
+    budget: u32,
+) -> Result<Evidence, Memory>
+    ensures shows { IfOk result (IsDoubtEvidence budget history.now event) }
+    ensures refutes { IfOk result (Refutes history.now) }
+{
+    let first = history_up_to(alloc, history, event)?;
+    match explain_history(alloc, &first, budget)? {
+        Some(few) => Ok(Evidence::OfEvents(few)),
+        None => Ok(Evidence::Missing),
+    }
+}
