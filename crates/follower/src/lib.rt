@@ -5,6 +5,9 @@
 //! far may leave is one map, what was kept so far is put aside, and asked once more where that scan
 //! is answered. What follows is followed from that map. (It would hold of a get just so; but the
 //! key of an open get is not at rest, so none is put aside there.)
+//!
+//! Of a loss at one key with one value that is told which goes wrong by itself (`own_part`): the
+//! calls left there, which have no order from that value.
 #![tactic(auto)]
 
 mod answered;
