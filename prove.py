@@ -4,9 +4,8 @@
     ./prove.py bench
 
 Each is proved once, by rt's own scheduler: first those with the longest chain above them, as many side by side as there are processors
-and memory. One with a much shorter chain waits for them. As rt ci does, it builds libraries of statements: what stands above loads what
-was proved of them, and not the proofs. What an earlier run has built of the same files is kept, and rt's commands find it built: so a
-run that was interrupted goes on where it was.
+and memory. As rt ci does, it builds libraries of statements: what stands above loads what was proved of them, and not the proofs. What an
+earlier run has built of the same files is kept, and rt's commands find it built: so a run that was interrupted goes on where it was.
 
 It ends with 0; with 70 where a crate is not proved; and with another status where it does not fit the toolchain, whose own commands do the same
 crate by crate.
@@ -26,6 +25,8 @@ sys.dont_write_bytecode = True
 # It stands on the inside of this toolchain's `rt`, of which another one promises nothing.
 KNOWN = "rattle-kit-13f logic dac8208d650f15bf"
 NOT_PROVED, UNKNOWN = 70, 75
+# A crate takes the prover a time by its lines of code, whatever its proofs, and its start as long as so many of them.
+START = 200
 found = subprocess.run(["rt", "version"], stdout=subprocess.PIPE, text=True).stdout.strip()
 if found != KNOWN:
     sys.stderr.write(f"prove: it knows the toolchain {KNOWN}, and this is {found}\n")
@@ -79,12 +80,11 @@ class Crate(rt.rtlib.Crate):
 
 
 class Progress:
-    """How far it is and, by the lines of the crates that were proved until now, how long the rest will take."""
+    """How far it is and, by the weights of the crates that were proved until now, how long the rest will take."""
 
-    def __init__(self, crates):
+    def __init__(self, weights):
         self.began, self.saying = time.monotonic(), threading.Lock()
-        self.left = {it.name: it.count(rb"\n") + sum(rt.rtlib.text_of(file).count("\n") for file in rt.rtlib.files_of(it.folder)) for it in crates}
-        self.whole = sum(self.left.values())
+        self.left, self.whole = dict(weights), sum(weights.values())
 
     def say(self, text):
         print(f"prove: {time.monotonic() - self.began:.0f} s: {text}", file=sys.stderr, flush=True)
@@ -109,32 +109,15 @@ def build(crate, jobs, progress):
     return is_built
 
 
-def chains(crates, lines):
-    """The lines of the longest chain below each crate, and of the longest that begins with it, by their names."""
-    below, behind = dict.fromkeys(lines, 0), dict.fromkeys(lines, 0)
-    for it in crates:
-        below[it.name] = max((below[lower.name] + lines[lower.name] for lower in it.below() if lower.name in lines), default=0)
+def chains(crates, weights):
+    """The weight of the longest chain that begins with each crate, by their names."""
+    behind = dict.fromkeys(weights, 0)
     for it in reversed(crates):
-        behind[it.name] += lines[it.name]
+        behind[it.name] += weights[it.name]
         for lower in it.below():
-            if lower.name in lines:
+            if lower.name in weights:
                 behind[lower.name] = max(behind[lower.name], behind[it.name])
-    return below, behind
-
-
-def behind_others(call, *given):
-    """Makes a call whose processes leave the processors to those of others."""
-    made = []
-
-    def work():
-        # of this thread alone, and of what it starts
-        os.nice(10)
-        made.append(call(*given))
-
-    thread = threading.Thread(target=work)
-    thread.start()
-    thread.join()
-    return bool(made and made[0])
+    return behind
 
 
 def main(name):
@@ -146,29 +129,32 @@ def main(name):
     for it in crates:
         rt.rtlib.stop_on_links(it.folder)
     lacking = [it for it in crates if not it.is_built()]
-    progress = Progress(lacking)
+    weights = {it.name: START + it.count(rb"\n") for it in lacking}
+    progress = Progress(weights)
     if lacking:
         progress.say(f"crates to prove: {len(lacking)} of {len(crates)}; that takes minutes")
 
-    lines = dict(progress.left)
-    below, behind = chains(lacking, lines)
-    longest = max(behind.values(), default=0)
+    behind = chains(lacking, weights)
+    running, turn = [], threading.Lock()
 
     def work(crate, waits, given, jobs):
         if not all(given[it] for it in waits):
             return False
-        if below[crate.name] + behind[crate.name] < longest:
-            return behind_others(build, crate, jobs, progress)
-        # one of the longest chain has all processors, where there is memory
-        has_room = rt.free() > 3 * rt.need(crate)
-        return build(crate, max(jobs, min(rt.processors(), 4)) if has_room else jobs, progress)
+        with turn:
+            leads = all(behind[crate.name] >= behind[it] for it in running)
+            running.append(crate.name)
+        # of those that run, the one with the longest chain behind it has all processors, where there is memory
+        if leads and rt.free() > 3 * rt.need(crate):
+            jobs = max(jobs, min(rt.processors(), 4))
+        is_built = build(crate, jobs, progress)
+        with turn:
+            running.remove(crate.name)
+        return is_built
 
     tasks = {}
     for it in sorted(lacking, key=lambda it: -behind[it.name]):
-        # one with much less behind it leaves the processors to those with more
-        first = [name for name in lines if behind[name] > behind[it.name] + longest / 2]
-        waits = [(name, "proof") for name in {*first, *[lower.name for lower in it.below() if lower.name in lines]}]
-        tasks[it.name, "proof"] = waits, lines[it.name], rt.need(it), lambda given, jobs, it=it, waits=waits: work(it, waits, given, jobs)
+        waits = [(lower.name, "proof") for lower in it.below() if lower.name in weights]
+        tasks[it.name, "proof"] = waits, weights[it.name], rt.need(it), lambda given, jobs, it=it, waits=waits: work(it, waits, given, jobs)
     return 0 if all(rt.in_lanes(tasks).values()) and held else NOT_PROVED
 
 
