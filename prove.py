@@ -80,7 +80,7 @@ class Crate(rt.rtlib.Crate):
 
 
 class Progress:
-    """How far it is and, by the weights of the crates that were proved until now, how long the rest will take."""
+    """How far it is and, by the weights of the crates that were proved until now, how long the libraries that are left will take."""
 
     def __init__(self, weights):
         self.began, self.saying = time.monotonic(), threading.Lock()
@@ -143,7 +143,7 @@ def main(name):
         with turn:
             leads = all(behind[crate.name] >= behind[it] for it in running)
             running.append(crate.name)
-        # of those that run, the one with the longest chain behind it has all processors, where there is memory
+        # one that begins while none with a longer chain behind it runs has four processors, where these and the memory are there
         if leads and rt.free() > 3 * rt.need(crate):
             jobs = max(jobs, min(rt.processors(), 4))
         is_built = build(crate, jobs, progress)
