@@ -37,21 +37,7 @@ rt = importlib.machinery.SourceFileLoader("rt", os.path.realpath(shutil.which("r
 
 class Crate(rt.rtlib.Crate):
     """A crate that is built as a library of statements. These fit only such builds of the libraries below, where rt's own commands build a
-    library with its proofs, so one of those counts as not built here. Its stamp, the sum of all that it is made from, reads each crate
-    below once, and not once for each way down to it."""
-
-    below_one = threading.local()
-
-    def stamp(self):
-        is_outermost = not hasattr(self.below_one, "stamps")
-        stamps = self.below_one.__dict__.setdefault("stamps", {})
-        try:
-            if self.name not in stamps:
-                stamps[self.name] = super().stamp()
-            return stamps[self.name]
-        finally:
-            if is_outermost:
-                del self.below_one.stamps
+    library with its proofs, so one of those counts as not built here."""
 
     def marks(self):
         """The files that say of what the library is built: rt's own, and the one that says that it is of statements."""
