@@ -16,14 +16,12 @@ struct potzendai_following {
     recording_word is_done;
     int written;
     FILE *file;
-#ifndef POTZENDAI_NO_LIBRARY
     struct potzendai_follower follower;
     char report[POTZENDAI_REPORT];
     struct potzendai_told told;
     char *kept; /* the stream so far, while it is kept */
     size_t kept_length, kept_room;
     bool is_long, is_unkept;
-#endif
 };
 
 /* The calls that the threads have made so far. */
@@ -36,17 +34,18 @@ static inline void potzendai_count_calls(struct potzendai_following *f)
     }
 }
 
-#ifndef POTZENDAI_NO_LIBRARY
-
-/* What the follower says so far has the overlap a call of all calls that it has. */
+/* How far it is. What the library's follower says so far has the overlap a call of all calls that it has. */
 static inline void potzendai_follow_progress(struct potzendai_following *f)
 {
-    size_t length;
     if (!f->tester->has_terminal || potzendai_now() - f->tester->told < 1)
         return;
+#ifndef POTZENDAI_NO_LIBRARY
+    size_t length;
     potzendai_follow_verdict(&f->follower, f->report, sizeof f->report, &length);
-    potzendai_count_calls(f);
+    f->tester->has_overlap = true;
     f->tester->overlap_a_call = potzendai_decimal(f->report, "\"overlap\":");
+#endif
+    potzendai_count_calls(f);
     potzendai_progress(f->tester);
 }
 
@@ -89,7 +88,7 @@ static inline int potzendai_take_lines(void *to, const char *text, size_t length
     uint32_t status = potzendai_follow_event(&f->follower, text, length);
     potzendai_keep_lines(f, text, length);
     potzendai_follow_progress(f);
-    return status == POTZENDAI_YES ? 0 : -1;
+    return status == POTZENDAI_IS_YES ? 0 : -1;
 }
 
 /* The verdict with all that is shown of it. */
@@ -108,17 +107,6 @@ static inline enum potzendai_status potzendai_stream_verdict(struct potzendai_fo
     return status;
 }
 
-/* Says why few of the calls left at a key are not shown, by what comes of asking for them. */
-static inline void potzendai_tell_unexplained(enum potzendai_status status, const char *report)
-{
-    if (status <= POTZENDAI_IS_UNDECIDED)
-        fprintf(stderr, "few calls are not shown: they are not found within a budget of %d\n", 10 * POTZENDAI_BUDGET);
-    else if (status == POTZENDAI_NO_MEMORY)
-        fputs("few calls are not shown: memory: they were not sought to the end\n", stderr);
-    else
-        fprintf(stderr, "few calls are not shown: %.*s\n", (int)strcspn(report, "\n"), report);
-}
-
 /* The history of the calls left at a key, and few of it that have no order. Where these are not found, the history alone is kept. */
 static inline void potzendai_tell_left(struct potzendai_following *f, const char *text)
 {
@@ -129,13 +117,13 @@ static inline void potzendai_tell_left(struct potzendai_following *f, const char
     left.text = (char *)calloc(1, left.length + 1);
     if (left.text)
         memcpy(left.text, text, left.length);
-    enum potzendai_status status = left.text ? potzendai_explained(&left) : POTZENDAI_NO_MEMORY;
+    enum potzendai_status status = left.text ? potzendai_explained(f->tester->options, &left) : POTZENDAI_NO_MEMORY;
     if (status <= POTZENDAI_IS_UNDECIDED && strstr(left.report, "\n{\"answer\":")) {
         fputs("events and processes are numbered anew here and in the files, for the calls \"invoked\" above that had not taken effect, "
               "in that order:\n", stderr);
-        potzendai_tell_no(f->tester, &left);
+        potzendai_tell_no(f->tester, &left, false);
     } else {
-        potzendai_tell_unexplained(status, left.report);
+        potzendai_tell_unexplained(f->tester->options, status, left.report);
         potzendai_keep(f->tester, ".json", text, strlen(text));
     }
     potzendai_forget(&left);
@@ -191,17 +179,14 @@ static inline void potzendai_close_follower(struct potzendai_following *f)
     potzendai_forget(&f->told);
 }
 
-#endif
-
 /* The thread that writes: to the follower, which opens and stays here, or to standard output. */
 static inline void *potzendai_write_stream(void *own)
 {
     struct potzendai_following *f = (struct potzendai_following *)own;
     int status = 0;
-#ifndef POTZENDAI_NO_LIBRARY
-    if (strcmp(f->tester->options->out, "-") != 0) {
+    if (!potzendai_is_unjudged(f->tester->options)) {
         streaming_hand(&f->stream, potzendai_take_lines, f);
-        if (potzendai_follow_open(&f->follower, POTZENDAI_BUDGET))
+        if (potzendai_follow_open(&f->follower, (uint32_t)f->tester->options->budget))
             potzendai_fail(f->tester->run, POTZENDAI_NO_MEMORY, "memory: no follower");
         f->written = streaming_write(&f->stream);
         status = potzendai_end_stream(f);
@@ -209,7 +194,6 @@ static inline void *potzendai_write_stream(void *own)
         atomic_store(&f->is_done, (uint64_t)1);
         return (void *)(intptr_t)status;
     }
-#endif
     f->written = streaming_write(&f->stream);
     if (f->written)
         status = potzendai_fail(f->tester->run, POTZENDAI_BAD_FILE, "the stream was cut off, as a write failed");
@@ -240,17 +224,6 @@ static inline int potzendai_open_unjudged(struct potzendai_following *f)
     f->stream.descriptor = fileno(f->file);
     fprintf(stderr, "  file: %s\n", path);
     return 0;
-}
-
-/* Whether histories or the stream are written for others to judge. A reader that has gone is then told by a write that fails. */
-static inline bool potzendai_is_unjudged(const struct potzendai_options *o)
-{
-#ifdef POTZENDAI_NO_LIBRARY
-    (void)o;
-    return true;
-#else
-    return strcmp(o->out, "-") == 0;
-#endif
 }
 
 static inline int potzendai_open_stream(struct potzendai_following *f)
@@ -306,9 +279,7 @@ static inline int potzendai_stream(struct potzendai_tester *tester)
     streaming_close(&f->stream);
     if (f->file && fclose(f->file) && status == 0)
         status = potzendai_fail(tester->run, POTZENDAI_BAD_FILE, "the stream was not written");
-#ifndef POTZENDAI_NO_LIBRARY
     free(f->kept);
-#endif
     free(f);
     return status;
 }

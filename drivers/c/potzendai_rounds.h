@@ -5,7 +5,9 @@
 #include "potzendai_break.h"
 #include "potzendai_tell.h"
 #include "potzendai_threads.h"
-#ifndef POTZENDAI_NO_LIBRARY
+#ifdef POTZENDAI_NO_LIBRARY
+#include "potzendai_program.h"
+#else
 #include "potzendai.h"
 #endif
 
@@ -24,7 +26,7 @@ struct potzendai_tester {
     bool has_terminal, has_overlap, is_quiet;
 };
 
-/* A recording as a text, and what the library says of it. */
+/* A recording as a text, and what the library, or the program, says of it. */
 struct potzendai_told { char *text, *report; size_t length, room; bool is_left; };
 
 static inline void potzendai_forget(struct potzendai_told *told)
@@ -268,30 +270,36 @@ static inline void potzendai_progress(struct potzendai_tester *tester)
         return;
     for (uint64_t key = 0; key < tester->options->keys; key++)
         met += atomic_load_explicit(&tester->run->keys[key].is_met, POTZENDAI_RELAXED);
-    fprintf(stderr, "%" PRIu64 " call%s, %.0f a second, overlap %.1f a call, %.1f%% refused, ", tester->calls,
-            potzendai_plural(tester->calls), (double)tester->calls / seconds, potzendai_overlap_a_call(tester),
-            100.0 * (double)tester->refused / (double)tester->calls);
-    fprintf(stderr, "two writers met on %" PRIu64 " of %" PRIu64 " key%s\n", met, tester->options->keys,
-            potzendai_plural(tester->options->keys));
+    fprintf(stderr, "%" PRIu64 " call%s, %.0f a second, ", tester->calls, potzendai_plural(tester->calls), (double)tester->calls / seconds);
+    if (!tester->options->is_stream || tester->has_overlap)
+        fprintf(stderr, "overlap %.1f a call, ", potzendai_overlap_a_call(tester));
+    fprintf(stderr, "%.1f%% refused, two writers met on %" PRIu64 " of %" PRIu64 " key%s\n",
+            100.0 * (double)tester->refused / (double)tester->calls, met, tester->options->keys, potzendai_plural(tester->options->keys));
     tester->told = now;
 }
 
-#ifdef POTZENDAI_NO_LIBRARY
-
-/* Nobody judges: histories are written. Of their files the last line but one tells. */
-static inline int potzendai_take_round(struct potzendai_tester *tester, struct potzendai_told *told)
+/* Whether histories or the stream are written for others to judge. A reader that has gone is then told by a write that fails. */
+static inline bool potzendai_is_unjudged(const struct potzendai_options *o)
 {
-    char path[POTZENDAI_PATH];
-    bool is_out = strcmp(tester->options->out, "-") == 0;
-    if (is_out ? fwrite(told->text, 1, told->length, stdout) == told->length && fflush(stdout) == 0
-               : potzendai_write_file(tester, ".json", told->text, told->length, path) == 0)
-        return POTZENDAI_IS_YES;
-    if (!is_out)
-        fprintf(stderr, "file: not written: %s\n", path);
-    return potzendai_fail(tester->run, POTZENDAI_BAD_FILE, "a history was not written");
+#ifdef POTZENDAI_NO_LIBRARY
+    if (!o->bench)
+        return true;
+#endif
+    return strcmp(o->out, "-") == 0;
 }
 
-#else
+/* Nobody judges: the history is written. Of files the last line but one tells. */
+static inline int potzendai_write_round(struct potzendai_tester *tester, const struct potzendai_told *told)
+{
+    char path[POTZENDAI_PATH];
+    if (strcmp(tester->options->out, "-") == 0)
+        return fwrite(told->text, 1, told->length, stdout) == told->length && fflush(stdout) == 0
+                   ? 0 : potzendai_fail(tester->run, POTZENDAI_BAD_FILE, "standard output: a history was not written");
+    if (potzendai_write_file(tester, ".json", told->text, told->length, path) == 0)
+        return 0;
+    fprintf(stderr, "file: not written: %s\n", path);
+    return potzendai_fail(tester->run, POTZENDAI_BAD_FILE, "a history was not written");
+}
 
 /* Keeps a text as a file of this run, and says its path. Where that fails it is told. */
 static inline int potzendai_keep(const struct potzendai_tester *tester, const char *ending, const char *text, size_t length)
@@ -304,9 +312,9 @@ static inline int potzendai_keep(const struct potzendai_tester *tester, const ch
 
 typedef uint32_t potzendai_question(const char *, size_t, uint32_t, char *, size_t, size_t *);
 
-/* Asks the library, in a room that grows as the answer needs. The status, and NO_MEMORY where the room cannot grow. */
-static inline enum potzendai_status potzendai_ask_library(potzendai_question *question, const char *text, size_t length, uint32_t budget,
-                                                          char **report, size_t *room)
+/* Asks the library, or the program, in a room that grows as the answer needs. The status, and NO_MEMORY where the room cannot grow. */
+static inline enum potzendai_status potzendai_ask_once(potzendai_question *question, const char *text, size_t length, uint32_t budget,
+                                                       char **report, size_t *room)
 {
     size_t written = 0;
     for (size_t wanted = POTZENDAI_REPORT;; wanted = written + 1) {
@@ -323,20 +331,35 @@ static inline enum potzendai_status potzendai_ask_library(potzendai_question *qu
     }
 }
 
-/* The same: once more at ten times the budget where it is undecided. */
-static inline enum potzendai_status potzendai_ask_twice(potzendai_question *question, const char *text, size_t length, char **report,
-                                                        size_t *room)
+/* The budget of what is asked again. */
+static inline uint32_t potzendai_more(const struct potzendai_options *o)
 {
-    enum potzendai_status status = POTZENDAI_IS_UNDECIDED;
-    for (uint32_t budget = POTZENDAI_BUDGET; status == POTZENDAI_IS_UNDECIDED && budget <= 10 * POTZENDAI_BUDGET; budget *= 10)
-        status = potzendai_ask_library(question, text, length, budget, report, room);
-    return status;
+    return (uint32_t)(o->budget > POTZENDAI_MOST / 10 ? (uint64_t)POTZENDAI_MOST : 10 * o->budget);
 }
 
-/* The verdict on a recording. */
-static inline enum potzendai_status potzendai_explained(struct potzendai_told *told)
+/* Asks, and once more at ten times the budget where it is undecided. */
+static inline enum potzendai_status potzendai_ask_twice(const struct potzendai_options *o, potzendai_question *question, const char *text,
+                                                        size_t length, char **report, size_t *room)
 {
-    return potzendai_ask_twice(potzendai_explain, told->text, told->length, &told->report, &told->room);
+    enum potzendai_status status = potzendai_ask_once(question, text, length, (uint32_t)o->budget, report, room);
+    return status == POTZENDAI_IS_UNDECIDED ? potzendai_ask_once(question, text, length, potzendai_more(o), report, room) : status;
+}
+
+/* The verdict on a recording, with few calls that show a no. */
+static inline enum potzendai_status potzendai_explained(const struct potzendai_options *o, struct potzendai_told *told)
+{
+    return potzendai_ask_twice(o, potzendai_explain, told->text, told->length, &told->report, &told->room);
+}
+
+/* The verdict, at the least cost: the program's part that judges alone is built first, and what it leaves undecided the other may decide. */
+static inline enum potzendai_status potzendai_judged(const struct potzendai_options *o, struct potzendai_told *told)
+{
+#ifdef POTZENDAI_NO_LIBRARY
+    enum potzendai_status status = potzendai_ask_twice(o, potzendai_judge, told->text, told->length, &told->report, &told->room);
+    if (status != POTZENDAI_IS_UNDECIDED)
+        return status;
+#endif
+    return potzendai_explained(o, told);
 }
 
 /* Records the round once more, as large as the run now says, and answers whether it has no order. What it says is in `told`. */
@@ -345,7 +368,7 @@ static inline bool potzendai_fails_again(struct potzendai_tester *tester, struct
     struct potzendai_tester before = *tester;
     memset(told, 0, sizeof *told);
     bool fails = potzendai_read_start(tester) == 0 && potzendai_record(tester, told) == 0
-        && potzendai_explained(told) == POTZENDAI_IS_NO;
+        && potzendai_judged(tester->options, told) == POTZENDAI_IS_NO;
     tester->calls = before.calls;
     tester->overlap = before.overlap;
     if (!fails)
@@ -405,18 +428,30 @@ static inline void potzendai_keep_picture(struct potzendai_tester *tester, const
 {
     char *picture = NULL;
     size_t room = 0;
-    if (potzendai_ask_twice(potzendai_draw_part, text, length, &picture, &room) > POTZENDAI_IS_UNDECIDED)
+    if (potzendai_ask_twice(tester->options, potzendai_draw_part, text, length, &picture, &room) > POTZENDAI_IS_UNDECIDED)
         fputs("picture: not drawn\n", stderr);
     else
         potzendai_keep(tester, ".svg", picture, strlen(picture));
     free(picture);
 }
 
-/* Tells a no: in words, and by files. The words and the picture have the processes and events of the first file. */
-static inline void potzendai_tell_no(struct potzendai_tester *tester, const struct potzendai_told *told)
+/* Says why few calls are not shown, by what comes of asking for them. */
+static inline void potzendai_tell_unexplained(const struct potzendai_options *o, enum potzendai_status status, const char *report)
+{
+    if (status <= POTZENDAI_IS_UNDECIDED)
+        fprintf(stderr, "few calls are not shown: they are not found within a budget of %" PRIu32 "\n", potzendai_more(o));
+    else if (status == POTZENDAI_NO_MEMORY && (!o->bench || !report))
+        fputs("few calls are not shown: memory: they were not sought to the end\n", stderr);
+    else
+        fprintf(stderr, "few calls are not shown: %.*s\n", (int)strcspn(report, "\n"), report);
+}
+
+/* Tells a no: in words, and by files. The words and the picture have the processes and events of the recording, which may be kept already. */
+static inline void potzendai_tell_no(struct potzendai_tester *tester, const struct potzendai_told *told, bool is_kept)
 {
     const char *few = potzendai_tell(stderr, told->text, told->report, told->is_left);
-    potzendai_keep(tester, ".json", told->text, told->length);
+    if (!is_kept)
+        potzendai_keep(tester, ".json", told->text, told->length);
     if (few)
         potzendai_keep(tester, "-few.json", few, strcspn(few, "\n"));
     potzendai_keep_picture(tester, told->text, told->length);
@@ -427,6 +462,21 @@ static inline void potzendai_tell_again(const struct potzendai_tester *tester, u
 {
     fputs("  again (draws the same calls; threads may interleave otherwise): ", stderr);
     potzendai_write_words(stderr, tester->options, tester->program, rounds);
+}
+
+/* Tells a no of a round. The program is asked for few calls now: as its part that has them may be built first, the recording is kept before. */
+static inline void potzendai_tell_round(struct potzendai_tester *tester, struct potzendai_told *told)
+{
+#ifdef POTZENDAI_NO_LIBRARY
+    potzendai_keep(tester, ".json", told->text, told->length);
+    enum potzendai_status status = potzendai_explained(tester->options, told);
+    if (status > POTZENDAI_IS_UNDECIDED)
+        potzendai_tell_unexplained(tester->options, status, told->report);
+    else
+        potzendai_tell_no(tester, told, true);
+#else
+    potzendai_tell_no(tester, told, false);
+#endif
 }
 
 /* A round that has no order: shows it, and how to draw its calls again. */
@@ -440,7 +490,7 @@ static inline int potzendai_refuted(struct potzendai_tester *tester, struct potz
     potzendai_smaller(tester, told);
     fprintf(stderr, "the smallest of some tries that failed: threads %" PRIu64 ", keys %" PRIu64 ", calls %" PRIu64 "\n",
             run->threads, run->keys_drawn, run->calls);
-    potzendai_tell_no(tester, told);
+    potzendai_tell_round(tester, told);
     memcpy(run->sayings, sayings, sizeof sayings);
     memcpy(run->functions_called, functions_called, sizeof functions_called);
     potzendai_tell_again(tester, run->round + 1);
@@ -450,21 +500,19 @@ static inline int potzendai_refuted(struct potzendai_tester *tester, struct potz
 /* The verdict on a round, and what follows of it. */
 static inline int potzendai_take_round(struct potzendai_tester *tester, struct potzendai_told *told)
 {
-    if (strcmp(tester->options->out, "-") == 0)
-        return fwrite(told->text, 1, told->length, stdout) == told->length && fflush(stdout) == 0
-                   ? 0 : potzendai_fail(tester->run, POTZENDAI_BAD_FILE, "standard output: a history was not written");
-    switch (potzendai_explained(told)) {
+    if (potzendai_is_unjudged(tester->options))
+        return potzendai_write_round(tester, told);
+    enum potzendai_status status = potzendai_judged(tester->options, told);
+    switch (status) {
     case POTZENDAI_IS_YES: return POTZENDAI_IS_YES;
     case POTZENDAI_IS_NO: return tester->is_quiet ? POTZENDAI_IS_NO : potzendai_refuted(tester, told);
     case POTZENDAI_IS_UNDECIDED: tester->undecided++; return POTZENDAI_IS_YES;
     case POTZENDAI_NO_MEMORY: return potzendai_fail(tester->run, POTZENDAI_NO_MEMORY, "memory: a round was not judged");
     default:
         potzendai_keep(tester, ".json", told->text, told->length);
-        return potzendai_fail(tester->run, POTZENDAI_IS_REFUSED, "%.150s", told->report);
+        return potzendai_fail(tester->run, status, "%.150s", told->report);
     }
 }
-
-#endif
 
 /* What the next round starts from is what this one has found last. */
 static inline void potzendai_go_on(struct potzendai_tester *tester)

@@ -12,9 +12,9 @@
  *         return potzendai_test_main(argc, argv, &map);
  *     }
  *
- * README.md says what the words and the statuses are. With the macro POTZENDAI_NO_LIBRARY the archive is not needed: histories are
- * written to files or to standard output, and so is a stream, for `bench`. What is proved is the verdict on a text; that these headers
- * record the map is tested. */
+ * README.md says what the words and the statuses are. With the macro POTZENDAI_NO_LIBRARY the archive is not needed: the word --bench names
+ * the program that judges, or histories are written to files or to standard output, and so is a stream. What is proved is the verdict on a
+ * text; that these headers record the map is tested. */
 #ifndef POTZENDAI_TEST_H
 #define POTZENDAI_TEST_H
 
@@ -226,11 +226,17 @@ static inline int potzendai_test_main(int argc, char **argv, const struct potzen
     int status = potzendai_read_words(&options, argc, argv, map);
     if (status)
         return status;
-    if (potzendai_is_unjudged(&options)) {
-        if (options.broken == POTZENDAI_EACH_BREAK)
-            return potzendai_complain("--break", "all: each is judged, and nobody judges here");
+    if (potzendai_is_unjudged(&options) && options.broken == POTZENDAI_EACH_BREAK)
+        return potzendai_complain("--break", "all: each is judged, and nobody judges here");
+    if (potzendai_is_unjudged(&options) || options.bench)
         signal(SIGPIPE, SIG_IGN);
-    }
+#ifdef POTZENDAI_NO_LIBRARY
+    potzendai_bench = options.bench;
+    if (!potzendai_is_unjudged(&options))
+        status = potzendai_try_bench(options.is_stream);
+    if (status)
+        return status;
+#endif
     if (options.broken == POTZENDAI_EACH_BREAK)
         return potzendai_test_each(&options, argv[0], map);
     return potzendai_test(&options, argv[0], map, false);

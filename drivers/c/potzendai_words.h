@@ -28,20 +28,20 @@ static const char *const potzendai_breaks[] = {"drop", "race", "replay", "stale"
 static const char *const potzendai_scans[] = {"snapshot", "steps", NULL};
 
 struct potzendai_options {
-    uint64_t seconds, threads, keys, hot, calls, seed, rounds, yields;
+    uint64_t seconds, threads, keys, hot, calls, seed, rounds, yields, budget;
     uint64_t shares[POTZENDAI_FUNCTIONS];
     enum potzendai_void void_puts;
     enum potzendai_break broken;
     bool is_steps, is_stream, has_mix, has_void;
-    const char *out;
+    const char *out, *bench;
 };
 
 /* Of a range of a scan, the most keys. Where no number is given: the calls of a thread in a round, and the keys. Of a stream they are
  * more, since its follower searches what is left of a key, and that is the less the fewer calls overlap there. */
 enum { POTZENDAI_SPAN = 16, POTZENDAI_CALLS = 200, POTZENDAI_KEYS = 16, POTZENDAI_STREAM_KEYS = 1000 };
 
-/* The most bytes of a path. */
-enum { POTZENDAI_PATH = 4096 };
+/* The most bytes of a path; the budget of a search where no number is given, and the greatest. */
+enum { POTZENDAI_PATH = 4096, POTZENDAI_USUAL = 100000, POTZENDAI_MOST = 1000000 };
 
 static const char potzendai_usage[] =
     "  --seconds N       how long (10, or as long as --rounds take)\n"
@@ -58,8 +58,11 @@ static const char potzendai_usage[] =
     "  --yield N         of a thousand points between and in calls, so many give way to other threads (0)\n"
     "  --break HOW       makes the map wrong now and then: drop, race, replay, stale, zombie, torn or cas; all: in each of these ways\n"
     "  --stream          one stream that is followed, in the place of rounds\n"
+    "  --budget N        the judge's (100000); what it leaves undecided is asked once more at ten times as much\n"
 #ifdef POTZENDAI_NO_LIBRARY
-    "  --out FOLDER      where each round, or the stream, is put as a file, or - for standard output; nobody judges them here\n";
+    "  --bench PATH      the program that judges; without it nobody does\n"
+    "  --out FOLDER      where files are put (.; without --bench it has to be said), or - for standard output: all histories or the stream,\n"
+    "                    which nobody judges then\n";
 #else
     "  --out FOLDER      where files are put (.), or - for standard output: all histories or the stream, which nobody judges then\n";
 #endif
@@ -129,7 +132,7 @@ static inline int potzendai_read_numbered(struct potzendai_options *o, const cha
     const struct potzendai_numbered all[] = {
         {"--seconds", 1, 1000000000, &o->seconds}, {"--rounds", 1, UINT64_MAX, &o->rounds}, {"--threads", 1, 1024, &o->threads},
         {"--keys", 1, 16384, &o->keys}, {"--hot", 1, 16384, &o->hot}, {"--calls", 1, UINT64_MAX, &o->calls},
-        {"--seed", 0, UINT64_MAX, &o->seed}, {"--yield", 0, 1000, &o->yields}
+        {"--seed", 0, UINT64_MAX, &o->seed}, {"--yield", 0, 1000, &o->yields}, {"--budget", 1, POTZENDAI_MOST, &o->budget}
     };
     for (size_t i = 0; i < sizeof all / sizeof *all; i++)
         if (strcmp(word, all[i].name) == 0) {
@@ -176,6 +179,12 @@ static inline int potzendai_read_word(struct potzendai_options *o, char **words,
         o->out = text;
         return text ? 0 : potzendai_complain(word, "a folder, or -");
     }
+#ifdef POTZENDAI_NO_LIBRARY
+    if (strcmp(word, "--bench") == 0) {
+        o->bench = text;
+        return text ? 0 : potzendai_complain(word, "the path of the program");
+    }
+#endif
     int status = potzendai_read_numbered(o, word, text);
     status = status < 0 ? potzendai_read_named(o, word, text) : status;
     return status < 0 ? potzendai_complain(word, "no such word; --help has them") : status;
@@ -278,7 +287,8 @@ static inline int potzendai_check_out(const struct potzendai_options *o)
 {
     char path[POTZENDAI_PATH];
     if (!o->out)
-        return potzendai_complain("--out", "a folder for files, of each round or of the stream, or - for standard output: nobody judges them here");
+        return potzendai_complain("--out", "a folder for files, of each round or of the stream, or - for standard output: nobody judges them "
+                                           "here; or --bench, the program that does");
     if (strcmp(o->out, "-") == 0)
         return 0;
     int length = snprintf(path, sizeof path, "%s/.potzendai-XXXXXX", o->out);
@@ -316,6 +326,7 @@ static inline int potzendai_read_words(struct potzendai_options *o, int argc, ch
     memset(o, 0, sizeof *o);
     clock_gettime(CLOCK_REALTIME, &now);
     o->threads = 4;
+    o->budget = POTZENDAI_USUAL;
     o->seed = ((uint64_t)now.tv_sec * 1000003u + (uint64_t)now.tv_nsec) % 1000000007u;
     o->broken = POTZENDAI_UNBROKEN;
 #ifndef POTZENDAI_NO_LIBRARY
@@ -326,6 +337,8 @@ static inline int potzendai_read_words(struct potzendai_options *o, int argc, ch
         if (status)
             return status;
     }
+    if (o->bench && !o->out)
+        o->out = ".";
     if (o->keys == 0)
         o->keys = o->is_stream ? POTZENDAI_STREAM_KEYS : POTZENDAI_KEYS;
     if (o->seconds == 0)
@@ -366,6 +379,10 @@ static inline void potzendai_write_words(FILE *out, const struct potzendai_optio
         fprintf(out, " --stream --seconds %" PRIu64, o->seconds);
     else if (rounds > 0)
         fprintf(out, " --rounds %" PRIu64, rounds);
+    if (o->budget != POTZENDAI_USUAL)
+        fprintf(out, " --budget %" PRIu64, o->budget);
+    if (o->bench)
+        fprintf(out, " --bench %s", o->bench);
     fputc('\n', out);
 }
 

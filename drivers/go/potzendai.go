@@ -799,7 +799,7 @@ func (s *stream) write() {
 // Starts the program. It writes once it has a verdict, and may do so while the stream goes on: then the run is over.
 func (s *stream) ask(ended chan bool) {
 	p := s.run.program
-	s.asked = exec.Command(p.path, "follow", "--budget", strconv.FormatUint(p.budget, 10))
+	s.asked = exec.Command(p.at("follow"), "follow", "--budget", strconv.FormatUint(p.budget, 10))
 	s.asked.Stderr = os.Stderr
 	to, err := s.asked.StdinPipe()
 	from, errFrom := s.asked.StdoutPipe()
@@ -1131,8 +1131,9 @@ func (r *round) text() string {
 
 // The program bench.
 type program struct {
-	path   string
-	budget uint64
+	path     string
+	budget   uint64
+	answered map[bool]bool // of judge, and of what else there is
 }
 
 func newProgram(o *options) *program {
@@ -1145,15 +1146,28 @@ func newProgram(o *options) *program {
 	} else if path == "" {
 		path = "bench"
 	}
-	p := &program{path, o.budget}
-	p.ask("explain", `{"events":[],"version":1}`+"\n", o.budget)
-	for _, name := range []string{"judge_bench", "bench"} { // by the repository's own bench
-		built := filepath.Join(filepath.Dir(path), "crates", name, "out", name)
-		if _, err := os.Stat(built); err == nil {
-			p.path, _ = filepath.Abs(built)
-		}
+	p := &program{path, o.budget, map[bool]bool{}}
+	if o.isStream {
+		p.ask("follow", "", o.budget)
+	} else {
+		p.ask("judge", `{"events":[],"version":1}`+"\n", o.budget)
 	}
 	return p
+}
+
+// What does it: once it has answered, behind the repository's own bench the last program that that has built, since it takes as long as ten
+// rounds to see that nothing has changed.
+func (p *program) at(command string) string {
+	path, newest := p.path, time.Time{}
+	for _, name := range []string{"history_bench", "judge_bench", "bench"} {
+		built, _ := filepath.Abs(filepath.Join(filepath.Dir(p.path), "crates", name, "out", name))
+		found, err := os.Stat(built)
+		does := command == "judge" || name != "history_bench"
+		if err == nil && does && p.answered[command == "judge"] && found.ModTime().After(newest) {
+			path, newest = built, found.ModTime()
+		}
+	}
+	return path
 }
 
 // The verdict: once more at ten times the budget where it is undecided.
@@ -1194,7 +1208,7 @@ func (p *program) more() uint64 {
 }
 
 func (p *program) ask(command, text string, budget uint64) (int, string) {
-	asked := exec.Command(p.path, command, "--budget", strconv.FormatUint(budget, 10))
+	asked := exec.Command(p.at(command), command, "--budget", strconv.FormatUint(budget, 10))
 	var out bytes.Buffer
 	asked.Stdin, asked.Stdout, asked.Stderr = strings.NewReader(text), &out, os.Stderr
 	return p.checked(command, asked.Run(), asked, out.String()), out.String()
@@ -1217,6 +1231,7 @@ func (p *program) checked(command string, err error, asked *exec.Cmd, answer str
 	if command != "draw" && !strings.HasSuffix(report, `"verdict":"`+verdicts[status]+`"}`) {
 		fail(badFile, "%s %s: status %d without its verdict", p.path, command, status)
 	}
+	p.answered[command == "judge"] = true
 	return status
 }
 

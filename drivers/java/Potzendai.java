@@ -1,4 +1,5 @@
 import java.io.ByteArrayOutputStream;
+import java.io.File;
 import java.io.IOException;
 import java.io.OutputStream;
 import java.io.UncheckedIOException;
@@ -22,6 +23,7 @@ import java.util.Set;
 import java.util.Timer;
 import java.util.TimerTask;
 import java.util.TreeMap;
+import java.util.concurrent.ConcurrentHashMap;
 import java.util.concurrent.ConcurrentMap;
 import java.util.concurrent.ConcurrentNavigableMap;
 import java.util.concurrent.ConcurrentSkipListMap;
@@ -694,7 +696,7 @@ public final class Potzendai {
                     handAll(System.out);
                     return;
                 }
-                process = new ProcessBuilder(run.program.path, "follow", "--budget", "" + run.program.budget)
+                process = new ProcessBuilder(run.program.at("follow"), "follow", "--budget", "" + run.program.budget)
                     .redirectError(ProcessBuilder.Redirect.INHERIT).start();
                 reader.start();
                 try (OutputStream out = process.getOutputStream()) {
@@ -969,16 +971,22 @@ public final class Potzendai {
     }
 
     /** The program {@code bench}. */
-    private record Program(String path, long budget) {
+    private record Program(String path, long budget, Set<Boolean> answered) {
         static Program of(Options options) {
             String path = options.bench != null ? options.bench : System.getenv("POTZENDAI_BENCH");
-            Program program = new Program(path != null ? path : Files.isExecutable(Path.of("bench")) ? "./bench" : "bench", options.budget);
-            program.ask("explain", "{\"events\":[],\"version\":1}\n", options.budget);
-            for (String name : List.of("bench", "judge_bench")) { // by the repository's own `bench`
-                Path built = Path.of(program.path).resolveSibling("crates/" + name + "/out/" + name);
-                if (Files.isExecutable(built)) return new Program(built.toString(), options.budget);
-            }
+            path = path != null ? path : Files.isExecutable(Path.of("bench")) ? "./bench" : "bench";
+            Program program = new Program(path, options.budget, ConcurrentHashMap.newKeySet());
+            program.ask(options.isStream ? "follow" : "judge", options.isStream ? "" : "{\"events\":[],\"version\":1}\n", options.budget);
             return program;
+        }
+
+        /** What does it: once it has answered, behind the repository's own `bench` the last program that that has built, since it takes as long
+         * as ten rounds to see that nothing has changed. */
+        String at(String command) {
+            if (!answered.contains(command.equals("judge"))) return path;
+            return List.of("history_bench", "judge_bench", "bench").stream().skip(command.equals("judge") ? 0 : 1)
+                .map(name -> Path.of(path).resolveSibling("crates/" + name + "/out/" + name).toFile()).filter(File::canExecute)
+                .max(Comparator.comparingLong(File::lastModified)).map(File::toString).orElse(path);
         }
 
         record Answer(int status, String text) { }
@@ -994,7 +1002,7 @@ public final class Potzendai {
 
         Answer ask(String command, String text, long budget) {
             try {
-                Process process = new ProcessBuilder(path, command, "--budget", "" + budget).redirectError(ProcessBuilder.Redirect.INHERIT).start();
+                Process process = new ProcessBuilder(at(command), command, "--budget", "" + budget).redirectError(ProcessBuilder.Redirect.INHERIT).start();
                 try (var in = process.getOutputStream()) {
                     in.write(text.getBytes(StandardCharsets.UTF_8));
                 } catch (IOException broken) {
@@ -1014,6 +1022,7 @@ public final class Potzendai {
             String report = answer.lines().findFirst().orElse("");
             if (!command.equals("draw") && !report.endsWith("\"verdict\":\"" + VERDICTS.get(status) + "\"}"))
                 throw new Stop(FILE, path + " " + command + ": status " + status + " without its verdict");
+            answered.add(command.equals("judge"));
             return new Answer(status, answer);
         }
     }

@@ -694,10 +694,17 @@ class Program(Judge):
 
     def __init__(self, options):
         self.path, self.budget = options.bench or os.environ.get("POTZENDAI_BENCH") or self.found(), options.budget
-        self.ask("explain", '{"events":[],"version":1}\n', self.budget)
-        crates = os.path.join(os.path.dirname(self.path), "crates")
-        built = [os.path.join(crates, name, "out", name) for name in ("bench", "judge_bench")]  # by the repository's own `bench`
-        self.path = next((path for path in built if os.access(path, os.X_OK)), self.path)
+        self.answered = set()
+        self.ask(*(("follow", "") if options.stream else ("judge", '{"events":[],"version":1}\n')), self.budget)
+
+    def program(self, command):
+        """What does it: once it has answered, behind the repository's own `bench` the last program that that has built, since it takes as long
+        as ten rounds to see that nothing has changed."""
+        if (command == "judge") not in self.answered:
+            return self.path
+        crates, names = os.path.join(os.path.dirname(self.path), "crates"), ("history_bench", "judge_bench", "bench")[command != "judge":]
+        built = [os.path.join(crates, name, "out", name) for name in names]
+        return max(filter(os.path.isfile, built), key=os.path.getmtime, default=self.path)
 
     @staticmethod
     def found():
@@ -709,7 +716,7 @@ class Program(Judge):
 
     def ask(self, command, text, budget):
         try:
-            done = subprocess.run([self.path, command, "--budget", str(budget)], input=text.encode(), stdout=subprocess.PIPE)
+            done = subprocess.run([self.program(command), command, "--budget", str(budget)], input=text.encode(), stdout=subprocess.PIPE)
         except OSError as error:
             raise Stop(FILE, "%s: %s" % (self.path, error.strerror))
         return self.checked(command, done.returncode, done.stdout)
@@ -721,6 +728,7 @@ class Program(Judge):
         answer = answer.decode("utf-8", "replace")
         if command != "draw" and not answer.partition("\n")[0].endswith('"verdict":"%s"}' % VERDICTS[status]):
             raise Stop(FILE, "%s %s: status %d without its verdict" % (self.path, command, status))
+        self.answered.add(command == "judge")
         return status, answer
 
     def follower(self):
@@ -734,7 +742,7 @@ class Pipe:
         self.program = program
 
     def open(self, stream):
-        self.process = subprocess.Popen([self.program.path, "follow", "--budget", str(self.program.budget)], stdin=subprocess.PIPE,
+        self.process = subprocess.Popen([self.program.program("follow"), "follow", "--budget", str(self.program.budget)], stdin=subprocess.PIPE,
                                         stdout=subprocess.PIPE)
         self.reader = threading.Thread(target=self.read, args=(stream,), daemon=True)
         self.reader.start()

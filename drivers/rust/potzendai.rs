@@ -1000,6 +1000,8 @@ impl Program {
 struct Program {
     path: String,
     budget: u64,
+    has_judged: AtomicBool,
+    has_told: AtomicBool,
 }
 
 #[cfg(not(potzendai_library))]
@@ -1008,23 +1010,37 @@ impl Program {
         let beside = std::path::Path::new("bench").is_file();
         let named = options.bench.clone().or_else(|| std::env::var("POTZENDAI_BENCH").ok());
         let path = named.unwrap_or_else(|| if beside { "./bench" } else { "bench" }.to_string());
-        let mut program = Program { path, budget: options.budget };
-        program.ask("explain", "{\"events\":[],\"version\":1}\n", options.budget)?;
-        let script = std::path::PathBuf::from(&program.path);
-        for name in ["judge_bench", "bench"] {
-            let built = script.with_file_name(format!("crates/{name}/out/{name}"));
-            if built.is_file() {
-                program.path = built.display().to_string(); // by the repository's own `bench`
-            }
+        let program = Program { path, budget: options.budget, has_judged: AtomicBool::new(false), has_told: AtomicBool::new(false) };
+        if options.is_stream {
+            program.ask("follow", "", options.budget)?;
+        } else {
+            program.ask("judge", "{\"events\":[],\"version\":1}\n", options.budget)?;
         }
         Ok(program)
+    }
+
+    /// Whether `judge`, or what else there is, was answered.
+    fn has_answered(&self, command: &str) -> &AtomicBool {
+        if command == "judge" { &self.has_judged } else { &self.has_told }
+    }
+
+    /// What does it: once it has answered, behind the repository's own `bench` the last program that that has built, since it takes as long as
+    /// ten rounds to see that nothing has changed.
+    fn at(&self, command: &str) -> std::path::PathBuf {
+        let script = std::path::PathBuf::from(&self.path);
+        if !self.has_answered(command).load(SeqCst) {
+            return script;
+        }
+        let names = ["history_bench", "judge_bench", "bench"].into_iter().skip(usize::from(command != "judge"));
+        let built = names.map(|name| script.with_file_name(format!("crates/{name}/out/{name}"))).filter(|built| built.is_file());
+        built.max_by_key(|built| built.metadata().and_then(|found| found.modified()).ok()).unwrap_or(script)
     }
 
     /// Has a stream followed that is handed over. The program writes once it has a verdict, and may do so while the stream goes on: then the
     /// run is over.
     fn follow(&self, stream: &Stream, hand: impl FnOnce(&mut dyn Write)) -> Result<(i32, String), Stop> {
         let told = |error: std::io::Error| self.told(&error);
-        let mut asked = Command::new(&self.path);
+        let mut asked = Command::new(self.at("follow"));
         asked.args(["follow", "--budget", &self.budget.to_string()]).stdin(Stdio::piped()).stdout(Stdio::piped());
         let mut child = asked.spawn().map_err(told)?;
         let (input, output) = (child.stdin.take(), child.stdout.take());
@@ -1050,7 +1066,7 @@ impl Program {
 
     fn ask(&self, command: &str, text: &str, budget: u64) -> Result<(i32, String), Stop> {
         let told = |error: std::io::Error| self.told(&error);
-        let mut asked = Command::new(&self.path);
+        let mut asked = Command::new(self.at(command));
         asked.args([command, "--budget", &budget.to_string()]).stdin(Stdio::piped()).stdout(Stdio::piped());
         let mut child = asked.spawn().map_err(told)?;
         if let Some(mut input) = child.stdin.take() {
@@ -1069,6 +1085,7 @@ impl Program {
             Some(status) if status <= UNDECIDED => {
                 let verdict = format!("\"verdict\":\"{}\"}}", VERDICTS[status as usize]);
                 if command == "draw" || answer.lines().next().unwrap_or("").ends_with(&verdict) {
+                    self.has_answered(command).store(true, SeqCst);
                     return Ok((status, answer));
                 }
                 fail(BAD_FILE, format!("{} {command}: status {status} without its verdict", self.path))
