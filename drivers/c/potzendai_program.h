@@ -4,8 +4,9 @@
 #define POTZENDAI_PROGRAM_H
 
 #include "potzendai_words.h"
-#include <fcntl.h>
+#include <signal.h>
 #include <spawn.h>
+#include <sys/ioctl.h>
 #include <sys/stat.h>
 #include <sys/wait.h>
 
@@ -22,8 +23,12 @@ extern char **environ;
 /* The path of the program, as --bench has it. */
 static const char *potzendai_bench;
 
-/* A stream that is followed: by a process, to which `to` leads until it has ended, with this status. `out` is what it writes. */
-struct potzendai_follower { pid_t process; int to, status; FILE *out; };
+/* A process of the program, what it writes, and its exit status, or 128 and the signal that has ended it; below 0 what was in its way. What it
+ * says on standard error stays there until the program is built, which takes minutes and tells how far it is; later only a fault is told. */
+struct potzendai_asked { const char *command; pid_t process; FILE *out, *said; int status; };
+
+/* A stream that is followed: where `to` leads until the program has ended, and how many calls were handed over. */
+struct potzendai_follower { struct potzendai_asked asked; int to; uint64_t calls; };
 
 /* Whether `judge`, and whether what else there is, was answered once: behind the script `bench` of the repository what does it is built then. */
 static bool potzendai_has_judged, potzendai_has_told;
@@ -39,13 +44,16 @@ static inline const char *potzendai_find_bench(const char *command, char path[PO
 {
     static const char *const names[] = {"history_bench", "judge_bench", "bench"};
     const char *slash = strrchr(potzendai_bench, '/');
-    char one[POTZENDAI_PATH];
+    bool is_script = slash && strcmp(slash, "/bench") == 0;
+    int folder = slash ? (int)(slash - potzendai_bench) : 0;
+    char one[POTZENDAI_PATH], built[POTZENDAI_PATH];
     struct stat found;
     time_t newest = 0;
     snprintf(path, POTZENDAI_PATH, "%s", potzendai_bench);
-    for (int i = strcmp(command, "judge") != 0; slash && *potzendai_has_done(command) && i < 3; i++) {
-        int length = snprintf(one, sizeof one, "%.*s/crates/%s/out/%s", (int)(slash - potzendai_bench), potzendai_bench, names[i], names[i]);
-        if (length < POTZENDAI_PATH && stat(one, &found) == 0 && found.st_mtime > newest) {
+    for (int i = strcmp(command, "judge") != 0; is_script && *potzendai_has_done(command) && i < 3; i++) {
+        int length = snprintf(one, sizeof one, "%.*s/crates/%s/out/%s", folder, potzendai_bench, names[i], names[i]);
+        snprintf(built, sizeof built, "%.*s/crates/%s/out/built", folder, potzendai_bench, names[i]);
+        if (length < POTZENDAI_PATH && access(one, X_OK) == 0 && stat(built, &found) == 0 && found.st_mtime > newest) {
             newest = found.st_mtime;
             memcpy(path, one, sizeof one);
         }
@@ -53,34 +61,58 @@ static inline const char *potzendai_find_bench(const char *command, char path[PO
     return path;
 }
 
-/* Starts the program with its standard input and output: its process, or what was in its way, as a number below 0. */
-static inline pid_t potzendai_start_bench(const char *command, uint32_t budget, int input, int output)
+/* Opens the files for what the program writes: 0, or what was in the way. */
+static inline int potzendai_open_asked(struct potzendai_asked *asked, const char *command)
+{
+    asked->command = command;
+    asked->process = -1;
+    errno = 0;
+    asked->out = tmpfile();
+    asked->said = asked->out && *potzendai_has_done(command) ? tmpfile() : NULL;
+    bool is_open = asked->out && (asked->said || !*potzendai_has_done(command));
+    asked->status = is_open ? 0 : errno ? -errno : -ENOMEM;
+    return asked->status;
+}
+
+/* Starts the program with this for its standard input. */
+static inline void potzendai_start_bench(struct potzendai_asked *asked, uint32_t budget, int input)
 {
     char number[16], path[POTZENDAI_PATH];
-    char *words[] = {path, (char *)command, (char *)"--budget", number, NULL};
-    pid_t process = -1;
+    char *words[] = {path, (char *)asked->command, (char *)"--budget", number, NULL};
     posix_spawn_file_actions_t ends;
     snprintf(number, sizeof number, "%" PRIu32, budget);
     int fault = posix_spawn_file_actions_init(&ends);
     if (!fault) {
         fault = posix_spawn_file_actions_adddup2(&ends, input, 0);
-        fault = fault ? fault : posix_spawn_file_actions_adddup2(&ends, output, 1);
-        fault = fault ? fault : posix_spawnp(&process, potzendai_find_bench(command, path), &ends, NULL, words, environ);
+        fault = fault ? fault : posix_spawn_file_actions_adddup2(&ends, fileno(asked->out), 1);
+        fault = fault || !asked->said ? fault : posix_spawn_file_actions_adddup2(&ends, fileno(asked->said), 2);
+        fault = fault ? fault : posix_spawnp(&asked->process, potzendai_find_bench(asked->command, path), &ends, NULL, words, environ);
         posix_spawn_file_actions_destroy(&ends);
     }
-    return fault ? -fault : process;
+    asked->process = fault ? -1 : asked->process;
+    asked->status = -fault;
 }
 
-/* Waits for a process of the program: its exit status, or 128 and the signal that has ended it; below 0 what was in its way. */
-static inline int potzendai_wait_for(pid_t process)
+/* Waits for it to end. */
+static inline void potzendai_wait_for(struct potzendai_asked *asked)
 {
     int ended = 0;
-    if (process < 0)
-        return (int)process;
-    while (waitpid(process, &ended, 0) < 0)
-        if (errno != EINTR)
-            return -errno;
-    return WIFEXITED(ended) ? WEXITSTATUS(ended) : 128 + WTERMSIG(ended);
+    if (asked->process < 0)
+        return;
+    while (waitpid(asked->process, &ended, 0) < 0)
+        if (errno != EINTR) {
+            asked->status = -errno;
+            return;
+        }
+    asked->status = WIFEXITED(ended) ? WEXITSTATUS(ended) : 128 + WTERMSIG(ended);
+}
+
+static inline void potzendai_close_asked(struct potzendai_asked *asked)
+{
+    if (asked->out)
+        fclose(asked->out);
+    if (asked->said)
+        fclose(asked->said);
 }
 
 /* Reads what was written to a file from its begin, as a call of the library leaves a text in a room: with its length. */
@@ -103,39 +135,52 @@ static inline bool potzendai_has_verdict(const char *report, int status)
     return length >= end && memcmp(report + length - end, ends[status], end) == 0;
 }
 
-/* What the program has answered where it ended with this status: a verdict with its report, or, also where it has none, what is in its way. */
-static inline uint32_t potzendai_take_answer(const char *command, int status, FILE *out, char *room, size_t room_length, size_t *length)
+/* Tells that the program gave no verdict, and why: its status with the first line that it said, or what was in its way. */
+static inline uint32_t potzendai_no_answer(struct potzendai_asked *asked, const char *why, char *room, size_t room_length, size_t *length)
 {
-    bool is_verdict = status >= POTZENDAI_IS_YES && status <= POTZENDAI_IS_UNDECIDED;
-    const char *why = status < 0 ? strerror(-status) : is_verdict ? " without its verdict" : "";
-    char number[32] = "";
-    if (is_verdict) {
-        potzendai_read_answer(out, room, room_length, length);
-        if (*length >= room_length || strcmp(command, "draw") == 0 || potzendai_has_verdict(room, status)) {
-            *potzendai_has_done(command) = true;
-            return (uint32_t)status;
-        }
-    }
-    if (status >= 0)
-        snprintf(number, sizeof number, "status %d", status);
-    int wanted = snprintf(room, room_length, "%s %s: %s%s", potzendai_bench, command, number, why);
-    *length = wanted > 0 && (size_t)wanted < room_length ? (size_t)wanted : strlen(room);
-    return status > POTZENDAI_IS_UNDECIDED && status < POTZENDAI_BAD_FILE ? (uint32_t)status : (uint32_t)POTZENDAI_BAD_FILE;
+    char said[160] = "", number[32] = "";
+    size_t some = 0;
+    if (asked->said)
+        potzendai_read_answer(asked->said, said, sizeof said, &some);
+    said[strcspn(said, "\n")] = 0;
+    if (asked->status >= 0)
+        snprintf(number, sizeof number, "status %d", asked->status);
+    snprintf(room, room_length, "%s %s: %s%s%s%s", potzendai_bench, asked->command, asked->status < 0 ? strerror(-asked->status) : number, why,
+             *said ? ": " : "", said);
+    *length = strlen(room);
+    return asked->status > POTZENDAI_IS_UNDECIDED && asked->status < POTZENDAI_BAD_FILE ? (uint32_t)asked->status : (uint32_t)POTZENDAI_BAD_FILE;
+}
+
+/* What the program has answered: the status of a verdict with its report, or, also where it has none, what is in its way. */
+static inline uint32_t potzendai_take_answer(struct potzendai_asked *asked, char *room, size_t room_length, size_t *length)
+{
+    if (asked->status < POTZENDAI_IS_YES || asked->status > POTZENDAI_IS_UNDECIDED)
+        return potzendai_no_answer(asked, "", room, room_length, length);
+    potzendai_read_answer(asked->out, room, room_length, length);
+    bool is_cut = *length >= room_length, has_none = strcmp(asked->command, "draw") == 0;
+    if (!is_cut && !has_none && !potzendai_has_verdict(room, asked->status))
+        return potzendai_no_answer(asked, " without its verdict", room, room_length, length);
+    *potzendai_has_done(asked->command) = true;
+    return (uint32_t)asked->status;
 }
 
 /* Asks the program of a history, as a call of the library does. */
 static inline uint32_t potzendai_ask_bench(const char *command, const char *text, size_t text_length, uint32_t budget, char *room,
                                            size_t room_length, size_t *length)
 {
-    FILE *in = tmpfile(), *out = in ? tmpfile() : NULL;
-    bool is_put = out && fwrite(text, 1, text_length, in) == text_length && fflush(in) == 0 && fseek(in, 0, SEEK_SET) == 0;
-    int fault = errno ? errno : EIO;
-    int status = is_put ? potzendai_wait_for(potzendai_start_bench(command, budget, fileno(in), fileno(out))) : -fault;
-    uint32_t answer = potzendai_take_answer(command, status, out, room, room_length, length);
-    if (out)
-        fclose(out);
+    struct potzendai_asked asked;
+    int fault = potzendai_open_asked(&asked, command);
+    errno = fault ? -fault : 0;
+    FILE *in = fault ? NULL : tmpfile();
+    if (in && fwrite(text, 1, text_length, in) == text_length && fflush(in) == 0 && fseek(in, 0, SEEK_SET) == 0) {
+        potzendai_start_bench(&asked, budget, fileno(in));
+        potzendai_wait_for(&asked);
+    } else
+        asked.status = errno ? -errno : -EIO;
+    uint32_t answer = potzendai_take_answer(&asked, room, room_length, length);
     if (in)
         fclose(in);
+    potzendai_close_asked(&asked);
     return answer;
 }
 
@@ -154,12 +199,28 @@ static inline uint32_t potzendai_draw_part(const char *text, size_t text_length,
     return potzendai_ask_bench("draw", text, text_length, budget, room, room_length, length);
 }
 
-/* Asks of no calls at all, so that the program is there, and has been built, before a run begins: 0, or the status of what is in its way. */
-static inline int potzendai_try_bench(bool is_stream)
+/* Has what is closed of standard input, output and error be nothing, so that no file of the program's is taken for it. */
+static inline void potzendai_hold_standard(void)
+{
+    FILE *nothing = fopen("/dev/null", "r");
+    while (nothing && fileno(nothing) <= 2)
+        nothing = fopen("/dev/null", "r");
+    if (nothing)
+        fclose(nothing);
+}
+
+/* Asks the program of no calls at all, so that it is there, and has been built, before a run begins: 0, or the status of what is in its way. It
+ * is waited for, which nobody can where SIGCHLD is ignored. */
+static inline int potzendai_open_bench(const char *path, bool is_stream)
 {
     char room[POTZENDAI_REPORT];
     size_t length;
     const char *command = is_stream ? "follow" : "judge", *text = is_stream ? "" : "{\"events\":[],\"version\":1}\n";
+    struct sigaction child;
+    potzendai_bench = path;
+    potzendai_hold_standard();
+    if (sigaction(SIGCHLD, NULL, &child) == 0 && (child.sa_handler == SIG_IGN || (child.sa_flags & SA_NOCLDWAIT)))
+        signal(SIGCHLD, SIG_DFL);
     uint32_t status = potzendai_ask_bench(command, text, strlen(text), POTZENDAI_USUAL, room, sizeof room, &length);
     if (status != POTZENDAI_IS_YES)
         fprintf(stderr, "--bench: %s\n", room);
@@ -173,7 +234,7 @@ static inline void potzendai_end_lines(struct potzendai_follower *follower)
         return;
     close(follower->to);
     follower->to = -1;
-    follower->status = potzendai_wait_for(follower->process);
+    potzendai_wait_for(&follower->asked);
 }
 
 /* Begins a stream. Whether the program was there, the verdict says. */
@@ -181,21 +242,34 @@ static inline uint32_t potzendai_follow_open(struct potzendai_follower *follower
 {
     int ends[2];
     follower->to = -1;
-    follower->status = -ENOMEM;
-    follower->out = tmpfile();
-    if (!follower->out || pipe(ends))
+    follower->calls = 0;
+    if (potzendai_open_asked(&follower->asked, "follow") || pipe(ends)) {
+        follower->asked.status = follower->asked.status ? follower->asked.status : -errno;
         return POTZENDAI_NO_MEMORY;
-    /* The program does not hold the end to which its own input leads. */
-    fcntl(ends[1], F_SETFD, FD_CLOEXEC);
-    follower->process = potzendai_start_bench("follow", budget, ends[0], fileno(follower->out));
+    }
+    ioctl(ends[1], FIOCLEX); /* the program does not hold the end to which its own input leads */
+    potzendai_start_bench(&follower->asked, budget, ends[0]);
     close(ends[0]);
     follower->to = ends[1];
     return POTZENDAI_IS_YES;
 }
 
+/* How many calls begin in these lines. */
+static inline uint64_t potzendai_count_invoked(const char *lines, size_t length)
+{
+    static const char begin[] = "{\"invoke\":";
+    uint64_t count = 0;
+    for (const char *at = lines, *end = lines + length; at && at < end; at = (const char *)memchr(at, '\n', (size_t)(end - at))) {
+        at += *at == '\n';
+        count += (size_t)(end - at) >= sizeof begin - 1 && memcmp(at, begin, sizeof begin - 1) == 0;
+    }
+    return count;
+}
+
 /* Hands lines over: other than 0 where the program takes no more. It has ended then. */
 static inline uint32_t potzendai_follow_event(struct potzendai_follower *follower, const char *lines, size_t length)
 {
+    follower->calls += potzendai_count_invoked(lines, length);
     while (length > 0 && follower->to >= 0) {
         ssize_t some = write(follower->to, lines, length);
         if (some < 0 && errno != EINTR)
@@ -208,18 +282,22 @@ static inline uint32_t potzendai_follow_event(struct potzendai_follower *followe
     return length > 0;
 }
 
-/* What the program says of the stream, which has ended with this. */
+/* What the program says of the stream, which has ended with this. A yes is one of all calls that were handed over. */
 static inline uint32_t potzendai_follow_verdict(struct potzendai_follower *follower, char *room, size_t room_length, size_t *length)
 {
+    char calls[32];
     potzendai_end_lines(follower);
-    return potzendai_take_answer("follow", follower->status, follower->out, room, room_length, length);
+    uint32_t status = potzendai_take_answer(&follower->asked, room, room_length, length);
+    snprintf(calls, sizeof calls, "{\"calls\":%" PRIu64 ",", follower->calls);
+    if (status != POTZENDAI_IS_YES || strncmp(room, calls, strlen(calls)) == 0)
+        return status;
+    return potzendai_no_answer(&follower->asked, ", and the stream was cut off", room, room_length, length);
 }
 
 static inline void potzendai_follow_close(struct potzendai_follower *follower)
 {
     potzendai_end_lines(follower);
-    if (follower->out)
-        fclose(follower->out);
+    potzendai_close_asked(&follower->asked);
 }
 
 #endif

@@ -358,8 +358,11 @@ static inline enum potzendai_status potzendai_judged(const struct potzendai_opti
     enum potzendai_status status = potzendai_ask_twice(o, potzendai_judge, told->text, told->length, &told->report, &told->room);
     if (status != POTZENDAI_IS_UNDECIDED)
         return status;
-#endif
+    status = potzendai_explained(o, told);
+    return status <= POTZENDAI_IS_UNDECIDED ? status : POTZENDAI_IS_UNDECIDED;
+#else
     return potzendai_explained(o, told);
+#endif
 }
 
 /* Records the round once more, as large as the run now says, and answers whether it has no order. What it says is in `told`. */

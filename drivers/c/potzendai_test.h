@@ -231,9 +231,8 @@ static inline int potzendai_test_main(int argc, char **argv, const struct potzen
     if (potzendai_is_unjudged(&options) || options.bench)
         signal(SIGPIPE, SIG_IGN);
 #ifdef POTZENDAI_NO_LIBRARY
-    potzendai_bench = options.bench;
     if (!potzendai_is_unjudged(&options))
-        status = potzendai_try_bench(options.is_stream);
+        status = potzendai_open_bench(options.bench, options.is_stream);
     if (status)
         return status;
 #endif

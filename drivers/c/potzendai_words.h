@@ -58,9 +58,9 @@ static const char potzendai_usage[] =
     "  --yield N         of a thousand points between and in calls, so many give way to other threads (0)\n"
     "  --break HOW       makes the map wrong now and then: drop, race, replay, stale, zombie, torn or cas; all: in each of these ways\n"
     "  --stream          one stream that is followed, in the place of rounds\n"
-    "  --budget N        the judge's (100000); what it leaves undecided is asked once more at ten times as much\n"
+    "  --budget N        the judge's (100000); a round that it leaves undecided is asked once more at ten times as much\n"
 #ifdef POTZENDAI_NO_LIBRARY
-    "  --bench PATH      the program that judges; without it nobody does\n"
+    "  --bench PATH      the program that judges, by a path with a slash or its name on the PATH; without it nobody judges\n"
     "  --out FOLDER      where files are put (.; without --bench it has to be said), or - for standard output: all histories or the stream,\n"
     "                    which nobody judges then\n";
 #else

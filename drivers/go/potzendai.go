@@ -1159,11 +1159,15 @@ func newProgram(o *options) *program {
 // rounds to see that nothing has changed.
 func (p *program) at(command string) string {
 	path, newest := p.path, time.Time{}
+	if filepath.Base(path) != "bench" || !strings.Contains(path, "/") {
+		return path
+	}
 	for _, name := range []string{"history_bench", "judge_bench", "bench"} {
 		built, _ := filepath.Abs(filepath.Join(filepath.Dir(p.path), "crates", name, "out", name))
-		found, err := os.Stat(built)
+		_, wanting := os.Stat(built)
+		found, err := os.Stat(filepath.Join(filepath.Dir(built), "built"))
 		does := command == "judge" || name != "history_bench"
-		if err == nil && does && p.answered[command == "judge"] && found.ModTime().After(newest) {
+		if err == nil && wanting == nil && does && p.answered[command == "judge"] && found.ModTime().After(newest) {
 			path, newest = built, found.ModTime()
 		}
 	}
@@ -1722,7 +1726,11 @@ func (r *run) refuted() []string {
 			least.options.calls),
 	}
 	text := least.failed.text()
-	_, report := r.program.askTwice("explain", text)
+	kept := r.keep(".json", text) // before: the part that explains may be built first
+	report, wrong := r.program.explained(text)
+	if wrong != nil {
+		return append(said, kept, "few calls are not shown: "+wrong.line, saidAgain+r.options.again(r.rounds))
+	}
 	return append(append(said, r.shown(text, report, least.failed)...), saidAgain+r.options.again(r.rounds))
 }
 

@@ -983,10 +983,11 @@ public final class Potzendai {
         /** What does it: once it has answered, behind the repository's own `bench` the last program that that has built, since it takes as long
          * as ten rounds to see that nothing has changed. */
         String at(String command) {
-            if (!answered.contains(command.equals("judge"))) return path;
+            if (!answered.contains(command.equals("judge")) || !path.endsWith("/bench")) return path;
             return List.of("history_bench", "judge_bench", "bench").stream().skip(command.equals("judge") ? 0 : 1)
-                .map(name -> Path.of(path).resolveSibling("crates/" + name + "/out/" + name).toFile()).filter(File::canExecute)
-                .max(Comparator.comparingLong(File::lastModified)).map(File::toString).orElse(path);
+                .map(name -> Path.of(path).resolveSibling("crates/" + name + "/out/" + name).toFile())
+                .filter(file -> file.canExecute() && new File(file.getParent(), "built").isFile())
+                .max(Comparator.comparingLong(file -> new File(file.getParent(), "built").lastModified())).map(File::toString).orElse(path);
         }
 
         record Answer(int status, String text) { }
@@ -1464,7 +1465,12 @@ public final class Potzendai {
         said.add("the smallest of some tries that failed: threads " + least.options.threads + ", keys " + least.options.keys + ", calls "
             + least.options.calls);
         String text = least.failed.text();
-        said.addAll(shown(run, text, run.program.askTwice("explain", text).text, least.failed));
+        String kept = keep(run, ".json", text); // before: the part that explains may be built first
+        try {
+            said.addAll(shown(run, text, run.program.askTwice("explain", text).text, least.failed));
+        } catch (Stop stop) {
+            said.addAll(List.of(kept, "few calls are not shown: " + stop.getMessage()));
+        }
         said.add(AGAIN + run.options.again(run.rounds));
         return said;
     }

@@ -700,11 +700,14 @@ class Program(Judge):
     def program(self, command):
         """What does it: once it has answered, behind the repository's own `bench` the last program that that has built, since it takes as long
         as ten rounds to see that nothing has changed."""
-        if (command == "judge") not in self.answered:
+        folder, script = os.path.split(self.path)
+        if (command == "judge") not in self.answered or not folder or script != "bench":
             return self.path
-        crates, names = os.path.join(os.path.dirname(self.path), "crates"), ("history_bench", "judge_bench", "bench")[command != "judge":]
-        built = [os.path.join(crates, name, "out", name) for name in names]
-        return max(filter(os.path.isfile, built), key=os.path.getmtime, default=self.path)
+        names = ("history_bench", "judge_bench", "bench")[command != "judge":]
+        outs = [os.path.join(folder, "crates", name, "out", "") for name in names]
+        built = [(os.path.getmtime(out + "built"), out + name) for name, out in zip(names, outs)
+                 if os.access(out + name, os.X_OK) and os.path.isfile(out + "built")]
+        return max(built, default=(0, self.path))[1]
 
     @staticmethod
     def found():
@@ -1329,7 +1332,11 @@ def refuted(run):
     said = ["round %d has no order" % options.round, "the smallest of some tries that failed: threads %d, keys %d, calls %d" % (
         least.options.threads, least.options.keys, least.options.calls)]
     text = least.failed.text()
-    said += shown(run, text, run.program.asked("explain", text)[1], least.failed)
+    kept = keep(options, ".json", text)  # before: the part that explains may be built first
+    try:
+        said += shown(run, text, run.program.asked("explain", text)[1], least.failed)
+    except Stop as stop:
+        said += [kept, "few calls are not shown: " + stop.line]
     return said + [AGAIN + words_again(options, run.rounds)]
 
 

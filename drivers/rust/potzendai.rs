@@ -1028,12 +1028,14 @@ impl Program {
     /// ten rounds to see that nothing has changed.
     fn at(&self, command: &str) -> std::path::PathBuf {
         let script = std::path::PathBuf::from(&self.path);
-        if !self.has_answered(command).load(SeqCst) {
+        let is_script = script.file_name() == Some("bench".as_ref()) && self.path.contains('/');
+        if !is_script || !self.has_answered(command).load(SeqCst) {
             return script;
         }
         let names = ["history_bench", "judge_bench", "bench"].into_iter().skip(usize::from(command != "judge"));
         let built = names.map(|name| script.with_file_name(format!("crates/{name}/out/{name}"))).filter(|built| built.is_file());
-        built.max_by_key(|built| built.metadata().and_then(|found| found.modified()).ok()).unwrap_or(script)
+        let built = built.filter(|built| built.with_file_name("built").is_file());
+        built.max_by_key(|built| built.with_file_name("built").metadata().and_then(|found| found.modified()).ok()).unwrap_or(script)
     }
 
     /// Has a stream followed that is handed over. The program writes once it has a verdict, and may do so while the stream goes on: then the
@@ -1832,7 +1834,11 @@ fn refuted<M: Map>(run: &Run, make: &dyn Fn() -> M, program: &Program) -> Result
     let mut said = vec![format!("round {} has no order", run.rounds - 1)];
     said.push(format!("the smallest of some tries that failed: threads {threads}, keys {keys}, calls {calls}"));
     let text = round.text();
-    said.extend(shown(run, &text, &program.ask_twice("explain", &text)?.1, round, program)?);
+    let kept = keep(run, ".json", &text); // before: the part that explains may be built first
+    match program.ask_twice("explain", &text) {
+        Ok((_, explained)) => said.extend(shown(run, &text, &explained, round, program)?),
+        Err(Stop(_, line)) => said.extend([kept, format!("few calls are not shown: {line}")]),
+    }
     said.push(format!("{AGAIN}{}", run.options.again(run.rounds)));
     Ok(said)
 }
