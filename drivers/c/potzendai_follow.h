@@ -17,7 +17,6 @@ struct potzendai_following {
     int written;
     FILE *file;
     struct potzendai_follower follower;
-    char report[POTZENDAI_REPORT];
     struct potzendai_told told;
     char *kept; /* the stream so far, while it is kept */
     size_t kept_length, kept_room;
@@ -40,10 +39,11 @@ static inline void potzendai_follow_progress(struct potzendai_following *f)
     if (!f->tester->has_terminal || potzendai_now() - f->tester->told < 1)
         return;
 #ifndef POTZENDAI_NO_LIBRARY
+    char report[POTZENDAI_REPORT];
     size_t length;
-    potzendai_follow_verdict(&f->follower, f->report, sizeof f->report, &length);
+    potzendai_follow_verdict(&f->follower, report, sizeof report, &length);
     f->tester->has_overlap = true;
-    f->tester->overlap_a_call = potzendai_decimal(f->report, "\"overlap\":");
+    f->tester->overlap_a_call = potzendai_decimal(report, "\"overlap\":");
 #endif
     potzendai_count_calls(f);
     potzendai_progress(f->tester);

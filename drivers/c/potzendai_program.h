@@ -157,8 +157,8 @@ static inline uint32_t potzendai_take_answer(struct potzendai_asked *asked, char
     if (asked->status < POTZENDAI_IS_YES || asked->status > POTZENDAI_IS_UNDECIDED)
         return potzendai_no_answer(asked, "", room, room_length, length);
     potzendai_read_answer(asked->out, room, room_length, length);
-    bool is_cut = *length >= room_length, has_none = strcmp(asked->command, "draw") == 0;
-    if (!is_cut && !has_none && !potzendai_has_verdict(room, asked->status))
+    bool is_cut = *length >= room_length, is_picture = strcmp(asked->command, "draw") == 0;
+    if (!is_cut && !is_picture && !potzendai_has_verdict(room, asked->status))
         return potzendai_no_answer(asked, " without its verdict", room, room_length, length);
     *potzendai_has_done(asked->command) = true;
     return (uint32_t)asked->status;
