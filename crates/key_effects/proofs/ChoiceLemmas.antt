@@ -1,0 +1,22 @@
+-- Choices that stand above the calls, or below.
+use Rattle.std.proofs.Common.{◌≡◌, ℕ, ◌<◌, ◌≤◌, zero, true, false, List, [], ◌∷◌, map, Option, Some, inl, inr, refl, sym, ap, ◌∙◌, subst, ⊎_elim, arith}
+use Rattle.std.specs.Prelude.{All, Contains}
+use Rattle.key_effects.specs.KeyedCalls.{KeyedCall, Effect, is_completed}
+use Rattle.key_effects.specs.KeyedOrders.{HasKeyedOrder}
+use Rattle.key_effects.specs.Growth.{HaveGrown}
+use Rattle.key_effects.specs.Choices.{Choice, Choices, at_first, among, rest_of, Agrees, GoesOn, SomeGoesOn, StandAbove, StandBelow}
+use Rattle.key_effects.specs.Laws.{ChoicesStay, ChoicesJudge, DeadChoicesGo, DeadChoicesStayDead}
+use Rattle.key_effects.proofs.GrowthLemmas.{growth_on}
+
+pub choices_on : ChoicesStay
+choices_on held place next calls more choices less grown =
+    (λ above most grows order. above most (growth_on place next calls more most less grown grows) order,
+    λ below most grows some. below most (growth_on place next calls more most less grown grows) some)
+
+pub judge_now : ChoicesJudge
+judge_now held place calls choices now =
+    (λ above none order. none (above calls now order), λ below some. below calls now some)
+
+map_same : (xs : List KeyedCall) (held : ℕ → Option ℕ) → map (rest_of (at_first held)) xs ≡ xs
+map_same [] held = refl
+map_same (x ∷ xs) held = ap (λ (ys : List KeyedCall). x ∷ ys) (map_same xs held)

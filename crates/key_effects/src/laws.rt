@@ -1,0 +1,32 @@
+// Laws of calls as the keys see them, each the contract of a function that does nothing.
+ghost use Rattle.key_effects.specs.Laws.{ChoicesBegin, ChoicesJudge, ChoicesStay, DeadChoicesGo, DeadChoicesStayDead, GrowthGoesOn};
+
+/// Calls that have grown grow on.
+pub fn growth_goes_on()
+    ensures { GrowthGoesOn }
+{}
+
+/// Before any event one choice stands above and below whatever comes: no call is taken, and the keys hold what they hold at the start.
+pub fn choices_begin()
+    ensures { ChoicesBegin }
+{}
+
+/// Choices that stand above or below the calls do so with further events.
+pub fn choices_stay()
+    ensures { ChoicesStay }
+{}
+
+/// Where none of the choices above goes on to an order now, there is none; where one of those below does, there is one.
+pub fn choices_judge()
+    ensures { ChoicesJudge }
+{}
+
+/// What goes on to an order with further events goes on to one now.
+pub fn dead_choices_stay_dead()
+    ensures { DeadChoicesStayDead }
+{}
+
+/// So a choice that goes on to no order now may go.
+pub fn dead_choices_go()
+    ensures { DeadChoicesGo }
+{}
