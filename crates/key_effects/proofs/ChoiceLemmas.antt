@@ -5,7 +5,7 @@ use Rattle.key_effects.specs.KeyedCalls.{KeyedCall, Effect, is_completed}
 use Rattle.key_effects.specs.KeyedOrders.{HasKeyedOrder}
 use Rattle.key_effects.specs.Growth.{HaveGrown}
 use Rattle.key_effects.specs.Choices.{Choice, Choices, at_first, among, rest_of, Agrees, GoesOn, SomeGoesOn, StandAbove, StandBelow}
-use Rattle.key_effects.specs.Laws.{ChoicesStay, ChoicesJudge, DeadChoicesGo, DeadChoicesStayDead}
+use Rattle.key_effects.specs.Laws.{ChoicesBegin, ChoicesStay, ChoicesJudge}
 use Rattle.key_effects.proofs.GrowthLemmas.{growth_on}
 
 pub choices_on : ChoicesStay
@@ -20,3 +20,12 @@ judge_now held place calls choices now =
 map_same : (xs : List KeyedCall) (held : ℕ → Option ℕ) → map (rest_of (at_first held)) xs ≡ xs
 map_same [] held = refl
 map_same (x ∷ xs) held = ap (λ (ys : List KeyedCall). x ∷ ys) (map_same xs held)
+
+pub begin : ChoicesBegin
+begin held =
+    (λ more grown order. (at_first held, refl, (λ k d within. record { accepted = λ key taken. cc; fits = λ key taken. cc },
+    subst (λ (calls : List KeyedCall). HasKeyedOrder held calls) (sym (map_same more held)) order)),
+    λ more grown some.
+    let (w, is, goes_on) = some in
+    let first : GoesOn (at_first held) more = subst (λ (v : Choice). GoesOn v more) is goes_on in
+    subst (λ (calls : List KeyedCall). HasKeyedOrder held calls) (map_same more held) first.1)

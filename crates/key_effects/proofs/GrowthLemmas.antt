@@ -53,6 +53,7 @@ growth_on place next calls more most less g h = record {
       (g.come old.0 old.1))
       (λ new. inr (omega arith))
       (h.come c is);
+  alone = g.alone;
   formed = h.formed;
   apart = h.apart;
 }

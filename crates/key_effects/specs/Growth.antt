@@ -1,7 +1,7 @@
 -- What becomes of calls with further events: pending ones may be answered, and others begin.
 use Rattle.std.specs.Prelude.{◌≡◌, ◌⊎◌, ℕ, ◌<◌, ◌≤◌, true, false, List, Option, Some, All, Contains}
 use Rattle.key_effects.specs.KeyedCalls.{KeyedCall, Effect, IsFormed, is_completed}
-use Rattle.key_effects.specs.KeyedOrders.{AreKeyedCalls}
+use Rattle.key_effects.specs.KeyedOrders.{AreDistinct, AreKeyedCalls}
 
 -- an answer tells at which values a call was made, and not what it leaves
 abbrev pub LeaveTheSame : Effect → Effect → Type 0
@@ -27,5 +27,6 @@ pub record HaveGrown (place : ℕ) (calls more : List KeyedCall) : Type 0 where
   pub ended : (a : KeyedCall) (res : ℕ) → Contains calls a → a.res ≡ Some res → res < place
   pub stay : (a : KeyedCall) → Contains calls a → (b : KeyedCall) × Contains more b × IsLater place a b
   pub come : (b : KeyedCall) → Contains more b → ((a : KeyedCall) × Contains calls a × IsLater place a b) ⊎ (place ≤ b.inv)
+  pub alone : AreDistinct calls
   pub formed : All IsFormed more
   pub apart : AreKeyedCalls more
