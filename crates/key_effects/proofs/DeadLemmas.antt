@@ -31,7 +31,7 @@ IsNow place w calls x y = (a : KeyedCall) × Contains calls a × (y ≡ rest_of 
 abbrev IsDropped : List KeyedCall → KeyedCall → Type 0
 IsDropped calls x = (a : KeyedCall) × Contains calls a × (is_completed a ≡ false) × (a.inv ≡ x.inv)
 
-bool_cases : (b : Bool) → (b ≡ true) ⊎ (b ≡ false)
+pub bool_cases : (b : Bool) → (b ≡ true) ⊎ (b ≡ false)
 bool_cases true = inl refl
 bool_cases false = inr refl
 
@@ -62,7 +62,7 @@ old_goes_over place w calls more grown x x_in early =
         (a, a_in, answered.pending, sym later.inv ∙ same_inv)))
         later.response
 
-response_of : (a : KeyedCall) → is_completed a ≡ true → (at : ℕ) × (a.res ≡ Some at)
+pub response_of : (a : KeyedCall) → is_completed a ≡ true → (at : ℕ) × (a.res ≡ Some at)
 response_of a completed = by_res a.res completed
   where
     by_res : (res : Option ℕ) → is_some res ≡ true → (at : ℕ) × (res ≡ Some at)

@@ -4,3 +4,7 @@ pub mod TurnLemmas
 pub mod OrderLemmas
 pub mod RestLemmas
 pub mod DeadLemmas
+pub mod CutLemmas
+pub mod WalkLemmas
+pub mod AfterLemmas
+pub mod AboveLemmas

@@ -11,7 +11,7 @@ use Rattle.key_effects.proofs.TurnLemmas.{StandsFor, HasNone}
 pub none_none : IsNoEffect no_effect
 none_none = record { fits = λ value. refl; leaves = λ value. refl }
 
-none_or : (t : Bool) (e : Effect) → IsNoEffect e → IsNoEffect (cond t no_effect e)
+pub none_or : (t : Bool) (e : Effect) → IsNoEffect e → IsNoEffect (cond t no_effect e)
 none_or true e none = none_none
 none_or false e none = none
 

@@ -43,6 +43,13 @@ HasNone a = (key : ℕ) → IsNoEffect (a.effect key)
 abbrev pub GoesOver : (KeyedCall → KeyedCall → Type 0) → (KeyedCall → Type 0) → KeyedCall → Type 0
 GoesOver Q D a = ((b : KeyedCall) × StandsFor a b × Q a b) ⊎ (HasNone a × D a)
 
+-- one after another, each has one in its place or is left out
+abbrev pub AreAligned : (KeyedCall → KeyedCall → Type 0) → (KeyedCall → Type 0) → List KeyedCall → List KeyedCall → Type 0
+AreAligned Q D [] new = new ≡ []
+AreAligned Q D (a ∷ old) new =
+    ((b : KeyedCall) × (rest : List KeyedCall) × (new ≡ b ∷ rest) × StandsFor a b × Q a b × AreAligned Q D old rest)
+    ⊎ (HasNone a × D a × AreAligned Q D old new)
+
 -- calls in turn in the places of others, of which some without effect are left out
 pub record AreOver (Q : KeyedCall → KeyedCall → Type 0) (D : KeyedCall → Type 0) (held : ℕ → Option ℕ) (old new : List KeyedCall)
     : Type 0 where
@@ -52,6 +59,7 @@ pub record AreOver (Q : KeyedCall → KeyedCall → Type 0) (D : KeyedCall → T
   pub precedence : KeepPrecedence new
   pub fit : (key : ℕ) → FitInTurn key (held key) new
   pub left : (key : ℕ) → left_by key (held key) new ≡ left_by key (held key) old
+  pub aligned : AreAligned Q D old new
 
 not_true : (b : Bool) → (b ≡ true → ⊥) → b ≡ false
 not_true true h = absurd (h refl)
@@ -90,6 +98,7 @@ over_cons Q D held a b old new stands q apart early fits over = record {
   fit = λ key. (stands.fits key (held key) (fits key),
       subst (λ (value : Option ℕ). FitInTurn key value new) (sym (stands.leaves key (held key) (fits key))) (over.fit key));
   left = λ key. ap (λ (value : Option ℕ). left_by key value new) (stands.leaves key (held key) (fits key)) ∙ over.left key;
+  aligned = inl (b, new, refl, stands, q, over.aligned);
 }
 
 over_out : (Q : KeyedCall → KeyedCall → Type 0) (D : KeyedCall → Type 0) (held : ℕ → Option ℕ) (a : KeyedCall) (old new : List KeyedCall)
@@ -102,6 +111,7 @@ over_out Q D held a old new none out over = record {
   fit = λ key. subst (λ (value : Option ℕ). FitInTurn key value new) ((none key).leaves (held key)) (over.fit key);
   left = λ key. subst (λ (value : Option ℕ). left_by key value new ≡ left_by key ((a.effect key).leaves (held key)) old)
       ((none key).leaves (held key)) (over.left key);
+  aligned = inr (none, out, over.aligned);
 }
 
 -- so calls in turn go over to others
@@ -115,6 +125,7 @@ go_over Q D [] held each distinct precedence fit = ([], record {
   precedence = AllPairs-nil (λ a b. precedes b a ≡ false);
   fit = λ key. tt;
   left = λ key. refl;
+  aligned = refl;
 })
 go_over Q D (a ∷ old) held each distinct precedence fit =
     let (new, over) = go_over Q D old (λ key. (a.effect key).leaves (held key)) (λ x is. each x (Contains-later a old x is))

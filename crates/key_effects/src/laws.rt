@@ -1,5 +1,5 @@
 // Laws of calls as the keys see them, each the contract of a function that does nothing.
-ghost use Rattle.key_effects.specs.Laws.{ChoicesBegin, ChoicesJudge, ChoicesStay, DeadChoicesGo, DeadChoicesStayDead, GrowthGoesOn};
+ghost use Rattle.key_effects.specs.Laws.{ChoicesBegin, ChoicesJudge, ChoicesStay, CutsStandAbove, CutsStandBelow, DeadChoicesGo, DeadChoicesStayDead, GrowthGoesOn};
 
 /// Calls that have grown grow on.
 pub fn growth_goes_on()
@@ -29,4 +29,14 @@ pub fn dead_choices_stay_dead()
 /// So a choice that goes on to no order now may go.
 pub fn dead_choices_go()
     ensures { DeadChoicesGo }
+{}
+
+/// At a past moment the choices above become such as cover the cut.
+pub fn cuts_stand_above()
+    ensures { CutsStandAbove }
+{}
+
+/// And the choices below become such as are reached.
+pub fn cuts_stand_below()
+    ensures { CutsStandBelow }
 {}
