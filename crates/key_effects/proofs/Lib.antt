@@ -8,3 +8,5 @@ pub mod CutLemmas
 pub mod WalkLemmas
 pub mod AfterLemmas
 pub mod AboveLemmas
+pub mod MergeLemmas
+pub mod BelowLemmas
