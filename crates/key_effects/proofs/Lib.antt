@@ -10,3 +10,4 @@ pub mod AfterLemmas
 pub mod AboveLemmas
 pub mod MergeLemmas
 pub mod BelowLemmas
+pub mod ApartLemmas

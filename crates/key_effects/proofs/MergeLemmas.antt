@@ -1,11 +1,11 @@
 -- Two lists of calls that keep precedence are merged into one that does: no list has effects at the keys of the other.
 use Rattle.std.proofs.Common.{◌≡◌, ℕ, zero, suc, ◌+◌, ◌<◌, ◌≤◌, Bool, true, false, List, [], ◌∷◌, ◌++◌, length, Option, Some, None, inl, inr, refl, sym, ap, ◌∙◌, subst, ⊎_elim, arith}
-use Rattle.std.specs.Prelude.{◌≢◌, ◌⊎◌, All, AllPairs, Contains}
+use Rattle.std.specs.Prelude.{◌≢◌, ◌⊎◌, All, AllPairs, Contains, filter}
 use Rattle.std.specs.List.{list_any}
 use Rattle.std.proofs.lemmas.Bool.{ltb-true, ltb-false, lt-ltb}
 use Rattle.std.proofs.lemmas.List.Elements.{All-contains}
 use Rattle.std.proofs.lemmas.List.Kept.{AllPairs-cons}
-use Rattle.list_laws.proofs.Lists.{AllPairs-nil, AllPairs-head, AllPairs-tail, All-from_contains, Contains-nil, Contains-first, Contains-later, Contains-cases}
+use Rattle.list_laws.proofs.Lists.{AllPairs-nil, AllPairs-head, AllPairs-tail, All-from_contains, Contains-nil, Contains-first, Contains-later, Contains-cases, filter_all, filter_none}
 use Rattle.key_effects.specs.KeyedCalls.{KeyedCall, IsNoEffect, ends_before, precedes}
 use Rattle.key_effects.specs.KeyedOrders.{FitInTurn, left_by, AreDistinct, KeepPrecedence}
 use Rattle.key_effects.proofs.DeadLemmas.{bool_cases}
@@ -22,6 +22,10 @@ pub record AreMerged (xs ys zs : List KeyedCall) : Type 0 where
       → FitInTurn key value zs × (left_by key value zs ≡ left_by key value xs)
   pub as_right : (key : ℕ) (value : Option ℕ) → ((x : KeyedCall) → Contains xs x → IsNoEffect (x.effect key)) → FitInTurn key value ys
       → FitInTurn key value zs × (left_by key value zs ≡ left_by key value ys)
+  pub left_in_turn : (p : KeyedCall → Bool) → ((x : KeyedCall) → Contains xs x → p x ≡ true) → ((y : KeyedCall) → Contains ys y → p y ≡ false)
+      → filter p zs ≡ xs
+  pub right_in_turn : (p : KeyedCall → Bool) → ((x : KeyedCall) → Contains xs x → p x ≡ false) → ((y : KeyedCall) → Contains ys y → p y ≡ true)
+      → filter p zs ≡ ys
 
 -- what two lists are to be to be merged
 pub record MayMerge (xs ys : List KeyedCall) : Type 0 where
@@ -90,6 +94,12 @@ left_first x xs ys zs may first merged = record {
       let rest = merged.as_right key value (λ a a_in. none a (Contains-later x xs a a_in)) fit in
       ((here.fits value, subst (λ (v : Option ℕ). FitInTurn key v zs) (sym (here.leaves value)) rest.0),
       ap (λ (v : Option ℕ). left_by key v zs) (here.leaves value) ∙ rest.1);
+  left_in_turn = λ p yes no.
+      let here : p x ≡ true = yes x (Contains-first x xs) in
+      rw here (ap (λ (zs2 : List KeyedCall). x ∷ zs2) (merged.left_in_turn p (λ a a_in. yes a (Contains-later x xs a a_in)) no));
+  right_in_turn = λ p no yes.
+      let here : p x ≡ false = no x (Contains-first x xs) in
+      rw here (merged.right_in_turn p (λ a a_in. no a (Contains-later x xs a a_in)) yes);
 }
 
 may_rest : (x : KeyedCall) (xs ys : List KeyedCall) → MayMerge (x ∷ xs) ys → MayMerge xs ys
@@ -123,6 +133,8 @@ turned xs ys zs merged = record {
   precedence = merged.precedence;
   as_left = merged.as_right;
   as_right = merged.as_left;
+  left_in_turn = λ p yes no. merged.right_in_turn p no yes;
+  right_in_turn = λ p no yes. merged.left_in_turn p yes no;
 }
 
 merged_none : (ys : List KeyedCall) → MayMerge [] ys → AreMerged [] ys ys
@@ -134,6 +146,8 @@ merged_none ys may = record {
   precedence = may.keep_right;
   as_left = λ key value none fit. all_none key value ys none;
   as_right = λ key value none fit. (fit, refl);
+  left_in_turn = λ p yes no. filter_none p ys (All-from_contains (λ y. p y ≡ false) ys no);
+  right_in_turn = λ p no yes. filter_all p ys (All-from_contains (λ y. p y ≡ true) ys yes);
 }
   where
     all_none : (key : ℕ) (value : Option ℕ) (xs : List KeyedCall) → ((y : KeyedCall) → Contains xs y → IsNoEffect (y.effect key))

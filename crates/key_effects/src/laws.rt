@@ -1,5 +1,5 @@
 // Laws of calls as the keys see them, each the contract of a function that does nothing.
-ghost use Rattle.key_effects.specs.Laws.{ChoicesBegin, ChoicesJudge, ChoicesStay, CutsStandAbove, CutsStandBelow, DeadChoicesGo, DeadChoicesStayDead, GrowthGoesOn};
+ghost use Rattle.key_effects.specs.Laws.{ChoicesBegin, ChoicesJudge, ChoicesStay, CutsStandAbove, CutsStandBelow, DeadChoicesGo, DeadChoicesStayDead, GrowthGoesOn, SetsOfKeysJudge, SomeKeysRefute};
 
 /// Calls that have grown grow on.
 pub fn growth_goes_on()
@@ -39,4 +39,15 @@ pub fn cuts_stand_above()
 /// And the choices below become such as are reached.
 pub fn cuts_stand_below()
     ensures { CutsStandBelow }
+{}
+
+/// What has an order has one at some keys alone: so these alone refute.
+pub fn some_keys_refute()
+    ensures { SomeKeysRefute }
+{}
+
+/// Where each call parts both sets of keys, both together judge: so a scan whose range has changes at the keys of one of both alone need not
+/// be held at one moment with the others.
+pub fn sets_of_keys_judge()
+    ensures { SetsOfKeysJudge }
 {}
