@@ -1,22 +1,22 @@
 -- Choices above that cover a cut.
-use Rattle.std.proofs.Common.{◌≡◌, ℕ, suc, ◌<◌, ◌≤◌, Bool, true, false, not, ◌&&◌, ◌||◌, cond, List, [], ◌∷◌, ◌++◌, map, Option, Some, None, inl, inr, refl, sym, ap, ◌∙◌, subst, ⊎_elim, arith}
-use Rattle.std.specs.Prelude.{◌≢◌, ◌⊎◌, All, AllPairs, Contains, is_some}
+use Rattle.std.proofs.Common.{◌≡◌, ℕ, ◌<◌, ◌≤◌, true, false, ◌||◌, cond, List, ◌++◌, map, Option, inl, inr, sym, ap, ◌∙◌, subst, ⊎_elim, arith}
+use Rattle.std.specs.Prelude.{◌≢◌, ◌⊎◌, All, Contains}
 use Rattle.std.proofs.lemmas.List.{map-append}
-use Rattle.std.proofs.lemmas.List.Elements.{All-contains, Contains-append_left, Contains-append_right}
+use Rattle.std.proofs.lemmas.List.Elements.{All-contains, Contains-append_left}
 use Rattle.list_laws.proofs.FilterLemmas.{Contains-map, Contains-from_map, AllPairs-map}
-use Rattle.list_laws.proofs.Lists.{All-from_contains, AllPairs-across, AllPairs-front}
-use Rattle.key_effects.specs.KeyedCalls.{KeyedCall, Effect, no_effect, IsNoEffect, IsFormed, precedes, is_completed}
-use Rattle.key_effects.specs.KeyedOrders.{FitInTurn, left_by, AreDistinct, KeepPrecedence, IsKeyedOrder, HasKeyedOrder}
+use Rattle.list_laws.proofs.Lists.{All-from_contains, AllPairs-across}
+use Rattle.key_effects.specs.KeyedCalls.{KeyedCall, no_effect, IsNoEffect, IsFormed, precedes, is_completed}
+use Rattle.key_effects.specs.KeyedOrders.{FitInTurn, left_by, AreDistinct, IsKeyedOrder}
 use Rattle.key_effects.specs.Growth.{IsLater, HaveGrown}
-use Rattle.key_effects.specs.Choices.{Choice, Choices, among, rest_of, Agrees, GoesOn, SomeGoesOn}
-use Rattle.key_effects.specs.Cuts.{Keys, IsWithin, IsOutside, IsAfterWalk, has_call, ArePartedAt}
+use Rattle.key_effects.specs.Choices.{Choice, rest_of, Agrees}
+use Rattle.key_effects.specs.Cuts.{Keys, IsWithin, IsAfterWalk, has_call}
 use Rattle.key_effects.specs.Apart.{only}
 use Rattle.key_effects.specs.Laws.{CutsStandAbove}
 use Rattle.key_effects.proofs.AfterLemmas.{named_in, from_named, masked, rest_again, same_in_turn, none_left, front_in_turn, front_fits}
 use Rattle.key_effects.proofs.CutLemmas.{within_none}
 use Rattle.key_effects.proofs.DeadLemmas.{bool_cases}
 use Rattle.key_effects.proofs.OrderLemmas.{same_call, IsSplitAt, split_at}
-use Rattle.key_effects.proofs.TurnLemmas.{StandsFor, fit-front, fit-back, fit-append, left_by-append}
+use Rattle.key_effects.proofs.TurnLemmas.{fit-front, fit-back, fit-append}
 use Rattle.key_effects.proofs.WalkLemmas.{IsWalked, IsPassed, MakeWalk, make_walk, within_later}
 
 -- All that is known of an order up to a cut, and of a walk that it makes, of which the first calls are taken.
@@ -49,7 +49,7 @@ section_taken keys place cut w next calls more order early late walk front back 
     let y_in_order : Contains order y = subst (λ (zs : List KeyedCall). Contains zs y) (sym whole) (Contains-append_left early late y y_in) in
     let (d, d_in, d_is) = Contains-from_map (rest_of w) more y (at.is_order.known y y_in_order) in
     let d_inv : d.inv ≡ a.inv =
-        ap (λ (z : KeyedCall). z.inv) d_is ∙ ap (λ (z : KeyedCall). z.inv) y_is ∙ sym stands.inv in
+    ap (λ (z : KeyedCall). z.inv) d_is ∙ ap (λ (z : KeyedCall). z.inv) y_is ∙ sym stands.inv in
     let walked_inv : walked.0.inv ≡ a.inv = ap (λ (z : KeyedCall). z.inv) (sym walked.2) in
     record {
       later = d;
@@ -84,10 +84,16 @@ name_cases keys place cut w next calls more order early late walk front back at 
         let taken = section_taken keys place cut w next calls more order early late walk front back at a in_walk in
         let (d, d_in, d_is) = Contains-from_map (rest_of w) more x x_in in
         let same : taken.later ≡ d = same_call more taken.later d at.grown.apart.distinct taken.in_more d_in
-            (taken.inv ∙ a_is ∙ ap (λ (z : KeyedCall). z.inv) (sym d_is)) in
+        (taken.inv ∙ a_is ∙ ap (λ (z : KeyedCall). z.inv) (sym d_is)) in
         let x_is : x ≡ rest_of w taken.later = sym d_is ∙ ap (λ (z : KeyedCall). rest_of w z) (sym same) in
-        inr (taken.later, taken.in_more, x_is, subst (λ (z : KeyedCall). Contains early z) (sym x_is) taken.in_early, taken.accepted,
-        subst (λ (z : KeyedCall). IsWithin keys z) (sym x_is) taken.within)
+        inr (
+          taken.later,
+          taken.in_more,
+          x_is,
+          subst (λ (z : KeyedCall). Contains early z) (sym x_is) taken.in_early,
+          taken.accepted,
+          subst (λ (z : KeyedCall). IsWithin keys z) (sym x_is) taken.within,
+        )
 
 -- the front within the keys: elsewhere it leaves what was there
 front_elsewhere : (keys : Keys) (place cut : ℕ) (w next : Choice) (calls more order early late walk front back : List KeyedCall)
@@ -118,33 +124,38 @@ fit_next keys place cut w next calls more order early late walk front back at ke
         (subst (λ (z : KeyedCall). IsWithin keys z) taken.2 taken.5) key is)))
         (name_cases keys place cut w next calls more order early late walk front back at x (at.is_order.known x x_in)))
         (at.is_order.fit key)).0
+
     whole_fit : FitInTurn key (w.holds key) (early ++ late)
     whole_fit = subst (λ (xs : List KeyedCall). FitInTurn key (w.holds key) xs) at.split.parts (at.is_order.fit key)
+
     here : keys key ≡ true → FitInTurn key (left_by key (w.holds key) front) (map (masked front) order)
     here is =
         let first = front_in_turn (IsWalked keys cut w calls) (IsPassed keys w calls) keys key is front early walk front back (w.holds key)
-            at.made.over.aligned at.parts (λ a a_in. named_in front a a_in)
-            (λ a a_in. apart_back a a_in (bool_cases (has_call front a.inv)))
-            (fit-front key (w.holds key) early late whole_fit) in
+        at.made.over.aligned at.parts (λ a a_in. named_in front a a_in)
+        (λ a a_in. apart_back a a_in (bool_cases (has_call front a.inv)))
+        (fit-front key (w.holds key) early late whole_fit) in
         let second = same_in_turn key front late (left_by key (w.holds key) early)
-            (λ x x_in. inl (apart_late x x_in (bool_cases (has_call front x.inv))))
-            (fit-back key (w.holds key) early late whole_fit) in
+        (λ x x_in. inl (apart_late x x_in (bool_cases (has_call front x.inv))))
+        (fit-back key (w.holds key) early late whole_fit) in
         let both : FitInTurn key (left_by key (w.holds key) front) (map (masked front) early ++ map (masked front) late) =
-            fit-append key (left_by key (w.holds key) front) (map (masked front) early) (map (masked front) late) first.0
-            (subst (λ (v : Option ℕ). FitInTurn key v (map (masked front) late)) (sym first.1) second.0) in
+        fit-append key (left_by key (w.holds key) front) (map (masked front) early) (map (masked front) late) first.0
+        (subst (λ (v : Option ℕ). FitInTurn key v (map (masked front) late)) (sym first.1) second.0) in
         subst (λ (xs : List KeyedCall). FitInTurn key (left_by key (w.holds key) front) xs)
         (sym (map-append (masked front) early late) ∙ ap (λ (xs : List KeyedCall). map (masked front) xs) (sym at.split.parts)) both
       where
         walk_distinct : AreDistinct (front ++ back)
         walk_distinct = subst (λ (xs : List KeyedCall). AreDistinct xs) at.parts at.made.is_walk.distinct
+
         apart_back : (a : KeyedCall) → Contains back a → (has_call front a.inv ≡ true) ⊎ (has_call front a.inv ≡ false) → has_call front a.inv ≡ false
         apart_back a a_in (inr untaken) = untaken
         apart_back a a_in (inl named) =
             let (b, b_in, b_is) = from_named front a.inv named in
             absurd (All-contains (λ y. b.inv ≢ y.inv) back a
             (All-contains (λ x. All (λ y. x.inv ≢ y.inv) back) front b (AllPairs-across (λ x y. x.inv ≢ y.inv) front back walk_distinct) b_in) a_in b_is)
+
         order_distinct : AreDistinct (early ++ late)
         order_distinct = subst (λ (xs : List KeyedCall). AreDistinct xs) at.split.parts at.is_order.distinct
+
         apart_late : (x : KeyedCall) → Contains late x → (has_call front x.inv ≡ true) ⊎ (has_call front x.inv ≡ false) → has_call front x.inv ≡ false
         apart_late x x_in (inr untaken) = untaken
         apart_late x x_in (inl named) =
@@ -154,6 +165,7 @@ fit_next keys place cut w next calls more order early late walk front back at ke
             absurd (All-contains (λ y. (rest_of w taken.later).inv ≢ y.inv) late x
             (All-contains (λ z. All (λ y. z.inv ≢ y.inv) late) early (rest_of w taken.later)
             (AllPairs-across (λ y z. y.inv ≢ z.inv) early late order_distinct) taken.in_early) x_in (taken.inv ∙ a_is))
+
     by_key : (keys key ≡ true) ⊎ (keys key ≡ false) → FitInTurn key (left_by key (w.holds key) front) (map (masked front) order)
     by_key (inl is) = here is
     by_key (inr is) = elsewhere is
@@ -188,9 +200,11 @@ agrees_next keys place cut w next calls more order early late walk front back at
   where
     agreed : Agrees w d
     agreed = All-contains (Agrees w) more d at.agrees d_in
+
     named : (key : ℕ) → w.taken d.inv key ≡ false → next.taken d.inv key ≡ true → has_call front d.inv ≡ true
     named key untaken taken =
         let here : (w.taken d.inv key || has_call front d.inv) ≡ true = sym (at.after.taken d.inv key) ∙ taken in rw untaken at here
+
     case : has_call front d.inv ≡ true → (d.refused ≡ false) × Contains early (rest_of w d) × IsWithin keys (rest_of w d)
     case is =
         ⊎_elim (λ untaken. let never : has_call front d.inv ≡ false = untaken in cc)
@@ -198,34 +212,38 @@ agrees_next keys place cut w next calls more order early late walk front back at
         let same : d ≡ taken.0 = same_call more d taken.0 at.grown.apart.distinct d_in taken.1 (ap (λ (z : KeyedCall). z.inv) taken.2) in
         (ap (λ (z : KeyedCall). z.refused) same ∙ taken.4, taken.3, taken.5))
         (name_cases keys place cut w next calls more order early late walk front back at (rest_of w d) (Contains-map (rest_of w) more d d_in))
+
     accepted : (key : ℕ) → (w.taken d.inv key ≡ true) ⊎ (w.taken d.inv key ≡ false) → next.taken d.inv key ≡ true → d.refused ≡ false
     accepted key (inl before) taken = agreed.accepted key before
     accepted key (inr untaken) taken = (case (named key untaken taken)).0
+
     found : (key : ℕ) → keys key ≡ true → w.taken d.inv key ≡ false → has_call front d.inv ≡ true → (d.effect key).fits (next.found d.inv key) ≡ true
     found key is untaken name =
         let (a, a_in, a_is) = from_named front d.inv name in
         let whole_fit : FitInTurn key (w.holds key) (early ++ late) =
-            subst (λ (xs : List KeyedCall). FitInTurn key (w.holds key) xs) at.split.parts (at.is_order.fit key) in
+        subst (λ (xs : List KeyedCall). FitInTurn key (w.holds key) xs) at.split.parts (at.is_order.fit key) in
         let (first, second, parts, some) = front_fits (IsWalked keys cut w calls) (IsPassed keys w calls) keys key is early walk front back (w.holds key)
-            at.made.over.aligned at.parts (fit-front key (w.holds key) early late whole_fit) a a_in in
+        at.made.over.aligned at.parts (fit-front key (w.holds key) early late whole_fit) a a_in in
         let in_order : Contains order some.0 = subst (λ (zs : List KeyedCall). Contains zs some.0) (sym at.split.parts)
-            (Contains-append_left early late some.0 some.1) in
+        (Contains-append_left early late some.0 some.1) in
         let (e, e_in, e_is) = Contains-from_map (rest_of w) more some.0 (at.is_order.known some.0 in_order) in
         let same : e ≡ d = same_call more e d at.grown.apart.distinct e_in d_in (ap (λ (z : KeyedCall). z.inv) e_is ∙ some.2 ∙ a_is) in
         let is_rest : some.0 ≡ rest_of w d = sym e_is ∙ ap (λ (z : KeyedCall). rest_of w z) same in
         let rest_fits : (cond (w.taken d.inv key) no_effect (d.effect key)).fits (left_by key (w.holds key) first) ≡ true =
-            subst (λ (z : KeyedCall). (z.effect key).fits (left_by key (w.holds key) first) ≡ true) is_rest some.3 in
+        subst (λ (z : KeyedCall). (z.effect key).fits (left_by key (w.holds key) first) ≡ true) is_rest some.3 in
         let d_fits : (d.effect key).fits (left_by key (w.holds key) first) ≡ true = rw untaken at rest_fits in
         let a_untaken : w.taken a.inv key ≡ false = subst (λ (name : ℕ). w.taken name key ≡ false) (sym a_is) untaken in
         let noted : next.found a.inv key ≡ left_by key (w.holds key) first = at.after.found first second a key parts a_untaken in
         subst (λ (v : Option ℕ). (d.effect key).fits v ≡ true) (sym noted ∙ ap (λ (name : ℕ). next.found name key) a_is) d_fits
+
     by_key : (key : ℕ) → (keys key ≡ true) ⊎ (keys key ≡ false) → w.taken d.inv key ≡ false → has_call front d.inv ≡ true
         → (d.effect key).fits (next.found d.inv key) ≡ true
     by_key key (inl is) untaken name = found key is untaken name
     by_key key (inr is) untaken name =
         let none : IsNoEffect (cond (w.taken d.inv key) no_effect (d.effect key)) =
-            within_none keys w d (All-contains IsFormed more d at.grown.formed d_in) (case name).2 key is in
+        within_none keys w d (All-contains IsFormed more d at.grown.formed d_in) (case name).2 key is in
         let here : IsNoEffect (d.effect key) = rw untaken at none in here.fits (next.found d.inv key)
+
     fits : (key : ℕ) → (w.taken d.inv key ≡ true) ⊎ (w.taken d.inv key ≡ false) → next.taken d.inv key ≡ true
         → (d.effect key).fits (next.found d.inv key) ≡ true
     fits key (inl before) taken =
@@ -237,7 +255,7 @@ above_cuts held place cut keys calls choices nexts less formed parted cover abov
     let (w, w_in, goes_on) = above more grown order in
     let (early, late, split) = split_at cut goes_on.1.0 in
     let (walk, made) = make_walk keys place cut w calls more goes_on.1.0 early late less formed
-        (λ b b_in begun. parted w b w_in b_in begun) grown goes_on.1.1 split in
+    (λ b b_in begun. parted w b w_in b_in begun) grown goes_on.1.1 split in
     let (front, back, parts, some) = cover w walk w_in made.is_walk made.takes in
     let at : AtCut keys place cut w some.0 calls more goes_on.1.0 early late walk front back = record {
       formed = formed;
@@ -248,8 +266,12 @@ above_cuts held place cut keys calls choices nexts less formed parted cover abov
       made = made;
       parts = parts;
       after = some.2;
-    } in
-    (some.0, some.1,
-    (All-from_contains (Agrees some.0) more (λ d d_in.
-    agrees_next keys place cut w some.0 calls more goes_on.1.0 early late walk front back at d d_in),
-    (map (masked front) goes_on.1.0, order_next keys place cut w some.0 calls more goes_on.1.0 early late walk front back at)))
+    } in (
+      some.0,
+      some.1,
+      (
+        All-from_contains (Agrees some.0) more (λ d d_in.
+            agrees_next keys place cut w some.0 calls more goes_on.1.0 early late walk front back at d d_in),
+        (map (masked front) goes_on.1.0, order_next keys place cut w some.0 calls more goes_on.1.0 early late walk front back at),
+      ),
+    )

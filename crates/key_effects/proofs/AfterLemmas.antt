@@ -1,19 +1,16 @@
 -- What a choice comes to by a walk goes on as it did.
-use Rattle.std.proofs.Common.{◌≡◌, ℕ, suc, ◌<◌, ◌≤◌, ◌==◌, Bool, true, false, not, ◌&&◌, ◌||◌, cond, List, [], ◌∷◌, ◌++◌, map, Option, Some, None, inl, inr, refl, sym, ap, ◌∙◌, subst, ⊎_elim, arith}
-use Rattle.std.specs.Prelude.{◌≢◌, ◌⊎◌, All, AllPairs, Contains, is_some, ⊤}
-use Rattle.std.specs.List.{list_any}
-use Rattle.std.proofs.lemmas.Bool.{eqb-true, eqb-false, eq-eqb, ne_eqb}
-use Rattle.list_laws.proofs.FilterLemmas.{Contains-map, Contains-from_map, AllPairs-map}
+use Rattle.std.proofs.Common.{◌≡◌, ℕ, ◌==◌, Bool, true, false, not, ◌&&◌, ◌||◌, cond, List, [], ◌∷◌, ◌++◌, map, Option, refl, sym, ap, ◌∙◌, subst, ⊎_elim}
+use Rattle.std.specs.Prelude.{◌⊎◌, Contains}
+use Rattle.std.proofs.lemmas.Bool.{eqb-true, eq-eqb}
 use Rattle.list_laws.proofs.Lists.{Contains-nil, Contains-first, Contains-later, Contains-cases}
 use mathlib.Core.Path.{fun_ext}
-use Rattle.key_effects.specs.KeyedCalls.{KeyedCall, Effect, no_effect, IsNoEffect, IsFormed, ends_before, precedes, is_completed}
-use Rattle.key_effects.specs.KeyedOrders.{FitInTurn, left_by, AreDistinct, KeepPrecedence, IsKeyedOrder, HasKeyedOrder}
-use Rattle.key_effects.specs.Choices.{Choice, Choices, rest_of, Agrees, GoesOn}
-use Rattle.key_effects.specs.Cuts.{Keys, IsWithin, IsAfterWalk, has_call}
+use Rattle.key_effects.specs.KeyedCalls.{KeyedCall, Effect, no_effect, IsNoEffect}
+use Rattle.key_effects.specs.KeyedOrders.{FitInTurn, left_by}
+use Rattle.key_effects.specs.Choices.{Choice, rest_of}
+use Rattle.key_effects.specs.Cuts.{Keys, IsAfterWalk, has_call}
 use Rattle.key_effects.specs.Apart.{only}
-use Rattle.key_effects.proofs.DeadLemmas.{bool_cases}
-use Rattle.key_effects.proofs.RestLemmas.{none_none, none_or}
-use Rattle.key_effects.proofs.TurnLemmas.{StandsFor, HasNone, AreAligned, left_by-append}
+use Rattle.key_effects.proofs.RestLemmas.{none_or}
+use Rattle.key_effects.proofs.TurnLemmas.{StandsFor, HasNone, AreAligned}
 
 -- a call is named among some where one of them has its name
 pub named_in : (calls : List KeyedCall) (a : KeyedCall) → Contains calls a → has_call calls a.inv ≡ true
@@ -63,11 +60,11 @@ pub rest_again : (w : Choice) (front : List KeyedCall) (next : Choice) (d : Keye
     → masked front (rest_of w d) ≡ rest_of next d
 rest_again w front next d after =
     let concerns : (λ (key : ℕ). not (has_call front d.inv) && (not (w.taken d.inv key) && d.concerns key))
-        ≡ (λ (key : ℕ). not (next.taken d.inv key) && d.concerns key) =
-        fun_ext (λ (key : ℕ). concerns_again (has_call front d.inv) (w.taken d.inv key) (next.taken d.inv key) (d.concerns key) (after.taken d.inv key)) in
+    ≡ (λ (key : ℕ). not (next.taken d.inv key) && d.concerns key) =
+    fun_ext (λ (key : ℕ). concerns_again (has_call front d.inv) (w.taken d.inv key) (next.taken d.inv key) (d.concerns key) (after.taken d.inv key)) in
     let effects : (λ (key : ℕ). cond (has_call front d.inv) no_effect (cond (w.taken d.inv key) no_effect (d.effect key)))
-        ≡ (λ (key : ℕ). cond (next.taken d.inv key) no_effect (d.effect key)) =
-        fun_ext (λ (key : ℕ). effect_again (has_call front d.inv) (w.taken d.inv key) (next.taken d.inv key) (d.effect key) (after.taken d.inv key)) in
+    ≡ (λ (key : ℕ). cond (next.taken d.inv key) no_effect (d.effect key)) =
+    fun_ext (λ (key : ℕ). effect_again (has_call front d.inv) (w.taken d.inv key) (next.taken d.inv key) (d.effect key) (after.taken d.inv key)) in
     ap (λ (c : ℕ → Bool). made c (λ (key : ℕ). cond (has_call front d.inv) no_effect (cond (w.taken d.inv key) no_effect (d.effect key)))) concerns
     ∙ ap (λ (e : ℕ → Effect). made (λ (key : ℕ). not (next.taken d.inv key) && d.concerns key) e) effects
   where
@@ -86,9 +83,10 @@ same_in_turn key front (x ∷ xs) value apart fit =
     (λ none.
     let hidden : IsNoEffect (cond (has_call front x.inv) no_effect (x.effect key)) = none_or (has_call front x.inv) (x.effect key) none in
     let same : (cond (has_call front x.inv) no_effect (x.effect key)).leaves value ≡ (x.effect key).leaves value =
-        hidden.leaves value ∙ sym (none.leaves value) in
-    ((hidden.fits value, subst (λ (v : Option ℕ). FitInTurn key v (map (masked front) xs)) (sym same) rest.0),
-    ap (λ (v : Option ℕ). left_by key v (map (masked front) xs)) same ∙ rest.1))
+    hidden.leaves value ∙ sym (none.leaves value) in (
+      (hidden.fits value, subst (λ (v : Option ℕ). FitInTurn key v (map (masked front) xs)) (sym same) rest.0),
+      ap (λ (v : Option ℕ). left_by key v (map (masked front) xs)) same ∙ rest.1,
+    ))
     (apart x (Contains-first x xs))
 
 -- calls without effect at a key leave it as it is
@@ -112,10 +110,11 @@ step_taken keys key is whole x b xs front value stands taken fits rest =
     let only_fits : (cond (keys key) (x.effect key) no_effect).fits value ≡ true = rw is fits in
     let only_leaves : (b.effect key).leaves value ≡ (cond (keys key) (x.effect key) no_effect).leaves value = stands.leaves key value only_fits in
     let same : (b.effect key).leaves value ≡ (x.effect key).leaves value = rw is at only_leaves in
-    rw named
-    ((refl, subst (λ (v : Option ℕ). FitInTurn key (left_by key v front) (map (masked whole) xs)) (sym same) rest.0),
-    subst (λ (v : Option ℕ). left_by key (left_by key v front) (map (masked whole) xs) ≡ left_by key ((x.effect key).leaves value) xs)
-    (sym same) rest.1)
+    rw named (
+      (refl, subst (λ (v : Option ℕ). FitInTurn key (left_by key v front) (map (masked whole) xs)) (sym same) rest.0),
+      subst (λ (v : Option ℕ). left_by key (left_by key v front) (map (masked whole) xs) ≡ left_by key ((x.effect key).leaves value) xs)
+          (sym same) rest.1,
+    )
 
 step_left : (key : ℕ) (whole : List KeyedCall) (x : KeyedCall) (xs : List KeyedCall) (value : Option ℕ)
     → has_call whole x.inv ≡ false → (x.effect key).fits value ≡ true
@@ -127,10 +126,11 @@ step_none : (key : ℕ) (whole : List KeyedCall) (x : KeyedCall) (xs front : Lis
 step_none key whole x xs front value none rest =
     let hidden : IsNoEffect (cond (has_call whole x.inv) no_effect (x.effect key)) = none_or (has_call whole x.inv) (x.effect key) none in
     let same : (cond (has_call whole x.inv) no_effect (x.effect key)).leaves (left_by key value front) ≡ left_by key value front =
-        hidden.leaves (left_by key value front) in
-    ((hidden.fits (left_by key value front), subst (λ (v : Option ℕ). FitInTurn key v (map (masked whole) xs)) (sym same) rest.0),
-    ap (λ (v : Option ℕ). left_by key v (map (masked whole) xs)) same ∙ rest.1
-    ∙ ap (λ (v : Option ℕ). left_by key v xs) (sym (none.leaves value)))
+    hidden.leaves (left_by key value front) in (
+      (hidden.fits (left_by key value front), subst (λ (v : Option ℕ). FitInTurn key v (map (masked whole) xs)) (sym same) rest.0),
+      ap (λ (v : Option ℕ). left_by key v (map (masked whole) xs)) same ∙ rest.1
+          ∙ ap (λ (v : Option ℕ). left_by key v xs) (sym (none.leaves value)),
+    )
 
 only_none : (keys : Keys) (key : ℕ) (x : KeyedCall) → keys key ≡ true → HasNone (only keys x) → IsNoEffect (x.effect key)
 only_none keys key x is none = let here : IsNoEffect (cond (keys key) (x.effect key) no_effect) = none key in rw is at here
@@ -146,7 +146,7 @@ front_in_turn Q D keys key is whole (x ∷ xs) walk [] back value aligned parts 
     (λ some.
     let back_is : back ≡ some.0 ∷ some.1 = sym parts ∙ some.2 in
     let untaken : has_call whole some.0.inv ≡ false =
-        left some.0 (subst (λ (ys : List KeyedCall). Contains ys some.0) (sym back_is) (Contains-first some.0 some.1)) in
+    left some.0 (subst (λ (ys : List KeyedCall). Contains ys some.0) (sym back_is) (Contains-first some.0 some.1)) in
     step_left key whole x xs value (subst (λ (name : ℕ). has_call whole name ≡ false) some.3.inv untaken) fit.0
     (front_in_turn Q D keys key is whole xs some.1 [] some.1 ((x.effect key).leaves value) some.5 refl (λ a a_in. absurd (Contains-nil a a_in))
     (λ a a_in. left a (subst (λ (ys : List KeyedCall). Contains ys a) (sym back_is) (Contains-later some.0 some.1 a a_in))) fit.1))
@@ -205,10 +205,14 @@ front_fits Q D keys key is (x ∷ xs) walk (b ∷ front) back value aligned part
     let only_leaves : (some.0.effect key).leaves value ≡ (cond (keys key) (x.effect key) no_effect).leaves value = some.3.leaves key value only_fits in
     let some_leaves : (some.0.effect key).leaves value ≡ (x.effect key).leaves value = rw is at only_leaves in
     let leaves : (b.effect key).leaves value ≡ (x.effect key).leaves value =
-        subst (λ (c : KeyedCall). (c.effect key).leaves value ≡ (x.effect key).leaves value) first some_leaves in
+    subst (λ (c : KeyedCall). (c.effect key).leaves value ≡ (x.effect key).leaves value) first some_leaves in
     ⊎_elim
-    (λ same. ([], front, ap (λ (c : KeyedCall). c ∷ front) same,
-    (x, Contains-first x xs, sym some.3.inv ∙ ap (λ (c : KeyedCall). c.inv) (first ∙ same), fit.0)))
+    (λ same. (
+      [],
+      front,
+      ap (λ (c : KeyedCall). c ∷ front) same,
+      (x, Contains-first x xs, sym some.3.inv ∙ ap (λ (c : KeyedCall). c.inv) (first ∙ same), fit.0),
+    ))
     (λ later. fits_later key value b front xs x a
     (front_fits Q D keys key is xs some.1 front back ((b.effect key).leaves value) some.5 others
     (subst (λ (v : Option ℕ). FitInTurn key v xs) (sym leaves) fit.1) a later))

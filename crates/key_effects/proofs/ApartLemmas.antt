@@ -1,38 +1,40 @@
 -- Sets of keys that are judged apart.
-use Rattle.std.proofs.Common.{◌≡◌, ℕ, suc, ◌<◌, ◌≤◌, ◌==◌, Bool, true, false, not, ◌&&◌, ◌||◌, cond, List, [], ◌∷◌, ◌++◌, map, Option, Some, None, inl, inr, refl, sym, ap, ◌∙◌, subst, ⊎_elim, arith}
-use Rattle.std.specs.Prelude.{◌≢◌, ◌⊎◌, All, AllPairs, Contains, is_some, filter}
-use Rattle.std.proofs.lemmas.Bool.{eqb-true, eqb-false, eq-eqb, ne_eqb}
+use Rattle.std.proofs.Common.{◌≡◌, ℕ, ◌==◌, Bool, true, false, not, ◌||◌, cond, List, [], ◌∷◌, ◌++◌, map, Option, inl, inr, refl, sym, ap, ◌∙◌, subst, ⊎_elim}
+use Rattle.std.specs.Prelude.{◌≢◌, ◌⊎◌, All, Contains, filter}
+use Rattle.std.proofs.lemmas.Bool.{eqb-true, eq-eqb, ne_eqb}
 use Rattle.std.proofs.lemmas.List.{append_assoc}
-use Rattle.std.proofs.lemmas.List.Elements.{All-contains, All-head, All-tail, Contains-append_left, Contains-append_right, Contains-append_cases}
+use Rattle.std.proofs.lemmas.List.Elements.{All-contains, Contains-append_left, Contains-append_right}
 use Rattle.std.proofs.lemmas.List.Kept.{AllPairs-filter}
 use Rattle.list_laws.specs.Lists.{has_number}
-use Rattle.list_laws.proofs.FilterLemmas.{Contains-map, Contains-from_map, AllPairs-map, AllPairs-from_map, AllPairs-from_filter}
-use Rattle.list_laws.proofs.Lists.{AllPairs-head, AllPairs-tail, AllPairs-across, AllPairs-back, All-from_contains, Contains-nil, Contains-first, Contains-later, Contains-cases, Contains-split, Contains-filter, Contains-from_filter}
-use Rattle.list_laws.proofs.NumberLemmas.{has_number-Contains, has_number-from_Contains}
-use Rattle.key_effects.specs.KeyedCalls.{KeyedCall, Effect, no_effect, IsNoEffect, IsFormed, precedes, is_completed}
+use Rattle.list_laws.proofs.FilterLemmas.{Contains-map, Contains-from_map, AllPairs-map, AllPairs-from_map}
+use Rattle.list_laws.proofs.Lists.{AllPairs-head, AllPairs-tail, AllPairs-across, AllPairs-back, Contains-nil, Contains-first, Contains-later, Contains-cases, Contains-split, Contains-filter, Contains-from_filter}
+use Rattle.key_effects.specs.KeyedCalls.{KeyedCall, no_effect, IsNoEffect, IsFormed, precedes, is_completed}
 use Rattle.key_effects.specs.KeyedOrders.{FitInTurn, left_by, AreDistinct, KeepPrecedence, IsKeyedOrder, HasKeyedOrder, AreKeyedCalls}
 use Rattle.key_effects.specs.Cuts.{Keys, IsWithin, IsOutside}
 use Rattle.key_effects.specs.Apart.{only, other_keys, IsQuiet, IsRead, IsUndisturbed, Parts}
 use Rattle.key_effects.specs.Laws.{SomeKeysRefute, SetsOfKeysJudge}
 use Rattle.key_effects.proofs.CutLemmas.{fit_only}
 use Rattle.key_effects.proofs.DeadLemmas.{bool_cases}
-use Rattle.key_effects.proofs.MergeLemmas.{MayMerge, AreMerged, merge}
+use Rattle.key_effects.proofs.MergeLemmas.{AreMerged, merge}
 use Rattle.key_effects.proofs.OrderLemmas.{same_call}
 use Rattle.key_effects.proofs.TurnLemmas.{fit-front, fit-back, left_by-append}
 
 pub some_refute : SomeKeysRefute
-some_refute held keys calls (order, is) = (map (only keys) order, record {
-  known = λ y y_in.
-      let (x, x_in, x_is) = Contains-from_map (only keys) order y y_in in
-      subst (λ (z : KeyedCall). Contains (map (only keys) calls) z) x_is (Contains-map (only keys) calls x (is.known x x_in));
-  distinct = AllPairs-map (λ x y. x.inv ≢ y.inv) (only keys) order is.distinct;
-  precedence = AllPairs-map (λ x y. precedes y x ≡ false) (only keys) order is.precedence;
-  complete = λ y y_in completed.
-      let (x, x_in, x_is) = Contains-from_map (only keys) calls y y_in in
-      subst (λ (z : KeyedCall). Contains (map (only keys) order) z) x_is
-      (Contains-map (only keys) order x (is.complete x x_in (subst (λ (z : KeyedCall). is_completed z ≡ true) (sym x_is) completed)));
-  fit = λ key. fit_only keys key order (held key) (is.fit key);
-})
+some_refute held keys calls (order, is) = (
+  map (only keys) order,
+  record {
+    known = λ y y_in.
+        let (x, x_in, x_is) = Contains-from_map (only keys) order y y_in in
+        subst (λ (z : KeyedCall). Contains (map (only keys) calls) z) x_is (Contains-map (only keys) calls x (is.known x x_in));
+    distinct = AllPairs-map (λ x y. x.inv ≢ y.inv) (only keys) order is.distinct;
+    precedence = AllPairs-map (λ x y. precedes y x ≡ false) (only keys) order is.precedence;
+    complete = λ y y_in completed.
+        let (x, x_in, x_is) = Contains-from_map (only keys) calls y y_in in
+        subst (λ (z : KeyedCall). Contains (map (only keys) order) z) x_is
+        (Contains-map (only keys) order x (is.complete x x_in (subst (λ (z : KeyedCall). is_completed z ≡ true) (sym x_is) completed)));
+    fit = λ key. fit_only keys key order (held key) (is.fit key);
+  },
+)
 
 -- calls that change nothing at a key where they fit
 pub quiet_left : (key : ℕ) (xs : List KeyedCall) (value : Option ℕ) → ((x : KeyedCall) → Contains xs x → IsQuiet x key) → FitInTurn key value xs
@@ -57,8 +59,10 @@ without_quiet key p (x ∷ xs) value quiet fit =
     by_test (inl passes) rest = rw passes ((fit.0, rest.0), rest.1)
     by_test (inr fails) rest =
         let same : (x.effect key).leaves value ≡ value = quiet x (Contains-first x xs) fails value fit.0 in
-        rw fails (subst (λ (v : Option ℕ). FitInTurn key v (filter p xs)) same rest.0,
-        subst (λ (v : Option ℕ). left_by key v (filter p xs) ≡ left_by key ((x.effect key).leaves value) xs) same rest.1)
+        rw fails (
+          subst (λ (v : Option ℕ). FitInTurn key v (filter p xs)) same rest.0,
+          subst (λ (v : Option ℕ). left_by key v (filter p xs) ≡ left_by key ((x.effect key).leaves value) xs) same rest.1,
+        )
 
 -- of two fronts of one list one goes on to the other
 pub fronts : (p q r s : List KeyedCall) → p ++ q ≡ r ++ s
@@ -95,26 +99,31 @@ with_quiet key p value (x ∷ rest) front between fit =
   where
     on : filter p (front ++ x ∷ []) ≡ filter p front ++ filter p (x ∷ [])
     on = filter_append p front (x ∷ [])
+
     by_test : (p x ≡ true) ⊎ (p x ≡ false) → FitInTurn key (left_by key value (filter p (front ++ x ∷ []))) rest
         → FitInTurn key (left_by key value (filter p front)) (x ∷ rest)
     by_test (inl passes) further =
         let whole : FitInTurn key value (filter p front ++ filter p (x ∷ rest)) =
-            subst (λ (xs : List KeyedCall). FitInTurn key value xs) (filter_append p front (x ∷ rest)) fit in
+        subst (λ (xs : List KeyedCall). FitInTurn key value xs) (filter_append p front (x ∷ rest)) fit in
         let back : FitInTurn key (left_by key value (filter p front)) (filter p (x ∷ rest)) =
-            fit-back key value (filter p front) (filter p (x ∷ rest)) whole in
+        fit-back key value (filter p front) (filter p (x ∷ rest)) whole in
         let one : filter p (x ∷ []) ≡ x ∷ [] = rw passes refl in
         let all : filter p (x ∷ rest) ≡ x ∷ filter p rest = rw passes refl in
         let here : FitInTurn key (left_by key value (filter p front)) (x ∷ filter p rest) =
-            subst (λ (xs : List KeyedCall). FitInTurn key (left_by key value (filter p front)) xs) all back in
-        (here.0, subst (λ (v : Option ℕ). FitInTurn key v rest)
-        (ap (λ (xs : List KeyedCall). left_by key value xs) (on ∙ ap (λ (xs : List KeyedCall). filter p front ++ xs) one)
-        ∙ left_by-append key value (filter p front) (x ∷ [])) further)
+        subst (λ (xs : List KeyedCall). FitInTurn key (left_by key value (filter p front)) xs) all back in (
+          here.0,
+          subst (λ (v : Option ℕ). FitInTurn key v rest)
+              (ap (λ (xs : List KeyedCall). left_by key value xs) (on ∙ ap (λ (xs : List KeyedCall). filter p front ++ xs) one)
+              ∙ left_by-append key value (filter p front) (x ∷ [])) further,
+        )
     by_test (inr fails) further =
         let none : filter p (x ∷ []) ≡ [] = rw fails refl in
         let (quiet, fits) = between x front rest refl fails in
-        let same : filter p (front ++ x ∷ []) ≡ filter p front = on ∙ ap (λ (xs : List KeyedCall). filter p front ++ xs) none ∙ append_nil (filter p front) in
-        (fits, subst (λ (v : Option ℕ). FitInTurn key v rest)
-        (ap (λ (xs : List KeyedCall). left_by key value xs) same ∙ sym (quiet (left_by key value (filter p front)) fits)) further)
+        let same : filter p (front ++ x ∷ []) ≡ filter p front = on ∙ ap (λ (xs : List KeyedCall). filter p front ++ xs) none ∙ append_nil (filter p front) in (
+          fits,
+          subst (λ (v : Option ℕ). FitInTurn key v rest)
+              (ap (λ (xs : List KeyedCall). left_by key value xs) same ∙ sym (quiet (left_by key value (filter p front)) fits)) further,
+        )
       where
         append_nil : (xs : List KeyedCall) → xs ++ [] ≡ xs
         append_nil [] = refl
@@ -175,51 +184,51 @@ read_fits key p value calls old new alike y before after new_is fails read =
     let f_fit : FitInTurn key value f = fit-front key value f (y ∷ b) old_fit in
     let y_fit : FitInTurn key (left_by key value f) (y ∷ b) = fit-back key value f (y ∷ b) old_fit in
     let kept = without_quiet key p f value (λ x x_in x_fails. alike.quiet x
-        (subst (λ (xs : List KeyedCall). Contains xs x) (sym old_is) (Contains-append_left f (y ∷ b) x x_in)) x_fails) f_fit in
+    (subst (λ (xs : List KeyedCall). Contains xs x) (sym old_is) (Contains-append_left f (y ∷ b) x x_in)) x_fails) f_fit in
     let there : (y.effect key).fits (left_by key value (filter p f)) ≡ true =
-        subst (λ (v : Option ℕ). (y.effect key).fits v ≡ true) (sym kept.1) y_fit.0 in
+    subst (λ (v : Option ℕ). (y.effect key).fits v ≡ true) (sym kept.1) y_fit.0 in
     let old_keep : KeepPrecedence (f ++ y ∷ b) = subst (λ (xs : List KeyedCall). KeepPrecedence xs) old_is alike.keep_old in
     let new_keep : KeepPrecedence (before ++ y ∷ after) = subst (λ (xs : List KeyedCall). KeepPrecedence xs) new_is alike.keep_new in
     let turn : filter p before ++ filter p (y ∷ after) ≡ filter p f ++ filter p (y ∷ b) =
-        sym (filter_append p before (y ∷ after)) ∙ ap (λ (xs : List KeyedCall). filter p xs) (sym new_is) ∙ alike.turn
-        ∙ ap (λ (xs : List KeyedCall). filter p xs) old_is ∙ filter_append p f (y ∷ b) in
+    sym (filter_append p before (y ∷ after)) ∙ ap (λ (xs : List KeyedCall). filter p xs) (sym new_is) ∙ alike.turn
+    ∙ ap (λ (xs : List KeyedCall). filter p xs) old_is ∙ filter_append p f (y ∷ b) in
     let new_fit : FitInTurn key value (filter p before ++ filter p (y ∷ after)) = subst (λ (xs : List KeyedCall). FitInTurn key value xs)
-        (sym alike.turn ∙ ap (λ (xs : List KeyedCall). filter p xs) new_is ∙ filter_append p before (y ∷ after))
-        (without_quiet key p old value alike.quiet alike.fit).0 in
+    (sym alike.turn ∙ ap (λ (xs : List KeyedCall). filter p xs) new_is ∙ filter_append p before (y ∷ after))
+    (without_quiet key p old value alike.quiet alike.fit).0 in
     ⊎_elim
     (λ more.
     let quiet : (e : KeyedCall) → Contains more.0 e → IsQuiet e key = λ e e_in.
-        let in_front : Contains (filter p f) e = subst (λ (xs : List KeyedCall). Contains xs e) (sym more.1)
-            (Contains-append_right (filter p before) more.0 e e_in) in
-        let in_f : Contains f e = (Contains-from_filter p f e in_front).0 in
-        let in_back : Contains (filter p (y ∷ after)) e = subst (λ (xs : List KeyedCall). Contains xs e) (sym more.2)
-            (Contains-append_left more.0 (filter p (y ∷ b)) e e_in) in
-        quiet_between key calls y e read.undisturbed
-        (alike.known e (subst (λ (xs : List KeyedCall). Contains xs e) (sym old_is) (Contains-append_left f (y ∷ b) e in_f)))
-        (before_keeps f b y e old_keep in_f) (after_keeps before after y e new_keep (after_read p y e after fails in_back)) in
+    let in_front : Contains (filter p f) e = subst (λ (xs : List KeyedCall). Contains xs e) (sym more.1)
+    (Contains-append_right (filter p before) more.0 e e_in) in
+    let in_f : Contains f e = (Contains-from_filter p f e in_front).0 in
+    let in_back : Contains (filter p (y ∷ after)) e = subst (λ (xs : List KeyedCall). Contains xs e) (sym more.2)
+    (Contains-append_left more.0 (filter p (y ∷ b)) e e_in) in
+    quiet_between key calls y e read.undisturbed
+    (alike.known e (subst (λ (xs : List KeyedCall). Contains xs e) (sym old_is) (Contains-append_left f (y ∷ b) e in_f)))
+    (before_keeps f b y e old_keep in_f) (after_keeps before after y e new_keep (after_read p y e after fails in_back)) in
     let d_fit : FitInTurn key (left_by key value (filter p before)) more.0 =
-        fit-back key value (filter p before) more.0 (subst (λ (xs : List KeyedCall). FitInTurn key value xs) more.1 kept.0) in
+    fit-back key value (filter p before) more.0 (subst (λ (xs : List KeyedCall). FitInTurn key value xs) more.1 kept.0) in
     let same : left_by key value (filter p f) ≡ left_by key value (filter p before) =
-        ap (λ (xs : List KeyedCall). left_by key value xs) more.1 ∙ left_by-append key value (filter p before) more.0
-        ∙ quiet_left key more.0 (left_by key value (filter p before)) quiet d_fit in
+    ap (λ (xs : List KeyedCall). left_by key value xs) more.1 ∙ left_by-append key value (filter p before) more.0
+    ∙ quiet_left key more.0 (left_by key value (filter p before)) quiet d_fit in
     subst (λ (v : Option ℕ). (y.effect key).fits v ≡ true) same there)
     (λ more.
     let quiet : (e : KeyedCall) → Contains more.0 e → IsQuiet e key = λ e e_in.
-        let in_front : Contains (filter p before) e = subst (λ (xs : List KeyedCall). Contains xs e) (sym more.1)
-            (Contains-append_right (filter p f) more.0 e e_in) in
-        let in_before : Contains before e = (Contains-from_filter p before e in_front).0 in
-        let in_back : Contains (filter p (y ∷ b)) e = subst (λ (xs : List KeyedCall). Contains xs e) (sym more.2)
-            (Contains-append_left more.0 (filter p (y ∷ after)) e e_in) in
-        let in_b : Contains b e = after_read p y e b fails in_back in
-        quiet_between key calls y e read.undisturbed
-        (alike.known e (subst (λ (xs : List KeyedCall). Contains xs e) (sym old_is) (Contains-append_right f (y ∷ b) e (Contains-later y b e in_b))))
-        (before_keeps before after y e new_keep in_before) (after_keeps f b y e old_keep in_b) in
+    let in_front : Contains (filter p before) e = subst (λ (xs : List KeyedCall). Contains xs e) (sym more.1)
+    (Contains-append_right (filter p f) more.0 e e_in) in
+    let in_before : Contains before e = (Contains-from_filter p before e in_front).0 in
+    let in_back : Contains (filter p (y ∷ b)) e = subst (λ (xs : List KeyedCall). Contains xs e) (sym more.2)
+    (Contains-append_left more.0 (filter p (y ∷ after)) e e_in) in
+    let in_b : Contains b e = after_read p y e b fails in_back in
+    quiet_between key calls y e read.undisturbed
+    (alike.known e (subst (λ (xs : List KeyedCall). Contains xs e) (sym old_is) (Contains-append_right f (y ∷ b) e (Contains-later y b e in_b))))
+    (before_keeps before after y e new_keep in_before) (after_keeps f b y e old_keep in_b) in
     let before_fit : FitInTurn key value (filter p before) = fit-front key value (filter p before) (filter p (y ∷ after)) new_fit in
     let d_fit : FitInTurn key (left_by key value (filter p f)) more.0 =
-        fit-back key value (filter p f) more.0 (subst (λ (xs : List KeyedCall). FitInTurn key value xs) more.1 before_fit) in
+    fit-back key value (filter p f) more.0 (subst (λ (xs : List KeyedCall). FitInTurn key value xs) more.1 before_fit) in
     let same : left_by key value (filter p before) ≡ left_by key value (filter p f) =
-        ap (λ (xs : List KeyedCall). left_by key value xs) more.1 ∙ left_by-append key value (filter p f) more.0
-        ∙ quiet_left key more.0 (left_by key value (filter p f)) quiet d_fit in
+    ap (λ (xs : List KeyedCall). left_by key value xs) more.1 ∙ left_by-append key value (filter p f) more.0
+    ∙ quiet_left key more.0 (left_by key value (filter p f)) quiet d_fit in
     subst (λ (v : Option ℕ). (y.effect key).fits v ≡ true) (sym same) there)
     (fronts (filter p before) (filter p (y ∷ after)) (filter p f) (filter p (y ∷ b)) turn)
 
@@ -275,18 +284,23 @@ sides_of keys whole a parts =
 
 make_sides : (keys : Keys) (whole calls : List KeyedCall) → AreDistinct calls → ((a : KeyedCall) → Contains calls a → Parts keys whole a)
     → (left : List ℕ) × (right : List ℕ) × AreSides keys whole calls left right
-make_sides keys whole [] distinct parts = ([], [], record {
-  each = λ a a_in. absurd (Contains-nil a a_in);
-  left_named = λ n named. cc;
-  right_named = λ n named. cc;
-})
+make_sides keys whole [] distinct parts = (
+  [],
+  [],
+  record {
+    each = λ a a_in. absurd (Contains-nil a a_in);
+    left_named = λ n named. cc;
+    right_named = λ n named. cc;
+  },
+)
 make_sides keys whole (a ∷ calls) distinct parts =
     let (left, right, sides) = make_sides keys whole calls (AllPairs-tail (λ x y. x.inv ≢ y.inv) a calls distinct)
-        (λ b b_in. parts b (Contains-later a calls b b_in)) in
+    (λ b b_in. parts b (Contains-later a calls b b_in)) in
     add left right sides (sides_of keys whole a (parts a (Contains-first a calls)))
   where
     apart : (b : KeyedCall) → Contains calls b → a.inv ≢ b.inv
     apart b b_in = All-contains (λ y. a.inv ≢ y.inv) calls b (AllPairs-head (λ x y. x.inv ≢ y.inv) a calls distinct) b_in
+
     unnamed : (names : List ℕ) → ((n : ℕ) → has_number names n ≡ true → (b : KeyedCall) × Contains calls b × (b.inv ≡ n))
         → has_number names a.inv ≡ false
     unnamed names named = by_test (bool_cases (has_number names a.inv))
@@ -294,10 +308,13 @@ make_sides keys whole (a ∷ calls) distinct parts =
         by_test : (has_number names a.inv ≡ true) ⊎ (has_number names a.inv ≡ false) → has_number names a.inv ≡ false
         by_test (inr not) = not
         by_test (inl is) = let (b, b_in, b_is) = named a.inv is in absurd (apart b b_in (sym b_is))
+
     with_name : (names : List ℕ) (b : KeyedCall) (t : Bool) → Contains calls b → has_number names b.inv ≡ t → has_number (a.inv ∷ names) b.inv ≡ t
     with_name names b t b_in is = or_false a.inv b.inv (has_number names b.inv) (apart b b_in) ∙ is
+
     own_name : (names : List ℕ) → has_number (a.inv ∷ names) a.inv ≡ true
     own_name names = rw (eq-eqb a.inv a.inv refl) refl
+
     named_with : (names : List ℕ) → ((n : ℕ) → has_number names n ≡ true → (b : KeyedCall) × Contains calls b × (b.inv ≡ n))
         → (n : ℕ) → has_number (a.inv ∷ names) n ≡ true → (b : KeyedCall) × Contains (a ∷ calls) b × (b.inv ≡ n)
     named_with names named n is = by_first (bool_cases (a.inv == n)) is
@@ -306,42 +323,56 @@ make_sides keys whole (a ∷ calls) distinct parts =
             → (b : KeyedCall) × Contains (a ∷ calls) b × (b.inv ≡ n)
         by_first (inl same) h = (a, Contains-first a calls, eqb-true a.inv n same)
         by_first (inr other) h = let (b, b_in, b_is) = named n (rw other at h) in (b, Contains-later a calls b b_in, b_is)
+
     named_on : (names : List ℕ) → ((n : ℕ) → has_number names n ≡ true → (b : KeyedCall) × Contains calls b × (b.inv ≡ n))
         → (n : ℕ) → has_number names n ≡ true → (b : KeyedCall) × Contains (a ∷ calls) b × (b.inv ≡ n)
     named_on names named n is = let (b, b_in, b_is) = named n is in (b, Contains-later a calls b b_in, b_is)
+
     add : (left right : List ℕ) → AreSides keys whole calls left right
         → IsOnLeft keys whole a ⊎ (IsOnRight keys whole a ⊎ IsPendingRead a)
         → (l : List ℕ) × (r : List ℕ) × AreSides keys whole (a ∷ calls) l r
-    add left right sides (inl on_left) = (a.inv ∷ left, right, record {
-      each = λ b b_in. ⊎_elim
-          (λ same. subst (λ (c : KeyedCall). HasSide keys whole (a.inv ∷ left) right c) same
-          (inl (own_name left, unnamed right sides.right_named, on_left)))
-          (λ later. ⊎_elim (λ l. inl (with_name left b true later l.0, l.1, l.2))
-          (λ others. ⊎_elim (λ r. inr (inl (with_name left b false later r.0, r.1, r.2)))
-          (λ none. inr (inr (with_name left b false later none.0, none.1, none.2))) others) (sides.each b later))
-          (Contains-cases a calls b b_in);
-      left_named = named_with left sides.left_named;
-      right_named = named_on right sides.right_named;
-    })
-    add left right sides (inr (inl on_right)) = (left, a.inv ∷ right, record {
-      each = λ b b_in. ⊎_elim
-          (λ same. subst (λ (c : KeyedCall). HasSide keys whole left (a.inv ∷ right) c) same
-          (inr (inl (unnamed left sides.left_named, own_name right, on_right))))
-          (λ later. ⊎_elim (λ l. inl (l.0, with_name right b false later l.1, l.2))
-          (λ others. ⊎_elim (λ r. inr (inl (r.0, with_name right b true later r.1, r.2)))
-          (λ none. inr (inr (none.0, with_name right b false later none.1, none.2))) others) (sides.each b later))
-          (Contains-cases a calls b b_in);
-      left_named = named_on left sides.left_named;
-      right_named = named_with right sides.right_named;
-    })
-    add left right sides (inr (inr pending)) = (left, right, record {
-      each = λ b b_in. ⊎_elim
-          (λ same. subst (λ (c : KeyedCall). HasSide keys whole left right c) same
-          (inr (inr (unnamed left sides.left_named, unnamed right sides.right_named, pending))))
-          (λ later. sides.each b later) (Contains-cases a calls b b_in);
-      left_named = named_on left sides.left_named;
-      right_named = named_on right sides.right_named;
-    })
+    add left right sides (inl on_left) = (
+      a.inv ∷ left,
+      right,
+      record {
+        each = λ b b_in. ⊎_elim
+            (λ same. subst (λ (c : KeyedCall). HasSide keys whole (a.inv ∷ left) right c) same
+            (inl (own_name left, unnamed right sides.right_named, on_left)))
+            (λ later. ⊎_elim (λ l. inl (with_name left b true later l.0, l.1, l.2))
+            (λ others. ⊎_elim (λ r. inr (inl (with_name left b false later r.0, r.1, r.2)))
+            (λ none. inr (inr (with_name left b false later none.0, none.1, none.2))) others) (sides.each b later))
+            (Contains-cases a calls b b_in);
+        left_named = named_with left sides.left_named;
+        right_named = named_on right sides.right_named;
+      },
+    )
+    add left right sides (inr (inl on_right)) = (
+      left,
+      a.inv ∷ right,
+      record {
+        each = λ b b_in. ⊎_elim
+            (λ same. subst (λ (c : KeyedCall). HasSide keys whole left (a.inv ∷ right) c) same
+            (inr (inl (unnamed left sides.left_named, own_name right, on_right))))
+            (λ later. ⊎_elim (λ l. inl (l.0, with_name right b false later l.1, l.2))
+            (λ others. ⊎_elim (λ r. inr (inl (r.0, with_name right b true later r.1, r.2)))
+            (λ none. inr (inr (none.0, with_name right b false later none.1, none.2))) others) (sides.each b later))
+            (Contains-cases a calls b b_in);
+        left_named = named_on left sides.left_named;
+        right_named = named_with right sides.right_named;
+      },
+    )
+    add left right sides (inr (inr pending)) = (
+      left,
+      right,
+      record {
+        each = λ b b_in. ⊎_elim
+            (λ same. subst (λ (c : KeyedCall). HasSide keys whole left right c) same
+            (inr (inr (unnamed left sides.left_named, unnamed right sides.right_named, pending))))
+            (λ later. sides.each b later) (Contains-cases a calls b b_in);
+        left_named = named_on left sides.left_named;
+        right_named = named_on right sides.right_named;
+      },
+    )
 
 -- the calls that an order at some keys has, as they are at all keys
 lift : (keys : Keys) (calls order : List KeyedCall) → ((x : KeyedCall) → Contains order x → Contains (map (only keys) calls) x)
@@ -349,9 +380,11 @@ lift : (keys : Keys) (calls order : List KeyedCall) → ((x : KeyedCall) → Con
 lift keys calls [] known = ([], refl, λ a a_in. absurd (Contains-nil a a_in))
 lift keys calls (x ∷ order) known =
     let (a, a_in, a_is) = Contains-from_map (only keys) calls x (known x (Contains-first x order)) in
-    let (whole, is, inside) = lift keys calls order (λ y y_in. known y (Contains-later x order y y_in)) in
-    (a ∷ whole, ap (λ (z : KeyedCall). z ∷ map (only keys) whole) a_is ∙ ap (λ (zs : List KeyedCall). x ∷ zs) is,
-    λ b b_in. ⊎_elim (λ same. subst (λ (z : KeyedCall). Contains calls z) same a_in) (λ later. inside b later) (Contains-cases a whole b b_in))
+    let (whole, is, inside) = lift keys calls order (λ y y_in. known y (Contains-later x order y y_in)) in (
+      a ∷ whole,
+      ap (λ (z : KeyedCall). z ∷ map (only keys) whole) a_is ∙ ap (λ (zs : List KeyedCall). x ∷ zs) is,
+      λ b b_in. ⊎_elim (λ same. subst (λ (z : KeyedCall). Contains calls z) same a_in) (λ later. inside b later) (Contains-cases a whole b b_in),
+    )
 
 fit_lifted : (keys : Keys) (key : ℕ) → keys key ≡ true → (xs : List KeyedCall) (value : Option ℕ) → FitInTurn key value (map (only keys) xs)
     → FitInTurn key value xs
@@ -405,22 +438,30 @@ joined_fits held keys calls first second whole other merged left right j key = b
   where
     on_left : KeyedCall → Bool
     on_left a = has_number left a.inv
+
     on_right : KeyedCall → Bool
     on_right a = has_number right a.inv
+
     none_quiet : (a : KeyedCall) → IsNoEffect (a.effect key) → IsQuiet a key
     none_quiet a none value fits = none.leaves value
+
     unconcerned : (a : KeyedCall) → Contains calls a → a.concerns key ≡ false → IsNoEffect (a.effect key)
     unconcerned a a_in not = (All-contains IsFormed calls a j.formed a_in).elsewhere key not
+
     left_kept : (a : KeyedCall) → Contains (filter (λ b. has_number left b.inv) whole) a → Contains whole a × (has_number left a.inv ≡ true)
     left_kept a a_in = Contains-from_filter (λ b. has_number left b.inv) whole a a_in
+
     right_kept : (a : KeyedCall) → Contains (filter (λ b. has_number right b.inv) other) a → Contains other a × (has_number right a.inv ≡ true)
     right_kept a a_in = Contains-from_filter (λ b. has_number right b.inv) other a a_in
+
     not_right : (a : KeyedCall) → Contains calls a → has_number left a.inv ≡ true → has_number right a.inv ≡ false
     not_right a a_in is = ⊎_elim (λ l. l.1) (λ others. ⊎_elim (λ r. absurd (differ (has_number left a.inv) is r.0))
         (λ n. absurd (differ (has_number left a.inv) is n.0)) others) (j.sides.each a a_in)
+
     not_left : (a : KeyedCall) → Contains calls a → has_number right a.inv ≡ true → has_number left a.inv ≡ false
     not_left a a_in is = ⊎_elim (λ l. absurd (differ (has_number right a.inv) is l.1)) (λ others. ⊎_elim (λ r. r.0) (λ n. n.0) others)
         (j.sides.each a a_in)
+
     here : keys key ≡ true → FitInTurn key (held key) merged
     here is = fit_alike key (λ a. has_number left a.inv) (held key) calls whole merged (record {
       fit = lifted_fits held keys calls first whole j.is_first j.first_is key is;
@@ -439,6 +480,7 @@ joined_fits held keys calls first second whole other merged left right j key = b
         right_quiet : (x : KeyedCall) → Contains calls x → IsOnRight keys calls x → IsQuiet x key
         right_quiet x x_in (inl outside) = none_quiet x (unconcerned x x_in (outside key is))
         right_quiet x x_in (inr read) = read.0 key
+
         by_concern : (y : KeyedCall) → Contains calls y → IsRead y → is_completed y ≡ true → IsUndisturbed keys calls y
             → (y.concerns key ≡ true) ⊎ (y.concerns key ≡ false) → IsNoEffect (y.effect key) ⊎ IsSettledRead key calls whole y
         by_concern y y_in read completed undisturbed (inr not) = inl (unconcerned y y_in not)
@@ -447,6 +489,7 @@ joined_fits held keys calls first second whole other merged left right j key = b
           quiet = read key;
           undisturbed = λ a a_in. undisturbed a key a_in is concerned;
         })
+
         right_settled : (y : KeyedCall) → Contains calls y → HasSide keys calls left right y → has_number right y.inv ≡ true
             → IsNoEffect (y.effect key) ⊎ IsSettledRead key calls whole y
         right_settled y y_in (inl l) named = absurd (differ (has_number right y.inv) named l.1)
@@ -454,6 +497,7 @@ joined_fits held keys calls first second whole other merged left right j key = b
         right_settled y y_in (inr (inl r)) named =
             ⊎_elim (λ outside. inl (unconcerned y y_in (outside key is)))
             (λ read. by_concern y y_in read.0 read.1 read.2 (bool_cases (y.concerns key))) r.2
+
     there : keys key ≡ false → FitInTurn key (held key) merged
     there is = fit_alike key (λ a. has_number right a.inv) (held key) calls other merged (record {
       fit = lifted_fits held (other_keys keys) calls second other j.is_second j.second_is key (rw is refl);
@@ -474,6 +518,7 @@ joined_fits held keys calls first second whole other merged left right j key = b
         left_quiet : (x : KeyedCall) → Contains calls x → IsOnLeft keys calls x → IsQuiet x key
         left_quiet x x_in (inl within) = none_quiet x (unconcerned x x_in (within key is))
         left_quiet x x_in (inr read) = read.0 key
+
         by_concern : (y : KeyedCall) → Contains calls y → IsRead y → is_completed y ≡ true → IsUndisturbed (other_keys keys) calls y
             → (y.concerns key ≡ true) ⊎ (y.concerns key ≡ false) → IsNoEffect (y.effect key) ⊎ IsSettledRead key calls other y
         by_concern y y_in read completed undisturbed (inr not) = inl (unconcerned y y_in not)
@@ -482,6 +527,7 @@ joined_fits held keys calls first second whole other merged left right j key = b
           quiet = read key;
           undisturbed = λ a a_in. undisturbed a key a_in (rw is refl) concerned;
         })
+
         left_settled : (y : KeyedCall) → Contains calls y → HasSide keys calls left right y → has_number left y.inv ≡ true
             → IsNoEffect (y.effect key) ⊎ IsSettledRead key calls other y
         left_settled y y_in (inr (inl r)) named = absurd (differ (has_number left y.inv) named r.0)
@@ -489,6 +535,7 @@ joined_fits held keys calls first second whole other merged left right j key = b
         left_settled y y_in (inl l) named =
             ⊎_elim (λ within. inl (unconcerned y y_in (within key is)))
             (λ read. by_concern y y_in read.0 read.1 read.2 (bool_cases (y.concerns key))) l.2
+
     by_key : (keys key ≡ true) ⊎ (keys key ≡ false) → FitInTurn key (held key) merged
     by_key (inl is) = here is
     by_key (inr is) = there is
@@ -540,21 +587,24 @@ join held keys calls apart formed parts (first, is_first) (second, is_second) =
           (whole_known x (Contains-from_filter (λ a. has_number left a.inv) whole x x_in).0);
       last_right = λ y y_in. All-contains (λ a. precedes a a ≡ false) calls y apart.last
           (other_known y (Contains-from_filter (λ a. has_number right a.inv) other y y_in).0);
-    }) in
-    (merged, joined_order held keys calls first second whole other merged left right (record {
-      apart = apart;
-      formed = formed;
-      sides = sides;
-      is_first = is_first;
-      is_second = is_second;
-      first_is = whole_is;
-      second_is = other_is;
-      first_known = whole_known;
-      second_known = other_known;
-      both = both;
-    }))
+    }) in (
+      merged,
+      joined_order held keys calls first second whole other merged left right (record {
+        apart = apart;
+        formed = formed;
+        sides = sides;
+        is_first = is_first;
+        is_second = is_second;
+        first_is = whole_is;
+        second_is = other_is;
+        first_known = whole_known;
+        second_known = other_known;
+        both = both;
+      }),
+    )
 
 pub sets_judge : SetsOfKeysJudge
-sets_judge held keys calls apart formed parts =
-    (λ order. (some_refute held keys calls order, some_refute held (other_keys keys) calls order),
-    λ orders. join held keys calls apart formed parts orders.0 orders.1)
+sets_judge held keys calls apart formed parts = (
+  λ order. (some_refute held keys calls order, some_refute held (other_keys keys) calls order),
+  λ orders. join held keys calls apart formed parts orders.0 orders.1,
+)

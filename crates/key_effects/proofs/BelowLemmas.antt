@@ -1,11 +1,11 @@
 -- Choices below that are reached at a cut.
-use Rattle.std.proofs.Common.{◌≡◌, ℕ, suc, ◌+◌, ◌<◌, ◌≤◌, Bool, true, false, not, ◌&&◌, ◌||◌, cond, List, [], ◌∷◌, ◌++◌, map, length, Option, Some, None, inl, inr, refl, sym, ap, ◌∙◌, subst, ⊎_elim, arith}
-use Rattle.std.specs.Prelude.{◌≢◌, ◌⊎◌, All, AllPairs, Contains, is_some}
-use Rattle.std.proofs.lemmas.Bool.{ltb-true, ltb-false, lt-ltb, le-ltb}
+use Rattle.std.proofs.Common.{◌≡◌, ℕ, ◌<◌, ◌≤◌, Bool, true, false, not, ◌&&◌, ◌||◌, cond, List, [], ◌∷◌, ◌++◌, map, Option, Some, None, inl, inr, refl, sym, ap, ◌∙◌, subst, ⊎_elim, arith}
+use Rattle.std.specs.Prelude.{◌≢◌, ◌⊎◌, All, Contains}
+use Rattle.std.proofs.lemmas.Bool.{ltb-true}
 use Rattle.std.proofs.lemmas.List.{append_assoc}
 use Rattle.std.proofs.lemmas.List.Elements.{All-contains, Contains-append_left, Contains-append_right, Contains-append_cases}
 use Rattle.std.proofs.lemmas.List.Kept.{AllPairs-cons}
-use Rattle.list_laws.proofs.FilterLemmas.{Contains-map, Contains-from_map, AllPairs-map}
+use Rattle.list_laws.proofs.FilterLemmas.{Contains-map, Contains-from_map}
 use Rattle.list_laws.proofs.Lists.{AllPairs-nil, AllPairs-head, AllPairs-tail, AllPairs-append, AllPairs-front, AllPairs-back, AllPairs-across, All-from_contains, Contains-nil, Contains-first, Contains-later, Contains-cases}
 use mathlib.Core.Path.{fun_ext}
 use Rattle.key_effects.specs.KeyedCalls.{KeyedCall, Effect, no_effect, IsNoEffect, IsFormed, ends_before, precedes, is_completed}
@@ -17,7 +17,7 @@ use Rattle.key_effects.specs.Laws.{CutsStandBelow}
 use Rattle.key_effects.proofs.AfterLemmas.{named_in, from_named, masked, rest_again, none_left}
 use Rattle.key_effects.proofs.CutLemmas.{outside_none, within_none}
 use Rattle.key_effects.proofs.DeadLemmas.{bool_cases}
-use Rattle.key_effects.proofs.MergeLemmas.{MayMerge, AreMerged, merge}
+use Rattle.key_effects.proofs.MergeLemmas.{AreMerged, merge}
 use Rattle.key_effects.proofs.OrderLemmas.{same_call, ends_sooner, IsSplitAt, split_at, ended_early}
 use Rattle.key_effects.proofs.RestLemmas.{none_none, later_stands, pending_never}
 use Rattle.key_effects.proofs.TurnLemmas.{StandsFor, HasNone, fit-front, fit-back, fit-append, left_by-append}
@@ -85,7 +85,7 @@ update_fits keys place cut w next calls more walk order early late r front back 
     by_taken (inl taken) = rw taken refl
     by_taken (inr untaken) =
         let agreed : (d.effect key).fits (next.found d.inv key) ≡ true = (All-contains (Agrees next) more d r.agrees d_in).fits key
-            (taken_later keys place cut w next calls more walk order early late r d.inv key named) in
+        (taken_later keys place cut w next calls more walk order early late r d.inv key named) in
         let here : w.taken a.inv key ≡ false = subst (λ (name : ℕ). w.taken name key ≡ false) (sym same) untaken in
         let found : next.found a.inv key ≡ left_by key (w.holds key) front = r.after.found front back a key parts here in
         rw untaken (subst (λ (v : Option ℕ). (d.effect key).fits v ≡ true) (ap (λ (name : ℕ). next.found name key) (sym same) ∙ found) agreed)
@@ -101,7 +101,7 @@ update_of : (keys : Keys) (place cut : ℕ) (w next : Choice) (calls more walk o
     → (z : KeyedCall) × IsPlaced w cut more front a z
 update_of keys place cut w next calls more walk order early late r front back a parts =
     let a_in : Contains walk a = subst (λ (xs : List KeyedCall). Contains xs a) (sym parts)
-        (Contains-append_right front (a ∷ back) a (Contains-first a back)) in
+    (Contains-append_right front (a ∷ back) a (Contains-first a back)) in
     let (b, b_in, a_is, b_early, b_accepted) = r.is_walk.known a a_in in
     let (d, d_in, later) = r.grown.stay b b_in in
     let a_inv : a.inv ≡ b.inv = ap (λ (z : KeyedCall). z.inv) a_is in
@@ -109,27 +109,29 @@ update_of keys place cut w next calls more walk order early late r front back a 
     let d_named : has_call walk d.inv ≡ true = subst (λ (name : ℕ). has_call walk name ≡ true) d_inv (named_in walk a a_in) in
     let agreed : Agrees next d = All-contains (Agrees next) more d r.agrees d_in in
     let accepted : d.refused ≡ false = agreed.accepted 0
-        (taken_later keys place cut w next calls more walk order early late r d.inv 0 d_named) in
-    let stands : StandsFor (rest_of w d) (rest_of w b) = later_stands place w b d later accepted in
-    (rest_of w d, record {
-      update = record {
-        later = d;
-        in_more = d_in;
-        is = refl;
-        inv = sym d_inv;
-        begun = subst (λ (n : ℕ). n < cut) (sym a_inv) b_early;
-        ends = λ at before is. subst (λ (z : KeyedCall). ends_before z.res at ≡ true) (sym a_is)
-            (⊎_elim (λ same. subst (λ (z : KeyedCall). ends_before z.res at ≡ true) same is)
-            (λ answered. absurd (answered_never place cut b d r.less answered at before is)) later.response);
-      };
-      fits = λ key. update_fits keys place cut w next calls more walk order early late r front back a d parts d_in d_inv d_named key;
-      leaves = λ key.
-          let fits : ((rest_of w d).effect key).fits (left_by key (w.holds key) front) ≡ true =
-              update_fits keys place cut w next calls more walk order early late r front back a d parts d_in d_inv d_named key in
-          subst (λ (z : KeyedCall). ((rest_of w d).effect key).leaves (left_by key (w.holds key) front)
-          ≡ (z.effect key).leaves (left_by key (w.holds key) front)) (sym a_is)
-          (sym (stands.leaves key (left_by key (w.holds key) front) fits));
-    })
+    (taken_later keys place cut w next calls more walk order early late r d.inv 0 d_named) in
+    let stands : StandsFor (rest_of w d) (rest_of w b) = later_stands place w b d later accepted in (
+      rest_of w d,
+      record {
+        update = record {
+          later = d;
+          in_more = d_in;
+          is = refl;
+          inv = sym d_inv;
+          begun = subst (λ (n : ℕ). n < cut) (sym a_inv) b_early;
+          ends = λ at before is. subst (λ (z : KeyedCall). ends_before z.res at ≡ true) (sym a_is)
+              (⊎_elim (λ same. subst (λ (z : KeyedCall). ends_before z.res at ≡ true) same is)
+              (λ answered. absurd (answered_never place cut b d r.less answered at before is)) later.response);
+        };
+        fits = λ key. update_fits keys place cut w next calls more walk order early late r front back a d parts d_in d_inv d_named key;
+        leaves = λ key.
+            let fits : ((rest_of w d).effect key).fits (left_by key (w.holds key) front) ≡ true =
+            update_fits keys place cut w next calls more walk order early late r front back a d parts d_in d_inv d_named key in
+            subst (λ (z : KeyedCall). ((rest_of w d).effect key).leaves (left_by key (w.holds key) front)
+            ≡ (z.effect key).leaves (left_by key (w.holds key) front)) (sym a_is)
+            (sym (stands.leaves key (left_by key (w.holds key) front) fits));
+      },
+    )
 
 updated_cons : (w : Choice) (cut : ℕ) (more front back new : List KeyedCall) (a z : KeyedCall) → AreDistinct (a ∷ back) → KeepPrecedence (a ∷ back)
     → IsPlaced w cut more front a z → AreUpdated w cut more (front ++ a ∷ []) back new → AreUpdated w cut more front (a ∷ back) (z ∷ new)
@@ -158,6 +160,7 @@ updated_cons w cut more front back new a z distinct keep placed updated = record
   where
     on : (key : ℕ) → left_by key (w.holds key) (front ++ a ∷ []) ≡ (z.effect key).leaves (left_by key (w.holds key) front)
     on key = left_by-append key (w.holds key) front (a ∷ []) ∙ sym (placed.leaves key)
+
     still : (y x : KeyedCall) → (precedes y z ≡ true) ⊎ (precedes y z ≡ false) → IsUpdate w cut more x y → precedes x a ≡ false
         → precedes y z ≡ false
     still y x (inr not) is old = not
@@ -169,22 +172,27 @@ updated_cons w cut more front back new a z distinct keep placed updated = record
 pub updated : (keys : Keys) (place cut : ℕ) (w next : Choice) (calls more walk order early late : List KeyedCall)
     → Reached keys place cut w next calls more walk order early late → (back front : List KeyedCall) → walk ≡ front ++ back
     → (new : List KeyedCall) × AreUpdated w cut more front back new
-updated keys place cut w next calls more walk order early late r [] front parts = ([], record {
-  from = λ z z_in. absurd (Contains-nil z z_in);
-  to = λ a a_in. absurd (Contains-nil a a_in);
-  distinct = AllPairs-nil (λ x y. x.inv ≢ y.inv);
-  keep = AllPairs-nil (λ x y. precedes y x ≡ false);
-  fit = λ key. tt;
-  left = λ key. refl;
-})
+updated keys place cut w next calls more walk order early late r [] front parts = (
+  [],
+  record {
+    from = λ z z_in. absurd (Contains-nil z z_in);
+    to = λ a a_in. absurd (Contains-nil a a_in);
+    distinct = AllPairs-nil (λ x y. x.inv ≢ y.inv);
+    keep = AllPairs-nil (λ x y. precedes y x ≡ false);
+    fit = λ key. tt;
+    left = λ key. refl;
+  },
+)
 updated keys place cut w next calls more walk order early late r (a ∷ back) front parts =
     let (z, placed) = update_of keys place cut w next calls more walk order early late r front back a parts in
     let (new, rest) = updated keys place cut w next calls more walk order early late r back (front ++ a ∷ [])
-        (parts ∙ sym (append_assoc front (a ∷ []) back)) in
+    (parts ∙ sym (append_assoc front (a ∷ []) back)) in
     let whole_distinct : AreDistinct (front ++ a ∷ back) = subst (λ (xs : List KeyedCall). AreDistinct xs) parts r.is_walk.distinct in
-    let whole_keep : KeepPrecedence (front ++ a ∷ back) = subst (λ (xs : List KeyedCall). KeepPrecedence xs) parts r.is_walk.precedence in
-    (z ∷ new, updated_cons w cut more front back new a z (AllPairs-back (λ x y. x.inv ≢ y.inv) front (a ∷ back) whole_distinct)
-    (AllPairs-back (λ x y. precedes y x ≡ false) front (a ∷ back) whole_keep) placed rest)
+    let whole_keep : KeepPrecedence (front ++ a ∷ back) = subst (λ (xs : List KeyedCall). KeepPrecedence xs) parts r.is_walk.precedence in (
+      z ∷ new,
+      updated_cons w cut more front back new a z (AllPairs-back (λ x y. x.inv ≢ y.inv) front (a ∷ back) whole_distinct)
+          (AllPairs-back (λ x y. precedes y x ≡ false) front (a ∷ back) whole_keep) placed rest,
+    )
 
 -- what the order has of a call that is not of the walk: what was left of it before
 pub record IsOther (w : Choice) (more walk : List KeyedCall) (x : KeyedCall) : Type 0 where
@@ -236,41 +244,50 @@ pub record AreOthers (w : Choice) (more walk xs left : List KeyedCall) : Type 0 
 pub leave_out : (w : Choice) (more walk xs : List KeyedCall)
     → ((x : KeyedCall) → Contains xs x → ((has_call walk x.inv ≡ true) × HasNone x) ⊎ IsOther w more walk x) → AreDistinct xs → KeepPrecedence xs
     → (left : List KeyedCall) × AreOthers w more walk xs left
-leave_out w more walk [] each distinct keep = ([], record {
-  from = λ x x_in. absurd (Contains-nil x x_in);
-  to = λ x x_in. absurd (Contains-nil x x_in);
-  distinct = distinct;
-  keep = keep;
-  fit = λ key value fit. tt;
-})
+leave_out w more walk [] each distinct keep = (
+  [],
+  record {
+    from = λ x x_in. absurd (Contains-nil x x_in);
+    to = λ x x_in. absurd (Contains-nil x x_in);
+    distinct = distinct;
+    keep = keep;
+    fit = λ key value fit. tt;
+  },
+)
 leave_out w more walk (x ∷ xs) each distinct keep =
     let (left, rest) = leave_out w more walk xs (λ y y_in. each y (Contains-later x xs y y_in)) (AllPairs-tail (λ y z. y.inv ≢ z.inv) x xs distinct)
-        (AllPairs-tail (λ y z. precedes z y ≡ false) x xs keep) in
+    (AllPairs-tail (λ y z. precedes z y ≡ false) x xs keep) in
     ⊎_elim
-    (λ out. (left, record {
-      from = λ y y_in. let (y_old, other) = rest.from y y_in in (Contains-later x xs y y_old, other);
-      to = λ y y_in. ⊎_elim (λ same. inl (subst (λ (z : KeyedCall). has_call walk z.inv ≡ true) same out.0)) (λ later. rest.to y later)
-          (Contains-cases x xs y y_in);
-      distinct = rest.distinct;
-      keep = rest.keep;
-      fit = λ key value fit. rest.fit key value (subst (λ (v : Option ℕ). FitInTurn key v xs) ((out.1 key).leaves value) fit.1);
-    }))
-    (λ other. (x ∷ left, record {
-      from = λ y y_in. ⊎_elim
-          (λ same. (subst (λ (z : KeyedCall). Contains (x ∷ xs) z) same (Contains-first x xs), subst (λ (z : KeyedCall). IsOther w more walk z) same other))
-          (λ later. let (y_old, y_other) = rest.from y later in (Contains-later x xs y y_old, y_other)) (Contains-cases x left y y_in);
-      to = λ y y_in. ⊎_elim (λ same. inr (subst (λ (z : KeyedCall). Contains (x ∷ left) z) same (Contains-first x left)))
-          (λ later. ⊎_elim (λ taken. inl taken) (λ found. inr (Contains-later x left y found)) (rest.to y later)) (Contains-cases x xs y y_in);
-      distinct = AllPairs-cons (λ y z. y.inv ≢ z.inv) x left
-          (All-from_contains (λ z. x.inv ≢ z.inv) left (λ z z_in.
-          All-contains (λ y. x.inv ≢ y.inv) xs z (AllPairs-head (λ y a. y.inv ≢ a.inv) x xs distinct) (rest.from z z_in).0))
-          rest.distinct;
-      keep = AllPairs-cons (λ y z. precedes z y ≡ false) x left
-          (All-from_contains (λ z. precedes z x ≡ false) left (λ z z_in.
-          All-contains (λ y. precedes y x ≡ false) xs z (AllPairs-head (λ y a. precedes a y ≡ false) x xs keep) (rest.from z z_in).0))
-          rest.keep;
-      fit = λ key value fit. (fit.0, rest.fit key ((x.effect key).leaves value) fit.1);
-    }))
+    (λ out. (
+      left,
+      record {
+        from = λ y y_in. let (y_old, other) = rest.from y y_in in (Contains-later x xs y y_old, other);
+        to = λ y y_in. ⊎_elim (λ same. inl (subst (λ (z : KeyedCall). has_call walk z.inv ≡ true) same out.0)) (λ later. rest.to y later)
+            (Contains-cases x xs y y_in);
+        distinct = rest.distinct;
+        keep = rest.keep;
+        fit = λ key value fit. rest.fit key value (subst (λ (v : Option ℕ). FitInTurn key v xs) ((out.1 key).leaves value) fit.1);
+      },
+    ))
+    (λ other. (
+      x ∷ left,
+      record {
+        from = λ y y_in. ⊎_elim
+            (λ same. (subst (λ (z : KeyedCall). Contains (x ∷ xs) z) same (Contains-first x xs), subst (λ (z : KeyedCall). IsOther w more walk z) same other))
+            (λ later. let (y_old, y_other) = rest.from y later in (Contains-later x xs y y_old, y_other)) (Contains-cases x left y y_in);
+        to = λ y y_in. ⊎_elim (λ same. inr (subst (λ (z : KeyedCall). Contains (x ∷ left) z) same (Contains-first x left)))
+            (λ later. ⊎_elim (λ taken. inl taken) (λ found. inr (Contains-later x left y found)) (rest.to y later)) (Contains-cases x xs y y_in);
+        distinct = AllPairs-cons (λ y z. y.inv ≢ z.inv) x left
+            (All-from_contains (λ z. x.inv ≢ z.inv) left (λ z z_in.
+            All-contains (λ y. x.inv ≢ y.inv) xs z (AllPairs-head (λ y a. y.inv ≢ a.inv) x xs distinct) (rest.from z z_in).0))
+            rest.distinct;
+        keep = AllPairs-cons (λ y z. precedes z y ≡ false) x left
+            (All-from_contains (λ z. precedes z x ≡ false) left (λ z z_in.
+            All-contains (λ y. precedes y x ≡ false) xs z (AllPairs-head (λ y a. precedes a y ≡ false) x xs keep) (rest.from z z_in).0))
+            rest.keep;
+        fit = λ key value fit. (fit.0, rest.fit key ((x.effect key).leaves value) fit.1);
+      },
+    ))
     (each x (Contains-first x xs))
 
 -- calls that began before the cut, without those of the walk: such as have no effect at the keys, and such as did not end before it and
@@ -323,8 +340,11 @@ part_ended : (keys : Keys) (cut : ℕ) (w : Choice) (more walk : List KeyedCall)
     → AreParted keys cut w more walk xs ended over → AreParted keys cut w more walk (x ∷ xs) (x ∷ ended) over
 part_ended keys cut w more walk x xs ended over other apart distinct keep rest = record {
   from_ended = λ y y_in. ⊎_elim
-      (λ same. (subst (λ (z : KeyedCall). Contains (x ∷ xs) z) same (Contains-first x xs), subst (λ (z : KeyedCall). IsOther w more walk z) same other,
-      subst (λ (z : KeyedCall). IsApartFrom keys z) same apart))
+      (λ same. (
+        subst (λ (z : KeyedCall). Contains (x ∷ xs) z) same (Contains-first x xs),
+        subst (λ (z : KeyedCall). IsOther w more walk z) same other,
+        subst (λ (z : KeyedCall). IsApartFrom keys z) same apart,
+      ))
       (λ later. let (y_old, y_other, y_apart) = rest.from_ended y later in (Contains-later x xs y y_old, y_other, y_apart))
       (Contains-cases x ended y y_in);
   from_over = λ y y_in. let (y_old, y_other, left) = rest.from_over y y_in in (Contains-later x xs y y_old, y_other, left);
@@ -357,8 +377,11 @@ part_over : (keys : Keys) (cut : ℕ) (w : Choice) (more walk : List KeyedCall) 
     → AreParted keys cut w more walk xs ended over → AreParted keys cut w more walk (x ∷ xs) ended (x ∷ over)
 part_over keys cut w more walk x xs ended over other left distinct keep rest = record {
   from_over = λ y y_in. ⊎_elim
-      (λ same. (subst (λ (z : KeyedCall). Contains (x ∷ xs) z) same (Contains-first x xs), subst (λ (z : KeyedCall). IsOther w more walk z) same other,
-      subst (λ (z : KeyedCall). IsLeftOver keys cut z) same left))
+      (λ same. (
+        subst (λ (z : KeyedCall). Contains (x ∷ xs) z) same (Contains-first x xs),
+        subst (λ (z : KeyedCall). IsOther w more walk z) same other,
+        subst (λ (z : KeyedCall). IsLeftOver keys cut z) same left,
+      ))
       (λ later. let (y_old, y_other, y_left) = rest.from_over y later in (Contains-later x xs y y_old, y_other, y_left))
       (Contains-cases x over y y_in);
   from_ended = λ y y_in. let (y_old, y_other, apart) = rest.from_ended y y_in in (Contains-later x xs y y_old, y_other, apart);
@@ -391,21 +414,25 @@ pub part : (keys : Keys) (cut : ℕ) (w : Choice) (more walk xs : List KeyedCall
     → ((x : KeyedCall) → Contains xs x
     → ((has_call walk x.inv ≡ true) × HasNone x) ⊎ (IsOther w more walk x × (IsApartFrom keys x ⊎ IsLeftOver keys cut x)))
     → AreDistinct xs → KeepPrecedence xs → (ended : List KeyedCall) × (over : List KeyedCall) × AreParted keys cut w more walk xs ended over
-part keys cut w more walk [] each distinct keep = ([], [], record {
-  from_ended = λ x x_in. absurd (Contains-nil x x_in);
-  from_over = λ x x_in. absurd (Contains-nil x x_in);
-  to = λ x x_in. absurd (Contains-nil x x_in);
-  distinct_ended = distinct;
-  distinct_over = distinct;
-  apart = λ x y x_in y_in. absurd (Contains-nil x x_in);
-  keep_ended = keep;
-  keep_over = keep;
-  fit_ended = λ key value is fit. (tt, refl);
-  fit_over = λ key value is fit. (tt, refl);
-})
+part keys cut w more walk [] each distinct keep = (
+  [],
+  [],
+  record {
+    from_ended = λ x x_in. absurd (Contains-nil x x_in);
+    from_over = λ x x_in. absurd (Contains-nil x x_in);
+    to = λ x x_in. absurd (Contains-nil x x_in);
+    distinct_ended = distinct;
+    distinct_over = distinct;
+    apart = λ x y x_in y_in. absurd (Contains-nil x x_in);
+    keep_ended = keep;
+    keep_over = keep;
+    fit_ended = λ key value is fit. (tt, refl);
+    fit_over = λ key value is fit. (tt, refl);
+  },
+)
 part keys cut w more walk (x ∷ xs) each distinct keep =
     let (ended, over, rest) = part keys cut w more walk xs (λ y y_in. each y (Contains-later x xs y y_in))
-        (AllPairs-tail (λ y z. y.inv ≢ z.inv) x xs distinct) (AllPairs-tail (λ y z. precedes z y ≡ false) x xs keep) in
+    (AllPairs-tail (λ y z. y.inv ≢ z.inv) x xs distinct) (AllPairs-tail (λ y z. precedes z y ≡ false) x xs keep) in
     ⊎_elim
     (λ out. (ended, over, part_out keys cut w more walk x xs ended over out.0 out.1 rest))
     (λ other. ⊎_elim
@@ -424,11 +451,14 @@ early_cases keys place cut w next calls more walk order early late r x x_in begu
   where
     inv_of : (other : IsOther w more walk x) → x.inv ≡ other.call.inv
     inv_of other = ap (λ (z : KeyedCall). z.inv) other.is
+
     none_here : (other : IsOther w more walk x) → (key : ℕ) → IsNoEffect ((rest_of w other.call).effect key) → IsNoEffect (x.effect key)
     none_here other key none = subst (λ (z : KeyedCall). IsNoEffect (z.effect key)) (sym other.is) none
+
     outside : (other : IsOther w more walk x) → IsOutside keys (rest_of w other.call) → IsApartFrom keys x
     outside other is key in_keys = none_here other key
         (outside_none keys w other.call (All-contains IsFormed more other.call r.grown.formed other.in_more) is key in_keys)
+
     left : (other : IsOther w more walk x) (b : KeyedCall) → IsLater place b other.call → IsWithin keys (rest_of w b)
         → ends_before b.res cut ≡ false → IsLeftOver keys cut x
     left other b later within not = record {
@@ -440,6 +470,7 @@ early_cases keys place cut w next calls more walk order early late r x x_in begu
       where
         res_of : x.res ≡ other.call.res
         res_of = ap (λ (z : KeyedCall). z.res) other.is
+
         open_at : (at : ℕ) → at < cut → (ends_before x.res at ≡ true) ⊎ (ends_before x.res at ≡ false) → ends_before x.res at ≡ false
         open_at at before (inr is) = is
         open_at at before (inl is) =
@@ -450,22 +481,25 @@ early_cases keys place cut w next calls more walk order early late r x x_in begu
             let never : ends_before b.res cut ≡ true = ends_sooner b.res at cut (omega arith) here in cc)
             (λ answered. absurd (answered_never place cut b other.call r.less answered at before there))
             later.response
+
     ended : (other : IsOther w more walk x) (b : KeyedCall) → Contains calls b → IsLater place b other.call → IsWithin keys (rest_of w b)
         → ends_before b.res cut ≡ true → IsApartFrom keys x
     ended other b b_in later within is key in_keys =
         let same : other.call ≡ b = ⊎_elim (λ is_same. is_same)
-            (λ answered. absurd (pending_never b.res cut answered.pending is)) later.response in
+        (λ answered. absurd (pending_never b.res cut answered.pending is)) later.response in
         ⊎_elim
         (λ walked.
         let named : has_call walk b.inv ≡ true = named_in walk (rest_of w b) walked in
         let untaken : has_call walk b.inv ≡ false = subst (λ (n : ℕ). has_call walk n ≡ false) (inv_of other ∙ later.inv) other.untaken in cc)
         (λ none. none_here other key (subst (λ (z : KeyedCall). IsNoEffect ((rest_of w z).effect key)) (sym same) (none key in_keys)))
         (r.takes b b_in is)
+
     by_parts : (other : IsOther w more walk x) (b : KeyedCall) → Contains calls b → IsLater place b other.call
         → IsWithin keys (rest_of w b) ⊎ IsOutside keys (rest_of w b) → IsApartFrom keys x ⊎ IsLeftOver keys cut x
     by_parts other b b_in later (inr out) = inl (outside other (outside_later keys place w b other.call later out))
     by_parts other b b_in later (inl within) =
         ⊎_elim (λ is. inl (ended other b b_in later within is)) (λ not. inr (left other b later within not)) (bool_cases (ends_before b.res cut))
+
     by_come : (other : IsOther w more walk x) → ((b : KeyedCall) × Contains calls b × IsLater place b other.call) ⊎ (place ≤ other.call.inv)
         → IsApartFrom keys x ⊎ IsLeftOver keys cut x
     by_come other (inr new) = let same : x.inv ≡ other.call.inv = inv_of other in let less : cut ≤ place = r.less in absurd (omega arith)
@@ -479,9 +513,10 @@ all_none : (key : ℕ) (value : Option ℕ) (xs : List KeyedCall) → ((y : Keye
 all_none key value [] none = (tt, refl)
 all_none key value (x ∷ xs) none =
     let here : IsNoEffect (x.effect key) = none x (Contains-first x xs) in
-    let rest = all_none key value xs (λ y y_in. none y (Contains-later x xs y y_in)) in
-    ((here.fits value, subst (λ (v : Option ℕ). FitInTurn key v xs) (sym (here.leaves value)) rest.0),
-    ap (λ (v : Option ℕ). left_by key v xs) (here.leaves value) ∙ rest.1)
+    let rest = all_none key value xs (λ y y_in. none y (Contains-later x xs y y_in)) in (
+      (here.fits value, subst (λ (v : Option ℕ). FitInTurn key v xs) (sym (here.leaves value)) rest.0),
+      ap (λ (v : Option ℕ). left_by key v xs) (here.leaves value) ∙ rest.1,
+    )
 
 -- the order that is made: those that ended before the cut with the walk, then those left over, then the others
 pub record Making (keys : Keys) (place cut : ℕ) (w next : Choice) (calls more walk order early late new ended over merged rest : List KeyedCall)
@@ -492,9 +527,6 @@ pub record Making (keys : Keys) (place cut : ℕ) (w next : Choice) (calls more 
   pub both : AreMerged ended new merged
   pub others : AreOthers w more walk late rest
 
-
-
-
 order_parts : (keys : Keys) (place cut : ℕ) (w next : Choice) (calls more walk order early late new ended over merged rest : List KeyedCall)
     → Making keys place cut w next calls more walk order early late new ended over merged rest → (key : ℕ)
     → FitInTurn key (w.holds key) (merged ++ (over ++ rest))
@@ -504,30 +536,38 @@ order_parts keys place cut w next calls more walk order early late new ended ove
   where
     whole : FitInTurn key (next.holds key) (early ++ late)
     whole = subst (λ (xs : List KeyedCall). FitInTurn key (next.holds key) xs) m.reached.split.parts (m.reached.is_order.fit key)
+
     first : FitInTurn key (next.holds key) early
     first = fit-front key (next.holds key) early late whole
+
     second : FitInTurn key (left_by key (next.holds key) early) late
     second = fit-back key (next.holds key) early late whole
+
     here : keys key ≡ true → FitInTurn key (w.holds key) merged × FitInTurn key (left_by key (w.holds key) merged) over
         × FitInTurn key (left_by key (left_by key (w.holds key) merged) over) rest
     here is =
         let (fits, left) = m.both.as_right key (w.holds key) (λ x x_in. (m.parted.from_ended x x_in).2 key is) (m.updated.fit key) in
         let at : left_by key (w.holds key) merged ≡ next.holds key = left ∙ m.updated.left key ∙ sym (m.reached.after.holds key) in
-        let (over_fits, over_left) = m.parted.fit_over key (next.holds key) is first in
-        (fits, subst (λ (v : Option ℕ). FitInTurn key v over) (sym at) over_fits,
-        subst (λ (v : Option ℕ). FitInTurn key v rest) (sym over_left ∙ ap (λ (v : Option ℕ). left_by key v over) (sym at))
-        (m.others.fit key (left_by key (next.holds key) early) second))
+        let (over_fits, over_left) = m.parted.fit_over key (next.holds key) is first in (
+          fits,
+          subst (λ (v : Option ℕ). FitInTurn key v over) (sym at) over_fits,
+          subst (λ (v : Option ℕ). FitInTurn key v rest) (sym over_left ∙ ap (λ (v : Option ℕ). left_by key v over) (sym at))
+              (m.others.fit key (left_by key (next.holds key) early) second),
+        )
+
     elsewhere : keys key ≡ false → FitInTurn key (w.holds key) merged × FitInTurn key (left_by key (w.holds key) merged) over
         × FitInTurn key (left_by key (left_by key (w.holds key) merged) over) rest
     elsewhere is =
         let same : next.holds key ≡ w.holds key = m.reached.after.holds key ∙ none_left key walk (w.holds key) (λ a a_in. walk_none a a_in) in
         let (ended_fits, ended_left) = m.parted.fit_ended key (w.holds key) is (subst (λ (v : Option ℕ). FitInTurn key v early) same first) in
         let (fits, left) = m.both.as_left key (w.holds key) (λ y y_in. new_none y y_in) ended_fits in
-        let (over_fits, over_left) = all_none key (left_by key (w.holds key) merged) over (λ x x_in. (m.parted.from_over x x_in).2.within key is) in
-        (fits, over_fits,
-        subst (λ (v : Option ℕ). FitInTurn key v rest)
-        (ap (λ (v : Option ℕ). left_by key v early) same ∙ sym ended_left ∙ sym left ∙ sym over_left)
-        (m.others.fit key (left_by key (next.holds key) early) second))
+        let (over_fits, over_left) = all_none key (left_by key (w.holds key) merged) over (λ x x_in. (m.parted.from_over x x_in).2.within key is) in (
+          fits,
+          over_fits,
+          subst (λ (v : Option ℕ). FitInTurn key v rest)
+              (ap (λ (v : Option ℕ). left_by key v early) same ∙ sym ended_left ∙ sym left ∙ sym over_left)
+              (m.others.fit key (left_by key (next.holds key) early) second),
+        )
       where
         walk_none : (a : KeyedCall) → Contains walk a → IsNoEffect (a.effect key)
         walk_none a a_in =
@@ -535,12 +575,13 @@ order_parts keys place cut w next calls more walk order early late new ended ove
             subst (λ (z : KeyedCall). IsNoEffect (z.effect key)) (sym a_is)
             (within_none keys w b (All-contains IsFormed calls b m.reached.formed b_in)
             (subst (λ (z : KeyedCall). IsWithin keys z) a_is (All-contains (IsWithin keys) walk a m.reached.is_walk.within a_in)) key is)
+
         new_none : (z : KeyedCall) → Contains new z → IsNoEffect (z.effect key)
         new_none z z_in =
             let (a, a_in, update) = m.updated.from z z_in in
             let (b, b_in, a_is, b_early, b_accepted) = m.reached.is_walk.known a a_in in
             let d_inv : update.later.inv ≡ b.inv =
-                ap (λ (c : KeyedCall). c.inv) (sym update.is) ∙ update.inv ∙ ap (λ (c : KeyedCall). c.inv) a_is in
+            ap (λ (c : KeyedCall). c.inv) (sym update.is) ∙ update.inv ∙ ap (λ (c : KeyedCall). c.inv) a_is in
             subst (λ (c : KeyedCall). IsNoEffect (c.effect key)) (sym update.is)
             (within_none keys w update.later (All-contains IsFormed more update.later m.reached.grown.formed update.in_more)
             (by_come update.later b b_in d_inv b_early
@@ -553,6 +594,7 @@ order_parts keys place cut w next calls more walk order early late new ended ove
                 let one : b ≡ old.0 = same_call calls b old.0 m.reached.grown.alone b_in old.1 (sym same ∙ old.2.inv) in
                 within_later keys place w old.0 d old.2 (subst (λ (c : KeyedCall). IsWithin keys (rest_of w c)) one within)
             by_come d b b_in same begun within (inr new_one) = let less : cut ≤ place = m.reached.less in absurd (omega arith)
+
     by_key : (keys key ≡ true) ⊎ (keys key ≡ false) → FitInTurn key (w.holds key) merged × FitInTurn key (left_by key (w.holds key) merged) over
         × FitInTurn key (left_by key (left_by key (w.holds key) merged) over) rest
     by_key (inl is) = here is
@@ -599,71 +641,88 @@ order_made keys place cut w next calls more walk order early late new ended over
   where
     of_other : (z : KeyedCall) → IsOther w more walk z → Contains (map (rest_of w) more) z
     of_other z other = subst (λ (y : KeyedCall). Contains (map (rest_of w) more) y) (sym other.is) (Contains-map (rest_of w) more other.call other.in_more)
+
     of_new : (z : KeyedCall) → Contains new z → Contains (map (rest_of w) more) z
     of_new z z_in =
         let (a, a_in, update) = m.updated.from z z_in in
         subst (λ (y : KeyedCall). Contains (map (rest_of w) more) y) (sym update.is) (Contains-map (rest_of w) more update.later update.in_more)
+
     names : AreDistinct (early ++ late)
     names = subst (λ (xs : List KeyedCall). AreDistinct xs) m.reached.split.parts m.reached.is_order.distinct
+
     keeps : KeepPrecedence (early ++ late)
     keeps = subst (λ (xs : List KeyedCall). KeepPrecedence xs) m.reached.split.parts m.reached.is_order.precedence
+
     across_names : (x y : KeyedCall) → Contains early x → Contains late y → x.inv ≢ y.inv
     across_names x y x_in y_in = All-contains (λ b. x.inv ≢ b.inv) late y
         (All-contains (λ a. All (λ b. a.inv ≢ b.inv) late) early x (AllPairs-across (λ a b. a.inv ≢ b.inv) early late names) x_in) y_in
+
     across_keeps : (x y : KeyedCall) → Contains early x → Contains late y → precedes y x ≡ false
     across_keeps x y x_in y_in = All-contains (λ b. precedes b x ≡ false) late y
         (All-contains (λ a. All (λ b. precedes b a ≡ false) late) early x (AllPairs-across (λ a b. precedes b a ≡ false) early late keeps) x_in) y_in
+
     new_named : (x : KeyedCall) → Contains new x → has_call walk x.inv ≡ true
     new_named x x_in =
         let (a, a_in, update) = m.updated.from x x_in in
         subst (λ (n : ℕ). has_call walk n ≡ true) (sym update.inv) (named_in walk a a_in)
+
     new_apart : (x y : KeyedCall) → Contains new x → IsOther w more walk y → x.inv ≢ y.inv
     new_apart x y x_in other same =
         let taken : has_call walk y.inv ≡ true = subst (λ (n : ℕ). has_call walk n ≡ true) same (new_named x x_in) in
         let untaken : has_call walk y.inv ≡ false = other.untaken in cc
+
     new_begun : (x : KeyedCall) → Contains new x → x.inv < cut
     new_begun x x_in =
         let (a, a_in, update) = m.updated.from x x_in in subst (λ (n : ℕ). n < cut) (sym update.inv) update.begun
+
     early_begun : (x : KeyedCall) → Contains early x → x.inv < cut
     early_begun x x_in = All-contains (λ a. a.inv < cut) early x m.reached.split.begun x_in
+
     merged_begun : (x : KeyedCall) → Contains merged x → x.inv < cut
     merged_begun x x_in = ⊎_elim (λ e. early_begun x (m.parted.from_ended x e).0) (λ n. new_begun x n) (m.both.from x x_in)
+
     in_order : (x : KeyedCall) → Contains late x → Contains order x
     in_order x x_in = subst (λ (xs : List KeyedCall). Contains xs x) (sym m.reached.split.parts) (Contains-append_right early late x x_in)
+
     alone : (x : KeyedCall) → Contains order x → precedes x x ≡ false
     alone x x_in =
         let (d, d_in, d_is) = Contains-from_map (rest_of next) more x (m.reached.is_order.known x x_in) in
         subst (λ (y : KeyedCall). precedes y y ≡ false) d_is (All-contains (λ c. precedes c c ≡ false) more d m.reached.grown.apart.last d_in)
+
     not_late : (x y : KeyedCall) → Contains new x → Contains late y → (precedes y x ≡ true) ⊎ (precedes y x ≡ false) → precedes y x ≡ false
     not_late x y x_in y_in (inr not) = not
     not_late x y x_in y_in (inl before) =
         let begun : x.inv < cut = new_begun x x_in in
         let sooner : ends_before y.res cut ≡ true = ends_sooner y.res x.inv cut (omega arith) before in
         let y_early : Contains early y = ended_early cut order early late y m.reached.split m.reached.is_order.precedence (alone y (in_order y y_in))
-            sooner (in_order y y_in) in
+        sooner (in_order y y_in) in
         absurd (across_names y y y_early y_in refl)
+
     of_name : (d : KeyedCall) → Contains more d → (x : KeyedCall) → IsOther w more walk x → x.inv ≡ d.inv → x ≡ rest_of w d
     of_name d d_in x other same =
         let one : other.call ≡ d = same_call more other.call d m.reached.grown.apart.distinct other.in_more d_in
-            (ap (λ (y : KeyedCall). y.inv) (sym other.is) ∙ same) in
+        (ap (λ (y : KeyedCall). y.inv) (sym other.is) ∙ same) in
         other.is ∙ ap (λ (y : KeyedCall). rest_of w y) one
+
     of_walk : (d : KeyedCall) → Contains more d → has_call walk d.inv ≡ true → Contains (merged ++ (over ++ rest)) (rest_of w d)
     of_walk d d_in named =
         let (a, a_in, a_is) = from_named walk d.inv named in
         let (y, y_in, update) = m.updated.to a a_in in
         let one : update.later ≡ d = same_call more update.later d m.reached.grown.apart.distinct update.in_more d_in
-            (ap (λ (c : KeyedCall). c.inv) (sym update.is) ∙ update.inv ∙ a_is) in
+        (ap (λ (c : KeyedCall). c.inv) (sym update.is) ∙ update.inv ∙ a_is) in
         subst (λ (c : KeyedCall). Contains (merged ++ (over ++ rest)) c) (update.is ∙ ap (λ (c : KeyedCall). rest_of w c) one)
         (Contains-append_left merged (over ++ rest) y (m.both.right y y_in))
+
     at_name : (d : KeyedCall) → Contains more d → (x : KeyedCall) → IsOther w more walk x → x.inv ≡ d.inv
         → Contains (merged ++ (over ++ rest)) x → Contains (merged ++ (over ++ rest)) (rest_of w d)
     at_name d d_in x other same x_in =
         subst (λ (c : KeyedCall). Contains (merged ++ (over ++ rest)) c) (of_name d d_in x other same) x_in
+
     has : (d : KeyedCall) → Contains more d → is_completed (rest_of w d) ≡ true → Contains (merged ++ (over ++ rest)) (rest_of w d)
     has d d_in completed =
         let x_in : Contains order (rest_of next d) = m.reached.is_order.complete (rest_of next d) (Contains-map (rest_of next) more d d_in) completed in
         let x_there : Contains (early ++ late) (rest_of next d) =
-            subst (λ (xs : List KeyedCall). Contains xs (rest_of next d)) m.reached.split.parts x_in in
+        subst (λ (xs : List KeyedCall). Contains xs (rest_of next d)) m.reached.split.parts x_in in
         ⊎_elim
         (λ e. ⊎_elim (λ named. of_walk d d_in named)
         (λ found. ⊎_elim
@@ -700,14 +759,14 @@ order_before keys place cut w next calls more walk order early late r =
     let keeps : KeepPrecedence (early ++ late) = subst (λ (xs : List KeyedCall). KeepPrecedence xs) r.split.parts r.is_order.precedence in
     let (new, new_updated) = updated keys place cut w next calls more walk order early late r walk [] refl in
     let (ended, over, parts) = part keys cut w more walk early
-        (λ x x_in. early_cases keys place cut w next calls more walk order early late r x
-        (r.is_order.known x (subst (λ (xs : List KeyedCall). Contains xs x) (sym r.split.parts) (Contains-append_left early late x x_in)))
-        (All-contains (λ a. a.inv < cut) early x r.split.begun x_in))
-        (AllPairs-front (λ x y. x.inv ≢ y.inv) early late names) (AllPairs-front (λ x y. precedes y x ≡ false) early late keeps) in
+    (λ x x_in. early_cases keys place cut w next calls more walk order early late r x
+    (r.is_order.known x (subst (λ (xs : List KeyedCall). Contains xs x) (sym r.split.parts) (Contains-append_left early late x x_in)))
+    (All-contains (λ a. a.inv < cut) early x r.split.begun x_in))
+    (AllPairs-front (λ x y. x.inv ≢ y.inv) early late names) (AllPairs-front (λ x y. precedes y x ≡ false) early late keeps) in
     let (rest, others) = leave_out w more walk late
-        (λ x x_in. other_cases keys place cut w next calls more walk order early late r x
-        (r.is_order.known x (subst (λ (xs : List KeyedCall). Contains xs x) (sym r.split.parts) (Contains-append_right early late x x_in))))
-        (AllPairs-back (λ x y. x.inv ≢ y.inv) early late names) (AllPairs-back (λ x y. precedes y x ≡ false) early late keeps) in
+    (λ x x_in. other_cases keys place cut w next calls more walk order early late r x
+    (r.is_order.known x (subst (λ (xs : List KeyedCall). Contains xs x) (sym r.split.parts) (Contains-append_right early late x x_in))))
+    (AllPairs-back (λ x y. x.inv ≢ y.inv) early late names) (AllPairs-back (λ x y. precedes y x ≡ false) early late keeps) in
     let (merged, both) = merge ended new (record {
       distinct_left = parts.distinct_ended;
       distinct_right = new_updated.distinct;
@@ -725,14 +784,16 @@ order_before keys place cut w next calls more walk order early late r =
           let (a, a_in, update) = new_updated.from y y_in in
           subst (λ (z : KeyedCall). precedes z z ≡ false) (sym update.is)
           (All-contains (λ c. precedes c c ≡ false) more update.later r.grown.apart.last update.in_more);
-    }) in
-    (merged ++ (over ++ rest), order_made keys place cut w next calls more walk order early late new ended over merged rest (record {
-      reached = r;
-      updated = new_updated;
-      parted = parts;
-      both = both;
-      others = others;
-    }))
+    }) in (
+      merged ++ (over ++ rest),
+      order_made keys place cut w next calls more walk order early late new ended over merged rest (record {
+        reached = r;
+        updated = new_updated;
+        parted = parts;
+        both = both;
+        others = others;
+      }),
+    )
 
 pub below_cuts : CutsStandBelow
 below_cuts held place cut keys calls choices nexts less formed parted reached below more grown some =
@@ -751,5 +812,11 @@ below_cuts held place cut keys calls choices nexts less formed parted reached be
       is_order = goes_on.1.1;
       split = split;
     } in
-    below more grown (w, w_in, (agrees_before keys place cut w next calls more walk goes_on.1.0 early late r,
-    order_before keys place cut w next calls more walk goes_on.1.0 early late r))
+    below more grown (
+      w,
+      w_in,
+      (
+        agrees_before keys place cut w next calls more walk goes_on.1.0 early late r,
+        order_before keys place cut w next calls more walk goes_on.1.0 early late r,
+      ),
+    )

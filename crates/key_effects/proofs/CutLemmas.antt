@@ -1,18 +1,12 @@
 -- Walks up to a past moment.
-use Rattle.std.proofs.Common.{◌≡◌, ℕ, suc, ◌<◌, ◌≤◌, Bool, true, false, not, ◌&&◌, ◌||◌, cond, List, [], ◌∷◌, ◌++◌, map, Option, Some, None, inl, inr, refl, sym, ap, ◌∙◌, subst, ⊎_elim, arith}
-use Rattle.std.specs.Prelude.{◌≢◌, ◌⊎◌, All, Contains, is_some}
-use Rattle.std.proofs.lemmas.List.Elements.{All-contains, Contains-append_left}
-use Rattle.list_laws.proofs.FilterLemmas.{Contains-map, Contains-from_map, AllPairs-map}
-use Rattle.list_laws.proofs.Lists.{All-from_contains, AllPairs-front}
-use Rattle.key_effects.specs.KeyedCalls.{KeyedCall, Effect, no_effect, IsNoEffect, IsFormed, ends_before, precedes, is_completed}
-use Rattle.key_effects.specs.KeyedOrders.{FitInTurn, left_by, AreDistinct, KeepPrecedence, IsKeyedOrder, HasKeyedOrder}
-use Rattle.key_effects.specs.Growth.{IsAnsweredAs, IsLater, HaveGrown}
-use Rattle.key_effects.specs.Choices.{Choice, Choices, rest_of, Agrees, GoesOn}
-use Rattle.key_effects.specs.Cuts.{Keys, IsWithin, IsOutside, IsWalk, TakesAllEnded, ArePartedAt}
+use Rattle.std.proofs.Common.{◌≡◌, ℕ, Bool, true, false, not, ◌&&◌, cond, List, [], ◌∷◌, map, Option, inl, inr, refl}
+use Rattle.std.specs.Prelude.{◌⊎◌}
+use Rattle.key_effects.specs.KeyedCalls.{KeyedCall, Effect, no_effect, IsNoEffect, IsFormed}
+use Rattle.key_effects.specs.KeyedOrders.{FitInTurn}
+use Rattle.key_effects.specs.Choices.{Choice, rest_of}
+use Rattle.key_effects.specs.Cuts.{Keys, IsWithin, IsOutside}
 use Rattle.key_effects.specs.Apart.{only}
-use Rattle.key_effects.proofs.OrderLemmas.{same_call, ends_at, IsSplitAt, split_at, ended_early}
-use Rattle.key_effects.proofs.RestLemmas.{none_none, none_or, refused_none, later_stands}
-use Rattle.key_effects.proofs.TurnLemmas.{StandsFor, HasNone, GoesOver, AreOver, fit-front, go_over}
+use Rattle.key_effects.proofs.RestLemmas.{none_none}
 
 bool_cases : (b : Bool) → (b ≡ true) ⊎ (b ≡ false)
 bool_cases true = inl refl
@@ -30,9 +24,11 @@ fit_only keys key calls value fit = by_key (bool_cases (keys key)) calls value f
     same : keys key ≡ true → (xs : List KeyedCall) (v : Option ℕ) → FitInTurn key v xs → FitInTurn key v (map (only keys) xs)
     same is [] v fits = tt
     same is (x ∷ xs) v fits = rw is (fits.0, same is xs ((x.effect key).leaves v) fits.1)
+
     none : keys key ≡ false → (xs : List KeyedCall) (v : Option ℕ) → FitInTurn key v (map (only keys) xs)
     none is [] v = tt
     none is (x ∷ xs) v = rw is (refl, none is xs v)
+
     by_key : (keys key ≡ true) ⊎ (keys key ≡ false) → (xs : List KeyedCall) (v : Option ℕ) → FitInTurn key v xs → FitInTurn key v (map (only keys) xs)
     by_key (inl is) xs v fits = same is xs v fits
     by_key (inr is) xs v fits = none is xs v

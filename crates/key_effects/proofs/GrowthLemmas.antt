@@ -1,8 +1,7 @@
 -- Calls that grow.
-use Rattle.std.proofs.Common.{◌≡◌, ℕ, ◌<◌, ◌≤◌, true, false, List, Option, Some, inl, inr, refl, sym, ◌∙◌, subst, ⊎_elim, arith}
-use Rattle.std.specs.Prelude.{All, Contains}
-use Rattle.key_effects.specs.KeyedCalls.{KeyedCall, Effect, is_completed}
-use Rattle.key_effects.specs.Growth.{LeaveTheSame, IsAnsweredAs, IsLater, HaveGrown}
+use Rattle.std.proofs.Common.{◌≡◌, ℕ, ◌≤◌, inl, inr, sym, ◌∙◌, subst, ⊎_elim, arith}
+use Rattle.key_effects.specs.KeyedCalls.{KeyedCall}
+use Rattle.key_effects.specs.Growth.{IsAnsweredAs, IsLater}
 use Rattle.key_effects.specs.Laws.{GrowthGoesOn}
 
 -- an answer after a later place is one after an earlier

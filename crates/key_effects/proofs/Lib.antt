@@ -11,3 +11,6 @@ pub mod AboveLemmas
 pub mod MergeLemmas
 pub mod BelowLemmas
 pub mod ApartLemmas
+pub mod EffectLemmas
+pub mod BridgeLemmas
+pub mod GrowLemmas

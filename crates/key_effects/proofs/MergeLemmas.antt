@@ -1,15 +1,13 @@
 -- Two lists of calls that keep precedence are merged into one that does: no list has effects at the keys of the other.
-use Rattle.std.proofs.Common.{◌≡◌, ℕ, zero, suc, ◌+◌, ◌<◌, ◌≤◌, Bool, true, false, List, [], ◌∷◌, ◌++◌, length, Option, Some, None, inl, inr, refl, sym, ap, ◌∙◌, subst, ⊎_elim, arith}
-use Rattle.std.specs.Prelude.{◌≢◌, ◌⊎◌, All, AllPairs, Contains, filter}
-use Rattle.std.specs.List.{list_any}
-use Rattle.std.proofs.lemmas.Bool.{ltb-true, ltb-false, lt-ltb}
+use Rattle.std.proofs.Common.{◌≡◌, ℕ, zero, suc, ◌+◌, ◌<◌, ◌≤◌, Bool, true, false, List, [], ◌∷◌, length, Option, Some, None, inl, inr, refl, sym, ap, ◌∙◌, subst, ⊎_elim, arith}
+use Rattle.std.specs.Prelude.{◌≢◌, ◌⊎◌, Contains, filter}
+use Rattle.std.proofs.lemmas.Bool.{ltb-true, ltb-false}
 use Rattle.std.proofs.lemmas.List.Elements.{All-contains}
 use Rattle.std.proofs.lemmas.List.Kept.{AllPairs-cons}
-use Rattle.list_laws.proofs.Lists.{AllPairs-nil, AllPairs-head, AllPairs-tail, All-from_contains, Contains-nil, Contains-first, Contains-later, Contains-cases, filter_all, filter_none}
+use Rattle.list_laws.proofs.Lists.{AllPairs-head, AllPairs-tail, All-from_contains, Contains-nil, Contains-first, Contains-later, Contains-cases, filter_all, filter_none}
 use Rattle.key_effects.specs.KeyedCalls.{KeyedCall, IsNoEffect, ends_before, precedes}
 use Rattle.key_effects.specs.KeyedOrders.{FitInTurn, left_by, AreDistinct, KeepPrecedence}
 use Rattle.key_effects.proofs.DeadLemmas.{bool_cases}
-use Rattle.key_effects.proofs.OrderLemmas.{ends_sooner}
 
 -- the calls of both, with what they are at a key where the others are nothing
 pub record AreMerged (xs ys zs : List KeyedCall) : Type 0 where
@@ -91,9 +89,10 @@ left_first x xs ys zs may first merged = record {
       let rest = merged.as_left key ((x.effect key).leaves value) none fit.1 in ((fit.0, rest.0), rest.1);
   as_right = λ key value none fit.
       let here : IsNoEffect (x.effect key) = none x (Contains-first x xs) in
-      let rest = merged.as_right key value (λ a a_in. none a (Contains-later x xs a a_in)) fit in
-      ((here.fits value, subst (λ (v : Option ℕ). FitInTurn key v zs) (sym (here.leaves value)) rest.0),
-      ap (λ (v : Option ℕ). left_by key v zs) (here.leaves value) ∙ rest.1);
+      let rest = merged.as_right key value (λ a a_in. none a (Contains-later x xs a a_in)) fit in (
+        (here.fits value, subst (λ (v : Option ℕ). FitInTurn key v zs) (sym (here.leaves value)) rest.0),
+        ap (λ (v : Option ℕ). left_by key v zs) (here.leaves value) ∙ rest.1,
+      );
   left_in_turn = λ p yes no.
       let here : p x ≡ true = yes x (Contains-first x xs) in
       rw here (ap (λ (zs2 : List KeyedCall). x ∷ zs2) (merged.left_in_turn p (λ a a_in. yes a (Contains-later x xs a a_in)) no));
@@ -155,9 +154,10 @@ merged_none ys may = record {
     all_none key value [] none = (tt, refl)
     all_none key value (x ∷ xs) none =
         let here : IsNoEffect (x.effect key) = none x (Contains-first x xs) in
-        let rest = all_none key value xs (λ y y_in. none y (Contains-later x xs y y_in)) in
-        ((here.fits value, subst (λ (v : Option ℕ). FitInTurn key v xs) (sym (here.leaves value)) rest.0),
-        ap (λ (v : Option ℕ). left_by key v xs) (here.leaves value) ∙ rest.1)
+        let rest = all_none key value xs (λ y y_in. none y (Contains-later x xs y y_in)) in (
+          (here.fits value, subst (λ (v : Option ℕ). FitInTurn key v xs) (sym (here.leaves value)) rest.0),
+          ap (λ (v : Option ℕ). left_by key v xs) (here.leaves value) ∙ rest.1,
+        )
 
 -- where some call of the second list precedes the first of the first, none of the first precedes the first of the second
 second_first : (x y : KeyedCall) (xs ys : List KeyedCall) → MayMerge (x ∷ xs) (y ∷ ys)
@@ -180,10 +180,12 @@ merge_by (suc n) (x ∷ xs) (y ∷ ys) less may =
     ⊎_elim
     (λ some.
     let may_y = may_rest y ys (x ∷ xs) (may_turn (x ∷ xs) (y ∷ ys) may) in
-    let (zs, merged) = merge_by n (x ∷ xs) ys (omega arith) (may_turn ys (x ∷ xs) may_y) in
-    (y ∷ zs, turned (y ∷ ys) (x ∷ xs) (y ∷ zs)
-    (left_first y ys (x ∷ xs) zs (may_turn (x ∷ xs) (y ∷ ys) may) (λ a a_in. second_first x y xs ys may some a a_in)
-    (turned (x ∷ xs) ys zs merged))))
+    let (zs, merged) = merge_by n (x ∷ xs) ys (omega arith) (may_turn ys (x ∷ xs) may_y) in (
+      y ∷ zs,
+      turned (y ∷ ys) (x ∷ xs) (y ∷ zs)
+          (left_first y ys (x ∷ xs) zs (may_turn (x ∷ xs) (y ∷ ys) may) (λ a a_in. second_first x y xs ys may some a a_in)
+          (turned (x ∷ xs) ys zs merged)),
+    ))
     (λ none.
     let (zs, merged) = merge_by n xs (y ∷ ys) (omega arith) (may_rest x xs (y ∷ ys) may) in
     (x ∷ zs, left_first x xs (y ∷ ys) zs may none merged))

@@ -1,10 +1,10 @@
 -- Orders of calls, up to a place.
-use Rattle.std.proofs.Common.{◌≡◌, ℕ, suc, ◌<◌, ◌≤◌, Bool, true, false, nat_lt, List, [], ◌∷◌, ◌++◌, Option, Some, None, inl, inr, refl, sym, ap, ◌∙◌, subst, ⊎_elim, arith}
-use Rattle.std.specs.Prelude.{◌≢◌, ◌⊎◌, All, AllPairs, Contains, is_some}
+use Rattle.std.proofs.Common.{◌≡◌, ℕ, ◌<◌, ◌≤◌, Bool, true, false, nat_lt, List, [], ◌∷◌, ◌++◌, Option, Some, None, inl, inr, refl, sym, ap, ◌∙◌, subst, ⊎_elim, arith}
+use Rattle.std.specs.Prelude.{◌≢◌, ◌⊎◌, All, Contains}
 use Rattle.std.proofs.lemmas.Bool.{ltb-true, ltb-false, lt-ltb}
-use Rattle.std.proofs.lemmas.List.Elements.{All-nil, All-cons, All-head, All-tail, All-contains, Contains-append_cases}
+use Rattle.std.proofs.lemmas.List.Elements.{All-nil, All-cons, All-contains, Contains-append_cases}
 use Rattle.list_laws.proofs.Lists.{AllPairs-head, AllPairs-tail, AllPairs-back, Contains-nil, Contains-cases}
-use Rattle.key_effects.specs.KeyedCalls.{KeyedCall, ends_before, precedes, is_completed}
+use Rattle.key_effects.specs.KeyedCalls.{KeyedCall, ends_before, precedes}
 use Rattle.key_effects.specs.KeyedOrders.{AreDistinct, KeepPrecedence}
 
 -- of one name there is one call
@@ -40,16 +40,24 @@ pub record IsSplitAt (place : ℕ) (order early late : List KeyedCall) : Type 0 
 split_cons : (place : ℕ) (a : KeyedCall) (order : List KeyedCall) (b : Bool) → nat_lt a.inv place ≡ b
     → (early : List KeyedCall) × (late : List KeyedCall) × IsSplitAt place order early late
     → (early : List KeyedCall) × (late : List KeyedCall) × IsSplitAt place (a ∷ order) early late
-split_cons place a order true is (early, late, split) = (a ∷ early, late, record {
-  parts = ap (λ (xs : List KeyedCall). a ∷ xs) split.parts;
-  begun = All-cons (λ x. x.inv < place) a early (ltb-true a.inv place is) split.begun;
-  rest = split.rest;
-})
-split_cons place a order false is (early, late, split) = ([], a ∷ order, record {
-  parts = refl;
-  begun = All-nil (λ x. x.inv < place);
-  rest = inr (a, order, refl, ltb-false a.inv place is);
-})
+split_cons place a order true is (early, late, split) = (
+  a ∷ early,
+  late,
+  record {
+    parts = ap (λ (xs : List KeyedCall). a ∷ xs) split.parts;
+    begun = All-cons (λ x. x.inv < place) a early (ltb-true a.inv place is) split.begun;
+    rest = split.rest;
+  },
+)
+split_cons place a order false is (early, late, split) = (
+  [],
+  a ∷ order,
+  record {
+    parts = refl;
+    begun = All-nil (λ x. x.inv < place);
+    rest = inr (a, order, refl, ltb-false a.inv place is);
+  },
+)
 
 pub split_at : (place : ℕ) (order : List KeyedCall) → (early : List KeyedCall) × (late : List KeyedCall) × IsSplitAt place order early late
 split_at place [] = ([], [], record { parts = refl; begun = All-nil (λ x. x.inv < place); rest = inl refl })
@@ -76,5 +84,5 @@ ended_early place order early late a split keeps alone ended is =
         ⊎_elim
         (λ same. let itself : precedes a a ≡ true = subst (λ (y : KeyedCall). precedes a y ≡ true) same before in cc)
         (λ later. let never : precedes a x ≡ false = All-contains (λ y. precedes y x ≡ false) others a
-            (AllPairs-head (λ y z. precedes z y ≡ false) x others keeps_x) later in cc)
+        (AllPairs-head (λ y z. precedes z y ≡ false) x others keeps_x) later in cc)
         (Contains-cases x others a is_x)

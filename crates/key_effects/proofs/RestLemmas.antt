@@ -1,9 +1,8 @@
 -- What is left of calls by a choice.
-use Rattle.std.proofs.Common.{◌≡◌, ℕ, ◌<◌, ◌≤◌, Bool, true, false, cond, List, [], ◌∷◌, map, Option, Some, None, inl, inr, refl, sym, ap, ◌∙◌, subst, ⊎_elim, arith}
-use Rattle.std.specs.Prelude.{◌⊎◌, All, Contains, is_some}
-use Rattle.std.proofs.lemmas.List.Elements.{All-contains}
-use Rattle.key_effects.specs.KeyedCalls.{KeyedCall, Effect, no_effect, IsNoEffect, IsFormed, ends_before, is_completed}
-use Rattle.key_effects.specs.Growth.{LeaveTheSame, IsAnsweredAs, IsLater, HaveGrown}
+use Rattle.std.proofs.Common.{◌≡◌, ℕ, Bool, true, false, cond, Option, Some, None, refl, sym, subst, ⊎_elim}
+use Rattle.std.specs.Prelude.{is_some}
+use Rattle.key_effects.specs.KeyedCalls.{KeyedCall, Effect, no_effect, IsNoEffect, IsFormed, ends_before}
+use Rattle.key_effects.specs.Growth.{LeaveTheSame, IsAnsweredAs, IsLater}
 use Rattle.key_effects.specs.Choices.{Choice, rest_of}
 use Rattle.key_effects.proofs.TurnLemmas.{StandsFor, HasNone}
 

@@ -1,10 +1,10 @@
 -- Calls in turn at a key: parts of them, and others in their places.
-use Rattle.std.proofs.Common.{◌≡◌, ℕ, ◌<◌, ◌≤◌, Bool, true, false, List, [], ◌∷◌, ◌++◌, Option, Some, None, inl, inr, refl, sym, ap, ◌∙◌, subst, ⊎_elim, arith}
-use Rattle.std.specs.Prelude.{◌≢◌, ◌⊎◌, All, AllPairs, Contains}
-use Rattle.std.proofs.lemmas.List.Elements.{All-nil, All-cons, All-head, All-tail, All-contains, All-weaker}
+use Rattle.std.proofs.Common.{◌≡◌, ℕ, Bool, true, false, List, [], ◌∷◌, ◌++◌, Option, inl, inr, refl, sym, ap, ◌∙◌, subst, ⊎_elim}
+use Rattle.std.specs.Prelude.{◌≢◌, ◌⊎◌, All, Contains}
+use Rattle.std.proofs.lemmas.List.Elements.{All-contains}
 use Rattle.std.proofs.lemmas.List.Kept.{AllPairs-cons}
 use Rattle.list_laws.proofs.Lists.{AllPairs-nil, AllPairs-head, AllPairs-tail, All-from_contains, Contains-nil, Contains-first, Contains-later, Contains-cases}
-use Rattle.key_effects.specs.KeyedCalls.{KeyedCall, Effect, IsNoEffect, ends_before, precedes}
+use Rattle.key_effects.specs.KeyedCalls.{KeyedCall, IsNoEffect, ends_before, precedes}
 use Rattle.key_effects.specs.KeyedOrders.{FitInTurn, left_by, AreDistinct, KeepPrecedence}
 
 -- what one call after others leaves
@@ -95,8 +95,10 @@ over_cons Q D held a b old new stands q apart early fits over = record {
       let (x, x_in, x_stands, x_q) = over.from y is in
       still_precedes a x b y stands x_stands (All-contains (λ z. precedes z a ≡ false) old x early x_in)))
       over.precedence;
-  fit = λ key. (stands.fits key (held key) (fits key),
-      subst (λ (value : Option ℕ). FitInTurn key value new) (sym (stands.leaves key (held key) (fits key))) (over.fit key));
+  fit = λ key. (
+    stands.fits key (held key) (fits key),
+    subst (λ (value : Option ℕ). FitInTurn key value new) (sym (stands.leaves key (held key) (fits key))) (over.fit key),
+  );
   left = λ key. ap (λ (value : Option ℕ). left_by key value new) (stands.leaves key (held key) (fits key)) ∙ over.left key;
   aligned = inl (b, new, refl, stands, q, over.aligned);
 }
@@ -118,21 +120,27 @@ over_out Q D held a old new none out over = record {
 pub go_over : (Q : KeyedCall → KeyedCall → Type 0) (D : KeyedCall → Type 0) (old : List KeyedCall) (held : ℕ → Option ℕ)
     → ((a : KeyedCall) → Contains old a → GoesOver Q D a) → AreDistinct old → KeepPrecedence old
     → ((key : ℕ) → FitInTurn key (held key) old) → (new : List KeyedCall) × AreOver Q D held old new
-go_over Q D [] held each distinct precedence fit = ([], record {
-  from = λ b is. absurd (Contains-nil b is);
-  to = λ a is. absurd (Contains-nil a is);
-  distinct = AllPairs-nil (λ a b. a.inv ≢ b.inv);
-  precedence = AllPairs-nil (λ a b. precedes b a ≡ false);
-  fit = λ key. tt;
-  left = λ key. refl;
-  aligned = refl;
-})
+go_over Q D [] held each distinct precedence fit = (
+  [],
+  record {
+    from = λ b is. absurd (Contains-nil b is);
+    to = λ a is. absurd (Contains-nil a is);
+    distinct = AllPairs-nil (λ a b. a.inv ≢ b.inv);
+    precedence = AllPairs-nil (λ a b. precedes b a ≡ false);
+    fit = λ key. tt;
+    left = λ key. refl;
+    aligned = refl;
+  },
+)
 go_over Q D (a ∷ old) held each distinct precedence fit =
     let (new, over) = go_over Q D old (λ key. (a.effect key).leaves (held key)) (λ x is. each x (Contains-later a old x is))
-        (AllPairs-tail (λ x y. x.inv ≢ y.inv) a old distinct) (AllPairs-tail (λ x y. precedes y x ≡ false) a old precedence)
-        (λ key. (fit key).1) in
+    (AllPairs-tail (λ x y. x.inv ≢ y.inv) a old distinct) (AllPairs-tail (λ x y. precedes y x ≡ false) a old precedence)
+    (λ key. (fit key).1) in
     ⊎_elim
-    (λ stands. (stands.0 ∷ new, over_cons Q D held a stands.0 old new stands.1 stands.2 (AllPairs-head (λ x y. x.inv ≢ y.inv) a old distinct)
-    (AllPairs-head (λ x y. precedes y x ≡ false) a old precedence) (λ key. (fit key).0) over))
+    (λ stands. (
+      stands.0 ∷ new,
+      over_cons Q D held a stands.0 old new stands.1 stands.2 (AllPairs-head (λ x y. x.inv ≢ y.inv) a old distinct)
+          (AllPairs-head (λ x y. precedes y x ≡ false) a old precedence) (λ key. (fit key).0) over,
+    ))
     (λ out. (new, over_out Q D held a old new out.0 out.1 over))
     (each a (Contains-first a old))

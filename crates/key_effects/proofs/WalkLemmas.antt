@@ -1,19 +1,19 @@
 -- The walk that an order makes up to a past moment.
-use Rattle.std.proofs.Common.{◌≡◌, ℕ, suc, ◌<◌, ◌≤◌, Bool, true, false, not, ◌&&◌, ◌||◌, cond, List, [], ◌∷◌, ◌++◌, map, Option, Some, None, inl, inr, refl, sym, ap, ◌∙◌, subst, ⊎_elim, arith}
-use Rattle.std.specs.Prelude.{◌≢◌, ◌⊎◌, All, AllPairs, Contains, is_some}
+use Rattle.std.proofs.Common.{◌≡◌, ℕ, ◌<◌, ◌≤◌, Bool, true, false, not, ◌&&◌, cond, List, ◌++◌, map, Option, Some, None, inl, inr, refl, sym, ap, ◌∙◌, subst, ⊎_elim, arith}
+use Rattle.std.specs.Prelude.{◌≢◌, ◌⊎◌, All, Contains, is_some}
 use Rattle.std.proofs.lemmas.List.Elements.{All-contains, Contains-append_left}
 use Rattle.list_laws.proofs.FilterLemmas.{Contains-map, Contains-from_map, AllPairs-map}
 use Rattle.list_laws.proofs.Lists.{All-from_contains, AllPairs-front}
-use Rattle.key_effects.specs.KeyedCalls.{KeyedCall, Effect, no_effect, IsNoEffect, IsFormed, ends_before, precedes, is_completed}
-use Rattle.key_effects.specs.KeyedOrders.{FitInTurn, left_by, AreDistinct, KeepPrecedence, IsKeyedOrder, HasKeyedOrder}
-use Rattle.key_effects.specs.Growth.{IsAnsweredAs, IsLater, HaveGrown}
-use Rattle.key_effects.specs.Choices.{Choice, Choices, rest_of, Agrees, GoesOn}
-use Rattle.key_effects.specs.Cuts.{Keys, IsWithin, IsOutside, IsWalk, TakesAllEnded, ArePartedAt}
+use Rattle.key_effects.specs.KeyedCalls.{KeyedCall, no_effect, IsNoEffect, IsFormed, ends_before, precedes, is_completed}
+use Rattle.key_effects.specs.KeyedOrders.{IsKeyedOrder}
+use Rattle.key_effects.specs.Growth.{IsLater, HaveGrown}
+use Rattle.key_effects.specs.Choices.{Choice, rest_of}
+use Rattle.key_effects.specs.Cuts.{Keys, IsWithin, IsOutside, IsWalk, TakesAllEnded}
 use Rattle.key_effects.specs.Apart.{only}
 use Rattle.key_effects.proofs.CutLemmas.{fit_only, outside_none, within_none}
-use Rattle.key_effects.proofs.DeadLemmas.{response_of, bool_cases}
-use Rattle.key_effects.proofs.OrderLemmas.{same_call, ends_at, ends_sooner, IsSplitAt, split_at, ended_early}
-use Rattle.key_effects.proofs.RestLemmas.{none_none, none_or, refused_none, later_stands, pending_never}
+use Rattle.key_effects.proofs.DeadLemmas.{bool_cases}
+use Rattle.key_effects.proofs.OrderLemmas.{same_call, IsSplitAt, ended_early}
+use Rattle.key_effects.proofs.RestLemmas.{none_none, refused_none, later_stands, pending_never}
 use Rattle.key_effects.proofs.TurnLemmas.{StandsFor, HasNone, GoesOver, AreOver, fit-front, go_over}
 
 -- what a walk has of an order's call: what was left of it before, within the keys
@@ -47,6 +47,7 @@ stands_only keys x y stands none = record {
         → (y.effect key).fits value ≡ true
     fits_at key value (inl is) fit = stands.fits key value (rw is at fit)
     fits_at key value (inr is) fit = (none key is).fits value
+
     leaves_at : (key : ℕ) (value : Option ℕ) → (keys key ≡ true) ⊎ (keys key ≡ false) → (cond (keys key) (x.effect key) no_effect).fits value ≡ true
         → (y.effect key).leaves value ≡ (cond (keys key) (x.effect key) no_effect).leaves value
     leaves_at key value (inl is) fit = rw is (stands.leaves key value (rw is at fit))
@@ -85,26 +86,39 @@ walked_over keys place cut w calls more less formed parted grown x x_in early =
     passed : (d : KeyedCall) → Contains more d → (b : KeyedCall) → Contains calls b → IsLater place b d → IsOutside keys (rest_of w b)
         → GoesOver (IsWalked keys cut w calls) (IsPassed keys w calls) (only keys (rest_of w d))
     passed d d_in b b_in later outside =
-        inr (none_only keys (rest_of w d) (outside_none keys w d (All-contains IsFormed more d grown.formed d_in)
-        (outside_later keys place w b d later outside)),
-        (b, b_in, sym later.inv, inr (outside_none keys w b (All-contains IsFormed calls b formed b_in) outside)))
+        inr (
+          none_only keys (rest_of w d) (outside_none keys w d (All-contains IsFormed more d grown.formed d_in)
+              (outside_later keys place w b d later outside)),
+          (b, b_in, sym later.inv, inr (outside_none keys w b (All-contains IsFormed calls b formed b_in) outside)),
+        )
+
     walked : (d : KeyedCall) → (b : KeyedCall) → Contains calls b → IsLater place b d → b.inv < cut → IsWithin keys (rest_of w b)
         → d.refused ≡ false → b.refused ≡ false → GoesOver (IsWalked keys cut w calls) (IsPassed keys w calls) (only keys (rest_of w d))
     walked d b b_in later b_early within d_accepted b_accepted =
-        inl (rest_of w b, stands_only keys (rest_of w d) (rest_of w b) (later_stands place w b d later d_accepted)
-        (within_none keys w b (All-contains IsFormed calls b formed b_in) within),
-        (b, b_in, refl, b_early, b_accepted, within, d_accepted))
+        inl (
+          rest_of w b,
+          stands_only keys (rest_of w d) (rest_of w b) (later_stands place w b d later d_accepted)
+              (within_none keys w b (All-contains IsFormed calls b formed b_in) within),
+          (b, b_in, refl, b_early, b_accepted, within, d_accepted),
+        )
+
     by_refusal : (d : KeyedCall) → Contains more d → (b : KeyedCall) → Contains calls b → IsLater place b d → b.inv < cut
         → IsWithin keys (rest_of w b) → (d.refused ≡ true) ⊎ (d.refused ≡ false)
         → GoesOver (IsWalked keys cut w calls) (IsPassed keys w calls) (only keys (rest_of w d))
     by_refusal d d_in b b_in later b_early within (inl refused) =
-        inr (none_only keys (rest_of w d) (λ key is. refused_none w d (All-contains IsFormed more d grown.formed d_in) refused key),
-        (b, b_in, sym later.inv,
-        ⊎_elim
-        (λ same. inr (λ key is. refused_none w b (All-contains IsFormed calls b formed b_in)
-        (subst (λ (c : KeyedCall). c.refused ≡ true) same refused) key))
-        (λ answered. inl answered.pending)
-        later.response))
+        inr (
+          none_only keys (rest_of w d) (λ key is. refused_none w d (All-contains IsFormed more d grown.formed d_in) refused key),
+          (
+            b,
+            b_in,
+            sym later.inv,
+            ⊎_elim
+                (λ same. inr (λ key is. refused_none w b (All-contains IsFormed calls b formed b_in)
+                (subst (λ (c : KeyedCall). c.refused ≡ true) same refused) key))
+                (λ answered. inl answered.pending)
+                later.response,
+          ),
+        )
     by_refusal d d_in b b_in later b_early within (inr accepted) =
         walked d b b_in later b_early within accepted
         (⊎_elim (λ same. subst (λ (c : KeyedCall). c.refused ≡ false) same accepted) (λ answered. answered.accepted) later.response)
@@ -121,42 +135,44 @@ pub make_walk : (keys : Keys) (place cut : ℕ) (w : Choice) (calls more order e
     → (walk : List KeyedCall) × MakeWalk keys place cut w calls early walk
 make_walk keys place cut w calls more order early late less formed parted grown is split =
     let whole : IsKeyedOrder w.holds (map (rest_of w) more) (early ++ late) =
-        subst (λ (xs : List KeyedCall). IsKeyedOrder w.holds (map (rest_of w) more) xs) split.parts is in
+    subst (λ (xs : List KeyedCall). IsKeyedOrder w.holds (map (rest_of w) more) xs) split.parts is in
     let (walk, over) = go_over (IsWalked keys cut w calls) (IsPassed keys w calls) (map (only keys) early) w.holds
-        (λ x x_in.
-        let (y, y_in, y_is) = Contains-from_map (only keys) early x x_in in
-        subst (λ (z : KeyedCall). GoesOver (IsWalked keys cut w calls) (IsPassed keys w calls) z) y_is
-        (walked_over keys place cut w calls more less formed parted grown y (whole.known y (Contains-append_left early late y y_in))
-        (All-contains (λ a. a.inv < cut) early y split.begun y_in)))
-        (AllPairs-map (λ x y. x.inv ≢ y.inv) (only keys) early (AllPairs-front (λ x y. x.inv ≢ y.inv) early late whole.distinct))
-        (AllPairs-map (λ x y. precedes y x ≡ false) (only keys) early
-        (AllPairs-front (λ x y. precedes y x ≡ false) early late whole.precedence))
-        (λ key. fit_only keys key early (w.holds key) (fit-front key (w.holds key) early late (whole.fit key))) in
-    (walk, record {
-      over = over;
-      is_walk = record {
-        known = λ y y_in.
-            let (x, x_in, x_stands, walked) = over.from y y_in in
-            (walked.0, walked.1, walked.2, walked.3, walked.4);
-        within = All-from_contains (IsWithin keys) walk (λ y y_in. let (x, x_in, x_stands, walked) = over.from y y_in in walked.5);
-        distinct = over.distinct;
-        precedence = over.precedence;
-        fit = over.fit;
-      };
-      takes = λ b b_in ended. taken walk over b b_in ended;
-    })
+    (λ x x_in.
+    let (y, y_in, y_is) = Contains-from_map (only keys) early x x_in in
+    subst (λ (z : KeyedCall). GoesOver (IsWalked keys cut w calls) (IsPassed keys w calls) z) y_is
+    (walked_over keys place cut w calls more less formed parted grown y (whole.known y (Contains-append_left early late y y_in))
+    (All-contains (λ a. a.inv < cut) early y split.begun y_in)))
+    (AllPairs-map (λ x y. x.inv ≢ y.inv) (only keys) early (AllPairs-front (λ x y. x.inv ≢ y.inv) early late whole.distinct))
+    (AllPairs-map (λ x y. precedes y x ≡ false) (only keys) early
+    (AllPairs-front (λ x y. precedes y x ≡ false) early late whole.precedence))
+    (λ key. fit_only keys key early (w.holds key) (fit-front key (w.holds key) early late (whole.fit key))) in (
+      walk,
+      record {
+        over = over;
+        is_walk = record {
+          known = λ y y_in.
+              let (x, x_in, x_stands, walked) = over.from y y_in in
+              (walked.0, walked.1, walked.2, walked.3, walked.4);
+          within = All-from_contains (IsWithin keys) walk (λ y y_in. let (x, x_in, x_stands, walked) = over.from y y_in in walked.5);
+          distinct = over.distinct;
+          precedence = over.precedence;
+          fit = over.fit;
+        };
+        takes = λ b b_in ended. taken walk over b b_in ended;
+      },
+    )
   where
     taken : (walk : List KeyedCall) → AreOver (IsWalked keys cut w calls) (IsPassed keys w calls) w.holds (map (only keys) early) walk
         → TakesAllEnded keys cut w calls walk
     taken walk over b b_in ended =
         let (d, d_in, later) = grown.stay b b_in in
         let same : d ≡ b = ⊎_elim (λ is_same. is_same)
-            (λ answered. absurd (pending_never b.res cut answered.pending ended)) later.response in
+        (λ answered. absurd (pending_never b.res cut answered.pending ended)) later.response in
         let in_more : Contains more b = subst (λ (c : KeyedCall). Contains more c) same d_in in
         let completed : is_completed b ≡ true = ends_completed b.res cut ended in
         let in_order : Contains order (rest_of w b) = is.complete (rest_of w b) (Contains-map (rest_of w) more b in_more) completed in
         let in_early : Contains early (rest_of w b) = ended_early cut order early late (rest_of w b) split is.precedence
-            (All-contains (λ c. precedes c c ≡ false) more b grown.apart.last in_more) ended in_order in
+        (All-contains (λ c. precedes c c ≡ false) more b grown.apart.last in_more) ended in_order in
         ⊎_elim
         (λ found.
         let walked = found.3 in

@@ -1,5 +1,5 @@
 -- Sets of keys that are judged apart: each call concerns one of both alone, or is a scan that the calls of one of both do not disturb.
-use Rattle.std.specs.Prelude.{◌≡◌, ◌⊎◌, ℕ, Bool, true, false, not, ◌&&◌, if◌then◌else◌, List, Option, Contains}
+use Rattle.std.specs.Prelude.{◌≡◌, ◌⊎◌, ℕ, true, false, not, ◌&&◌, if◌then◌else◌, List, Option, Contains}
 use Rattle.key_effects.specs.KeyedCalls.{KeyedCall, no_effect, is_completed, precedes}
 use Rattle.key_effects.specs.Cuts.{Keys, IsWithin, IsOutside}
 

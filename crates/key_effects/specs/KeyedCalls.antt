@@ -1,13 +1,13 @@
 -- Calls as the keys see them. At each key a call may have been answered as it was where the key holds some values, or none, and leaves one
 -- there. A scan is, at each key of its range, a read of what it was told of that key.
 use Rattle.events.specs.declared.event.Reply.TheVariants as replies
-use Rattle.std.specs.Prelude.{◌≡◌, ℕ, ◌==◌, ◌&&◌, Bool, true, false, nat_lt, nat_le, if◌then◌else◌, List, Option, Some, None, is_some, is_none}
+use Rattle.std.specs.Prelude.{◌≡◌, ℕ, ◌==◌, ◌&&◌, Bool, true, false, nat_lt, nat_le, if◌then◌else◌, Option, Some, None, is_some, is_none}
 use Rattle.events.specs.declared.event.Call.{Call}
 use Rattle.events.specs.declared.event.Call.TheVariants.{Get, Insert, Remove, Scan, Replace}
 use Rattle.events.specs.declared.event.Reply.{Reply}
 use Rattle.events.specs.declared.operation.Operation.{Operation}
 use Rattle.events.specs.declared.operation.Response.{Response}
-use Rattle.map_object.specs.MapObject.{Contents, value_at, is_just, value_reply, misses}
+use Rattle.map_object.specs.MapObject.{value_at, is_just, value_reply, misses}
 use Rattle.quiet_cuts.specs.Values.{value_behind, value_behind_reply}
 
 -- what a call is at one key: at which values, or none, it may have been answered as it was, and what it leaves

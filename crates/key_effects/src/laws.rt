@@ -1,5 +1,15 @@
 // Laws of calls as the keys see them, each the contract of a function that does nothing.
-ghost use Rattle.key_effects.specs.Laws.{ChoicesBegin, ChoicesJudge, ChoicesStay, CutsStandAbove, CutsStandBelow, DeadChoicesGo, DeadChoicesStayDead, GrowthGoesOn, SetsOfKeysJudge, SomeKeysRefute};
+ghost use Rattle.key_effects.specs.Laws.{CallsGrow, ChoicesBegin, ChoicesJudge, ChoicesStay, CutsStandAbove, CutsStandBelow, DeadChoicesGo, DeadChoicesStayDead, GrowthGoesOn, OrdersAreKeyedOrders, SetsOfKeysJudge, SomeKeysRefute};
+
+/// The calls of events have an order exactly where the scans are answered as scans may be, and the calls have an order as the keys see them.
+pub fn orders_are_keyed_orders()
+    ensures { OrdersAreKeyedOrders }
+{}
+
+/// With further events the calls grow.
+pub fn calls_grow()
+    ensures { CallsGrow }
+{}
 
 /// Calls that have grown grow on.
 pub fn growth_goes_on()
