@@ -16,7 +16,7 @@ pub judge_now : ChoicesJudge
 judge_now held place calls choices now =
     (λ above none order. none (above calls now order), λ below some. below calls now some)
 
-map_same : (xs : List KeyedCall) (held : ℕ → Option ℕ) → map (rest_of (at_first held)) xs ≡ xs
+pub map_same : (xs : List KeyedCall) (held : ℕ → Option ℕ) → map (rest_of (at_first held)) xs ≡ xs
 map_same [] held = refl
 map_same (x ∷ xs) held = ap (λ (ys : List KeyedCall). x ∷ ys) (map_same xs held)
 

@@ -41,7 +41,7 @@ answers call replies.Found None = (λ h. ⊎_elim (λ e. cc) (λ e. e) h, λ h. 
 answers call replies.Found (Some x) = (λ h. ⊎_elim (λ e. cc) (λ e. e) h, λ h. inr h)
 answers call replies.Other value = (λ h. ⊎_elim (λ e. cc) (λ e. e) h, λ h. inr h)
 
-same_values : (a b : Option ℕ) → (is_same_value a b ≡ true) ↔ (a ≡ b)
+pub same_values : (a b : Option ℕ) → (is_same_value a b ≡ true) ↔ (a ≡ b)
 same_values None None = (λ h. refl, λ h. refl)
 same_values None (Some b) = (λ h. cc, λ h. cc)
 same_values (Some a) None = (λ h. cc, λ h. cc)

@@ -14,3 +14,4 @@ pub mod ApartLemmas
 pub mod EffectLemmas
 pub mod BridgeLemmas
 pub mod GrowLemmas
+pub mod WiderLemmas

@@ -11,6 +11,7 @@ use Rattle.key_effects.specs.Growth.{HaveGrown}
 use Rattle.key_effects.specs.Choices.{Choice, at_first, among, GoesOn, SomeGoesOn, StandAbove, StandBelow}
 use Rattle.key_effects.specs.Cuts.{Keys, ArePartedAt, CoverCut, AreReachedAt}
 use Rattle.key_effects.specs.Apart.{only, other_keys, Parts}
+use Rattle.key_effects.specs.Wider.{AliveStaysAlive, YesFromAbove, NoFromBelow}
 
 -- a history has an order exactly where its scans may be answered so by some map, and its calls have an order as the keys see them
 abbrev pub OrdersAreKeyedOrders : Type 0
@@ -85,3 +86,13 @@ SetsOfKeysJudge =
     (held : ℕ → Option ℕ) (keys : Keys) (calls : List KeyedCall) → AreKeyedCalls calls → All IsFormed calls → All (Parts keys calls) calls
     → HasKeyedOrder held calls
     ↔ (HasKeyedOrder held (map (only keys) calls) × HasKeyedOrder held (map (only (other_keys keys)) calls))
+
+-- but what is alive may die, a choice above may go on where there is no order, and there may be one where none below goes on
+abbrev pub AliveMayDie : Type 0
+AliveMayDie = AliveStaysAlive → ⊥
+
+abbrev pub AboveIsNoYes : Type 0
+AboveIsNoYes = YesFromAbove → ⊥
+
+abbrev pub BelowIsNoNo : Type 0
+BelowIsNoNo = NoFromBelow → ⊥

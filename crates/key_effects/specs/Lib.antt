@@ -6,3 +6,4 @@ pub mod Choices
 pub mod Cuts
 pub mod Apart
 pub mod Laws
+pub mod Wider

@@ -1,5 +1,5 @@
 // Laws of calls as the keys see them, each the contract of a function that does nothing.
-ghost use Rattle.key_effects.specs.Laws.{CallsGrow, ChoicesBegin, ChoicesJudge, ChoicesStay, CutsStandAbove, CutsStandBelow, DeadChoicesGo, DeadChoicesStayDead, GrowthGoesOn, OrdersAreKeyedOrders, SetsOfKeysJudge, SomeKeysRefute};
+ghost use Rattle.key_effects.specs.Laws.{AboveIsNoYes, AliveMayDie, BelowIsNoNo, CallsGrow, ChoicesBegin, ChoicesJudge, ChoicesStay, CutsStandAbove, CutsStandBelow, DeadChoicesGo, DeadChoicesStayDead, GrowthGoesOn, OrdersAreKeyedOrders, SetsOfKeysJudge, SomeKeysRefute};
 
 /// The calls of events have an order exactly where the scans are answered as scans may be, and the calls have an order as the keys see them.
 pub fn orders_are_keyed_orders()
@@ -60,4 +60,19 @@ pub fn some_keys_refute()
 /// be held at one moment with the others.
 pub fn sets_of_keys_judge()
     ensures { SetsOfKeysJudge }
+{}
+
+/// But what goes on to an order now may not with further events.
+pub fn alive_may_die()
+    ensures { AliveMayDie }
+{}
+
+/// That a choice above goes on to an order is no yes.
+pub fn above_is_no_yes()
+    ensures { AboveIsNoYes }
+{}
+
+/// That no choice below goes on to one is no no.
+pub fn below_is_no_no()
+    ensures { BelowIsNoNo }
 {}
