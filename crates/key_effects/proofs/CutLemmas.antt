@@ -1,7 +1,7 @@
 -- Walks up to a past moment.
 use Rattle.std.proofs.Common.{◌≡◌, ℕ, Bool, true, false, not, ◌&&◌, cond, List, [], ◌∷◌, map, Option, inl, inr, refl}
 use Rattle.std.specs.Prelude.{◌⊎◌}
-use Rattle.key_effects.specs.KeyedCalls.{KeyedCall, Effect, no_effect, IsNoEffect, IsFormed}
+use Rattle.key_effects.specs.KeyedCalls.{KeyedCall, no_effect, IsNoEffect, IsFormed}
 use Rattle.key_effects.specs.KeyedOrders.{FitInTurn}
 use Rattle.key_effects.specs.Choices.{Choice, rest_of}
 use Rattle.key_effects.specs.Cuts.{Keys, IsWithin, IsOutside}
@@ -13,10 +13,6 @@ bool_cases true = inl refl
 bool_cases false = inr refl
 
 -- at some keys alone, calls in turn fit as they do, and leave what they leave there
-fit_or : (b : Bool) (key : ℕ) (value : Option ℕ) (e : Effect) → e.fits value ≡ true → (cond b e no_effect).fits value ≡ true
-fit_or true key value e fits = fits
-fit_or false key value e fits = refl
-
 pub fit_only : (keys : Keys) (key : ℕ) (calls : List KeyedCall) (value : Option ℕ) → FitInTurn key value calls
     → FitInTurn key value (map (only keys) calls)
 fit_only keys key calls value fit = by_key (bool_cases (keys key)) calls value fit
