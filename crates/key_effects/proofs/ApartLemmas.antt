@@ -436,12 +436,6 @@ joined_fits : (held : ℕ → Option ℕ) (keys : Keys) (calls first second whol
     → Joined held keys calls first second whole other merged left right → (key : ℕ) → FitInTurn key (held key) merged
 joined_fits held keys calls first second whole other merged left right j key = by_key (bool_cases (keys key))
   where
-    on_left : KeyedCall → Bool
-    on_left a = has_number left a.inv
-
-    on_right : KeyedCall → Bool
-    on_right a = has_number right a.inv
-
     none_quiet : (a : KeyedCall) → IsNoEffect (a.effect key) → IsQuiet a key
     none_quiet a none value fits = none.leaves value
 
