@@ -1,2 +1,9 @@
+mod CacheCallLemmas
+mod CacheMapLemmas
+mod CacheOrderLemmas
+mod CacheRunLemmas
+mod CacheValueLemmas
+mod CacheWitnessLemmas
+mod FoundAfterOtherLemmas
 mod TellLemmas
 mod ToldLemmas
