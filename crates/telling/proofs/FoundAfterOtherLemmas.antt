@@ -22,7 +22,7 @@ use Rattle.list_laws.proofs.RisingLemmas.{rising_unique, IsStrictlyIncreasing-ra
 use Rattle.telling.specs.Lossy.{left, IsLossyLegal, IsLossyOrder}
 use Rattle.telling.specs.CacheValues.{PutsWithin, CallBelow, ResponseBelow}
 use Rattle.telling.specs.FoundAfterOther.{found_after_other, recorded_found_after_other, FoundAfterOtherIsMissed}
-use Rattle.telling.proofs.CacheWitnessLemmas.{all_is}
+use Rattle.telling.proofs.CacheTurnLemmas.{have_recordings}
 
 abbrev calls : List Operation
 calls = operations found_after_other.events
@@ -125,11 +125,15 @@ at_second false other found = ⊎_elim (λ refused. cc) (λ tells. false≢true 
 not_lossy : IsLossyLegal [] calls → ⊥
 not_lossy (first, put, (second, other, (third, found, rest))) = at_second (second 0) other (third, found)
 
+one_key : AllPairs (λ (a b : ℕ). a ≢ b) (0 ∷ [])
+one_key =
+    AllPairs-cons (λ (a b : ℕ). a ≢ b) 0 [] (All-nil (λ (n : ℕ). 0 ≢ n)) (AllPairs-nil (λ (a b : ℕ). a ≢ b))
+
 pub missed : FoundAfterOtherIsMissed
 missed = record {
   history = is_history;
   recording = is_recording;
-  is_record = all_is 3 (0 ∷ []) calls;
+  is_record = (have_recordings 3 (0 ∷ []) found_after_other is_history one_key).1;
   keys = record {
     at_start = All-nil (λ (pair : ℕ × ℕ). Contains (0 ∷ []) pair.0);
     of_calls = each (λ (a : Operation). PutsWithin (0 ∷ []) a.call) _ _ _ (Contains-first 0 []) (Contains-first 0 []) tt;

@@ -1,13 +1,15 @@
 -- Laws of caches: in what is recorded of a cache an evicted key is no lost write.
-use Rattle.std.specs.Prelude.{◌≡◌, ◌↔◌, ℕ, List}
+use Rattle.std.specs.Prelude.{◌≡◌, ◌≢◌, ◌↔◌, ℕ, List, AllPairs}
 use Rattle.events.specs.declared.operation.Operation.{Operation}
 use Rattle.events.specs.HistoryView.{HistoryView}
+use Rattle.events.specs.Events.{IsWellFormed}
 use Rattle.events.specs.Histories.{IsHistory}
 use Rattle.events.specs.Operations.{operations}
 use Rattle.events.specs.Precedence.{NonePrecedesItself}
 use Rattle.map_object.specs.MapObject.{Contents, IsRising}
 use Rattle.orders.specs.Orders.{IsLinearizable, IsLinearizableHistory}
 use Rattle.telling.specs.Lossy.{IsLossyLinearizable, IsLossyLinearizableHistory}
+use Rattle.telling.specs.CacheRecordings.{recording_of}
 use Rattle.telling.specs.CacheRecords.{IsRecordOf}
 use Rattle.telling.specs.CacheValues.{AreAllKeys, AreBelow, NoneFoundWhereOther}
 
@@ -32,7 +34,9 @@ RecordedCachesAreLossyMaps =
     → AreAllKeys keys history.start (operations history.events) → AreBelow bound history.start (operations history.events)
     → NoneFoundWhereOther (operations history.events) → IsLossyLinearizableHistory history ↔ IsLinearizableHistory recording
 
--- each list of calls can be recorded in this way
-abbrev pub CallsOfCachesHaveRecords : Type 0
-CallsOfCachesHaveRecords =
-    (bound : ℕ) (keys : List ℕ) (calls : List Operation) → (recorded : List Operation) × IsRecordOf bound keys calls recorded
+-- each history has a recording: what is written down of it event by event is well formed, and records its calls
+abbrev pub HistoriesOfCachesHaveRecordings : Type 0
+HistoriesOfCachesHaveRecordings =
+    (fresh : ℕ) (keys : List ℕ) (history : HistoryView) → IsHistory history → AllPairs (λ a b. a ≢ b) keys
+    → IsWellFormed (recording_of fresh keys history).events
+    × IsRecordOf fresh keys (operations history.events) (operations (recording_of fresh keys history).events)

@@ -1,4 +1,5 @@
 pub mod CacheLaws
+pub mod CacheRecordings
 pub mod CacheRecords
 pub mod CacheValues
 pub mod Finds

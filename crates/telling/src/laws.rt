@@ -1,5 +1,5 @@
 // Laws of answers that tell less and of caches, each the contract of a function that does nothing.
-ghost use Rattle.telling.specs.CacheLaws.{CallsOfCachesHaveRecords, EvictedKeysAreNoLostWrites, LostWritesAreRefuted, RecordedCachesAreLossyMaps};
+ghost use Rattle.telling.specs.CacheLaws.{EvictedKeysAreNoLostWrites, HistoriesOfCachesHaveRecordings, LostWritesAreRefuted, RecordedCachesAreLossyMaps};
 ghost use Rattle.telling.specs.FoundAfterOther.{FoundAfterOtherIsMissed};
 ghost use Rattle.telling.specs.Laws.{AnswersDoCalls, AnswersThatTellLess, OrdersAreThoseOfToldCalls};
 
@@ -36,9 +36,9 @@ pub fn recorded_caches_are_lossy_maps()
     ensures { RecordedCachesAreLossyMaps }
 {}
 
-/// Each list of calls of a cache can be recorded in this way.
-pub fn calls_of_caches_have_records()
-    ensures { CallsOfCachesHaveRecords }
+/// Each history of a cache has a recording: event by event, with removes next to scans by processes of their own.
+pub fn histories_of_caches_have_recordings()
+    ensures { HistoriesOfCachesHaveRecordings }
 {}
 
 /// If a replace was answered `other` and a call of its key `found`, a recording may be linearizable although the history is
