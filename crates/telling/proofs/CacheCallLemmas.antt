@@ -1,4 +1,5 @@
--- One call of a cache: from the lossy map to the map that is called as it is recorded, and back.
+-- One call of a cache, at the lossy map and as it is recorded, at the map. From the lossy map to the map the map keeps at least the values
+-- of the lossy map. From the map to the lossy map the lossy map can lose keys so that it has exactly the values that are not fresh.
 use Rattle.events.specs.declared.event.Reply.TheVariants as replies
 use Rattle.std.proofs.Common.{◌≡◌, ℕ, ◌<◌, ◌≤◌, ◌==◌, Bool, cond, Option, Some, None, is_some, inl, inr, refl, sym, ap, ◌∙◌}
 use Rattle.std.proofs.Common.{subst, ⊎_elim}
@@ -16,7 +17,7 @@ use Rattle.telling.proofs.CacheValueLemmas.{next_reply, LegalAt, IsPoint, AtMost
 use Rattle.telling.proofs.CacheMapLemmas.{value_at-own_reply, value_at-other_reply, value_at-scan_reply, left_rises, left_as, same_within}
 use Rattle.telling.proofs.CacheMapLemmas.{value_at-within, value_below}
 
--- each value of the one is the other's
+-- each value of the one is a value of the other
 abbrev pub IsWithin : Contents → Contents → Type 0
 IsWithin m n = (key : ℕ) → AtMost (value_at m key) (value_at n key)
 
@@ -43,7 +44,7 @@ legal_from_at m (Remove key) reply point h = h
 legal_from_at m (Scan low high) reply point h = absurd point
 legal_from_at m (Replace key expected value) reply point h = h
 
--- what is recorded of a call names its key, and no other if it does not
+-- what is recorded of a call has its key, and names one key if the call does
 record HasKeyOf (call recorded : Call) : Type 0 where
   key : low_key recorded ≡ low_key call
   point : IsPoint call → IsPoint recorded
@@ -67,7 +68,7 @@ recorded_key fresh (Replace key expected new) replies.Done = record { key = refl
 recorded_key fresh (Replace key expected new) replies.Found = record { key = refl; point = λ h. h }
 recorded_key fresh (Replace key expected new) replies.Other = record { key = refl; point = λ h. h }
 
--- the key of a call, or another one
+-- what holds at the key of a call and at each other one holds at each key
 pub by_key : (P : ℕ → Type 0) (own key : ℕ) → P own → ((own ≡ key → ⊥) → P key) → P key
 by_key P own key here there = ⊎_elim (λ same. subst P (eqb-true own key same) here) (λ other. there (eqb-false own key other)) (cases_Bool (own == key))
 
@@ -80,7 +81,7 @@ value_at-recorded n fresh call reply answer point =
     subst (λ k. value_at (after_reply n (recorded_call fresh call reply) answer) k ≡ next_reply (recorded_call fresh call reply) answer (value_at n k))
     same.key (value_at-own_reply n (recorded_call fresh call reply) answer (same.point point))
 
--- and at another key
+-- the value at another key
 value_at-recorded_other : (n : Contents) (fresh : ℕ) (call : Call) (reply answer : Reply) (key : ℕ) → (low_key call ≡ key → ⊥)
     → value_at (after_reply n (recorded_call fresh call reply) answer) key ≡ value_at n key
 value_at-recorded_other n fresh call reply answer key differ =
@@ -102,7 +103,7 @@ legal_of_recorded n fresh call reply answer point h =
 
 -- ---- a scan
 
--- a scan has what it was told wherever the values of its range are the same
+-- a scan may have the same answer if the values of its range are the same
 go_scan : (m n : Contents) (low high : ℕ) (reply : Reply) → IsRising m → IsRising n
     → ((pairs : Contents) → reply ≡ replies.Pairs pairs → (key : ℕ) → low ≤ key → key ≤ high → value_at m key ≡ value_at n key)
     → IsLegalReply m (Scan low high) reply → IsLegalReply n (Scan low high) reply
@@ -151,14 +152,14 @@ go fresh m n (Replace key expected value) reply m_rises n_rises within same lega
 
 -- ---- and back
 
--- keys that disappear, so that the call may be answered as it was, and leaves what is not fresh of what is left at the map
+-- some keys disappear so that the call may have its answer, and then leaves what is not fresh of what is left at the map
 pub record Came (bound fresh : ℕ) (m n : Contents) (call : Call) (reply : Reply) : Type 0 where
   pub stays : ℕ → Bool
   pub legal : IsLegalReply (left stays m) call reply
   pub next : (key : ℕ) → value_at (after_reply (left stays m) call reply) key
       ≡ shown bound (value_at (after_reply n (recorded_call fresh call reply) (recorded_reply call reply)) key)
 
--- what is not fresh of pairs is the other's
+-- each value that is not fresh is one of the lossy map
 abbrev pub Shows : ℕ → Contents → Contents → Type 0
 Shows bound m n = (key : ℕ) → AtMost (shown bound (value_at n key)) (value_at m key)
 
@@ -221,7 +222,7 @@ module _ (bound fresh : ℕ) (high : bound ≤ fresh) (m n : Contents) (shows : 
   come (Replace key expected value) reply m_rises n_rises low told found legal =
       come_point (Replace key expected value) reply tt low told found legal
 
--- where a fresh value is left at a key, it was there, or a replace of the key found another one
+-- a fresh value that is left at a key was there before, or a replace of the key put it
 abbrev pub IsFreshOf : Contents → Call → Reply → ℕ → ℕ → Type 0
 IsFreshOf n call reply key v = (value_at n key ≡ Some v) ⊎ ((reply ≡ replies.Other) × (low_key call ≡ key))
 

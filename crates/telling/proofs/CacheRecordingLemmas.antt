@@ -21,7 +21,7 @@ use Rattle.list_laws.proofs.Lists.{Contains-nil, Contains-cases, Contains-first,
 use Rattle.telling.specs.CacheRecords.{recorded_call, recorded_reply, AreRecordedAs, MissesKey, IsHelperOf}
 use Rattle.telling.specs.CacheRecordings.{recorded_invocation, recorded_answer, is_missed, missed_keys, helper, answer_to_come, recorded_event, last_after, recorded_events}
 
--- ---- events that are not the answer to a process
+-- ---- events that are not the answer to a process: they can be skipped when its answer is looked for
 
 abbrev IsOther : ℕ → Event → Type 0
 IsOther p (Invoke q call) = ⊤
@@ -35,7 +35,7 @@ response_after p i j (Answer q reply ∷ xs) ys others e =
     rw (ne_eqb q p (All-head (IsOther p) (Answer q reply) xs others))
     (response_after p (suc i) j xs ys (All-tail (IsOther p) (Answer q reply) xs others) (omega arith))
 
--- the invocations and the answers of removes are none of it
+-- the invocations of removes are none, and their answers are those of their own processes
 helper_invocations : (p q : ℕ) (keys : List ℕ) → All (IsOther q) (map (λ key. Invoke (helper p key) (Remove key)) keys)
 helper_invocations p q [] = All-nil (IsOther q)
 helper_invocations p q (key ∷ keys) =
@@ -47,7 +47,7 @@ helper_answers p q (key ∷ keys) differ =
     All-cons (IsOther q) (Answer (helper p key) replies.Done) (map (λ key. Answer (helper p key) replies.Done) keys) (differ key)
     (helper_answers p q keys differ)
 
--- processes of a history are none of removes, and those of removes differ where their scans' processes do
+-- no process of a history removes next to a scan, and those that remove differ if the processes of their scans do
 pub helper_above : (p key q : ℕ) → q < 64 → helper p key ≢ q
 helper_above p key q small same = absurd (omega arith)
 
@@ -224,7 +224,7 @@ AreSmall events = All (λ e. process_of e < 64) events
 abbrev IsOpen : ℕ → List Event → Type 0
 IsOpen p events = IsTrue (takes_turns true (events_of p events))
 
--- the process of each event has its events in turn from here on
+-- each process has its events in turn from here on
 abbrev pub AreInTurn : List Event → Type 0
 AreInTurn events = (p : ℕ) → (waiting : Bool) × IsTrue (takes_turns waiting (events_of p events))
 
@@ -375,7 +375,7 @@ module _ (fresh : ℕ) (keys : List ℕ) (owner : ℕ → ℕ) where
     pub helpers_are : All (λ h. IsHelperOf a h × HasTimes a h) helpers
     pub all : (key : ℕ) → Contains keys key → MissesKey a key → (h : Operation) × Contains helpers h × (h.call ≡ Remove key)
 
-  -- calls are, one after the other
+  -- calls are recorded in this way, one after the other
   abbrev pub AreBlocks : List Operation → List Operation → Type 0
   AreBlocks [] recorded = recorded ≡ []
   AreBlocks (a ∷ calls) recorded = (t : Operation) × (helpers : List Operation) × (rest : List Operation) × (recorded ≡ t ∷ helpers ++ rest)

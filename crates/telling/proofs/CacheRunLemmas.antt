@@ -1,4 +1,4 @@
--- Calls of a cache in turn: legal at the lossy map where the recorded ones are legal, and back.
+-- Calls of a cache in turn: if they are legal at the lossy map, the recorded ones are legal at the map, and the other way round.
 use Rattle.events.specs.declared.event.Reply.TheVariants as replies
 use Rattle.std.proofs.Common.{◌≡◌, ℕ, ◌<◌, ◌≤◌, ◌==◌, ◌&&◌, Bool, true, false, cond, List, [], ◌∷◌, ◌++◌, length, filter, Option, Some, None}
 use Rattle.std.proofs.Common.{inl, inr, refl, sym, ap, ◌∙◌, subst, ⊎_elim, arith}
@@ -59,14 +59,14 @@ answered a reply told is = by_response a.response is
 reply_answered : (a : Operation) (reply : Reply) → IsAnswered a reply → reply_of a.response ≡ reply
 reply_answered a reply h = rw h.1 refl
 
--- a call that is recorded as another, by their replies
+-- a call is recorded as another, by their replies
 record IsRecorded (bound : ℕ) (a t : Operation) : Type 0 where
   fresh : ℕ
   high : bound ≤ fresh
   call : t.call ≡ recorded_call fresh a.call (reply_of a.response)
   reply : reply_of t.response ≡ recorded_reply a.call (reply_of a.response)
 
--- one with this reply is legal where it is, and leaves what it leaves
+-- a call of a history is legal if its call with its reply is, and leaves the same
 legal_as : (n : Contents) (t : Operation) (call : Call) (reply : Reply) → t.call ≡ call → reply_of t.response ≡ reply
     → IsLegalReply n call reply → IsLegalCall n t.call t.response
 legal_as n t call reply is_call is_reply h = legal_call n t.call t.response (rw (is_call, is_reply) h)
@@ -161,7 +161,7 @@ missing_value m a key misses legal =
     ∙ (sym (ap (λ (l : Contents). value_at l key) pairs) ∙ misses.missing)
 
 module _ (bound : ℕ) (keys : List ℕ) (calls recorded : List Operation) (is : IsRecordOf bound keys calls recorded) where
-  -- ---- the removes beside a scan
+  -- ---- the removes next to a scan
 
   abbrev IsHelperNumber : Operation → ℕ → Type 0
   IsHelperNumber a j = (t : Operation) × (slice_get recorded j ≡ Some t) × IsHelperOf a t
@@ -207,7 +207,7 @@ module _ (bound : ℕ) (keys : List ℕ) (calls recorded : List Operation) (is :
       same_key : (k key : ℕ) → Remove k ≡ Remove key → k ≡ key
       same_key k key e = cc
 
-  -- the numbers of the removes beside a call
+  -- the numbers of the removes next to a call
   abbrev pub is_helper_of : ℕ → ℕ → Bool
   is_helper_of k j = is.helps j && (is.source j == k)
 
@@ -232,12 +232,12 @@ module _ (bound : ℕ) (keys : List ℕ) (calls recorded : List Operation) (is :
       Contains-filter (is_helper_of k) (range_with_len 0 (length recorded)) j (Contains-range (length recorded) j inside)
       (and_from (is.helps j) (is.source j == k) helps (eq-eqb (is.source j) k source))
 
-  -- the recorded calls of some calls: of each the removes beside it, and then itself
+  -- the recorded calls of some calls: of each the removes next to it, and then itself
   abbrev pub expand : List ℕ → List ℕ
   expand [] = []
   expand (k ∷ order) = helpers_of k ++ is.number k ∷ expand order
 
-  -- the calls of some recorded ones: all but the removes beside scans
+  -- the calls of some recorded ones: without the removes next to scans
   abbrev pub collapse : List ℕ → List ℕ
   collapse [] = []
   collapse (j ∷ order) = cond (is.helps j) (collapse order) (is.source j ∷ collapse order)
@@ -253,7 +253,7 @@ module _ (bound : ℕ) (keys : List ℕ) (calls recorded : List Operation) (is :
       (t, there, subst (λ (o : Operation). IsHelperOf o t) same helper))
 
   module _ (puts : All (λ a. PutsWithin keys a.call) calls) where
-    -- what a scan was told of its range is so beside the removes of the keys that it misses
+    -- after the removes of the keys that a scan misses, the values of its range are those of the lossy map
     seen : (k : ℕ) (a : Operation) → slice_get calls k ≡ Some a → (m n : Contents) → Helped a n (helpers_of k)
         → IsLegalCall m a.call a.response → IsWithin m (after_calls n (calls_at recorded (helpers_of k))) → HasKeys keys n
         → (low high : ℕ) (pairs : Contents) → a.call ≡ Scan low high → reply_of a.response ≡ replies.Pairs pairs → (key : ℕ) → low ≤ key
@@ -289,6 +289,7 @@ module _ (bound : ℕ) (keys : List ℕ) (calls recorded : List Operation) (is :
         by_value None none = none ∙ sym (by_old none (value_at n key) refl)
         by_value (Some v) some = ⊎_elim (λ none. absurd (none-some v (sym none ∙ some))) (λ same. same) (within_1 key)
 
+    -- each value of the lossy map stays one of the map, and no key has a value but the given ones
     pub run_go : (m n : Contents) (order : List ℕ) → All (λ k. k < length calls) order → IsRising m → IsRising n → IsWithin m n
         → HasKeys keys n → IsLossyLegal m (calls_at calls order) → IsLegal n (calls_at recorded (expand order))
     run_go m n [] known m_rises n_rises most has legal = tt
@@ -341,7 +342,7 @@ module _ (bound : ℕ) (keys : List ℕ) (calls recorded : List Operation) (is :
   abbrev pub FreshAtOthers : Contents → Type 0
   FreshAtOthers n = (key v : ℕ) → value_at n key ≡ Some v → bound ≤ v → HasOther key
 
-  -- a remove beside a scan leaves no more values than there were
+  -- a remove next to a scan leaves no more values than there were
   record Removed (m n : Contents) (t : Operation) : Type 0 where
     rises : IsRising (after_call n t.call t.response)
     shows : Shows bound m (after_call n t.call t.response)
@@ -374,6 +375,7 @@ module _ (bound : ℕ) (keys : List ℕ) (calls recorded : List Operation) (is :
             (λ high. let (b, b_among, other, same) = fresh (low_key a.call) v e high in
             absurd (apart a b among b_among (answered a replies.Found (λ e. cc) found) other (sym same))) (cases_lt v bound)
 
+    -- each value of the map that is not fresh stays one of the lossy map, and fresh values stay at keys of which a replace found another one
     pub run_come : (m n : Contents) (order : List ℕ) → All (λ j. j < length recorded) order → IsRising m → IsRising n → Shows bound m n
         → FreshAtOthers n → IsLegal n (calls_at recorded order) → IsLossyLegal m (calls_at calls (collapse order))
     run_come m n [] known m_rises n_rises shows fresh legal = tt

@@ -73,7 +73,7 @@ module _ (fresh : ℕ) (keys : List ℕ) (q : ℕ) (small_q : q < 64) where
       either true r xs rest = ap (λ (x : Bool). waiting && x) (rest false)
       either false r xs rest = rest waiting
 
--- ---- and one that removes has too
+-- ---- a process that removes has them too, because the keys are distinct
 
 module _ (fresh : ℕ) (keys : List ℕ) (distinct : AllPairs (λ a b. a ≢ b) keys) (p key : ℕ) (small_p : p < 64) where
   abbrev own : ℕ
@@ -130,7 +130,7 @@ module _ (fresh : ℕ) (keys : List ℕ) (distinct : AllPairs (λ a b. a ≢ b) 
       rw (ne_eqb q own (λ same. helper_above p key q q_small (sym same)))
       (none_of_answers q own (missed_keys keys call reply) (λ k. helper_differs q p k key q_small small_p differ))
 
-  -- one of the process whose scan it is adds one exactly if the key is missed
+  -- an event of the process of the scan adds those of the removes
   own_invocations : (call : Call) (o : Option Reply) → events_of own (recorded_invocation fresh keys p call o) ≡ events_of own (invokes p (keys_of keys call o))
   own_invocations call o =
       rw (invocation_is fresh keys p call o, ne_eqb p own (λ same. helper_above p key p small_p (sym same))) refl
@@ -142,7 +142,7 @@ module _ (fresh : ℕ) (keys : List ℕ) (distinct : AllPairs (λ a b. a ≢ b) 
   distinct_keys call None = AllPairs-nil (λ a b. a ≢ b)
   distinct_keys call (Some reply) = AllPairs-filter (λ a b. a ≢ b) (is_missed call reply) keys distinct
 
-  -- whether the remove is open: while the call is that misses the key
+  -- whether the remove is open: while a call is open that misses the key
   abbrev is_removing : Bool → Call → List Event → Bool
   is_removing false call events = false
   is_removing true call events = has (keys_of keys call (answer_to_come p events))

@@ -1,4 +1,4 @@
--- What a call of a cache leaves of the value at its key: at the lossy map, and at the map that is called as it is recorded.
+-- What a call of a cache leaves of the value at its key: at the lossy map, and as it is recorded at the map.
 use Rattle.events.specs.declared.event.Reply.TheVariants as replies
 use Rattle.std.proofs.Common.{◌≡◌, ℕ, ◌<◌, ◌≤◌, ◌==◌, nat_lt, Bool, true, false, cond, Option, Some, None, IsTrue, inl, inr, refl, sym, ap, ◌∙◌}
 use Rattle.std.proofs.Common.{⊎_elim, arith}
@@ -20,12 +20,12 @@ next (Remove key) x = None
 next (Scan low high) x = x
 next (Replace key expected value) x = cond (is_just x expected) (Some value) x
 
--- and after one that was answered so
+-- the value after a call with this answer
 abbrev pub next_reply : Call → Reply → Option ℕ → Option ℕ
 next_reply call replies.Refused x = x
 next_reply call reply x = next call x
 
--- a call that names one key may be answered so at this value
+-- a call of one key may have this answer at this value
 abbrev pub LegalAt : Call → Reply → Option ℕ → Type 0
 LegalAt call reply x = (reply ≡ replies.Refused) ⊎ TellsOf call (value_reply x) reply
 
@@ -41,7 +41,7 @@ IsPoint (Replace key expected value) = ⊤
 abbrev pub AtMost : Option ℕ → Option ℕ → Type 0
 AtMost x y = (x ≡ None) ⊎ (x ≡ y)
 
--- no value is told as none
+-- only no value is answered as none
 no_value : (x : Option ℕ) → replies.None ≡ value_reply x → x ≡ None
 no_value None h = refl
 no_value (Some v) h = cc
@@ -165,7 +165,7 @@ next_shown bound (Replace key expected value) y low is = either (is_just y expec
     either true = sym (shown_below bound value low.1)
     either false = sym is
 
--- and none is left where it finds a fresh value
+-- if it finds a fresh value at the map and none at the lossy map, it leaves what is not fresh
 next_fresh : (bound : ℕ) (call : Call) (v : ℕ) → CallBelow bound call → bound ≤ v → next call None ≡ shown bound (next call (Some v))
 next_fresh bound (Get key) v low high = sym (shown_fresh bound v high)
 next_fresh bound (Insert key value) v low high = sym (shown_below bound value low)
@@ -174,7 +174,7 @@ next_fresh bound (Scan from to) v low high = sym (shown_fresh bound v high)
 next_fresh bound (Replace key expected value) v low high =
     rw (ne_eqb v expected (λ same. let less = low.0 in omega arith)) (sym (shown_fresh bound v high))
 
--- where a value is not fresh, a call that is recorded as it is may be answered so at it
+-- if the value is not fresh, the call leaves what is not fresh of what it leaves at the map
 comes_same : (bound : ℕ) (call : Call) (reply : Reply) (y : Option ℕ) → CallBelow bound call → shown bound y ≡ y
     → next_reply call reply y ≡ shown bound (next_reply call reply y)
 comes_same bound call replies.None y low is = next_shown bound call y low is
@@ -185,7 +185,7 @@ comes_same bound call replies.Done y low is = next_shown bound call y low is
 comes_same bound call replies.Found y low is = next_shown bound call y low is
 comes_same bound call replies.Other y low is = next_shown bound call y low is
 
--- and where it is, at none
+-- if it is fresh, the call may have its answer where there is none
 hides : (bound : ℕ) (call : Call) (reply : Reply) (v : ℕ) → CallBelow bound call → ReplyBelow bound reply → bound ≤ v
     → (reply ≡ replies.Found → ⊥) → (reply ≡ replies.Other → ⊥) → LegalAt call reply (Some v)
     → LegalAt call reply None × (next_reply call reply None ≡ shown bound (next_reply call reply (Some v)))
@@ -198,7 +198,7 @@ hides bound call replies.Done v low told high found other legal = (inr tt, next_
 hides bound call replies.Found v low told high found other legal = absurd (found refl)
 hides bound call replies.Other v low told high found other legal = absurd (other refl)
 
--- so a call that is recorded as it is comes from one of the lossy map
+-- so a call that is recorded as it is may have its answer at the lossy map
 record ComesSame (bound : ℕ) (call : Call) (reply : Reply) (y : Option ℕ) : Type 0 where
   x : Option ℕ
   most : AtMost x (shown bound y)
@@ -333,7 +333,7 @@ next_low bound (Replace key expected value) y v low high h = either (is_just y e
     either true k = absurd (let same = same_Some value v k in let less = low.1 in omega arith)
     either false k = k
 
--- where a recorded call leaves a fresh value, it was there, or the call was a replace that found another one
+-- a fresh value that a recorded call leaves was there before, or the call was a replace that found another one
 pub left_fresh : (bound fresh : ℕ) (call : Call) (reply : Reply) (y : Option ℕ) (v : ℕ) → CallBelow bound call → bound ≤ v
     → next_reply (recorded_call fresh call reply) (recorded_reply call reply) y ≡ Some v → (y ≡ Some v) ⊎ (reply ≡ replies.Other)
 left_fresh bound fresh call replies.Other y v low high h = inr refl

@@ -1,4 +1,4 @@
--- A replace that was answered `other` and then a call that was answered `found`: linearizable as they are recorded, and at no lossy map.
+-- A replace answered `other`, then a get answered `found`: the recording is linearizable, the history is not over the lossy map.
 use Rattle.events.specs.declared.event.Reply.TheVariants as replies
 use Rattle.std.proofs.Common.{◌≡◌, ℕ, zero, suc, ◌+◌, ◌<◌, ◌==◌, Bool, true, false, cond, List, [], ◌∷◌}
 use Rattle.std.proofs.Common.{inr, refl, sym, subst, ⊎_elim, arith}
@@ -116,7 +116,7 @@ one_order order h =
         let number = get_or-range_with_len 0 3 i n less in
         omega arith
 
--- along which no lossy map answers so
+-- in this order no lossy map has these answers
 at_second : (b : Bool) → IsLegalReply (cond b ((0, 1) ∷ []) []) (Replace 0 1 2) replies.Other
     → (third : ℕ → Bool) × IsLegalReply (left third (after (cond b ((0, 1) ∷ []) []) (Replace 0 1 2))) (Get 0) replies.Found → ⊥
 at_second true other found = ⊎_elim (λ refused. cc) (λ tells. false≢true tells) other
