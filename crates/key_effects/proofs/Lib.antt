@@ -15,3 +15,5 @@ pub mod EffectLemmas
 pub mod BridgeLemmas
 pub mod GrowLemmas
 pub mod WiderLemmas
+pub mod NoneLemmas
+pub mod AlikeLemmas

@@ -1,16 +1,16 @@
 -- Laws of calls as the keys see them.
-use Rattle.std.specs.Prelude.{◌≡◌, ◌⊎◌, ◌↔◌, ℕ, ◌≤◌, List, [], ◌++◌, length, map, Option, All}
+use Rattle.std.specs.Prelude.{◌≡◌, ◌⊎◌, ◌↔◌, ℕ, ◌≤◌, List, [], ◌++◌, length, map, Option, All, AllPairs, Contains, ◌<◌}
 use Rattle.events.specs.declared.event.Event.{Event}
 use Rattle.events.specs.Operations.{operations}
 use Rattle.map_object.specs.MapObject.{Contents, IsRising, value_at}
 use Rattle.orders.specs.Orders.{IsLinearizable}
-use Rattle.key_effects.specs.KeyedCalls.{KeyedCall, IsFormed, keyed}
+use Rattle.key_effects.specs.KeyedCalls.{KeyedCall, IsNoEffect, IsFormed, keyed}
 use Rattle.key_effects.specs.KeyedOrders.{AreKeyedCalls, HasKeyedOrder}
 use Rattle.key_effects.specs.Forms.{HaveForms}
 use Rattle.key_effects.specs.Growth.{HaveGrown}
 use Rattle.key_effects.specs.Choices.{Choice, at_first, among, GoesOn, SomeGoesOn, StandAbove, StandBelow}
 use Rattle.key_effects.specs.Cuts.{Keys, ArePartedAt, CoverCut, AreReachedAt}
-use Rattle.key_effects.specs.Apart.{only, other_keys, Parts}
+use Rattle.key_effects.specs.Apart.{only, other_keys, Parts, AreAlike}
 use Rattle.key_effects.specs.Wider.{AliveStaysAlive, YesFromAbove, NoFromBelow}
 
 -- a history has an order exactly where its scans may be answered so by some map, and its calls have an order as the keys see them
@@ -96,3 +96,17 @@ AboveIsNoYes = YesFromAbove → ⊥
 
 abbrev pub BelowIsNoNo : Type 0
 BelowIsNoNo = NoFromBelow → ⊥
+
+-- calls without effect do not matter: where the others are the same, both lists have orders or none
+abbrev pub EffectsDecide : Type 0
+EffectsDecide =
+    (held : ℕ → Option ℕ) (calls more : List KeyedCall) → AreKeyedCalls more → AllPairs (λ a b. a.inv < b.inv) more
+    → ((a : KeyedCall) → Contains calls a → ((key : ℕ) → IsNoEffect (a.effect key)) ⊎ Contains more a)
+    → ((a : KeyedCall) → Contains more a → ((key : ℕ) → IsNoEffect (a.effect key)) ⊎ Contains calls a) → HasKeyedOrder held calls
+    → HasKeyedOrder held more
+
+-- so do calls that are alike at some keys, where the other keys hold nothing: a part of the keys is judged by a map that has these alone
+abbrev pub AlikeCallsDecide : Type 0
+AlikeCallsDecide =
+    (keys : Keys) (held other : ℕ → Option ℕ) (calls alike : List KeyedCall) → AreAlike keys held other calls alike
+    → HasKeyedOrder held calls ↔ HasKeyedOrder other alike

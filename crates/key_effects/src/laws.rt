@@ -1,5 +1,5 @@
 // Laws of calls as the keys see them, each the contract of a function that does nothing.
-ghost use Rattle.key_effects.specs.Laws.{AboveIsNoYes, AliveMayDie, BelowIsNoNo, CallsGrow, ChoicesBegin, ChoicesJudge, ChoicesStay, CutsStandAbove, CutsStandBelow, DeadChoicesGo, DeadChoicesStayDead, GrowthGoesOn, OrdersAreKeyedOrders, SetsOfKeysJudge, SomeKeysRefute};
+ghost use Rattle.key_effects.specs.Laws.{AboveIsNoYes, AlikeCallsDecide, AliveMayDie, BelowIsNoNo, CallsGrow, ChoicesBegin, ChoicesJudge, ChoicesStay, CutsStandAbove, CutsStandBelow, DeadChoicesGo, DeadChoicesStayDead, EffectsDecide, GrowthGoesOn, OrdersAreKeyedOrders, SetsOfKeysJudge, SomeKeysRefute};
 
 /// The calls of events have an order exactly where the scans are answered as scans may be, and the calls have an order as the keys see them.
 pub fn orders_are_keyed_orders()
@@ -75,4 +75,14 @@ pub fn above_is_no_yes()
 /// That no choice below goes on to one is no no.
 pub fn below_is_no_no()
     ensures { BelowIsNoNo }
+{}
+
+/// Calls without effect do not matter: where the others are the same, both lists of calls have orders or none.
+pub fn effects_decide()
+    ensures { EffectsDecide }
+{}
+
+/// Calls that are alike at some keys have orders where the others do, if the other keys hold nothing.
+pub fn alike_calls_decide()
+    ensures { AlikeCallsDecide }
 {}
