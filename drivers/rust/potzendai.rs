@@ -11,12 +11,12 @@
 #![allow(dead_code, unused_imports, unknown_lints, unexpected_cfgs)]
 
 use std::cell::RefCell;
-use std::collections::{BTreeMap, HashMap, HashSet};
+use std::collections::{BTreeMap, BTreeSet, HashMap, HashSet};
 use std::fmt::Write as _;
 use std::io::{IsTerminal, Read, Write};
 use std::panic::{catch_unwind, AssertUnwindSafe};
 use std::process::{Command, ExitStatus, Stdio};
-use std::sync::atomic::{AtomicBool, AtomicU64, AtomicUsize, Ordering::SeqCst};
+use std::sync::atomic::{AtomicBool, AtomicU64, AtomicUsize, Ordering::{Relaxed, SeqCst}};
 use std::sync::mpsc::{channel, Receiver, Sender, TryRecvError};
 use std::sync::{Arc, Mutex};
 use std::time::{Duration, Instant, SystemTime};
@@ -108,6 +108,13 @@ pub trait Connection {
 /// A map, on which each thread opens a handle of its own.
 pub trait Map: Sync {
     fn open(&self) -> Box<dyn Connection + '_>;
+    /// For `--reopen`: closes the map at rest, and returns it opened again, with what it held.
+    fn reopen(self) -> Option<Self>
+    where
+        Self: Sized,
+    {
+        None
+    }
 }
 
 const SAYINGS: [&str; 8] = ["told", "none", "done", "found", "other", "refused", "unknown", "that it is missing"];
@@ -128,6 +135,13 @@ const STREAM_KEYS: u64 = 16384;
 /// Bytes of the report of a stream without order that are shown, and of a stream that are kept for a file.
 const REPORT_SHOWN: usize = 1000;
 const KEPT: usize = 1 << 26;
+/// Under `--cache`, values from here on are the driver's own.
+const OWN_VALUES: u64 = 1 << 63;
+/// How many calls a stream has on behalf of one; of how many of its events the notes are kept; how many other open calls are shown.
+const BESIDE: usize = 32;
+const NOTES: u64 = 1_000_000;
+const OPEN_SHOWN: usize = 6;
+const GONE: &str = ", answered none: the key was gone";
 const AGAIN: &str = "  again (draws the same calls; threads may interleave otherwise): ";
 const ANEW: &str = "events and processes are numbered anew here and in the files, for the calls \"invoked\" above that had not taken effect, in \
                     that order:";
@@ -169,8 +183,8 @@ impl Kind {
     }
 
     /// Whether the answer tells which call of a history it was.
-    fn is_held(self) -> bool {
-        matches!(self, PutIfAbsent | Floor | Ceiling | PopFirst)
+    fn is_held(self, options: &Options) -> bool {
+        matches!(self, PutIfAbsent | Floor | Ceiling | PopFirst) || options.cache.is_some() && matches!(self, Get | Replace | Scan)
     }
 
     /// Its call in a history, as far as that is known before the answer.
@@ -241,8 +255,28 @@ thread_local! {
     static POINTS: RefCell<(u64, Draws)> = const { RefCell::new((0, Draws(0))) };
 }
 
+static HAS_POINTS: AtomicBool = AtomicBool::new(false);
+
 /// To be called by a map's functions where another thread should get in between: under `--yield` it sometimes does.
 pub fn point() {
+    HAS_POINTS.store(true, Relaxed);
+    give_way();
+}
+
+thread_local! {
+    static TAKEN: RefCell<Option<(Arc<AtomicU64>, Vec<u64>)>> = const { RefCell::new(None) };
+}
+
+/// To be called by a map's read once its snapshot is taken: the read counts as answered at this moment, and its pairs may be read later.
+pub fn taken() {
+    TAKEN.with(|taken| {
+        if let Some((stamps, drawn)) = &mut *taken.borrow_mut() {
+            drawn.push(stamps.fetch_add(1, SeqCst));
+        }
+    });
+}
+
+fn give_way() {
     POINTS.with(|points| {
         let (often, draws) = &mut *points.borrow_mut();
         if *often > 0 && draws.below(1000) < *often {
@@ -263,8 +297,26 @@ impl Call {
         format!("[\"{}\"{words}]", self.0)
     }
 
-    fn writes(&self) -> bool {
-        matches!(self.0, "insert" | "remove" | "replace")
+    /// The value that it puts.
+    fn put(&self) -> Option<u64> {
+        if matches!(self.0, "insert" | "replace") { self.1.last().copied() } else { None }
+    }
+
+    fn said(&self) -> String {
+        let words = &self.1;
+        match self.0 {
+            "insert" => format!("put {} at {}", words[1], words[0]),
+            "replace" => format!("replace {} at {} by {}", words[1], words[0], words[2]),
+            "scan" => format!("scan from {} to {}", words[0], words[1]),
+            name => format!("{name} {}", words[0]),
+        }
+    }
+
+    /// Whether two calls have a key in common.
+    fn meets(&self, other: &Call) -> bool {
+        let ends = |call: &Call| (call.1[0], if call.0 == "scan" { call.1[1] } else { call.1[0] });
+        let ((low, high), (from, to)) = (ends(self), ends(other));
+        low <= to && from <= high
     }
 }
 
@@ -315,6 +367,63 @@ fn noted(kind: Kind, words: &[u64], said: &Said) -> Option<(Call, Option<String>
     })
 }
 
+/// What a history has of a call: its invocation, its answer, or none where the call stays open; a note of the call as it was made, where that is
+/// another one; and further calls of the same interval, each by a process of its own.
+#[derive(Clone, Debug)]
+struct Noted {
+    call: Call,
+    answer: Option<String>,
+    note: Option<String>,
+    beside: Vec<Noted>,
+}
+
+impl Noted {
+    fn done(call: Call, note: String) -> Noted {
+        Noted { call, answer: Some("\"done\"".to_string()), note: Some(note), beside: vec![] }
+    }
+}
+
+/// What a history has of a call. Of a cache, which may lose any key at any time: of a miss, that the key is gone from then on. So this history has an
+/// order if and only if the cache's own has one in which keys may be lost. Late: a miss says nothing.
+fn recorded(options: &Options, kind: Kind, words: &[u64], said: &Said, fresh: &mut dyn FnMut() -> u64) -> Option<Noted> {
+    let (call, answer) = noted(kind, words, said)?;
+    let plain = Noted { call, answer, note: None, beside: vec![] };
+    let Some(cache) = &options.cache else { return Some(plain) };
+    let (is_late, is_none, before) = (cache == "late", *said == Said::None, plain.call.said());
+    if is_late && (*said == Said::Other || is_none && !matches!(kind, Put | Del | PutIfAbsent)) {
+        return None;
+    }
+    match (kind, said) {
+        (Put | PutIfAbsent, Said::None) => Some(Noted::done(Call("insert", words.to_vec()), before + GONE)),
+        (Get | Del | Replace, Said::None) => Some(Noted::done(Call("remove", vec![words[0]]), before + GONE)),
+        (_, Said::Other) => Some(Noted::done(Call("replace", vec![words[0], words[1], fresh()]), before + ", answered another value")),
+        _ if plain.call.0 == "scan" => recorded_scan(options, plain, said, is_late, &before),
+        _ => Some(plain),
+    }
+}
+
+fn recorded_scan(options: &Options, plain: Noted, said: &Said, is_late: bool, before: &str) -> Option<Noted> {
+    let pairs = match said {
+        Said::Pairs(pairs) => pairs.clone(),
+        Said::Pair(key, value) => vec![(*key, *value)],
+        _ => vec![],
+    };
+    if is_late {
+        let mut gets = pairs.iter().map(|(key, value)| {
+            let (call, note) = (Call("get", vec![*key]), Some(format!("{before}, answered {key}: {value}")));
+            Noted { call, answer: Some(value.to_string()), note, beside: vec![] }
+        });
+        let mut first = gets.next()?;
+        first.beside = gets.collect();
+        return Some(first);
+    }
+    let keys = (plain.call.1[0]..options.keys).take_while(|key| *key <= plain.call.1[1]);
+    let missing = keys.filter(|key| pairs.iter().all(|(held, _)| held != key));
+    let note = |key| format!("{before}, which did not have {key}: the key was gone");
+    let beside = missing.map(|key| Noted::done(Call("remove", vec![key]), note(key))).collect();
+    Some(Noted { beside, ..plain })
+}
+
 fn ask_any(connection: &mut dyn Connection, kind: Kind, words: &[u64]) -> Said {
     match kind {
         Get => connection.get(words[0]),
@@ -329,8 +438,16 @@ fn ask_any(connection: &mut dyn Connection, kind: Kind, words: &[u64]) -> Said {
     }
 }
 
-fn ask(connection: &mut dyn Connection, kind: Kind, words: &[u64]) -> Result<Said, Stop> {
+fn ask(options: &Options, connection: &mut dyn Connection, kind: Kind, words: &[u64]) -> Result<Said, Stop> {
     let said = ask_any(connection, kind, words);
+    let values = match &said {
+        Said::Told(value) | Said::Pair(_, value) => vec![*value],
+        Said::Pairs(pairs) => pairs.iter().map(|(_, value)| *value).collect(),
+        _ => vec![],
+    };
+    if let (true, Some(own)) = (options.cache.is_some(), values.iter().find(|value| **value >= OWN_VALUES)) {
+        return fail(BAD_WORDS, format!("{} said {own}, and --cache needs the values from 2^63 on for its own use", kind.name()));
+    }
     if kind.fits(&said) {
         return Ok(said);
     }
@@ -338,7 +455,7 @@ fn ask(connection: &mut dyn Connection, kind: Kind, words: &[u64]) -> Result<Sai
 }
 
 /// Which functions a map has: they are called once each, of a map that is not used any more.
-fn functions<M: Map>(map: M) -> [bool; 9] {
+fn functions<M: Map>(map: &M) -> [bool; 9] {
     let mut connection = map.open();
     KINDS.map(|kind| matches!(kind, Get | Put) || ask_any(&mut *connection, kind, &[0, 1, 2]) != Said::Missing)
 }
@@ -353,6 +470,7 @@ struct Broken<'a> {
     once: HashMap<u64, Said>,
     late: Option<(u64, u64)>,
     style: Option<Said>,
+    times: Arc<AtomicU64>, // how often it went wrong
 }
 
 impl<'a> Broken<'a> {
@@ -360,11 +478,16 @@ impl<'a> Broken<'a> {
         self.how == how && self.draws.below(SELDOM) == 0
     }
 
+    fn count(&self) {
+        self.times.fetch_add(1, SeqCst);
+    }
+
     /// Does the put that still comes, soon.
     fn caught_up(&mut self) -> &mut Box<dyn Connection + 'a> {
         if let Some((key, value)) = self.late {
             if self.draws.below(2) == 1 {
                 self.late = None;
+                self.count();
                 self.truly.put(key, value);
             }
         }
@@ -403,6 +526,7 @@ impl Connection for Broken<'_> {
         self.caught_up();
         let once = self.once.get(&key).cloned();
         if once.is_some() && self.goes("stale") {
+            self.count();
             return once.unwrap_or(Said::None);
         }
         let said = self.truly.get(key);
@@ -415,11 +539,13 @@ impl Connection for Broken<'_> {
     fn put(&mut self, key: u64, value: u64) -> Said {
         self.caught_up();
         if self.style.is_some() && self.goes("race") {
+            self.count();
             return self.race(key, value);
         }
         if self.style.is_some() && self.goes("drop") {
             let got = self.truly.get(key);
             if got.tells() {
+                self.count();
                 return self.in_style(got);
             }
         }
@@ -452,7 +578,10 @@ impl Connection for Broken<'_> {
         let first = self.truly.scan(low, middle);
         self.draws.pause();
         match (first, self.truly.scan(middle + 1, high)) {
-            (Said::Pairs(first), Said::Pairs(second)) => Said::Pairs([first, second].concat()),
+            (Said::Pairs(first), Said::Pairs(second)) => {
+                self.count();
+                Said::Pairs([first, second].concat())
+            }
             _ => self.truly.scan(low, high),
         }
     }
@@ -464,7 +593,10 @@ impl Connection for Broken<'_> {
         }
         match self.truly.put(key, value) {
             said @ (Said::Refused | Said::Unknown) => said,
-            _ => Said::Done,
+            _ => {
+                self.count();
+                Said::Done
+            }
         }
     }
 
@@ -501,6 +633,27 @@ struct Event {
     thread: usize,
     life: usize,
     what: What,
+    note: Option<String>,
+    /// The function, unless no thread called one, and what that said, once it is over.
+    kind: &'static str,
+    said: usize,
+    beside: Arc<Vec<Noted>>,
+}
+
+/// The two events of a call, of which the second is none where the call stays open.
+fn events_of(stamps: [u64; 2], who: (usize, usize), kind: &'static str, said: usize, noted: Noted) -> Vec<Event> {
+    let (beside, (thread, life)) = (Arc::new(noted.beside), who);
+    let (what, note) = (What::Invoke(noted.call), noted.note);
+    let mut events = vec![Event { stamp: stamps[0], thread, life, what, note, kind, said, beside: beside.clone() }];
+    if let Some(answer) = noted.answer {
+        events.push(Event { stamp: stamps[1], thread, life, what: What::Answer(answer), note: None, kind, said, beside });
+    }
+    events
+}
+
+/// Whether a function changes the key that it is called with.
+fn writes_key(kind: &str) -> bool {
+    matches!(kind, "put" | "del" | "replace" | "put_if_absent")
 }
 
 /// The number of a round, as how many processes a thread may go on, what the map holds, and keys at which calls have no answer.
@@ -516,17 +669,27 @@ struct Task {
 /// What all threads share: the word of stamps; the locks of keys, with whether a call that writes the key has no answer, and so may still
 /// come between a get and the put behind it; and the stream, if it is one.
 struct Shared {
-    stamps: AtomicU64,
+    stamps: Arc<AtomicU64>,
     locks: Vec<Mutex<bool>>,
     stream: Option<Stream>,
 }
 
-/// What stands at a stamp of a stream: a call, an answer, or nothing; and what the map said, where that ends a call.
-struct Happening {
+/// A part of what stands at a stamp of a stream: a call of a process with its note, or its answer, or none where it stays open.
+struct Part {
     process: usize,
     call: Option<Call>,
     answer: Option<String>,
+    note: Option<String>,
+}
+
+/// What stands at a stamp of a stream: first the event of a thread, then those on behalf of it; of which function they are; and what the map said,
+/// where that ends a call.
+#[derive(Default)]
+struct Happening {
+    parts: Vec<Part>,
+    kind: &'static str,
     said: Option<usize>,
+    is_left_out: bool,
 }
 
 /// Of a stream whether it goes on, is over, or has failed.
@@ -596,12 +759,24 @@ impl Shared {
 struct Counts {
     sayings: [u64; 8],
     called: [u64; 9],
+    wrong: u64, // how often the broken map went wrong
+}
+
+/// What a thread keeps from one map to the next.
+#[derive(Clone, Default)]
+struct Kept {
+    counts: Counts,
+    puts: u64,
+    /// Each put has a value of its own, which was not in the map before.
+    values_from: Option<u64>,
+    marks: u64,
 }
 
 impl Counts {
     fn add(&mut self, more: &Counts) {
         (0..8).for_each(|word| self.sayings[word] += more.sayings[word]);
         (0..9).for_each(|kind| self.called[kind] += more.called[kind]);
+        self.wrong += more.wrong;
     }
 }
 
@@ -612,37 +787,42 @@ struct Worker<'a> {
     shared: &'a Shared,
     connection: Box<dyn Connection + 'a>,
     draws: Draws,
-    counts: Counts,
     seen: HashMap<u64, u64>,
     memory: HashMap<u64, Said>,
     log: Vec<Event>,
-    puts: u64,
-    /// Each put has a value of its own, which was not in the map before.
-    values_from: Option<u64>,
     made: u64,
     life: usize,
     lives: usize,
     process: usize,
+    helpers: Vec<usize>,
+    kept: Kept,
+    is_new: bool,
+    wrong_before: u64,
+    times: Arc<AtomicU64>,
 }
 
 impl<'a> Worker<'a> {
-    fn new(number: u64, options: &'a Options, shared: &'a Shared, map: &'a dyn Map) -> Worker<'a> {
-        let mut connection = map.open();
+    fn new(number: u64, options: &'a Options, shared: &'a Shared, map: &'a dyn Opens, kept: Kept) -> Worker<'a> {
+        let (mut connection, times) = (map.open_one(), Arc::new(AtomicU64::new(0)));
         if let Some(how) = options.broken.clone() {
-            let draws = Draws::new(options.seed, 0, number);
-            connection = Box::new(Broken { truly: connection, how, draws, keys: options.keys, once: HashMap::new(), late: None, style: None });
+            let (draws, keys, times) = (Draws::new(options.seed, 0, number), options.keys, times.clone());
+            connection = Box::new(Broken { truly: connection, how, draws, keys, once: HashMap::new(), late: None, style: None, times });
         }
-        let (seen, memory) = (HashMap::new(), HashMap::new());
-        let (draws, values_from, log, counts, process) = (Draws(0), None, vec![], Counts::default(), number as usize);
+        let (seen, memory, wrong_before) = (HashMap::new(), HashMap::new(), kept.counts.wrong);
         Worker {
-            number, options, shared, connection, draws, counts, seen, memory, log, puts: 0, values_from, made: 0, life: 0, lives: 0, process,
+            number, options, shared, connection, draws: Draws(0), seen, memory, log: vec![], made: 0, life: 0, lives: 0, process: number as usize,
+            helpers: vec![], kept, is_new: true, wrong_before, times,
         }
     }
 
     /// The calls of a round. A process whose answer is unknown makes no further call.
     fn run(&mut self, task: &Task) -> Result<(Vec<Event>, Counts), Stop> {
         (self.made, self.life) = (0, 0);
-        self.values_from.get_or_insert(task.start.values().max().map_or(1, |value| value.wrapping_add(1)));
+        if self.is_new {
+            let least = task.start.values().max().map_or(1, |value| value.wrapping_add(1));
+            self.kept.values_from = Some(self.kept.values_from.map_or(least, |from| from.max(least)));
+        }
+        self.is_new = false;
         self.seen.clear();
         self.memory.clear();
         for key in (0..self.options.keys).filter(|key| self.options.void == "own" && !task.doubtful.contains(key)) {
@@ -664,7 +844,8 @@ impl<'a> Worker<'a> {
         while self.goes_on() {
             self.draw()?;
         }
-        Ok((std::mem::take(&mut self.log), self.counts))
+        self.kept.counts.wrong = self.wrong_before + self.times.load(SeqCst);
+        Ok((std::mem::take(&mut self.log), self.kept.counts))
     }
 
     /// Whether it may make one call more.
@@ -685,10 +866,10 @@ impl<'a> Worker<'a> {
             place -= self.options.shares[each as usize];
         }
         let key = self.draw_key(kind.writes());
-        let value = self.values_from.unwrap_or(1).wrapping_add(self.puts * self.options.threads + self.number);
-        self.puts += u64::from(kind.writes());
-        let high = if kind == Scan { (key + self.draws.below(SPAN)).min(self.options.keys - 1) } else { 0 };
-        point();
+        let value = self.kept.values_from.unwrap_or(1).wrapping_add(self.kept.puts * self.options.threads + self.number);
+        self.kept.puts += u64::from(kind.writes());
+        let high = if kind == Scan { (key + self.draws.below(self.options.span)).min(self.options.keys - 1) } else { 0 };
+        give_way();
         match kind {
             Scan if self.options.scan == "steps" => self.steps(key, high),
             Scan => self.make(kind, &[key, high]).map(|_| ()),
@@ -729,30 +910,39 @@ impl<'a> Worker<'a> {
         }
     }
 
-    /// A get and a call that writes its key, as one.
+    /// A get and a call that writes its key, as one. Of a cache, the key may be lost between the two.
     fn make_locked(&mut self, kind: Kind, words: &[u64], is_doubtful: &mut bool) -> Result<(), Stop> {
         let begin = self.begin(kind, words);
-        let got = if matches!(kind, Put | Del) { ask(&mut *self.connection, Get, &words[..1])? } else { Said::Done };
-        let said = ask(&mut *self.connection, kind, words)?;
+        let is_void = matches!(kind, Put | Del);
+        let got = if is_void { ask(self.options, &mut *self.connection, Get, &words[..1])? } else { Said::Done };
+        let got = if self.options.cache.is_some() { Said::Done } else { got };
+        let said = ask(self.options, &mut *self.connection, kind, words)?;
         let end = self.shared.stamp();
         *is_doubtful |= said == Said::Unknown;
         self.made_one(kind, words, said, if *is_doubtful { Said::Done } else { got }, begin, end).map(|_| ())
     }
 
-    /// Makes a call between two stamps, and notes it.
+    /// Makes a call between two stamps, and notes it. A read may have said when its snapshot was taken: of several such moments the last one counts.
     fn make(&mut self, kind: Kind, words: &[u64]) -> Result<Said, Stop> {
         let begin = self.begin(kind, words);
-        let said = ask(&mut *self.connection, kind, words)?;
-        let end = self.shared.stamp();
-        self.made_one(kind, words, said, Said::Done, begin, end)
+        let stamps = kind.reads().then(|| (self.shared.stamps.clone(), vec![]));
+        TAKEN.with(|taken| *taken.borrow_mut() = stamps);
+        let said = ask(self.options, &mut *self.connection, kind, words);
+        let mut drawn = TAKEN.with(|taken| taken.borrow_mut().take()).map_or(vec![], |(_, drawn)| drawn);
+        let end = drawn.pop().unwrap_or_else(|| self.shared.stamp());
+        for (stamp, stream) in drawn.into_iter().zip(self.shared.stream.iter().cycle()) {
+            stream.put(stamp, Happening::default());
+        }
+        self.made_one(kind, words, said?, Said::Done, begin, end)
     }
 
     /// The stamp in front of a call, which stands in a stream from here on, where it is known.
     fn begin(&self, kind: Kind, words: &[u64]) -> u64 {
         let begin = self.shared.stamp();
-        if let (Some(stream), false) = (&self.shared.stream, kind.is_held()) {
+        if let (Some(stream), false) = (&self.shared.stream, kind.is_held(self.options)) {
             let call = Some(Call(kind.call(), words.to_vec()));
-            stream.put(begin, Happening { process: self.process, call, answer: None, said: None });
+            let parts = vec![Part { process: self.process, call, answer: None, note: None }];
+            stream.put(begin, Happening { parts, kind: kind.name(), said: None, is_left_out: false });
         }
         begin
     }
@@ -760,8 +950,8 @@ impl<'a> Worker<'a> {
     fn made_one(&mut self, kind: Kind, words: &[u64], said: Said, got: Said, begin: u64, end: u64) -> Result<Said, Stop> {
         let is_void = matches!(kind, Put | Del);
         self.made += 1;
-        self.counts.sayings[said.word()] += 1;
-        self.counts.called[kind as usize] += 1;
+        self.kept.counts.sayings[said.word()] += 1;
+        self.kept.counts.called[kind as usize] += 1;
         let known = if words.is_empty() || !kind.writes() { said.clone() } else { self.known(kind, words, &said, got) };
         if self.options.void == "told" && is_void && matches!(known, Said::Done | Said::Found) {
             let line = format!("{} said {}, and --void told wants the value before", kind.name(), SAYINGS[known.word()]);
@@ -773,15 +963,18 @@ impl<'a> Worker<'a> {
             Said::Told(value) => self.seen.insert(words[0], value),
             _ => None,
         };
-        let recorded = noted(kind, words, &known);
+        let (number, threads, marks) = (self.number, self.options.threads, &mut self.kept.marks);
+        let mut fresh = || {
+            *marks += 1;
+            OWN_VALUES + (*marks - 1) * threads + number
+        };
+        let noted = recorded(self.options, kind, words, &known, &mut fresh);
         if let Some(stream) = &self.shared.stream {
-            self.hand_over(stream, kind, said.word(), recorded, [begin, end]);
-        } else if let Some((call, answer)) = recorded {
-            self.note(begin, What::Invoke(call));
-            match answer {
-                Some(answer) => self.note(end, What::Answer(answer)),
-                None => self.life += 1,
-            }
+            self.hand_over(stream, kind, said.word(), noted, [begin, end]);
+        } else if let Some(noted) = noted {
+            let is_open = noted.answer.is_none();
+            self.log.extend(events_of([begin, end], (self.number as usize, self.life), kind.name(), said.word(), noted));
+            self.life += usize::from(is_open);
         }
         Ok(said)
     }
@@ -812,34 +1005,56 @@ impl<'a> Worker<'a> {
 
     /// The events of a call that is over, for the stream. One that tells nothing is left out; or refused, where it stands there already.
     /// One whose answer is unknown stays open, and its thread goes on as another process.
-    fn hand_over(&mut self, stream: &Stream, kind: Kind, word: usize, recorded: Option<(Call, Option<String>)>, stamps: [u64; 2]) {
-        let is_recorded = recorded.is_some();
-        let (call, answer) = match recorded {
-            Some((call, answer)) => (Some(call), answer),
-            None => (None, (!kind.is_held()).then(|| "\"refused\"".to_string())),
+    fn hand_over(&mut self, stream: &Stream, kind: Kind, word: usize, noted: Option<Noted>, stamps: [u64; 2]) {
+        let is_held = kind.is_held(self.options);
+        let is_left_out = noted.as_ref().is_some_and(|noted| noted.beside.len() > BESIDE);
+        let mut ending = Happening { parts: vec![], kind: kind.name(), said: Some(word), is_left_out };
+        let Some(noted) = noted.filter(|_| !is_left_out) else {
+            if is_held {
+                stream.put(stamps[0], Happening::default());
+            } else {
+                ending.parts.push(Part { process: self.process, call: None, answer: Some("\"refused\"".to_string()), note: None });
+            }
+            return stream.put(stamps[1], ending);
         };
-        if kind.is_held() {
-            stream.put(stamps[0], Happening { process: self.process, call, answer: None, said: None });
+        while self.helpers.len() < noted.beside.len() {
+            self.helpers.push(stream.next_process());
         }
-        let is_open = is_recorded && answer.is_none();
-        stream.put(stamps[1], Happening { process: self.process, call: None, answer, said: Some(word) });
+        let (is_open, mut calls) = (noted.answer.is_none(), vec![]);
+        let processes = std::iter::once(self.process).chain(self.helpers.iter().copied());
+        let first = Noted { beside: vec![], ..noted };
+        for (process, one) in processes.zip(std::iter::once(first).chain(noted.beside)) {
+            calls.push(Part { process, call: Some(one.call), answer: None, note: one.note });
+            ending.parts.push(Part { process, call: None, answer: one.answer, note: None });
+        }
+        if is_held {
+            stream.put(stamps[0], Happening { parts: calls, kind: kind.name(), said: None, is_left_out: false });
+        }
+        stream.put(stamps[1], ending);
         if is_open {
             self.process = stream.next_process();
         }
-    }
-
-    fn note(&mut self, stamp: u64, what: What) {
-        self.log.push(Event { stamp, thread: self.number as usize, life: self.life, what });
     }
 }
 
 type Outcome = Result<(Vec<Event>, Counts), Stop>;
 
+/// A map of any kind, as a thread sees it.
+trait Opens: Sync {
+    fn open_one(&self) -> Box<dyn Connection + '_>;
+}
+
+impl<M: Map> Opens for M {
+    fn open_one(&self) -> Box<dyn Connection + '_> {
+        self.open()
+    }
+}
+
 /// What a thread does: it opens a connection and puts out nothing, and then one task after another, each of which puts out what it has
-/// recorded, or why the run ends.
-fn serve(number: u64, options: &Options, shared: &Shared, map: &dyn Map, tasks: &Receiver<Task>, out: &Sender<Outcome>) {
+/// recorded, or why the run ends. At the end it answers what it keeps for the next map.
+fn serve(number: u64, options: &Options, shared: &Shared, map: &dyn Opens, kept: Kept, tasks: &Receiver<Task>, out: &Sender<Outcome>) -> Kept {
     let done = catch_unwind(AssertUnwindSafe(|| {
-        let mut worker = Worker::new(number, options, shared, map);
+        let mut worker = Worker::new(number, options, shared, map, kept);
         let _ = out.send(Ok((vec![], Counts::default())));
         for task in tasks {
             let made = worker.run(&task);
@@ -850,88 +1065,246 @@ fn serve(number: u64, options: &Options, shared: &Shared, map: &dyn Map, tasks: 
                 break;
             }
         }
+        worker.kept
     }));
-    if done.is_err() {
+    done.unwrap_or_else(|_| {
         if let Some(stream) = &shared.stream {
             stream.state.store(FAILED, SeqCst);
         }
         let _ = out.send(fail(BAD_WORDS, "a thread has panicked"));
-    }
+        Kept::default()
+    })
 }
 
-/// Gets of all keys at rest, and what they told: the last calls of a round.
-fn rest(connection: &mut dyn Connection, options: &Options, shared: &Shared) -> Result<(Vec<Event>, BTreeMap<u64, u64>), Stop> {
-    let (mut events, mut contents) = (vec![], BTreeMap::new());
-    let thread = options.threads as usize;
+/// What gets of all keys at rest told: the last calls of a round, what the map holds, and keys of which it is not told whether they are there.
+#[derive(Default)]
+struct Rest {
+    events: Vec<Event>,
+    contents: BTreeMap<u64, u64>,
+    hidden: Vec<u64>,
+}
+
+fn rest(connection: &mut dyn Connection, options: &Options, shared: &Shared) -> Result<Rest, Stop> {
+    let mut rest = Rest::default();
     for key in 0..options.keys {
-        let (mut said, mut begin, mut end) = (Said::Done, 0, 0);
+        let (mut said, mut stamps) = (Said::Unknown, [0, 0]);
         for _ in 0..1000 {
-            begin = shared.stamp();
-            said = ask(connection, Get, &[key])?;
-            end = shared.stamp();
-            if said.tells() {
+            stamps[0] = shared.stamp();
+            said = ask(options, connection, Get, &[key])?;
+            stamps[1] = shared.stamp();
+            if said.tells() || said == Said::Done {
                 break;
             }
         }
-        let Some(answer) = answer_text(&said).filter(|_| said.tells()) else {
+        if !said.tells() && said != Said::Done {
             return fail(BAD_WORDS, format!("get of {key} said {} at rest, where it has to tell", SAYINGS[said.word()]));
-        };
-        events.push(Event { stamp: begin, thread, life: 0, what: What::Invoke(Call("get", vec![key])) });
-        events.push(Event { stamp: end, thread, life: 0, what: What::Answer(answer) });
+        }
+        match recorded(options, Get, &[key], &said, &mut || 0) {
+            Some(noted) => rest.events.extend(events_of(stamps, (options.threads as usize, 0), "rest", said.word(), noted)),
+            None => rest.hidden.push(key),
+        }
         if let Said::Told(value) = said {
-            contents.insert(key, value);
+            rest.contents.insert(key, value);
         }
     }
-    Ok((events, contents))
+    Ok(rest)
 }
 
 // Histories
 
+/// An event of a history.
+#[derive(Debug)]
+struct One {
+    process: usize,
+    what: What,
+    note: Option<String>,
+    kind: &'static str,
+    said: usize,
+    is_answered: bool,
+}
+
+impl One {
+    fn new(process: usize, what: What, note: Option<String>) -> One {
+        One { process, what, note, kind: "", said: 0, is_answered: false }
+    }
+
+    fn call(&self) -> Option<&Call> {
+        if let What::Invoke(call) = &self.what { Some(call) } else { None }
+    }
+}
+
+/// What keys may hold of which it is not known, beside nothing.
+type Maybe = BTreeMap<u64, BTreeSet<u64>>;
+
+/// Who is a process: each thread, and each of its lives, and who makes calls on behalf of one.
+type Who = (usize, usize);
+const HELPS: usize = usize::MAX;
+const SUPPOSES: usize = usize::MAX - 1;
+
 /// What one round recorded, as a history: its events with their processes; and what its threads met.
+#[derive(Default)]
 struct Round {
     start: Arc<BTreeMap<u64, u64>>,
-    events: Vec<(usize, What)>,
+    events: Vec<One>,
     pending: Vec<Call>,
     met: HashSet<u64>,
+    numbers: HashMap<Who, usize>,
+    before: usize,
     calls: u64,
     overlap: u64,
+    left_out: u64,
     at_start: &'static str,
     nobody: &'static str,
 }
 
+/// The values that an answer has.
+fn values_of(answer: &str) -> Vec<u64> {
+    match Json::read(&mut &*answer) {
+        Json::Number(value) => vec![value],
+        pairs => pairs.items().iter().map(|pair| pair.word(1)).collect(),
+    }
+}
+
 impl Round {
-    /// Each thread, and each of its lives, becomes a process; calls that have no answer from before are the first.
-    fn new(mut noted: Vec<Event>, start: Arc<BTreeMap<u64, u64>>, before: &[Call]) -> Round {
-        let mut events: Vec<(usize, What)> = before.iter().cloned().map(What::Invoke).enumerate().collect();
-        let mut numbers = HashMap::new();
-        noted.sort_by_key(|event| event.stamp);
-        for event in noted {
-            let next = before.len() + numbers.len();
-            let process = *numbers.entry((event.thread, event.life)).or_insert(next);
-            events.push((process, event.what));
-        }
+    /// Calls that have no answer from before are the first, then calls for keys of which it is not known what they hold.
+    fn new(mut noted: Vec<Event>, start: Arc<BTreeMap<u64, u64>>, before: &[Call], maybe: &Maybe, tally: &mut Tally) -> Round {
+        let events = before.iter().cloned().enumerate().map(|(process, call)| One::new(process, What::Invoke(call), None)).collect();
         let (at_start, nobody) = ("at the start", "nobody");
-        let mut round = Round { start, events, pending: vec![], met: HashSet::new(), calls: 0, overlap: 0, at_start, nobody };
-        round.measure();
+        let mut round = Round { start, events, before: before.len(), at_start, nobody, ..Round::default() };
+        noted.sort_by_key(|event| event.stamp);
+        round.suppose(&noted, maybe);
+        round.order(noted);
+        round.measure(tally);
         round
     }
 
-    /// How many calls were open where another began, at which keys two writers met, and which changes may still come.
-    fn measure(&mut self) {
-        let mut open: BTreeMap<usize, &Call> = BTreeMap::new();
-        for (process, what) in &self.events {
-            let What::Invoke(call) = what else {
-                open.remove(process);
+    fn number(&mut self, who: Who) -> usize {
+        let next = self.before + self.numbers.len();
+        *self.numbers.entry(who).or_insert(next)
+    }
+
+    /// Calls before the others for keys of which nobody knows what they hold: removes and inserts that overlap, of which any may be the last. Of the
+    /// values that a key may hold, those that are read and that no call of the round puts are enough, and one other.
+    fn suppose(&mut self, noted: &[Event], maybe: &Maybe) {
+        if maybe.is_empty() {
+            return;
+        }
+        let (mut read, mut put, mut threads) = (HashSet::new(), HashSet::new(), vec![]);
+        for event in noted {
+            match &event.what {
+                What::Answer(answer) => read.extend(values_of(answer)),
+                What::Invoke(call) => put.extend(call.put()),
+            }
+            read.extend(event.beside.iter().flat_map(|one| values_of(one.answer.as_deref().unwrap_or(""))));
+            if !threads.contains(&(event.thread, 0)) {
+                threads.push((event.thread, 0));
+            }
+        }
+        for (key, values) in maybe {
+            let (mut needed, others): (Vec<u64>, Vec<u64>) = values.iter().partition(|value| read.contains(value) && !put.contains(value));
+            needed.extend(others.first());
+            let mut calls: Vec<(Call, String)> = needed.iter().map(|value| (Call("insert", vec![*key, *value]), value.to_string())).collect();
+            if !calls.is_empty() {
+                calls.push((Call("remove", vec![*key]), "nothing".to_string()));
+            }
+            while threads.len() < calls.len() {
+                threads.push((SUPPOSES, threads.len()));
+            }
+            let processes: Vec<usize> = threads[..calls.len()].to_vec().into_iter().map(|who| self.number(who)).collect();
+            for (process, (call, value)) in processes.iter().zip(calls) {
+                self.events.push(One::new(*process, What::Invoke(call), Some(format!("at the start {key} may hold {value}"))));
+            }
+            self.events.extend(processes.into_iter().map(|process| One::new(process, What::Answer("\"done\"".to_string()), None)));
+        }
+    }
+
+    /// The events of the threads. Further calls of one are made by processes that are free; where there are none, or too many calls, it is left out
+    /// with them.
+    fn order(&mut self, noted: Vec<Event>) {
+        let is_call = |event: &Event| matches!(event.what, What::Invoke(_));
+        let mut own: HashSet<Who> = noted.iter().map(|event| (event.thread, event.life)).collect();
+        own.extend(self.numbers.keys());
+        let made = noted.iter().filter(|event| is_call(event)).count() + self.events.iter().filter(|one| one.call().is_some()).count();
+        let (room, mut calls, mut made_up) = (PROCESSES.saturating_sub(self.before + own.len()), CALLS as usize - made, 0);
+        let (mut free, mut helping, mut left_out) = (vec![], HashMap::new(), HashSet::new());
+        for event in noted {
+            let (who, is_call, count) = ((event.thread, event.life), is_call(&event), event.beside.len());
+            if !is_call && left_out.remove(&who) {
+                continue;
+            }
+            if is_call {
+                while free.len() < count && made_up < room {
+                    free.push((HELPS, made_up));
+                    made_up += 1;
+                }
+                if count > free.len().min(calls) {
+                    left_out.insert(who);
+                    self.left_out += 1;
+                    continue;
+                }
+                calls -= count;
+                helping.insert(who, free.split_off(free.len() - count));
+            }
+            let process = self.number(who);
+            let (kind, said) = (event.kind, event.said);
+            self.events.push(One { process, what: event.what, note: event.note, kind, said, is_answered: false });
+            let helpers = if is_call { helping[&who].clone() } else { helping.remove(&who).unwrap_or_default() };
+            for (helper, one) in helpers.iter().zip(&*event.beside) {
+                let process = self.number(*helper);
+                self.events.push(match is_call {
+                    true => One::new(process, What::Invoke(one.call.clone()), one.note.clone()),
+                    false => One::new(process, What::Answer(one.answer.clone().unwrap_or_default()), None),
+                });
+            }
+            if !is_call {
+                free.extend(helpers);
+            }
+        }
+    }
+
+    /// How many calls were open where another began, at which keys two writers met, and which changes may still come. A call without an answer is
+    /// none that others overlap.
+    fn measure(&mut self, tally: &mut Tally) {
+        let mut last = HashMap::new();
+        for number in 0..self.events.len() {
+            let process = self.events[number].process;
+            match self.events[number].what {
+                What::Invoke(_) => drop(last.insert(process, number)),
+                What::Answer(_) => self.events[last[&process]].is_answered = true,
+            }
+        }
+        let mut open: BTreeMap<usize, (&One, &Call, u64)> = BTreeMap::new();
+        for one in &self.events {
+            let Some(call) = one.call() else {
+                if let (Some((_, call, stored)), true) = (open.remove(&one.process), !one.kind.is_empty()) {
+                    tally.end(one.kind, call.1[0], one.said, stored);
+                }
                 continue;
             };
-            self.calls += 1;
-            self.overlap += open.len() as u64;
-            if call.writes() && open.values().any(|other| other.writes() && other.1[0] == call.1[0]) {
+            let mut stored = 0;
+            if !one.kind.is_empty() {
+                self.calls += 1;
+                self.overlap += open.values().filter(|(other, ..)| !other.kind.is_empty() && other.is_answered).count() as u64;
+                stored = tally.begin(one.kind, call.1[0]);
+            }
+            if writes_key(one.kind) && open.values().any(|(other, met, _)| writes_key(other.kind) && met.1[0] == call.1[0]) {
                 self.met.insert(call.1[0]);
             }
-            open.insert(*process, call);
+            open.insert(one.process, (one, call, stored));
         }
-        self.pending = open.into_values().filter(|call| !self.tells(call)).cloned().collect();
+        self.pending = open.into_values().map(|(_, call, _)| call).filter(|call| !self.tells(call)).cloned().collect();
+    }
+
+    /// What keys may hold of which the gets at the end do not tell it.
+    fn may_hold(&self, hidden: &[u64], maybe: &Maybe) -> Maybe {
+        let mut values = Maybe::new();
+        for key in hidden {
+            let mut own = maybe.get(key).cloned().unwrap_or_default();
+            own.extend(self.start.get(key));
+            own.extend(self.events.iter().filter_map(One::call).filter(|call| call.1[0] == *key).filter_map(Call::put).filter(|put| *put < OWN_VALUES));
+            values.insert(*key, own);
+        }
+        values
     }
 
     /// Whether an answer tells what a call puts: then it was done.
@@ -939,7 +1312,7 @@ impl Round {
         let value = call.1.last().map_or(String::new(), u64::to_string);
         let in_pair = format!(",{value}]");
         call.0 != "remove"
-            && self.events.iter().any(|(_, what)| matches!(what, What::Answer(answer) if *answer == value || answer.contains(&in_pair)))
+            && self.events.iter().any(|one| matches!(&one.what, What::Answer(answer) if *answer == value || answer.contains(&in_pair)))
     }
 
     /// A history as a round, as far as what is said of it needs that.
@@ -948,26 +1321,38 @@ impl Round {
         let mut events = vec![];
         for event in whole.member("events").items() {
             let words: Vec<u64> = event.member("invoke").items().iter().skip(1).map(Json::number).collect();
-            let what = match event.member("invoke").items().first() {
-                Some(Json::Text(name)) if name == "replace" => What::Invoke(Call("replace", words)),
-                Some(Json::Text(name)) if name == "insert" => What::Invoke(Call("insert", words)),
-                _ => What::Answer(String::new()),
+            let name = if let Some(Json::Text(name)) = event.member("invoke").items().first() { name } else { "" };
+            let what = match ["get", "insert", "remove", "replace", "scan"].into_iter().find(|own| *own == name) {
+                Some(name) => What::Invoke(Call(name, words)),
+                None => What::Answer(String::new()),
             };
-            events.push((event.member("process").number() as usize, what));
+            events.push(One::new(event.member("process").number() as usize, what, None));
         }
         let start = whole.member("start").items().iter().map(|pair| (pair.word(0), pair.word(1))).collect();
         let (at_start, nobody) = ("before these calls", "none of these calls");
-        Round { start: Arc::new(start), events, pending: vec![], met: HashSet::new(), calls: 0, overlap: 0, at_start, nobody }
+        Round { start: Arc::new(start), events, at_start, nobody, ..Round::default() }
+    }
+
+    /// The calls that a follower still had, with the notes that the stream had of them: those of the calls "invoked" of its report, in that order.
+    fn note(&mut self, report: &str, notes: &HashMap<u64, String>) {
+        let report = Json::read(&mut &*report);
+        let invoked = report.member("keys").items().first().map_or(&[] as &[Json], |key| key.member("invoked").items());
+        let mut calls: Vec<&mut One> = self.events.iter_mut().filter(|one| one.call().is_some()).collect();
+        if calls.len() == invoked.len() {
+            calls.iter_mut().zip(invoked).for_each(|(one, number)| one.note = notes.get(&number.number()).cloned());
+        }
     }
 
     fn text(&self) -> String {
         let mut version = if self.start.is_empty() { 1 } else { 2 };
         let mut texts = vec![];
-        for (process, what) in &self.events {
-            texts.push(match what {
+        for one in &self.events {
+            let (process, note) = (one.process, note_text(&one.note));
+            version = if one.note.is_some() { 3 } else { version };
+            texts.push(match &one.what {
                 What::Invoke(call) => {
                     version = version.max(if call.0 == "replace" { 2 } else { 1 });
-                    format!("{{\"invoke\":{},\"process\":{process}}}", call.text())
+                    format!("{{\"invoke\":{},{note}\"process\":{process}}}", call.text())
                 }
                 What::Answer(answer) => {
                     let tells_less = matches!(answer.as_str(), "\"done\"" | "\"found\"" | "\"other\"");
@@ -979,6 +1364,63 @@ impl Round {
         let pairs: Vec<(u64, u64)> = self.start.iter().map(|(key, value)| (*key, *value)).collect();
         let start = if version > 1 { format!(",\"start\":{}", pairs_text(&pairs)) } else { String::new() };
         format!("{{\"events\":[{}]{start},\"version\":{version}}}\n", texts.join(","))
+    }
+}
+
+fn note_text(note: &Option<String>) -> String {
+    note.as_ref().map_or(String::new(), |note| format!("\"note\":\"{note}\","))
+}
+
+/// How often gets found a value; and how often a key was lost, so that nothing was found where a put was answered and no delete begun since.
+#[derive(Default)]
+struct Tally {
+    gets: u64,
+    hits: u64,
+    misses: u64,
+    losses: u64,
+    puts: u64,
+    stored: HashMap<u64, u64>,
+    deletes: HashMap<u64, u64>,
+}
+
+impl Tally {
+    /// Begins with a new map.
+    fn forget(&mut self) {
+        self.stored.clear();
+        self.deletes.clear();
+    }
+
+    /// Which put the key holds as the call begins.
+    fn begin(&mut self, kind: &str, key: u64) -> u64 {
+        if matches!(kind, "del" | "pop_first") {
+            self.stored.remove(&key);
+            *self.deletes.entry(key).or_insert(0) += 1;
+        }
+        self.stored.get(&key).copied().unwrap_or(0)
+    }
+
+    fn end(&mut self, kind: &str, key: u64, said: usize, stored: u64) {
+        let said = SAYINGS[said];
+        self.gets += u64::from(kind == "get");
+        self.hits += u64::from(kind == "get" && matches!(said, "told" | "found"));
+        self.misses += u64::from(kind == "get" && said == "none");
+        let looks = matches!(kind, "get" | "put" | "replace" | "rest");
+        if said == "none" && looks && stored != 0 && self.stored.get(&key) == Some(&stored) {
+            self.losses += 1;
+            self.stored.remove(&key);
+        }
+        if matches!(kind, "del" | "pop_first") && said != "unknown" {
+            self.deletes.entry(key).and_modify(|count| *count -= 1);
+        }
+        let is_done = match kind {
+            "put" => !matches!(said, "refused" | "unknown"),
+            "put_if_absent" => said == "none",
+            _ => kind == "replace" && said == "done",
+        };
+        self.puts += u64::from(is_done);
+        if is_done && self.deletes.get(&key).map_or(true, |count| *count == 0) {
+            self.stored.insert(key, self.puts);
+        }
     }
 }
 
@@ -1196,49 +1638,99 @@ struct Run {
     calls: u64,
     overlap: u64,
     undecided: u64,
+    helped: u64, // calls on behalf of others
+    left_out: u64,
+    wrong_times: u64, // how often a broken map went wrong
+    tally: Tally,
+    notes: HashMap<u64, String>,
+    events: u64, // of a stream
     cut: Vec<String>,
     failed: Option<Round>,
     report: String,
     kept: Option<String>, // the stream so far, while it is no longer than is kept
 }
 
+/// Where a run is between two rounds: what the map holds, calls that may still come, and keys of which it is not known what they hold; and the events
+/// of a round which ends with reads of the map that is opened again.
+#[derive(Default)]
+struct At {
+    start: Arc<BTreeMap<u64, u64>>,
+    pending: Vec<Call>,
+    maybe: Maybe,
+    is_begun: bool,
+    rounds: u64,
+    events: Option<Vec<Event>>,
+}
+
+/// Why the threads of a map end.
+enum Next {
+    End,
+    NewMap,
+    Reopened,
+}
+
+/// By which a thread gets what it has to do, and what it has done.
+type Ends = (Sender<Task>, Receiver<Outcome>);
+
 impl Run {
     /// Rounds from this number on, until one has no order, or the time is over; or one stream.
     fn new<M: Map>(options: &Options, make: &dyn Fn() -> M, program: Option<&Program>, number: u64) -> Result<Run, Stop> {
-        let (map, options) = (make(), options.clone());
+        HAS_POINTS.store(false, SeqCst);
         let locks = if options.void == "lock" { (0..options.keys).map(|_| Mutex::new(false)).collect() } else { vec![] };
-        let shared = Shared { stamps: AtomicU64::new(0), locks, stream: options.is_stream.then(|| Stream::new(options.threads)) };
+        let stream = options.is_stream.then(|| Stream::new(options.threads));
+        let shared = Shared { stamps: Arc::new(AtomicU64::new(0)), locks, stream };
         let mut run = Run {
             options: options.clone(), sayings: [0; 8], called: [0; 9], met: HashSet::new(), began: Instant::now(), rounds: 0, calls: 0,
-            overlap: 0, undecided: 0, cut: vec![], failed: None, report: String::new(), kept: program.map(|_| String::new()),
+            overlap: 0, undecided: 0, helped: 0, left_out: 0, wrong_times: 0, tally: Tally::default(), notes: HashMap::new(), events: 0,
+            cut: vec![], failed: None, report: String::new(), kept: program.map(|_| String::new()),
         };
+        let (mut map, mut kept, mut at) = (make(), vec![Kept::default(); options.threads as usize], At::default());
+        loop {
+            match run.use_map(&map, &shared, program, number, &mut kept, &mut at)? {
+                Next::End => return Ok(run),
+                Next::NewMap => (map, at) = (make(), At::default()),
+                Next::Reopened => match map.reopen() {
+                    Some(opened) => map = opened,
+                    None => return fail(BAD_WORDS, format!("{}: reopen said nothing, where it has to return the map", run.options.name)),
+                },
+            }
+        }
+    }
+
+    /// The threads of one map.
+    fn use_map(
+        &mut self, map: &dyn Opens, shared: &Shared, program: Option<&Program>, number: u64, kept: &mut Vec<Kept>, at: &mut At,
+    ) -> Result<Next, Stop> {
+        let options = self.options.clone();
         std::thread::scope(|scope| {
-            let mut threads = vec![];
-            for number in 0..options.threads {
+            let (mut threads, mut handles) = (vec![], vec![]);
+            for (number, own) in kept.drain(..).enumerate() {
                 let ((tasks, inbox), (out, outbox)) = (channel(), channel());
-                let (map, options, shared) = (&map, &options, &shared);
-                scope.spawn(move || serve(number, options, shared, map, &inbox, &out));
+                let options = &options;
+                handles.push(scope.spawn(move || serve(number as u64, options, shared, map, own, &inbox, &out)));
                 threads.push((tasks, outbox));
             }
-            match &shared.stream {
-                Some(stream) => run.follow(&map, &shared, stream, &threads, program),
-                None => run.rounds_of(&map, &shared, &threads, program, number),
-            }
-        })?;
-        Ok(run)
+            let next = match &shared.stream {
+                Some(stream) => self.follow(map, shared, stream, &threads, program).map(|()| Next::End),
+                None => self.rounds_of(map, shared, &threads, program, number, at),
+            };
+            drop(threads);
+            kept.extend(handles.into_iter().map(|handle| handle.join().unwrap_or_default()));
+            next
+        })
     }
 
     /// One stream, until it has no order, or the time is over.
     fn follow(
-        &mut self, map: &dyn Map, shared: &Shared, stream: &Stream, threads: &[(Sender<Task>, Receiver<Outcome>)], program: Option<&Program>,
+        &mut self, map: &dyn Opens, shared: &Shared, stream: &Stream, threads: &[Ends], program: Option<&Program>,
     ) -> Result<(), Stop> {
         let (options, began) = (self.options.clone(), self.began);
         let named = |stop: Stop| Stop(stop.0, format!("{}: {}", options.name, stop.1));
         for (_, outbox) in threads {
             outbox.recv().unwrap_or_else(|_| fail(BAD_WORDS, "a thread has ended")).map_err(named)?;
         }
-        let (_, contents) = rest(&mut *map.open(), &options, shared).map_err(named)?;
-        let (start, missing) = (Arc::new(contents), Arc::new(AtomicUsize::new(threads.len())));
+        let left = rest(&mut *map.open_one(), &options, shared).map_err(named)?;
+        let (start, missing) = (Arc::new(left.contents), Arc::new(AtomicUsize::new(threads.len())));
         let task = Task { round: 0, lives: STREAM_PROCESSES, start: start.clone(), doubtful: Arc::new(HashSet::new()), missing };
         stream.taken.store(shared.stamps.load(SeqCst), SeqCst);
         let (ended, written) = std::thread::scope(|scope| {
@@ -1274,14 +1766,14 @@ impl Run {
         for one in ended.into_iter().flatten() {
             counts.add(&one.map_err(named)?.1);
         }
-        self.called = counts.called;
+        (self.called, self.wrong_times) = (counts.called, counts.wrong);
         let (status, report) = written?;
         self.conclude(stream, status, report)
     }
 
     /// What the verdict on a stream says. One that was cut off has no yes.
     fn conclude(&mut self, stream: &Stream, status: i32, report: String) -> Result<(), Stop> {
-        let counts_all = self.options.out == "-" || report.starts_with(&format!("{{\"calls\":{},", self.calls));
+        let counts_all = self.options.out == "-" || report.starts_with(&format!("{{\"calls\":{},", self.calls + self.helped));
         match status {
             YES if stream.state.load(SeqCst) == FAILED || !counts_all => {
                 return fail(BAD_FILE, format!("{}: the stream was cut off", self.options.name));
@@ -1351,60 +1843,91 @@ impl Run {
         }
     }
 
-    /// The line of an event, and what is counted: as of a round, but that nothing is kept of calls that are over.
+    /// The lines of events, and what is counted: as of a round, but that nothing is kept of calls that are over. A call without an answer is over too:
+    /// nobody waits for it.
     fn take_happening(
-        &mut self, what: Happening, open: &mut HashMap<usize, Call>, writers: &mut HashMap<u64, u64>, text: &mut String,
+        &mut self, what: Happening, open: &mut HashMap<usize, (Call, u64)>, writers: &mut HashMap<u64, u64>, text: &mut String,
     ) {
-        let process = what.process;
-        if let Some(call) = what.call {
-            self.calls += 1;
-            self.overlap += open.len() as u64;
-            let _ = writeln!(text, "{{\"invoke\":{},\"process\":{process}}}", call.text());
-            if call.writes() {
-                let count = writers.entry(call.1[0]).or_insert(0);
-                *count += 1;
-                self.met.extend((*count > 1).then_some(call.1[0]));
+        for (i, part) in what.parts.into_iter().enumerate() {
+            let (process, is_first) = (part.process, i == 0);
+            if let Some(call) = &part.call {
+                let _ = writeln!(text, "{{\"invoke\":{},{}\"process\":{process}}}", call.text(), note_text(&part.note));
+                self.helped += u64::from(!is_first);
+                self.notes.extend(part.note.map(|note| (self.events, note)));
+            } else if let Some(answer) = &part.answer {
+                let _ = writeln!(text, "{{\"answer\":{answer},\"process\":{process}}}");
             }
-            open.insert(process, call);
-        } else if let Some(answer) = what.answer {
-            let _ = writeln!(text, "{{\"answer\":{answer},\"process\":{process}}}");
-            if let Some(call) = open.remove(&process).filter(Call::writes) {
-                let count = writers.entry(call.1[0]).or_insert(1);
-                *count -= 1;
-                if *count == 0 {
-                    writers.remove(&call.1[0]);
+            self.events += u64::from(part.call.is_some() || part.answer.is_some());
+            match part.call {
+                Some(call) if is_first => {
+                    self.calls += 1;
+                    self.overlap += open.len() as u64;
+                    if writes_key(what.kind) {
+                        let count = writers.entry(call.1[0]).or_insert(0);
+                        *count += 1;
+                        self.met.extend((*count > 1).then_some(call.1[0]));
+                    }
+                    let stored = self.tally.begin(what.kind, call.1[0]);
+                    open.insert(process, (call, stored));
                 }
+                None if is_first => {
+                    let Some((call, stored)) = open.remove(&process) else { continue };
+                    self.tally.end(what.kind, call.1[0], what.said.unwrap_or(0), stored);
+                    if writes_key(what.kind) && part.answer.is_some() {
+                        let count = writers.entry(call.1[0]).or_insert(1);
+                        *count -= 1;
+                        if *count == 0 {
+                            writers.remove(&call.1[0]);
+                        }
+                    }
+                }
+                _ => (),
             }
         }
+        if self.notes.len() as u64 > 2 * NOTES {
+            let events = self.events;
+            self.notes.retain(|number, _| number + NOTES >= events);
+        }
+        self.left_out += u64::from(what.is_left_out);
         if let Some(word) = what.said {
             self.sayings[word] += 1;
         }
     }
 
+    /// Rounds of one map. Where it is to be opened again, one.
     fn rounds_of(
-        &mut self, map: &dyn Map, shared: &Shared, threads: &[(Sender<Task>, Receiver<Outcome>)], program: Option<&Program>, number: u64,
-    ) -> Result<(), Stop> {
-        let named = |stop: Stop| Stop(stop.0, format!("{}: {}", self.options.name, stop.1));
+        &mut self, map: &dyn Opens, shared: &Shared, threads: &[Ends], program: Option<&Program>, number: u64, at: &mut At,
+    ) -> Result<Next, Stop> {
+        let options = self.options.clone();
+        let named = |stop: Stop| Stop(stop.0, format!("{}: {}", options.name, stop.1));
         let taken = || -> Vec<Outcome> {
             threads.iter().map(|(_, outbox)| outbox.recv().unwrap_or_else(|_| fail(BAD_WORDS, "a thread has ended"))).collect()
         };
         for one in taken() {
             one.map_err(named)?;
         }
-        let (mut connection, options) = (map.open(), self.options.clone());
-        let (_, contents) = rest(&mut *connection, &options, shared).map_err(named)?;
-        let (mut start, mut pending) = (Arc::new(contents), vec![]);
+        let mut connection = map.open_one();
+        if let Some(events) = at.events.take() {
+            self.end_round(&mut *connection, shared, events, program, at).map_err(named)?;
+        } else if !at.is_begun {
+            at.start = Arc::new(rest(&mut *connection, &options, shared).map_err(named)?.contents); // what is not told of a new map is not there
+            at.is_begun = true;
+            self.tally.forget();
+        }
         while self.failed.is_none() && !self.is_over() {
-            let named = |stop: Stop| Stop(stop.0, format!("{}: {}", options.name, stop.1));
-            let lives = (PROCESSES - 1 - pending.len()) / threads.len();
+            if options.fresh > 0 && at.rounds == options.fresh || 4 * at.maybe.len() as u64 > options.spare {
+                return Ok(Next::NewMap); // the last: too many keys may hold too much
+            }
+            let lives = (PROCESSES - 1 - at.pending.len()) / threads.len();
             if lives == 0 {
-                let (name, count) = (&options.name, pending.len());
+                let (name, count) = (&options.name, at.pending.len());
                 self.cut.push(format!("{name}: calls without an answer leave no room for others: {count}"));
                 break;
             }
-            let doubtful = Arc::new(pending.iter().map(|call: &Call| call.1[0]).collect());
+            at.rounds += 1;
+            let doubtful = Arc::new(at.pending.iter().map(|call: &Call| call.1[0]).chain(at.maybe.keys().copied()).collect());
             let missing = Arc::new(AtomicUsize::new(threads.len()));
-            let task = Task { round: number + self.rounds, lives, start: start.clone(), doubtful, missing };
+            let task = Task { round: number + self.rounds, lives, start: at.start.clone(), doubtful, missing };
             for (tasks, _) in threads {
                 let _ = tasks.send(task.clone());
             }
@@ -1414,19 +1937,33 @@ impl Run {
                 events.extend(log);
                 counts.add(&more);
             }
-            let (gets, left) = rest(&mut *connection, &options, shared).map_err(named)?;
-            events.extend(gets);
-            let round = Round::new(events, start, &pending);
-            (start, pending, self.sayings, self.called) = (Arc::new(left), round.pending.clone(), counts.sayings, counts.called);
-            self.take(round, program)?;
+            (self.sayings, self.called, self.wrong_times) = (counts.sayings, counts.called, counts.wrong);
+            if options.is_reopened {
+                at.events = Some(events);
+                return Ok(Next::Reopened);
+            }
+            self.end_round(&mut *connection, shared, events, program, at).map_err(named)?;
         }
-        Ok(())
+        Ok(Next::End)
+    }
+
+    /// Gets of all keys are the last calls of a round, and the start of the next.
+    fn end_round(
+        &mut self, connection: &mut dyn Connection, shared: &Shared, mut events: Vec<Event>, program: Option<&Program>, at: &mut At,
+    ) -> Result<(), Stop> {
+        let left = rest(connection, &self.options, shared)?;
+        events.extend(left.events);
+        let round = Round::new(events, at.start.clone(), &at.pending, &at.maybe, &mut self.tally);
+        at.maybe = round.may_hold(&left.hidden, &at.maybe);
+        (at.start, at.pending) = (Arc::new(left.contents), round.pending.clone());
+        self.take(round, program)
     }
 
     fn take(&mut self, round: Round, program: Option<&Program>) -> Result<(), Stop> {
         self.rounds += 1;
         self.calls += round.calls;
         self.overlap += round.overlap;
+        self.left_out += round.left_out;
         self.met.extend(&round.met);
         let Some(program) = program else {
             let written = std::io::stdout().write_all(round.text().as_bytes());
@@ -1467,16 +2004,59 @@ impl Run {
             self.sayings.iter().zip(SAYINGS).filter(|(count, _)| **count > 0).map(|(count, word)| format!("{count} {word}")).collect();
         let undecided = if self.undecided > 0 { format!("; {} undecided", self.undecided) } else { String::new() };
         let rounds = if self.options.is_stream { String::new() } else { counted(self.rounds, "round") + ", " };
-        format!(
+        let mut parts = vec![format!(
             "{verdict}: {rounds}{} in {:.1} seconds, overlap {:.2} a call: {}{undecided}",
             counted(self.calls, "call"), self.began.elapsed().as_secs_f64(), self.overlap as f64 / self.calls.max(1) as f64, said.join(", ")
-        )
+        )];
+        if self.options.cache.is_some() {
+            let tally = &self.tally;
+            parts.push([counted(tally.hits, "hit"), counted(tally.misses, "miss"), counted(tally.losses, "loss")].join(", "));
+        }
+        if !verdict.starts_with("no") || verdict == "not judged" {
+            parts.extend(self.cautions());
+        }
+        parts.join("; ")
+    }
+
+    /// Why a yes of this run says little.
+    fn cautions(&self) -> Vec<String> {
+        let (mut said, tally, is_cache) = (vec![], &self.tally, self.options.cache.is_some());
+        if 2 * self.sayings[Said::Refused.word()] > self.sayings.iter().sum() {
+            said.push("most calls were refused: a yes says little".to_string());
+        }
+        if tally.hits == 0 && is_cache {
+            said.push("no get hit: a yes says nothing".to_string());
+        } else if tally.hits == 0 && tally.gets > 0 {
+            said.push("no get found a value: a yes says little".to_string());
+        } else if is_cache && 20 * tally.hits < tally.gets {
+            said.push(format!("{} in {} gets: a yes says little", counted(tally.hits, "hit"), grouped(tally.gets)));
+        }
+        if is_cache && tally.losses == 0 {
+            said.push("no key was lost: eviction was not tested".to_string());
+        }
+        if self.left_out > 0 {
+            let rest = "left out, since no processes were left for the keys that it missed: fewer --keys or --threads, or --stream";
+            said.push(format!("{} {rest}", counted(self.left_out, "call")));
+        }
+        if (self.overlap as f64) < 0.05 * self.calls as f64 {
+            let rest = "the threads hardly met, and a yes says little: call point() in the map, and run with --yield 200";
+            said.push(format!("overlap below 0.05: {rest}"));
+        }
+        if self.options.yields > 0 && !HAS_POINTS.load(SeqCst) {
+            said.push("--yield acted only between calls, since the map called no point()".to_string());
+        }
+        said
     }
 }
 
 /// So many of a noun.
 fn counted(count: u64, noun: &str) -> String {
-    format!("{count} {noun}{}", if count == 1 { "" } else { "s" })
+    format!("{count} {noun}{}", if count == 1 { "" } else if noun.ends_with('s') { "es" } else { "s" })
+}
+
+/// A number with commas.
+fn grouped(number: u64) -> String {
+    if number < 1000 { number.to_string() } else { format!("{},{:03}", grouped(number / 1000), number % 1000) }
 }
 
 /// The smallest run that failed, of some tries with half of the calls or keys, or a thread less. Threads interleave as they will. Where calls
@@ -1636,21 +2216,53 @@ fn said_call(call: &Json) -> String {
 /// The events of a call: that of its invocation by a process, and that of its answer, where it has one.
 fn said_events(round: &Round, invoked: u64, process: u64) -> String {
     let mut behind = round.events.iter().enumerate().skip(invoked as usize + 1);
-    match behind.find(|(_, (own, _))| *own as u64 == process) {
+    match behind.find(|(_, one)| one.process as u64 == process) {
         Some((answer, _)) => format!("events {invoked} to {answer}"),
         None => format!("event {invoked} on"),
     }
 }
 
+/// The call of an event as it was made, where a history has another one.
+fn note_of(round: &Round, number: u64) -> Option<&String> {
+    round.events.get(number as usize)?.note.as_ref()
+}
+
+/// A call as it was made.
+fn said_made(round: &Round, number: u64, call: String) -> String {
+    note_of(round, number).map_or(call, |note| note.split(", answered").next().unwrap_or("").to_string())
+}
+
+/// The event of a call's answer, or the end where it has none.
+fn last_event(round: &Round, invoked: usize) -> usize {
+    let process = round.events[invoked].process;
+    (invoked + 1..round.events.len()).find(|number| round.events[*number].process == process).unwrap_or(round.events.len())
+}
+
+/// The other calls that were open on the keys of these.
+fn said_open(round: &Round, shown: &[u64], numbers: &[u64]) -> Option<String> {
+    let mut said = vec![];
+    for (number, one) in round.events.iter().enumerate() {
+        let Some(call) = one.call().filter(|_| !shown.contains(&(number as u64))) else { continue };
+        let is_met = |of: usize, other: &Call| call.meets(other) && number < last_event(round, of) && of < last_event(round, number);
+        if numbers.iter().any(|of| round.events.get(*of as usize).and_then(One::call).is_some_and(|other| is_met(*of as usize, other))) {
+            let (made, events) = (said_made(round, number as u64, call.said()), said_events(round, number as u64, one.process as u64));
+            said.push(format!("{made} of process {} ({events})", one.process));
+        }
+    }
+    let more = said.len().saturating_sub(OPEN_SHOWN);
+    said.truncate(OPEN_SHOWN);
+    if more > 0 {
+        said.push(format!("and {more} more"));
+    }
+    (!said.is_empty()).then(|| format!("  also open on the same keys meanwhile: {}", said.join(", ")))
+}
+
 /// Who put a value.
 fn said_writer(round: &Round, answer: &Json) -> String {
     let Json::Number(value) = answer else { return String::new() };
-    for (number, (process, what)) in round.events.iter().enumerate() {
-        match what {
-            What::Invoke(call) if matches!(call.0, "insert" | "replace") && call.1.last() == Some(value) => {
-                return format!("; {value} is what process {process} put (event {number})");
-            }
-            _ => (),
+    for (number, one) in round.events.iter().enumerate() {
+        if one.call().and_then(Call::put) == Some(*value) {
+            return format!("; {value} is what process {} put (event {number})", one.process);
         }
     }
     let was_there = round.start.values().any(|held| held == value);
@@ -1682,11 +2294,11 @@ fn said_from(line: &Json) -> String {
 }
 
 /// Which calls one misses.
-fn said_missed(line: &Json) -> String {
+fn said_missed(round: &Round, line: &Json) -> String {
     let missed = line.member("misses").items().iter();
     missed.map(|call| {
         let (process, event) = (call.member("process").number(), call.member("event").number());
-        format!("; it misses {} of process {process} (event {event})", said_call(call.member("call")))
+        format!("; it misses {} of process {process} (event {event})", said_made(round, event, said_call(call.member("call"))))
     }).collect()
 }
 
@@ -1695,6 +2307,7 @@ fn said_missed(line: &Json) -> String {
 fn said_report(report: &str, round: &Round) -> (Vec<String>, Option<String>) {
     let mut lines = report.lines();
     let (mut said, mut few) = (vec![said_verdict(lines.next().unwrap_or(""))], None);
+    let (mut shown, mut next) = (vec![], vec![]);
     for text in lines {
         let line = Json::read(&mut &*text);
         if line.has("verdict") {
@@ -1707,10 +2320,12 @@ fn said_report(report: &str, round: &Round) -> (Vec<String>, Option<String>) {
             few = Some(format!("{text}\n"));
         } else if line.has("answer") {
             let (event, process) = (line.member("event").number(), line.member("process").number());
-            let (call, answered) = (said_call(line.member("call")), said_answered(round, line.member("answer")));
-            let missed = said_missed(&line);
+            let made = || said_call(line.member("call")) + &said_answered(round, line.member("answer"));
+            let made = note_of(round, event).cloned().unwrap_or_else(made);
+            let missed = said_missed(round, &line);
             let events = said_events(round, event, process);
-            said.push(format!("  {events:<19} process {process:<3} {call}{answered}{missed}"));
+            shown.push(event);
+            said.push(format!("  {events:<19} process {process:<3} {made}{missed}"));
         } else if line.has("from") {
             said.push(said_from(&line));
         } else if line.has("puts") {
@@ -1718,15 +2333,21 @@ fn said_report(report: &str, round: &Round) -> (Vec<String>, Option<String>) {
         } else if line.has("front") {
             let front: Vec<String> = line.member("front").items().iter().map(|event| event.number().to_string()).collect();
             let holds = said_answer(line.member("holds"));
-            said.push(format!("  an order of them gets as far as the events [{}]; the map then holds {holds}", front.join(",")));
+            said.push(match front.is_empty() {
+                true => format!("  no call of them can come first; the map holds {holds}"),
+                false => format!("  an order of them gets as far as the events [{}]; the map then holds {holds}", front.join(",")),
+            });
             for call in line.member("next").items() {
                 let (event, answer, would) = (call.member("event").number(), call.member("answer"), call.member("would"));
+                next.push(event);
                 let writer = said_writer(round, answer);
                 let (answer, would) = (said_answer(answer), said_answer(would));
                 said.push(format!("  the call of event {event} was answered {answer}, and would be answered {would}{writer}"));
             }
         }
     }
+    let last: Vec<u64> = shown.last().copied().into_iter().collect();
+    said.extend(said_open(round, &shown, if next.is_empty() { &last } else { &next }));
     (said, few)
 }
 
@@ -1794,7 +2415,9 @@ fn shown_left(run: &Run, left: &str, program: &Program) -> Result<Vec<String>, S
         return Ok(vec![line, keep(run, ".json", left)]);
     }
     let mut said = vec![ANEW.to_string()];
-    said.extend(shown(run, left, &explained, &Round::read(left), program)?);
+    let mut round = Round::read(left);
+    round.note(run.report.lines().next().unwrap_or(""), &run.notes);
+    said.extend(shown(run, left, &explained, &round, program)?);
     Ok(said)
 }
 
@@ -1858,6 +2481,9 @@ const USAGE: &str = "  --seconds N       how long (10, or as long as --rounds ta
   --scan HOW        snapshot: a scan is of one moment; steps: steps of ceiling (snapshot)
   --yield N         of a thousand points between and in calls, so many give way to other threads (0)
   --break HOW       makes the map wrong now and then: drop, race, replay, stale, zombie, torn or cas; all: in each of these ways
+  --cache [late]    the map is a cache: it may lose any key at any time; late: and a miss says nothing, as of one whose writes appear later
+  --fresh N         a new map after each so many rounds (one map)
+  --reopen          the map is closed and opened again after each round
   --stream          one stream that is followed while it is recorded, in the place of rounds
   --out FOLDER      where files are put (.), or - for standard output: all histories or the stream, which nobody judges then
   --budget N        the judge's (100000)
@@ -1880,6 +2506,11 @@ struct Options {
     seed: u64,
     yields: u64,
     budget: u64,
+    cache: Option<String>,
+    fresh: u64,
+    span: u64,
+    spare: u64,
+    is_reopened: bool,
     is_stream: bool,
     has_void: bool,
     has_mix: bool,
@@ -1894,15 +2525,24 @@ impl Options {
         let mut options = Options {
             name: name.to_string(), void: "done".to_string(), scan: "snapshot".to_string(), out: ".".to_string(), broken: None, bench: None,
             seconds: 0, rounds: 0, threads: 4, keys: 0, hot: 0, calls: 0, seed, yields: 0, budget: 100_000,
-            is_stream: false, has_void: false, has_mix: false, shares: [0; 9], shows: std::io::stderr().is_terminal(), shown: Instant::now(),
+            cache: None, fresh: 0, span: SPAN, spare: 0, is_reopened: false, is_stream: false, has_void: false, has_mix: false, shares: [0; 9], shows: std::io::stderr().is_terminal(), shown: Instant::now(),
         };
-        let mut words = words.iter();
+        let mut words = words.iter().peekable();
         while let Some(word) = words.next() {
-            if word == "--stream" {
-                options.is_stream = true;
-            } else {
-                options.read(word, words.next().map_or("", |text| text))?;
+            match word.as_str() {
+                "--stream" => options.is_stream = true,
+                "--reopen" => options.is_reopened = true,
+                "--cache" => {
+                    options.cache = Some("now".to_string());
+                    if let Some(next) = words.next_if(|next| !next.starts_with("--")) {
+                        options.cache = Some(next.clone());
+                    }
+                }
+                _ => options.read(word, words.next().map_or("", |text| text))?,
             }
+        }
+        if options.cache.as_ref().is_some_and(|how| how != "now" && how != "late") {
+            return fail(BAD_WORDS, "--cache: late, or nothing");
         }
         Ok(options)
     }
@@ -1918,6 +2558,7 @@ impl Options {
             "--seed" => (0, u64::MAX, &mut self.seed),
             "--yield" => (0, 1000, &mut self.yields),
             "--budget" => (1, 1_000_000, &mut self.budget),
+            "--fresh" => (1, u64::MAX, &mut self.fresh),
             _ => return self.read_named(word, text),
         };
         match text.parse() {
@@ -1968,7 +2609,7 @@ impl Options {
     }
 
     /// The words together, and with what the map has.
-    fn fit(&mut self, has: [bool; 9]) -> Result<(), Stop> {
+    fn fit(&mut self, has: [bool; 9], can_reopen: bool) -> Result<(), Stop> {
         let is_apart = self.void == "own" || self.void == "lock";
         for kind in KINDS {
             let is_steps = kind == Scan && self.scan == "steps";
@@ -1997,12 +2638,21 @@ impl Options {
             (!is_unbroken, "--break: what it makes wrong is not called"),
             (self.hot > self.keys, "--hot: more than there are keys"),
             (self.void == "own" && self.keys < self.threads, "--void: own: each thread needs a key"),
+            (self.cache.is_some() && self.void == "own", "--cache: not with --void own, since the writer of a key does not see that the key was lost"),
+            (self.is_stream && self.fresh > 0, "--fresh: not with --stream, which is of one map"),
+            (self.is_stream && self.is_reopened, "--reopen: not with --stream, which is of one map"),
+            (self.is_reopened && !can_reopen, "--reopen: the map has no function reopen"),
             (self.is_stream && self.rounds > 0, "--rounds: a stream has none; --seconds, or --calls of each thread"),
             (!self.is_stream && threads > PROCESSES as u64 - 2, "--threads: at most 62 in rounds; --stream has no such end"),
             (!self.is_stream && self.keys > most, &many_keys),
             (!self.is_stream && self.calls > most, &many_calls),
         ];
         rows.iter().find(|(is_wrong, _)| *is_wrong).map_or(Ok(()), |(_, line)| fail(BAD_WORDS, *line))?;
+        if !self.is_stream {
+            self.spare = CALLS - threads * self.calls - self.keys;
+            let room = (PROCESSES as u64 - 1 - threads) / threads; // each missing key needs a process
+            self.span = if self.cache.is_some() { SPAN.min(room).max(1) } else { SPAN };
+        }
         self.check_out()
     }
 
@@ -2057,6 +2707,13 @@ impl Options {
         if self.yields > 0 {
             let _ = write!(text, " --yield {}", self.yields);
         }
+        if let Some(how) = &self.cache {
+            text.push_str(if how == "late" { " --cache late" } else { " --cache" });
+        }
+        if self.fresh > 0 {
+            let _ = write!(text, " --fresh {}", self.fresh);
+        }
+        text.push_str(if self.is_reopened { " --reopen" } else { "" });
         if let Some(how) = &self.broken {
             let _ = write!(text, " --break {how}");
         }
@@ -2076,14 +2733,17 @@ fn said_calls(has: [bool; 9], called: [u64; 9]) -> String {
 /// How a run went: its status, what is to be told before the last line, and that.
 fn tested<M: Map>(name: &str, make: &dyn Fn() -> M, words: &[String]) -> Result<(i32, Vec<String>, String), Stop> {
     let mut options = Options::new(name, words)?;
-    let has = functions(make());
-    options.fit(has)?;
+    let map = make();
+    let has = functions(&map);
+    let can_reopen = options.is_reopened && map.reopen().is_some();
+    options.fit(has, can_reopen)?;
     let program = if options.out == "-" { None } else { Some(Program::new(&options)?) };
     if let (Some("all"), Some(program)) = (options.broken.as_deref(), &program) {
         return all_broken(options, make, program, has);
     }
     let run = Run::new(&options, make, program.as_ref(), 0)?;
-    let is_undecided = run.undecided > 0 || !run.cut.is_empty();
+    let is_empty = program.is_some() && options.cache.is_some() && run.tally.hits == 0;
+    let is_undecided = run.undecided > 0 || !run.cut.is_empty() || is_empty;
     let status = if run.failed.is_some() { NO } else if is_undecided { UNDECIDED } else { YES };
     let (mut said, calls) = (run.cut.clone(), said_calls(has, run.called));
     let Some(program) = program else {
@@ -2112,11 +2772,14 @@ fn all_broken<M: Map>(
         }
         options.broken = Some(how.to_string());
         let run = Run::new(&options, make, Some(program), 0)?;
-        missed += usize::from(run.failed.is_none());
+        let is_refuted = run.failed.is_some() && run.wrong_times > 0;
+        missed += usize::from(!is_refuted);
         (0..9).for_each(|kind| called[kind] += run.called[kind]);
-        said.push(format!("{how}: {}", run.summary(if run.failed.is_some() { "no" } else { "yes" })));
+        let verdict = if is_refuted { "no" } else if run.failed.is_some() { "no of the map as it is" } else { "yes" };
+        said.push(format!("{how}: {}", run.summary(verdict)));
     }
     said.push(said_calls(has, called));
+    said.push("this shows that calls and answers reach the judge; it does not show that threads meet: see the overlap".to_string());
     Ok(match missed {
         0 => (NO, said, "no: each broken map was refuted".to_string()),
         _ => (YES, said, format!("yes: {missed} of the broken maps were not refuted")),
