@@ -594,6 +594,7 @@ type task struct {
 	lives    int
 	start    map[uint64]uint64
 	doubtful map[uint64]bool
+	from     uint64
 }
 
 // The lock of a key; and whether a call that writes it has no answer, and so may still come between a get and the put behind it.
@@ -617,7 +618,7 @@ type worker struct {
 	draws   *draws
 	log     []event
 	puts    uint64
-	from    uint64 // each put has a value of its own, which was not in the map before
+	from    uint64
 	made    uint64
 	life    int
 	lives   int
@@ -628,14 +629,13 @@ type worker struct {
 	broken  *wrong
 	// How often the broken maps of before went wrong.
 	wrongTimes uint64
-	isNew      bool
 	reads      bool   // whether the call that goes on only reads
 	taken      uint64 // the stamp at which its snapshot was taken
 }
 
 func (w *worker) open(m Map) {
 	connection, closing := connectionOf(m)
-	w.has, w.close, w.isNew = functionsOf(connection), closing, true
+	w.has, w.close = functionsOf(connection), closing
 	if it, is := connection.(interface{ Snapshots(taken func()) }); is && connection != m {
 		it.Snapshots(w.take)
 	}
@@ -664,21 +664,11 @@ func (w *worker) fresh() uint64 {
 
 // The calls of a round. A process whose answer is unknown makes no further call.
 func (w *worker) run(t task) {
+	w.from = t.from
 	w.log, w.made, w.life, w.seen, w.memory = nil, 0, 0, map[uint64]uint64{}, map[uint64]Said{}
 	for key := uint64(0); key < w.options.keys && w.options.void == "own"; key++ {
 		if value, is := t.start[key]; !t.doubtful[key] {
 			w.memory[key] = ToldIf(value, is)
-		}
-	}
-	if w.isNew {
-		w.isNew = false
-		if w.from == 0 {
-			w.from = 1
-		}
-		for _, value := range t.start {
-			if value >= w.from {
-				w.from = value + 1
-			}
 		}
 	}
 	w.draws, w.lives = newDraws(w.options.seed, t.round, w.number), t.lives
@@ -705,7 +695,7 @@ func (w *worker) draw() {
 	}
 	key, value, high := w.drawKey(writes(kind)), uint64(0), uint64(0)
 	if writes(kind) {
-		value = w.from + w.puts*w.options.threads + w.number
+		value = w.from + w.puts*(w.options.threads+1) + w.number
 		w.puts++
 	}
 	if kind == "scan" {
@@ -1118,8 +1108,7 @@ func (s *stream) end() {
 	<-s.done
 }
 
-// A crew is the threads of a run, and a connection of the driver's own. Behind a round, `contents` is what the map holds, and `hidden` are keys of
-// which the gets do not tell whether they are there.
+// A crew is the threads of a run, and a connection of the driver's own. Behind a round, `contents` is what the map holds.
 type crew struct {
 	options    *options
 	stamps     atomic.Uint64
@@ -1128,11 +1117,12 @@ type crew struct {
 	close      func()
 	made       Map
 	contents   map[uint64]uint64
-	hidden     map[uint64]bool
+	from       uint64 // each put has a value of its own, which was not in the map before
+	puts       uint64 // of the driver's own
 }
 
 func newCrew(o *options) *crew {
-	c := &crew{options: o}
+	c := &crew{options: o, from: 1}
 	var locks []keyLock
 	if o.void == "lock" {
 		locks = make([]keyLock, o.keys)
@@ -1203,33 +1193,63 @@ func (c *crew) round(t task) []event {
 	for _, one := range c.workers {
 		events = append(events, one.log...)
 	}
-	return append(events, c.rest()...)
+	return append(events, c.rest(t.round)...)
 }
 
-func (c *crew) rest() []event {
+// Gets of all keys, the last calls of a round, and what the map then holds. A key of which a get does not tell it is written.
+func (c *crew) rest(number uint64) []event {
 	var events []event
-	c.contents, c.hidden = map[uint64]uint64{}, map[uint64]bool{}
+	c.contents = map[uint64]uint64{}
 	for key := uint64(0); key < c.options.keys; key++ {
-		said, begin, end := Unknown, uint64(0), uint64(0)
-		for i := 0; i < 1000 && !said.tells() && said.word != "done"; i++ {
-			begin = c.stamps.Add(1)
-			said = c.connection.ask(c.options, "get", key)
-			end = c.stamps.Add(1)
+		said, m := c.askAtRest(&events, "get", key)
+		isKnown, isThere, holds, kind := m != nil && said.tells(), said.word == "told", said.value, "get"
+		if !isKnown && !isOneOf(said.word, "refused", "unknown") {
+			if kind, holds = c.writeOf(key, number); kind == "del" {
+				said, _ = c.askAtRest(&events, kind, key)
+			} else if kind == "put" {
+				said, _ = c.askAtRest(&events, kind, key, holds)
+			}
+			isKnown, isThere = kind != "get" && !isOneOf(said.word, "refused", "unknown"), kind == "put"
 		}
-		if !said.tells() && said.word != "done" {
-			fail(badWords, "%s: get of %d said %s at rest, where it has to tell", c.options.name, key, said.word)
+		if !isKnown {
+			fail(badWords, "%s: %s of %d said %s at rest, where it has to tell", c.options.name, kind, key, said.word)
 		}
-		m := c.options.recorded("get", []uint64{key}, said, nil)
-		if m == nil {
-			c.hidden[key] = true
-			continue
-		}
-		events = append(events, eventsOf(begin, end, int(c.options.threads), 0, "rest", said.word, m)...)
-		if said.word == "told" {
-			c.contents[key] = said.value
+		if isThere {
+			c.contents[key] = holds
 		}
 	}
 	return events
+}
+
+// The function by which is known what a key holds: a put of a new value or, at each second key, a del. Of a cache, a del. Or get, where the map has
+// neither.
+func (c *crew) writeOf(key, number uint64) (string, uint64) {
+	isPut, isDel := c.connection["put"] != nil, c.connection["del"] != nil
+	if isDel && (!isPut || c.options.cache != "" || (key+number)%2 == 1) {
+		return "del", 0
+	}
+	if !isPut {
+		return "get", 0
+	}
+	c.puts++
+	return "put", c.from + c.puts*(c.options.threads+1) + c.options.threads
+}
+
+// What a function says at rest: again where it is refused, and a get also where nobody knows. It is noted unless it tells nothing.
+func (c *crew) askAtRest(events *[]event, kind string, words ...uint64) (said Said, m *made) {
+	said = Refused
+	var begin, end uint64
+	for i := 0; i < 1000 && (said.word == "refused" || said.word == "unknown" && kind == "get"); i++ {
+		begin = c.stamps.Add(1)
+		said = c.connection.ask(c.options, kind, words...)
+		end = c.stamps.Add(1)
+	}
+	m = c.options.recorded(kind, words, said, nil)
+	if m != nil && m.answer != "" {
+		called := map[bool]string{true: "rest", false: kind}[kind == "get"]
+		*events = append(*events, eventsOf(begin, end, int(c.options.threads), 0, called, said.word, m)...)
+	}
+	return said, m
 }
 
 // Closes all connections.
@@ -1279,14 +1299,13 @@ type round struct {
 	atStart, nobody          string
 }
 
-// Calls that have no answer from before are the first, then calls for keys of which it is not known what they hold.
-func newRound(events []event, start map[uint64]uint64, before []*call, maybe map[uint64]map[uint64]bool, t *tally) *round {
+// Calls that have no answer from before are the first.
+func newRound(events []event, start map[uint64]uint64, before []*call, t *tally) *round {
 	r := &round{start: start, met: map[uint64]bool{}, numbers: map[[2]int]int{}, before: len(before), atStart: "at the start", nobody: "nobody"}
 	for i, one := range before {
 		r.events = append(r.events, event{call: one, process: i})
 	}
 	sort.SliceStable(events, func(i, j int) bool { return events[i].stamp < events[j].stamp })
-	r.suppose(events, maybe)
 	r.order(events)
 	r.measure(t)
 	return r
@@ -1301,97 +1320,12 @@ func (r *round) number(who [2]int) int {
 	return number
 }
 
-// Adds the values that an answer has: of pairs each second number.
-func addValues(to map[uint64]bool, answer string) {
-	texts := strings.FieldsFunc(answer, func(one rune) bool { return one < '0' || one > '9' })
-	for i, text := range texts {
-		if value, err := strconv.ParseUint(text, 10, 64); err == nil && (answer[0] != '[' || i%2 == 1) {
-			to[value] = true
-		}
-	}
-}
-
-// Calls before the others for keys of which nobody knows what they hold: removes and inserts that overlap, of which any may be the last. Of the
-// values that a key may hold, those that are read and that no call of the round puts are enough, and one other.
-func (r *round) suppose(events []event, maybe map[uint64]map[uint64]bool) {
-	if len(maybe) == 0 {
-		return
-	}
-	read, put := map[uint64]bool{}, map[uint64]bool{}
-	for _, one := range events {
-		addValues(read, one.answer)
-		for _, each := range one.beside {
-			addValues(read, each.answer)
-		}
-		if one.call != nil && isOneOf(one.call.name, "insert", "replace") {
-			put[one.call.words[len(one.call.words)-1]] = true
-		}
-	}
-	threads := threadsOf(events)
-	for _, key := range keysOf(maybe) {
-		var calls []*call
-		isOther := false
-		for _, value := range keysOf(maybe[key]) {
-			isNeeded := read[value] && !put[value]
-			if isNeeded || !isOther {
-				calls = append(calls, &call{"insert", []uint64{key, value}})
-			}
-			isOther = isOther || !isNeeded
-		}
-		if len(calls) > 0 {
-			calls = append(calls, &call{"remove", []uint64{key}})
-		}
-		for i := range calls {
-			for len(threads) <= i {
-				threads = append(threads, [2]int{-2, len(threads)})
-			}
-			note := fmt.Sprintf("at the start %d may hold nothing", key)
-			if calls[i].name == "insert" {
-				note = fmt.Sprintf("at the start %d may hold %d", key, calls[i].words[1])
-			}
-			r.events = append(r.events, event{process: r.number(threads[i]), call: calls[i], note: note})
-		}
-		for i := range calls {
-			r.events = append(r.events, event{process: r.number(threads[i]), answer: `"done"`})
-		}
-	}
-}
-
-// The threads of events, each with its first life.
-func threadsOf(events []event) (threads [][2]int) {
-	met := map[[2]int]bool{}
-	for _, one := range events {
-		if who := [2]int{one.thread, 0}; !met[who] {
-			met[who] = true
-			threads = append(threads, who)
-		}
-	}
-	return threads
-}
-
-// Keys of a map, by rising ones.
-func keysOf[V any](of map[uint64]V) (keys []uint64) {
-	for key := range of {
-		keys = append(keys, key)
-	}
-	sort.Slice(keys, func(i, j int) bool { return keys[i] < keys[j] })
-	return keys
-}
-
 // The events of the threads. Further calls of one are made by processes that are free; where there are none, or too many calls, it is left out
 // with them.
 func (r *round) order(events []event) {
-	own, calls := map[[2]int]bool{}, mostCalls
-	for who := range r.numbers {
-		own[who] = true
-	}
+	own, calls := map[[2]int]bool{}, mostCalls-r.before
 	for _, one := range events {
 		own[[2]int{one.thread, one.life}] = true
-		if one.call != nil {
-			calls--
-		}
-	}
-	for _, one := range r.events {
 		if one.call != nil {
 			calls--
 		}
@@ -1477,28 +1411,6 @@ func (r *round) measure(t *tally) {
 	}
 }
 
-// What keys may hold of which the gets at the end do not tell it, beside nothing.
-func (r *round) mayHold(hidden map[uint64]bool, maybe map[uint64]map[uint64]bool) map[uint64]map[uint64]bool {
-	values := map[uint64]map[uint64]bool{}
-	for key := range hidden {
-		values[key] = map[uint64]bool{}
-		for value := range maybe[key] {
-			values[key][value] = true
-		}
-		if value, is := r.start[key]; is {
-			values[key][value] = true
-		}
-	}
-	for _, one := range r.events {
-		if one.call != nil && isOneOf(one.call.name, "insert", "replace") && values[one.call.words[0]] != nil {
-			if value := one.call.words[len(one.call.words)-1]; value < ownValues {
-				values[one.call.words[0]][value] = true
-			}
-		}
-	}
-	return values
-}
-
 // Whether an answer tells what a call puts: then it was done.
 func (r *round) tells(one *call) bool {
 	value := strconv.FormatUint(one.words[len(one.words)-1], 10)
@@ -1581,8 +1493,8 @@ func (r *round) text() string {
 // A tally is how often gets found a value; and how often a key was lost, so that nothing was found where a put was answered and no delete begun
 // since.
 type tally struct {
-	gets, hits, misses, losses, puts uint64
-	stored, deletes                  map[uint64]uint64
+	hits, misses, losses, puts uint64
+	stored, deletes            map[uint64]uint64
 }
 
 // Begins with a new map.
@@ -1603,9 +1515,6 @@ func (t *tally) end(kind string, key uint64, said string, stored uint64) {
 		t.misses++
 	case kind == "get" && isOneOf(said, "told", "found"):
 		t.hits++
-	}
-	if kind == "get" {
-		t.gets++
 	}
 	if said == "none" && isOneOf(kind, "get", "put", "replace", "rest") && stored != 0 && t.stored[key] == stored {
 		t.losses++
@@ -1775,13 +1684,11 @@ func newRun(o *options, make func() Map, p *program, number uint64) *run {
 		return r
 	}
 	var pending []*call
-	var maybe map[uint64]map[uint64]bool
 	for r.failed == nil && !r.isOver() {
-		isTime := r.rounds > 0 && o.fresh > 0 && r.rounds%o.fresh == 0
-		if isTime || 4*uint64(len(maybe)) > o.spare { // too many keys may hold too much
+		if r.rounds > 0 && o.fresh > 0 && r.rounds%o.fresh == 0 {
 			c.end()
 			r.open(c)
-			pending, maybe = nil, nil
+			pending = nil
 		}
 		lives := (processes - 1 - len(pending)) / int(o.threads)
 		if lives == 0 {
@@ -1792,21 +1699,23 @@ func newRun(o *options, make func() Map, p *program, number uint64) *run {
 		for _, one := range pending {
 			doubtful[one.words[0]] = true
 		}
-		for key := range maybe {
-			doubtful[key] = true
-		}
 		start := c.contents
-		one := newRound(c.round(task{number + r.rounds, lives, start, doubtful}), start, pending, maybe, &r.tally)
+		one := newRound(c.round(task{number + r.rounds, lives, start, doubtful, c.from}), start, pending, &r.tally)
 		r.take(one, c.workers)
-		pending, maybe = one.pending, one.mayHold(c.hidden, maybe)
+		pending = one.pending
 	}
 	return r
 }
 
-// Begins with a new map. What its keys hold is got; where a get does not tell it, there is nothing.
+// Begins with a new map.
 func (r *run) open(c *crew) {
 	c.open(r.make())
-	c.rest()
+	c.rest(0)
+	for _, value := range c.contents {
+		if value >= c.from {
+			c.from = value + 1
+		}
+	}
 	r.tally.forget()
 }
 
@@ -1836,7 +1745,7 @@ func (r *run) follow(c *crew) {
 				}
 			}()
 			w.stream, w.process = s, int(w.number)
-			w.run(task{0, streamProcesses, c.contents, nil})
+			w.run(task{0, streamProcesses, c.contents, nil, c.from})
 		})
 	}()
 	if s.wrong != nil {
@@ -1944,7 +1853,11 @@ func (r *run) summary(verdict string) string {
 	text := fmt.Sprintf("%s: %s%s in %.1f seconds, overlap %.2f a call: %s%s", verdict, rounds, counted(r.calls, "call"),
 		time.Since(r.began).Seconds(), float64(r.overlap)/math.Max(float64(r.calls), 1), strings.Join(said, ", "), undecideds)
 	if t := &r.tally; r.options.cache != "" {
-		text += fmt.Sprintf("; %s, %s, %s", counted(t.hits, "hit"), counted(t.misses, "miss"), counted(t.losses, "loss"))
+		misses := t.misses
+		if r.options.cache == "late" {
+			misses = r.called["get"] - t.hits
+		}
+		text += fmt.Sprintf("; %s, %s, %s", counted(t.hits, "hit"), counted(misses, "miss"), counted(t.losses, "loss"))
 	}
 	if strings.HasPrefix(verdict, "no") && verdict != "not judged" {
 		return text
@@ -1954,7 +1867,7 @@ func (r *run) summary(verdict string) string {
 
 // Why a yes of this run says little.
 func (r *run) cautions() (said []string) {
-	all, t, isCache := uint64(0), &r.tally, r.options.cache != ""
+	all, t, gets, isCache := uint64(0), &r.tally, r.called["get"], r.options.cache != ""
 	for _, count := range r.sayings {
 		all += count
 	}
@@ -1964,10 +1877,10 @@ func (r *run) cautions() (said []string) {
 	switch {
 	case t.hits == 0 && isCache:
 		said = append(said, "no get hit: a yes says nothing")
-	case t.hits == 0 && t.gets > 0:
+	case t.hits == 0 && gets > 0:
 		said = append(said, "no get found a value: a yes says little")
-	case isCache && 20*t.hits < t.gets:
-		said = append(said, fmt.Sprintf("%s in %s gets: a yes says little", counted(t.hits, "hit"), grouped(t.gets)))
+	case isCache && 20*t.hits < gets:
+		said = append(said, fmt.Sprintf("%s in %s gets: a yes says little", counted(t.hits, "hit"), grouped(gets)))
 	}
 	if isCache && t.losses == 0 {
 		said = append(said, "no key was lost: eviction was not tested")
@@ -2446,7 +2359,7 @@ const usage = `  --seconds N       how long (10, or as long as --rounds take)
 type options struct {
 	name, void, scan, broken, out, bench, cache                      string
 	seconds, rounds, threads, keys, hot, calls, seed, yields, budget uint64
-	fresh, span, spare                                               uint64
+	fresh, span                                                      uint64
 	shares                                                           map[string]uint64
 	shows, isStream, hasVoid, isReopened                             bool
 	shown                                                            time.Time
@@ -2674,10 +2587,8 @@ func (o *options) fit(has functions, canReopen bool) {
 	case !o.isStream && o.calls > most:
 		fail(badWords, "--calls: %s; --stream has no such end", size)
 	}
-	o.spare, o.span = mostCalls-o.threads*o.calls-o.keys, span
-	if o.isStream {
-		o.spare = 0
-	} else if room := (processes - 1 - o.threads) / o.threads; o.cache != "" && room < o.span { // each missing key needs a process
+	o.span = span
+	if room := (processes - 1 - o.threads) / o.threads; o.cache != "" && !o.isStream && room < o.span { // each missing key needs a process
 		o.span = uint64(math.Max(float64(room), 1))
 	}
 	o.checkOut()

@@ -372,7 +372,7 @@ class Worker:
         is_write = kind in WRITING or kind == "pop_first"
         key = self.key(is_write)
         if is_write:
-            value = (self.values_from + self.puts * options.threads + self.number) & GREATEST
+            value = (self.values_from + self.puts * (options.threads + 1) + self.number) & GREATEST
             self.puts += 1
         if kind == "scan":
             high = min(key + self.draws.below(self.span), options.keys - 1)
@@ -680,7 +680,7 @@ class Crew:
         for one in self.members:
             one.start()
         self.taken()
-        self.made = made
+        self.made, self.puts, self.values_from = made, 0, values_from or 1
         self.connection = made.connection() if hasattr(made, "connection") else made
 
     def taken(self):
@@ -709,33 +709,50 @@ class Crew:
         """Whether all have put out what they had to, or one has ended."""
         return all(not outbox.empty() for _, outbox in self.pipes) or not all(one.is_alive() for one in self.members)
 
-    def contents(self):
-        """Gets of all keys, and what they told: the last calls of a round. And keys of which they do not tell whether they are there."""
-        log, pairs, hidden = [], {}, set()
+    def contents(self, number=0):
+        """Gets of all keys, the last calls of a round, and what the map then holds. A key of which a get does not tell it is written."""
+        log, pairs = [], {}
         for key in range(self.options.keys):
-            begin, answer, end = self.get_at_rest(key)
-            made = noted_by_cache("get", (key,), answer, self.options, None) if self.options.cache else noted("get", (key,), answer)
-            if made is None:
-                hidden.add(key)
-                continue
-            log.append(Line(begin, self.options.threads, 0, "rest", None, made))
-            log.append(Line(end, self.options.threads, 0, "rest", answer if answer == NONE else "told", made))
-            if answer != NONE:
-                pairs[key] = answer
-        return log, pairs, hidden
+            said, made = self.ask_at_rest(log, "get", key)
+            holds, is_known = said, made is not None and (said == NONE or is_value(said))
+            write = None if is_known or said in (REFUSED, UNKNOWN) else self.write_of(key, number)
+            if write:
+                said, holds = self.ask_at_rest(log, *write)[0], write[2] if write[2:] else NONE
+                is_known = said not in (REFUSED, UNKNOWN)
+            if not is_known:
+                name = word(write[0]) if write else "get"
+                raise Stop(WORDS, "%s: %s of %d said %s at rest, where it has to tell" % (self.options.name, name, key, said))
+            if holds != NONE:
+                pairs[key] = holds
+        return log, pairs
 
-    def get_at_rest(self, key):
+    def write_of(self, key, number):
+        """The call by which is known what a key holds: a put of a new value or, at each second key, a delete. Of a cache, a delete."""
+        is_put = callable(getattr(self.connection, "put", None))
+        is_delete = callable(getattr(self.connection, "delete", None)) and (self.options.cache or not is_put or (key + number) % 2)
+        if is_delete or not is_put:
+            return ("delete", key) if is_delete else None
+        self.puts += 1
+        return "put", key, self.values_from + self.puts * (self.options.threads + 1) + self.options.threads
+
+    def ask_at_rest(self, log, kind, *words):
+        """What a function says at rest: again where it is refused, and a get also where nobody knows. It is noted unless it tells nothing."""
         for _ in range(1000):
             begin = self.stamp()
             try:
-                answer = checked("get", self.connection.get(key), self.options.cache)
+                answer = checked(kind, getattr(self.connection, kind)(*words), self.options.cache)
             except OSError:
                 answer = UNKNOWN
             end = self.stamp()
-            if answer in (NONE, DONE) or is_value(answer):
-                return begin, answer, end
+            if answer != REFUSED and (answer != UNKNOWN or kind != "get"):
+                break
             time.sleep(0.001)
-        raise Stop(WORDS, "%s: get of %d said %s at rest, where it has to tell" % (self.options.name, key, answer))
+        made = noted_by_cache(kind, words, answer, self.options, None) if self.options.cache else noted(kind, words, answer)
+        if made and made.answer != OPEN:
+            saying, kind = answer if isinstance(answer, str) else "told", "rest" if kind == "get" else kind
+            log.append(Line(begin, self.options.threads, 0, kind, None, made))
+            log.append(Line(end, self.options.threads, 0, kind, saying, made))
+        return answer, made
 
     def close(self):
         """Ends the threads or processes, and closes all connections."""
@@ -760,13 +777,12 @@ class Round:
 
     at_start, nobody = "at the start", "nobody"
 
-    def __init__(self, logs, start, pending, maybe, tally):
+    def __init__(self, logs, start, pending, tally):
         lines = sorted((line for log in logs for line in log), key=lambda line: line.stamp)
         self.start, self.events, self.kinds, self.left_out = start, [], [], 0
         self.numbers, self.before = {}, len(pending)
         for process, call in enumerate(pending):
             self.add(process, "invoke", call)
-        self.suppose(lines, maybe)
         self.order(lines)
         self.measure(tally)
 
@@ -779,33 +795,11 @@ class Round:
         """Each thread, and each of its lives, becomes a process, and so does who makes further calls on behalf of one."""
         return self.numbers.setdefault(who, self.before + len(self.numbers))
 
-    def suppose(self, lines, maybe):
-        """Calls before the others for keys of which nobody knows what they hold: removes and inserts that overlap, of which any may be the last.
-        Of the values that a key may hold, those that are read and that no call of the round puts are enough, and one other."""
-        read, put = {}, {}
-        for line in lines:
-            for one in (line.made, *line.made.beside):
-                pairs = one.answer if one.call[0] == "scan" else [(one.call[1], one.answer)]
-                for key, value in pairs if line.saying else []:
-                    read.setdefault(key, set()).add(value)
-                if one.call[0] in ("insert", "replace"):
-                    put.setdefault(one.call[1], set()).add(one.call[-1])
-        threads = sorted({(line.thread, line.life) for line in lines if line.life == 0})
-        for key, values in sorted(maybe.items()):
-            needed = sorted(value for value in read.get(key, ()) if value in values and value not in put.get(key, ()))
-            needed += sorted(values.difference(needed))[:1]
-            calls = [["remove", key]] * bool(needed) + [["insert", key, value] for value in needed]
-            makers = [self.number(who) for who in (threads + [("supposed", i) for i in range(len(calls))])[:len(calls)]]
-            for process, call in zip(makers, calls):
-                self.add(process, "invoke", call, "at the start %d may hold %s" % (key, call[2] if call[2:] else "nothing"))
-            for process in makers:
-                self.add(process, "answer", "done")
-
     def order(self, lines):
         """The events of the threads. Further calls of one are made by processes that are free; where there are none, or too many calls, it is
         left out with them."""
-        room = PROCESSES - self.before - len(set(self.numbers) | {(line.thread, line.life) for line in lines})
-        calls = CALLS - sum("invoke" in event for event in self.events) - sum(line.saying is None for line in lines)
+        room = PROCESSES - self.before - len({(line.thread, line.life) for line in lines})
+        calls = CALLS - self.before - sum(line.saying is None for line in lines)
         free, helping, left_out, made_up = [], {}, set(), itertools.count()
         for line in lines:
             who, beside = (line.thread, line.life), line.made.beside
@@ -856,15 +850,6 @@ class Round:
             opened[process] = kind, call, number in answered, tally.begin(kind, call[1]) if kind else None
         self.pending = [call for _, call, _, _ in opened.values() if call[0] == "remove" or call[-1] not in told_of]
 
-    def may_hold(self, hidden, maybe):
-        """What keys may hold of which the gets at the end do not tell it, beside nothing."""
-        values = {key: {self.start[key]} if key in self.start else set(maybe.get(key, ())) for key in hidden}
-        for event in self.events:
-            call = event.get("invoke", ("",))
-            if call[0] in ("insert", "replace") and call[1] in values and call[-1] < OWN:
-                values[call[1]].add(call[-1])
-        return values
-
     def text(self):
         answers = [event["answer"] for event in self.events if isinstance(event.get("answer"), str)]
         if any(answer != "refused" for answer in answers) or any("note" in event for event in self.events):
@@ -884,7 +869,7 @@ class Tally:
     """How often gets found a value; and how often a key was lost, so that nothing was found where a put was answered and no delete begun since."""
 
     def __init__(self):
-        self.gets = self.hits = self.misses = self.losses = self.puts = 0
+        self.hits = self.misses = self.losses = self.puts = 0
         self.stored, self.deletes = {}, {}
 
     def forget(self):
@@ -900,7 +885,6 @@ class Tally:
 
     def end(self, kind, key, saying, stored):
         if kind == "get":
-            self.gets += 1
             self.hits += saying in ("told", FOUND)
             self.misses += saying == NONE
         if saying == NONE and kind in ("get", "put", "replace", "rest") and stored and self.stored.get(key) == stored:
@@ -1099,7 +1083,7 @@ class Run:
         try:
             self.open(self.make())
             while not self.is_over() and not self.failed:
-                if self.is_used_up():
+                if self.rounds and self.options.fresh and self.rounds % self.options.fresh == 0:
                     self.close()
                     forget(self.made)
                     self.open(self.make())
@@ -1113,15 +1097,11 @@ class Run:
             forget(self.made)
         return self
 
-    def is_used_up(self):
-        """Whether the next round is to be at a new map: as --fresh says, or since too many keys may hold too much."""
-        is_time = self.rounds and self.options.fresh and self.rounds % self.options.fresh == 0
-        return is_time or 4 * len(self.maybe) > self.options.spare
-
     def open(self, made):
-        """Begins with a new map. What its keys hold is got; where a get does not tell it, there is nothing."""
+        """Begins with a new map."""
         self.made, self.crew = made, Crew(self.options, made)
-        self.start, self.pending, self.maybe, self.top = self.crew.contents()[1], [], {}, 0
+        self.start, self.pending, self.top = self.crew.contents()[1], [], 0
+        self.crew.values_from = 1 + max(self.start.values(), default=0)
         self.tally.forget()
 
     def close(self):
@@ -1140,16 +1120,16 @@ class Run:
 
     def round(self, number, lives):
         """The calls of all threads, and gets of all keys: these are the last ones of the round, and the start of the next."""
-        taken = self.crew.run(number, lives, self.start, {call[1] for call in self.pending} | set(self.maybe))
-        puts = (line.made.call[-1] for each in taken for line in each[0] if line.made.call[0] in ("insert", "replace"))
-        self.top = max([self.top, *self.start.values(), *(value for value in puts if value < OWN)])
+        taken = self.crew.run(number, lives, self.start, {call[1] for call in self.pending})
         if self.options.reopen:
+            puts = (line.made.call[-1] for each in taken for line in each[0] if line.made.call[0] in ("insert", "replace"))
+            self.top = max([self.top, *self.start.values(), *(value for value in puts if value < OWN)])
             self.reopen()
-        gets, left, hidden = self.crew.contents()
-        one = Round([each[0] for each in taken] + [gets], self.start, self.pending, self.maybe, self.tally)
+        gets, left = self.crew.contents(number)
+        one = Round([each[0] for each in taken] + [gets], self.start, self.pending, self.tally)
         self.count(taken)
         self.take(one, [each[1] for each in taken])
-        self.start, self.pending, self.maybe = left, one.pending, one.may_hold(hidden, self.maybe)
+        self.start, self.pending = left, one.pending
 
     def follow(self):
         """One stream, until it has no order, or the time is over."""
@@ -1248,20 +1228,20 @@ class Run:
             "".join("; " + each for each in self.said_cache() + ([] if verdict.startswith("no") else self.cautions())))
 
     def said_cache(self):
-        tally = self.tally
-        return [", ".join((counted(tally.hits, "hit"), counted(tally.misses, "miss"), counted(tally.losses, "loss")))] if self.options.cache else []
+        tally, misses = self.tally, self.called["get"] - self.tally.hits if self.options.cache == "late" else self.tally.misses
+        return [", ".join((counted(tally.hits, "hit"), counted(misses, "miss"), counted(tally.losses, "loss")))] if self.options.cache else []
 
     def cautions(self):
         """Why a yes of this run says little."""
-        tally, options, said = self.tally, self.options, []
+        tally, options, gets, said = self.tally, self.options, self.called["get"], []
         if 2 * self.sayings[REFUSED] > sum(self.sayings.values()):
             said.append("most calls were refused: a yes says little")
         if tally.hits == 0 and options.cache:
             said.append("no get hit: a yes says nothing")
-        elif tally.hits == 0 and tally.gets:
+        elif tally.hits == 0 and gets:
             said.append("no get found a value: a yes says little")
-        elif options.cache and 20 * tally.hits < tally.gets:
-            said.append("%s in {:,} gets: a yes says little".format(tally.gets) % counted(tally.hits, "hit"))
+        elif options.cache and 20 * tally.hits < gets:
+            said.append("%s in {:,} gets: a yes says little".format(gets) % counted(tally.hits, "hit"))
         if options.cache and tally.losses == 0:
             said.append("no key was lost: eviction was not tested")
         if self.left_out:
@@ -1572,7 +1552,6 @@ def fit(options, has, can_reopen):
         wrong("--keys", size + ", behind which all keys are got; --stream has no such end")
     if not options.stream and options.calls > most:
         wrong("--calls", size + "; --stream has no such end")
-    options.spare = CALLS - options.threads * options.calls - options.keys
     options.span = SPAN
     if options.cache and not options.stream:
         options.span = max(1, min(SPAN, (PROCESSES - 1 - options.threads) // options.threads))  # each missing key needs a process
