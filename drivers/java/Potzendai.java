@@ -545,8 +545,6 @@ public final class Potzendai {
         }
 
         List<Integer> who() { return List.of(thread, life); }
-        boolean puts() { return call != null && (call.name.equals("insert") || call.name.equals("replace")); }
-        long lastWord() { return call.words[call.words.length - 1]; }
     }
 
     /** Whether a function changes the key that it is called with. */
@@ -555,7 +553,7 @@ public final class Potzendai {
     }
 
     /** The number of the round, as how many processes a thread may go on, what the map holds, and keys at which calls have no answer. */
-    private record Task(long round, int lives, Map<Long, Long> start, Set<Long> doubtful) { }
+    private record Task(long round, int lives, Map<Long, Long> start, Set<Long> doubtful, long valuesFrom) { }
 
     /** The lock of a key; and whether a call that writes it has no answer, and so may still come between a get and the put behind it. */
     private static final class KeyLock extends ReentrantLock {
@@ -577,9 +575,9 @@ public final class Potzendai {
         Index connection;
         Draws draws;
         long puts, made;
-        Long valuesFrom; // each put has a value of its own, which was not in the map before
+        long valuesFrom; // each put has a value of its own, which was not in the map before
         int life, lives, process;
-        boolean closes, isNew, isReading; // the last: whether the call that goes on only reads
+        boolean closes, isReading; // the last: whether the call that goes on only reads
         Stream stream;
         Broken broken;
         long wrongTimes, marks; // how often the broken maps of before went wrong; how many values no call puts
@@ -596,7 +594,6 @@ public final class Potzendai {
         void open(Index map) {
             connection = map.connection();
             closes = connection != map;
-            isNew = true;
             wrongTimes += broken == null ? 0 : broken.times;
             if (options.broken != null)
                 connection = broken = new Broken(connection, options.broken, new Draws(options.seed, 0, number), options.keys);
@@ -620,10 +617,7 @@ public final class Potzendai {
         List<Event> run(Task task) {
             log = new ArrayList<>();
             made = life = 0;
-            long least = 1 + task.start.values().stream().max(Long::compareUnsigned).orElse(0L);
-            if (isNew)
-                valuesFrom = valuesFrom == null || Long.compareUnsigned(valuesFrom, least) < 0 ? least : valuesFrom;
-            isNew = false;
+            valuesFrom = task.valuesFrom;
             WORKER.set(this);
             seen.clear();
             memory.clear();
@@ -653,7 +647,7 @@ public final class Potzendai {
                     break;
                 place -= options.shares.get(each);
             }
-            long key = drawKey(kind.writes()), value = kind.writes() ? valuesFrom + puts++ * options.threads + number : 0;
+            long key = drawKey(kind.writes()), value = kind.writes() ? valuesFrom + puts++ * (options.threads + 1) + number : 0;
             long high = kind == Kind.SCAN ? Math.min(key + draws.below(options.span), options.keys - 1) : 0;
             giveWay();
             switch (kind) {
@@ -973,7 +967,7 @@ public final class Potzendai {
         final List<ExecutorService> threads = new ArrayList<>();
         Index map, connection;
         Map<Long, Long> contents;
-        Set<Long> hidden; // keys of which the gets do not tell whether they are there
+        long from = 1, puts; // from where on values are of puts; how many puts are the driver's own
 
         Crew(Options options) {
             this.options = options;
@@ -1081,34 +1075,54 @@ public final class Potzendai {
             });
             if (options.isReopened)
                 reopen();
-            events.addAll(rest());
+            events.addAll(rest(task.round));
             return events;
         }
 
-        List<Event> rest() {
+        /** Gets of all keys, the last calls of a round, and what the map then holds. A key of which a get does not tell it is written. */
+        List<Event> rest(long round) {
             List<Event> events = new ArrayList<>();
             contents = new TreeMap<>();
-            hidden = new HashSet<>();
             for (long key = 0; key < options.keys; key++) {
-                Said said = Said.UNKNOWN;
-                long begin = 0, end = 0;
-                for (int i = 0; i < 1000 && !said.tells() && said.word != Word.DONE; i++) {
-                    begin = stamps.getAndIncrement();
-                    said = ask(options, connection, Kind.GET, key);
-                    end = stamps.getAndIncrement();
+                Kind kind = Kind.GET;
+                long value = 0;
+                Said said = askAtRest(events, kind, key);
+                boolean isKnown = said.word == Word.TOLD || said.word == Word.NONE && !"late".equals(options.cache);
+                if (isKnown) {
+                    value = said.value;
+                } else if (said.word != Word.REFUSED && said.word != Word.UNKNOWN) {
+                    kind = writer(key, round);
+                    value = kind == Kind.PUT ? from + ++puts * (options.threads + 1) + options.threads : 0;
+                    said = kind == Kind.PUT ? askAtRest(events, kind, key, value) : askAtRest(events, kind, key);
+                    isKnown = kind != Kind.GET && said.word != Word.REFUSED && said.word != Word.UNKNOWN;
                 }
-                if (!said.tells() && said.word != Word.DONE)
-                    throw new Stop(WORDS, options.name + ": get of " + key + " said " + said.word.name().toLowerCase()
+                if (!isKnown)
+                    throw new Stop(WORDS, options.name + ": " + kind.name + " of " + key + " said " + said.word.name().toLowerCase()
                         + " at rest, where it has to tell");
-                Noted noted = recorded(options, Kind.GET, new long[] {key}, said, null);
-                if (noted == null)
-                    hidden.add(key);
-                else
-                    events.addAll(Event.of(begin, end, (int) options.threads, 0, "rest", said.word, noted));
-                if (said.word == Word.TOLD)
-                    contents.put(key, said.value);
+                if (kind == Kind.PUT || kind == Kind.GET && said.word == Word.TOLD)
+                    contents.put(key, value);
             }
             return events;
+        }
+
+        /** The function by which is known what a key holds: a put of a new value or, at each second key, a del. Of a cache, a del. */
+        private Kind writer(long key, long round) {
+            return options.hasDel && (options.cache != null || (key + round) % 2 == 1) ? Kind.DEL : Kind.PUT;
+        }
+
+        /** What a function says at rest: again where it is refused, and a get also where nobody knows. It is noted unless it tells nothing. */
+        private Said askAtRest(List<Event> events, Kind kind, long... words) {
+            Said said = Said.REFUSED;
+            long begin = 0, end = 0;
+            for (int i = 0; i < 1000 && (said.word == Word.REFUSED || said.word == Word.UNKNOWN && kind == Kind.GET); i++) {
+                begin = stamps.getAndIncrement();
+                said = ask(options, connection, kind, words);
+                end = stamps.getAndIncrement();
+            }
+            Noted noted = recorded(options, kind, words, said, null);
+            if (noted != null && noted.answer != null)
+                events.addAll(Event.of(begin, end, (int) options.threads, 0, kind == Kind.GET ? "rest" : kind.name, said.word, noted));
+            return said;
         }
 
         @Override public void close() {
@@ -1161,15 +1175,13 @@ public final class Potzendai {
         }
 
         /** Each thread, and each of its lives, becomes a process, and so does who makes further calls on behalf of one; calls that have no answer from
-         * before are the first, then calls for keys of which it is not known what they hold. */
-        Round(List<Event> noted, Map<Long, Long> start, List<Call> before, Map<Long, Set<Long>> maybe, Tally tally) {
+         * before are the first. */
+        Round(List<Event> noted, Map<Long, Long> start, List<Call> before, Tally tally) {
             this.start = start;
             this.before = before.size();
             for (Call call : before)
                 events.add(new Event(events.size(), call, null, null));
             noted.sort(Comparator.comparingLong(Event::stamp));
-            if (!maybe.isEmpty())
-                suppose(noted, maybe);
             order(noted);
             pending = measure(tally);
         }
@@ -1178,50 +1190,13 @@ public final class Potzendai {
             return numbers.computeIfAbsent(who, is -> before + numbers.size());
         }
 
-        /** The values that an answer has: of pairs each second number. */
-        private static List<Long> values(String answer) {
-            String[] texts = answer == null ? new String[0] : answer.replaceAll("[^0-9]+", " ").trim().split(" ");
-            List<Long> values = new ArrayList<>();
-            for (int i = 0; i < texts.length; i++)
-                if (!texts[i].isEmpty() && (!answer.startsWith("[") || i % 2 == 1))
-                    values.add(Long.parseUnsignedLong(texts[i]));
-            return values;
-        }
-
-        /** Calls before the others for keys of which nobody knows what they hold: removes and inserts that overlap, of which any may be the last. Of
-         * the values that a key may hold, those that are read and that no call of the round puts are enough, and one other. */
-        private void suppose(List<Event> noted, Map<Long, Set<Long>> maybe) {
-            Set<Long> read = new HashSet<>(), put = new HashSet<>();
-            for (Event event : noted) {
-                read.addAll(values(event.answer));
-                event.beside.forEach(one -> read.addAll(values(one.answer)));
-                if (event.puts())
-                    put.add(event.lastWord());
-            }
-            List<List<Integer>> threads = new ArrayList<>(noted.stream().map(event -> List.of(event.thread, 0)).distinct().toList());
-            maybe.forEach((key, values) -> {
-                List<Long> needed = new ArrayList<>(values.stream().filter(value -> read.contains(value) && !put.contains(value)).sorted().toList());
-                values.stream().filter(value -> !needed.contains(value)).sorted().findFirst().ifPresent(needed::add);
-                if (needed.isEmpty())
-                    return;
-                while (threads.size() <= needed.size())
-                    threads.add(List.of(-2, threads.size()));
-                events.add(new Event(number(threads.get(0)), new Call("remove", key), null, "at the start " + key + " may hold nothing"));
-                for (int i = 0; i < needed.size(); i++)
-                    events.add(new Event(number(threads.get(i + 1)), new Call("insert", key, needed.get(i)), null,
-                        "at the start " + key + " may hold " + Long.toUnsignedString(needed.get(i))));
-                for (int i = 0; i <= needed.size(); i++)
-                    events.add(new Event(number(threads.get(i)), null, "\"done\"", null));
-            });
-        }
-
         /** The events of the threads. Further calls of one are made by processes that are free; where there are none, or too many calls, it is left
          * out with them. */
         private void order(List<Event> noted) {
-            Set<List<Integer>> own = new HashSet<>(numbers.keySet()), left = new HashSet<>();
+            Set<List<Integer>> own = new HashSet<>(), left = new HashSet<>();
             noted.forEach(event -> own.add(event.who()));
             int room = PROCESSES - before - own.size(), madeUp = 0;
-            long most = CALLS - events.stream().filter(event -> event.call != null).count() - noted.stream().filter(event -> event.call != null).count();
+            long most = CALLS - before - noted.stream().filter(event -> event.call != null).count();
             List<List<Integer>> free = new ArrayList<>();
             Map<List<Integer>, List<List<Integer>>> helping = new HashMap<>();
             for (Event event : noted) {
@@ -1284,20 +1259,6 @@ public final class Potzendai {
             return open.values().stream().map(Event::call).filter(call -> events.stream().noneMatch(event -> call.isToldBy(event.answer))).toList();
         }
 
-        /** What keys may hold of which the gets at the end do not tell it, beside nothing. */
-        Map<Long, Set<Long>> mayHold(Set<Long> hidden, Map<Long, Set<Long>> maybe) {
-            Map<Long, Set<Long>> values = new TreeMap<>();
-            for (long key : hidden) {
-                values.put(key, new HashSet<>(maybe.getOrDefault(key, Set.of())));
-                if (start.containsKey(key))
-                    values.get(key).add(start.get(key));
-            }
-            for (Event event : events)
-                if (event.puts() && hidden.contains(event.call.words[0]) && Long.compareUnsigned(event.lastWord(), OWN_VALUES) < 0)
-                    values.get(event.call.words[0]).add(event.lastWord());
-            return values;
-        }
-
         String text() {
             boolean tellsLess = events.stream().anyMatch(event -> LESS.contains("" + event.answer) || event.note != null);
             boolean replaces = events.stream().anyMatch(event -> event.call != null && event.call.name.equals("replace"));
@@ -1316,7 +1277,7 @@ public final class Potzendai {
 
     /** How often gets found a value; and how often a key was lost, so that nothing was found where a put was answered and no delete begun since. */
     private static final class Tally {
-        long gets, hits, misses, losses, puts;
+        long hits, misses, losses, puts;
         private final Map<Long, Long> stored = new HashMap<>(), deletes = new HashMap<>();
 
         private static boolean deletes(String kind) { return kind.equals("del") || kind.equals("pop_first"); }
@@ -1338,7 +1299,6 @@ public final class Potzendai {
 
         void end(String kind, long key, Word said, long before) {
             boolean isGet = kind.equals("get"), isNone = said == Word.NONE;
-            gets += isGet ? 1 : 0;
             hits += isGet && (said == Word.TOLD || said == Word.FOUND) ? 1 : 0;
             misses += isGet && isNone ? 1 : 0;
             boolean looks = isGet || kind.equals("put") || kind.equals("replace") || kind.equals("rest");
@@ -1457,23 +1417,22 @@ public final class Potzendai {
             return this;
         }
 
-        /** Begins with a new map. What its keys hold is got; where a get does not tell it, there is nothing. */
+        /** Begins with a new map. */
         private void open(Crew crew) {
             crew.open(make.get());
-            crew.rest();
+            crew.rest(0);
+            for (long value : crew.contents.values())
+                crew.from = Long.compareUnsigned(value, crew.from) < 0 ? crew.from : value + 1;
             tally.forget();
         }
 
         private void goRounds(Crew crew, long number) {
             List<Call> pending = List.of();
-            Map<Long, Set<Long>> maybe = Map.of();
             while (!isOver() && failed == null) {
-                boolean isTime = rounds > 0 && options.fresh > 0 && rounds % options.fresh == 0;
-                if (isTime || 4L * maybe.size() > options.spare) { // too many keys may hold too much
+                if (rounds > 0 && options.fresh > 0 && rounds % options.fresh == 0) {
                     crew.end();
                     open(crew);
                     pending = List.of();
-                    maybe = Map.of();
                 }
                 int lives = (PROCESSES - 1 - pending.size()) / (int) options.threads;
                 if (lives == 0) {
@@ -1482,11 +1441,9 @@ public final class Potzendai {
                 }
                 Map<Long, Long> start = crew.contents;
                 Set<Long> doubtful = pending.stream().map(call -> call.words[0]).collect(Collectors.toSet());
-                doubtful.addAll(maybe.keySet());
-                Round round = new Round(crew.round(new Task(number + rounds, lives, start, doubtful)), start, pending, maybe, tally);
+                Round round = new Round(crew.round(new Task(number + rounds, lives, start, doubtful, crew.from)), start, pending, tally);
                 take(round);
                 pending = round.pending;
-                maybe = round.mayHold(crew.hidden, maybe);
                 sayings.clear();
                 for (Worker worker : crew.workers)
                     worker.sayings.forEach((word, count) -> sayings.merge(word, count, Long::sum));
@@ -1500,7 +1457,7 @@ public final class Potzendai {
                 crew.each(worker -> {
                     worker.stream = stream;
                     try {
-                        return worker.run(new Task(0, STREAM_PROCESSES, crew.contents, Set.of()));
+                        return worker.run(new Task(0, STREAM_PROCESSES, crew.contents, Set.of(), crew.from));
                     } catch (RuntimeException | Error error) {
                         stream.state.set(FAILED);
                         throw error;
@@ -1575,11 +1532,14 @@ public final class Potzendai {
                 options.isStream ? "" : counted(rounds, "round") + ", ", counted(calls, "call"), seconds(),
                 (double) overlap / Math.max(calls, 1), said, undecided > 0 ? "; " + undecided + " undecided" : "")));
             if (options.cache != null)
-                parts.add(counted(tally.hits, "hit") + ", " + counted(tally.misses, "miss") + ", " + counted(tally.losses, "loss"));
+                parts.add(counted(tally.hits, "hit") + ", " + counted(options.cache.equals("late") ? gets() - tally.hits : tally.misses, "miss") + ", "
+                    + counted(tally.losses, "loss"));
             if (!verdict.startsWith("no") || verdict.equals("not judged"))
                 parts.addAll(cautions());
             return String.join("; ", parts);
         }
+
+        private long gets() { return called.getOrDefault(Kind.GET, 0L); }
 
         /** Why a yes of this run says little. */
         private List<String> cautions() {
@@ -1589,10 +1549,10 @@ public final class Potzendai {
                 said.add("most calls were refused: a yes says little");
             if (tally.hits == 0 && isCache)
                 said.add("no get hit: a yes says nothing");
-            else if (tally.hits == 0 && tally.gets > 0)
+            else if (tally.hits == 0 && gets() > 0)
                 said.add("no get found a value: a yes says little");
-            else if (isCache && 20 * tally.hits < tally.gets)
-                said.add(counted(tally.hits, "hit") + String.format(java.util.Locale.ROOT, " in %,d gets: a yes says little", tally.gets));
+            else if (isCache && 20 * tally.hits < gets())
+                said.add(counted(tally.hits, "hit") + String.format(java.util.Locale.ROOT, " in %,d gets: a yes says little", gets()));
             if (isCache && tally.losses == 0)
                 said.add("no key was lost: eviction was not tested");
             if (leftOut > 0)
@@ -1999,8 +1959,8 @@ public final class Potzendai {
         String name, voids = "done", broken, out = ".", bench, cache;
         long seconds, rounds, threads = 4, keys, hot, calls, yields, budget = 100000, shown = System.nanoTime();
         long seed = Math.floorMod(System.nanoTime() * 31 + System.currentTimeMillis(), 1000000007L);
-        long fresh, span = SPAN, spare;
-        boolean isSteps, isStream, isReopened, hasVoid, shows = System.console() != null;
+        long fresh, span = SPAN;
+        boolean hasDel, isSteps, isStream, isReopened, hasVoid, shows = System.console() != null;
         EnumMap<Kind, Long> shares;
 
         boolean isVoid(String how) { return voids.equals(how); }
@@ -2146,7 +2106,7 @@ public final class Potzendai {
             wrong(!isStream && threads > PROCESSES - 2, "--threads: at most 62 in rounds; --stream has no such end");
             wrong(!isStream && keys > most, "--keys: " + size + ", behind which all keys are got; --stream has no such end");
             wrong(!isStream && calls > most, "--calls: " + size + "; --stream has no such end");
-            spare = CALLS - threads * calls - keys;
+            hasDel = has.contains(Kind.DEL);
             if (cache != null && !isStream)
                 span = Math.max(1, Math.min(SPAN, (PROCESSES - 1 - threads) / threads)); // each missing key needs a process
             checkOut();
