@@ -11,7 +11,7 @@
 #![allow(dead_code, unused_imports, unknown_lints, unexpected_cfgs)]
 
 use std::cell::RefCell;
-use std::collections::{BTreeMap, BTreeSet, HashMap, HashSet};
+use std::collections::{BTreeMap, HashMap, HashSet};
 use std::fmt::Write as _;
 use std::io::{IsTerminal, Read, Write};
 use std::panic::{catch_unwind, AssertUnwindSafe};
@@ -664,6 +664,7 @@ struct Task {
     start: Arc<BTreeMap<u64, u64>>,
     doubtful: Arc<HashSet<u64>>,
     missing: Arc<AtomicUsize>,
+    values_from: u64,
 }
 
 /// What all threads share: the word of stamps; the locks of keys, with whether a call that writes the key has no answer, and so may still
@@ -767,8 +768,6 @@ struct Counts {
 struct Kept {
     counts: Counts,
     puts: u64,
-    /// Each put has a value of its own, which was not in the map before.
-    values_from: Option<u64>,
     marks: u64,
 }
 
@@ -796,7 +795,7 @@ struct Worker<'a> {
     process: usize,
     helpers: Vec<usize>,
     kept: Kept,
-    is_new: bool,
+    values_from: u64,
     wrong_before: u64,
     times: Arc<AtomicU64>,
 }
@@ -811,18 +810,14 @@ impl<'a> Worker<'a> {
         let (seen, memory, wrong_before) = (HashMap::new(), HashMap::new(), kept.counts.wrong);
         Worker {
             number, options, shared, connection, draws: Draws(0), seen, memory, log: vec![], made: 0, life: 0, lives: 0, process: number as usize,
-            helpers: vec![], kept, is_new: true, wrong_before, times,
+            helpers: vec![], kept, values_from: 1, wrong_before, times,
         }
     }
 
     /// The calls of a round. A process whose answer is unknown makes no further call.
     fn run(&mut self, task: &Task) -> Result<(Vec<Event>, Counts), Stop> {
         (self.made, self.life) = (0, 0);
-        if self.is_new {
-            let least = task.start.values().max().map_or(1, |value| value.wrapping_add(1));
-            self.kept.values_from = Some(self.kept.values_from.map_or(least, |from| from.max(least)));
-        }
-        self.is_new = false;
+        self.values_from = task.values_from;
         self.seen.clear();
         self.memory.clear();
         for key in (0..self.options.keys).filter(|key| self.options.void == "own" && !task.doubtful.contains(key)) {
@@ -866,7 +861,7 @@ impl<'a> Worker<'a> {
             place -= self.options.shares[each as usize];
         }
         let key = self.draw_key(kind.writes());
-        let value = self.kept.values_from.unwrap_or(1).wrapping_add(self.kept.puts * self.options.threads + self.number);
+        let value = self.values_from.wrapping_add(self.kept.puts * (self.options.threads + 1) + self.number);
         self.kept.puts += u64::from(kind.writes());
         let high = if kind == Scan { (key + self.draws.below(self.options.span)).min(self.options.keys - 1) } else { 0 };
         give_way();
@@ -1076,38 +1071,73 @@ fn serve(number: u64, options: &Options, shared: &Shared, map: &dyn Opens, kept:
     })
 }
 
-/// What gets of all keys at rest told: the last calls of a round, what the map holds, and keys of which it is not told whether they are there.
+/// What gets of all keys at rest told: the last calls of a round, and what the map holds.
 #[derive(Default)]
 struct Rest {
     events: Vec<Event>,
     contents: BTreeMap<u64, u64>,
-    hidden: Vec<u64>,
 }
 
-fn rest(connection: &mut dyn Connection, options: &Options, shared: &Shared) -> Result<Rest, Stop> {
-    let mut rest = Rest::default();
-    for key in 0..options.keys {
-        let (mut said, mut stamps) = (Said::Unknown, [0, 0]);
+impl Values {
+    /// Begins with a map that holds these.
+    fn begin(&mut self, held: &BTreeMap<u64, u64>) {
+        self.from = self.from.max(held.values().max().map_or(1, |value| value.wrapping_add(1)));
+    }
+
+    /// One of the driver's own.
+    fn own(&mut self, options: &Options) -> u64 {
+        self.puts += 1;
+        self.from.max(1) + self.puts * (options.threads + 1) + options.threads
+    }
+}
+
+impl Rest {
+    /// Gets of all keys. One of which a get does not tell it is written.
+    fn of(connection: &mut dyn Connection, options: &Options, shared: &Shared, round: u64, values: &mut Values) -> Result<Rest, Stop> {
+        let mut rest = Rest::default();
+        let is_late = options.cache.as_ref().is_some_and(|how| how == "late");
+        for key in 0..options.keys {
+            let (mut kind, mut said) = (Get, rest.ask(connection, options, shared, Get, &[key])?);
+            let mut holds = match said {
+                Said::Told(value) => Some(value),
+                _ => None,
+            };
+            let mut is_known = holds.is_some() || said == Said::None && !is_late;
+            if !is_known && !matches!(said, Said::Refused | Said::Unknown) {
+                let is_del = options.has_del && (options.cache.is_some() || (key + round) % 2 == 1);
+                (kind, holds) = if is_del { (Del, None) } else { (Put, Some(values.own(options))) };
+                let words = [key, holds.unwrap_or(0)];
+                said = rest.ask(connection, options, shared, kind, if is_del { &words[..1] } else { &words })?;
+                is_known = !matches!(said, Said::Refused | Said::Unknown);
+            }
+            if !is_known {
+                let said = SAYINGS[said.word()];
+                return fail(BAD_WORDS, format!("{} of {key} said {said} at rest, where it has to tell", kind.name()));
+            }
+            rest.contents.extend(holds.map(|value| (key, value)));
+        }
+        Ok(rest)
+    }
+
+    /// What a function says at rest: again where it is refused, and a get also where nobody knows. It is noted unless it tells nothing.
+    fn ask(
+        &mut self, connection: &mut dyn Connection, options: &Options, shared: &Shared, kind: Kind, words: &[u64],
+    ) -> Result<Said, Stop> {
+        let (mut said, mut stamps) = (Said::Refused, [0, 0]);
         for _ in 0..1000 {
             stamps[0] = shared.stamp();
-            said = ask(options, connection, Get, &[key])?;
+            said = ask(options, connection, kind, words)?;
             stamps[1] = shared.stamp();
-            if said.tells() || said == Said::Done {
+            if said != Said::Refused && (said != Said::Unknown || kind != Get) {
                 break;
             }
         }
-        if !said.tells() && said != Said::Done {
-            return fail(BAD_WORDS, format!("get of {key} said {} at rest, where it has to tell", SAYINGS[said.word()]));
+        let called = if kind == Get { "rest" } else { kind.name() };
+        if let Some(noted) = recorded(options, kind, words, &said, &mut || 0).filter(|noted| noted.answer.is_some()) {
+            self.events.extend(events_of(stamps, (options.threads as usize, 0), called, said.word(), noted));
         }
-        match recorded(options, Get, &[key], &said, &mut || 0) {
-            Some(noted) => rest.events.extend(events_of(stamps, (options.threads as usize, 0), "rest", said.word(), noted)),
-            None => rest.hidden.push(key),
-        }
-        if let Said::Told(value) = said {
-            rest.contents.insert(key, value);
-        }
+        Ok(said)
     }
-    Ok(rest)
 }
 
 // Histories
@@ -1133,13 +1163,9 @@ impl One {
     }
 }
 
-/// What keys may hold of which it is not known, beside nothing.
-type Maybe = BTreeMap<u64, BTreeSet<u64>>;
-
 /// Who is a process: each thread, and each of its lives, and who makes calls on behalf of one.
 type Who = (usize, usize);
 const HELPS: usize = usize::MAX;
-const SUPPOSES: usize = usize::MAX - 1;
 
 /// What one round recorded, as a history: its events with their processes; and what its threads met.
 #[derive(Default)]
@@ -1157,22 +1183,13 @@ struct Round {
     nobody: &'static str,
 }
 
-/// The values that an answer has.
-fn values_of(answer: &str) -> Vec<u64> {
-    match Json::read(&mut &*answer) {
-        Json::Number(value) => vec![value],
-        pairs => pairs.items().iter().map(|pair| pair.word(1)).collect(),
-    }
-}
-
 impl Round {
-    /// Calls that have no answer from before are the first, then calls for keys of which it is not known what they hold.
-    fn new(mut noted: Vec<Event>, start: Arc<BTreeMap<u64, u64>>, before: &[Call], maybe: &Maybe, tally: &mut Tally) -> Round {
+    /// Calls that have no answer from before are the first.
+    fn new(mut noted: Vec<Event>, start: Arc<BTreeMap<u64, u64>>, before: &[Call], tally: &mut Tally) -> Round {
         let events = before.iter().cloned().enumerate().map(|(process, call)| One::new(process, What::Invoke(call), None)).collect();
         let (at_start, nobody) = ("at the start", "nobody");
         let mut round = Round { start, events, before: before.len(), at_start, nobody, ..Round::default() };
         noted.sort_by_key(|event| event.stamp);
-        round.suppose(&noted, maybe);
         round.order(noted);
         round.measure(tally);
         round
@@ -1183,48 +1200,12 @@ impl Round {
         *self.numbers.entry(who).or_insert(next)
     }
 
-    /// Calls before the others for keys of which nobody knows what they hold: removes and inserts that overlap, of which any may be the last. Of the
-    /// values that a key may hold, those that are read and that no call of the round puts are enough, and one other.
-    fn suppose(&mut self, noted: &[Event], maybe: &Maybe) {
-        if maybe.is_empty() {
-            return;
-        }
-        let (mut read, mut put, mut threads) = (HashSet::new(), HashSet::new(), vec![]);
-        for event in noted {
-            match &event.what {
-                What::Answer(answer) => read.extend(values_of(answer)),
-                What::Invoke(call) => put.extend(call.put()),
-            }
-            read.extend(event.beside.iter().flat_map(|one| values_of(one.answer.as_deref().unwrap_or(""))));
-            if !threads.contains(&(event.thread, 0)) {
-                threads.push((event.thread, 0));
-            }
-        }
-        for (key, values) in maybe {
-            let (mut needed, others): (Vec<u64>, Vec<u64>) = values.iter().partition(|value| read.contains(value) && !put.contains(value));
-            needed.extend(others.first());
-            let mut calls: Vec<(Call, String)> = needed.iter().map(|value| (Call("insert", vec![*key, *value]), value.to_string())).collect();
-            if !calls.is_empty() {
-                calls.push((Call("remove", vec![*key]), "nothing".to_string()));
-            }
-            while threads.len() < calls.len() {
-                threads.push((SUPPOSES, threads.len()));
-            }
-            let processes: Vec<usize> = threads[..calls.len()].to_vec().into_iter().map(|who| self.number(who)).collect();
-            for (process, (call, value)) in processes.iter().zip(calls) {
-                self.events.push(One::new(*process, What::Invoke(call), Some(format!("at the start {key} may hold {value}"))));
-            }
-            self.events.extend(processes.into_iter().map(|process| One::new(process, What::Answer("\"done\"".to_string()), None)));
-        }
-    }
-
     /// The events of the threads. Further calls of one are made by processes that are free; where there are none, or too many calls, it is left out
     /// with them.
     fn order(&mut self, noted: Vec<Event>) {
         let is_call = |event: &Event| matches!(event.what, What::Invoke(_));
-        let mut own: HashSet<Who> = noted.iter().map(|event| (event.thread, event.life)).collect();
-        own.extend(self.numbers.keys());
-        let made = noted.iter().filter(|event| is_call(event)).count() + self.events.iter().filter(|one| one.call().is_some()).count();
+        let own: HashSet<Who> = noted.iter().map(|event| (event.thread, event.life)).collect();
+        let made = noted.iter().filter(|event| is_call(event)).count() + self.before;
         let (room, mut calls, mut made_up) = (PROCESSES.saturating_sub(self.before + own.len()), CALLS as usize - made, 0);
         let (mut free, mut helping, mut left_out) = (vec![], HashMap::new(), HashSet::new());
         for event in noted {
@@ -1295,18 +1276,6 @@ impl Round {
         self.pending = open.into_values().map(|(_, call, _)| call).filter(|call| !self.tells(call)).cloned().collect();
     }
 
-    /// What keys may hold of which the gets at the end do not tell it.
-    fn may_hold(&self, hidden: &[u64], maybe: &Maybe) -> Maybe {
-        let mut values = Maybe::new();
-        for key in hidden {
-            let mut own = maybe.get(key).cloned().unwrap_or_default();
-            own.extend(self.start.get(key));
-            own.extend(self.events.iter().filter_map(One::call).filter(|call| call.1[0] == *key).filter_map(Call::put).filter(|put| *put < OWN_VALUES));
-            values.insert(*key, own);
-        }
-        values
-    }
-
     /// Whether an answer tells what a call puts: then it was done.
     fn tells(&self, call: &Call) -> bool {
         let value = call.1.last().map_or(String::new(), u64::to_string);
@@ -1374,7 +1343,6 @@ fn note_text(note: &Option<String>) -> String {
 /// How often gets found a value; and how often a key was lost, so that nothing was found where a put was answered and no delete begun since.
 #[derive(Default)]
 struct Tally {
-    gets: u64,
     hits: u64,
     misses: u64,
     losses: u64,
@@ -1401,7 +1369,6 @@ impl Tally {
 
     fn end(&mut self, kind: &str, key: u64, said: usize, stored: u64) {
         let said = SAYINGS[said];
-        self.gets += u64::from(kind == "get");
         self.hits += u64::from(kind == "get" && matches!(said, "told" | "found"));
         self.misses += u64::from(kind == "get" && said == "none");
         let looks = matches!(kind, "get" | "put" | "replace" | "rest");
@@ -1650,16 +1617,23 @@ struct Run {
     kept: Option<String>, // the stream so far, while it is no longer than is kept
 }
 
-/// Where a run is between two rounds: what the map holds, calls that may still come, and keys of which it is not known what they hold; and the events
-/// of a round which ends with reads of the map that is opened again.
+/// Where a run is between two rounds: what the map holds, and calls that may still come; and the events of a round which ends with reads of the map
+/// that is opened again.
 #[derive(Default)]
 struct At {
     start: Arc<BTreeMap<u64, u64>>,
     pending: Vec<Call>,
-    maybe: Maybe,
     is_begun: bool,
     rounds: u64,
     events: Option<Vec<Event>>,
+    values: Values,
+}
+
+/// Each put has a value of its own, which was not in the map before: from which on they are, and how many puts are the driver's own.
+#[derive(Clone, Copy, Default)]
+struct Values {
+    from: u64,
+    puts: u64,
 }
 
 /// Why the threads of a map end.
@@ -1688,7 +1662,7 @@ impl Run {
         loop {
             match run.use_map(&map, &shared, program, number, &mut kept, &mut at)? {
                 Next::End => return Ok(run),
-                Next::NewMap => (map, at) = (make(), At::default()),
+                Next::NewMap => (map, at) = (make(), At { values: at.values, ..At::default() }),
                 Next::Reopened => match map.reopen() {
                     Some(opened) => map = opened,
                     None => return fail(BAD_WORDS, format!("{}: reopen said nothing, where it has to return the map", run.options.name)),
@@ -1729,9 +1703,11 @@ impl Run {
         for (_, outbox) in threads {
             outbox.recv().unwrap_or_else(|_| fail(BAD_WORDS, "a thread has ended")).map_err(named)?;
         }
-        let left = rest(&mut *map.open_one(), &options, shared).map_err(named)?;
+        let mut values = Values::default();
+        let left = Rest::of(&mut *map.open_one(), &options, shared, 0, &mut values).map_err(named)?;
+        values.begin(&left.contents);
         let (start, missing) = (Arc::new(left.contents), Arc::new(AtomicUsize::new(threads.len())));
-        let task = Task { round: 0, lives: STREAM_PROCESSES, start: start.clone(), doubtful: Arc::new(HashSet::new()), missing };
+        let task = Task { round: 0, lives: STREAM_PROCESSES, start: start.clone(), doubtful: Arc::new(HashSet::new()), missing, values_from: values.from };
         stream.taken.store(shared.stamps.load(SeqCst), SeqCst);
         let (ended, written) = std::thread::scope(|scope| {
             let run = &mut *self;
@@ -1910,13 +1886,14 @@ impl Run {
         if let Some(events) = at.events.take() {
             self.end_round(&mut *connection, shared, events, program, at).map_err(named)?;
         } else if !at.is_begun {
-            at.start = Arc::new(rest(&mut *connection, &options, shared).map_err(named)?.contents); // what is not told of a new map is not there
+            at.start = Arc::new(Rest::of(&mut *connection, &options, shared, 0, &mut at.values).map_err(named)?.contents);
+            at.values.begin(&at.start);
             at.is_begun = true;
             self.tally.forget();
         }
         while self.failed.is_none() && !self.is_over() {
-            if options.fresh > 0 && at.rounds == options.fresh || 4 * at.maybe.len() as u64 > options.spare {
-                return Ok(Next::NewMap); // the last: too many keys may hold too much
+            if options.fresh > 0 && at.rounds == options.fresh {
+                return Ok(Next::NewMap);
             }
             let lives = (PROCESSES - 1 - at.pending.len()) / threads.len();
             if lives == 0 {
@@ -1925,9 +1902,9 @@ impl Run {
                 break;
             }
             at.rounds += 1;
-            let doubtful = Arc::new(at.pending.iter().map(|call: &Call| call.1[0]).chain(at.maybe.keys().copied()).collect());
+            let doubtful = Arc::new(at.pending.iter().map(|call: &Call| call.1[0]).collect());
             let missing = Arc::new(AtomicUsize::new(threads.len()));
-            let task = Task { round: number + self.rounds, lives, start: at.start.clone(), doubtful, missing };
+            let task = Task { round: number + self.rounds, lives, start: at.start.clone(), doubtful, missing, values_from: at.values.from };
             for (tasks, _) in threads {
                 let _ = tasks.send(task.clone());
             }
@@ -1951,10 +1928,9 @@ impl Run {
     fn end_round(
         &mut self, connection: &mut dyn Connection, shared: &Shared, mut events: Vec<Event>, program: Option<&Program>, at: &mut At,
     ) -> Result<(), Stop> {
-        let left = rest(connection, &self.options, shared)?;
+        let left = Rest::of(connection, &self.options, shared, self.rounds, &mut at.values)?;
         events.extend(left.events);
-        let round = Round::new(events, at.start.clone(), &at.pending, &at.maybe, &mut self.tally);
-        at.maybe = round.may_hold(&left.hidden, &at.maybe);
+        let round = Round::new(events, at.start.clone(), &at.pending, &mut self.tally);
         (at.start, at.pending) = (Arc::new(left.contents), round.pending.clone());
         self.take(round, program)
     }
@@ -2010,7 +1986,9 @@ impl Run {
         )];
         if self.options.cache.is_some() {
             let tally = &self.tally;
-            parts.push([counted(tally.hits, "hit"), counted(tally.misses, "miss"), counted(tally.losses, "loss")].join(", "));
+            let is_late = self.options.cache.as_ref().is_some_and(|how| how == "late");
+            let misses = if is_late { self.called[Get as usize] - tally.hits } else { tally.misses };
+            parts.push([counted(tally.hits, "hit"), counted(misses, "miss"), counted(tally.losses, "loss")].join(", "));
         }
         if !verdict.starts_with("no") || verdict == "not judged" {
             parts.extend(self.cautions());
@@ -2020,16 +1998,16 @@ impl Run {
 
     /// Why a yes of this run says little.
     fn cautions(&self) -> Vec<String> {
-        let (mut said, tally, is_cache) = (vec![], &self.tally, self.options.cache.is_some());
+        let (mut said, tally, is_cache, gets) = (vec![], &self.tally, self.options.cache.is_some(), self.called[Get as usize]);
         if 2 * self.sayings[Said::Refused.word()] > self.sayings.iter().sum() {
             said.push("most calls were refused: a yes says little".to_string());
         }
         if tally.hits == 0 && is_cache {
             said.push("no get hit: a yes says nothing".to_string());
-        } else if tally.hits == 0 && tally.gets > 0 {
+        } else if tally.hits == 0 && gets > 0 {
             said.push("no get found a value: a yes says little".to_string());
-        } else if is_cache && 20 * tally.hits < tally.gets {
-            said.push(format!("{} in {} gets: a yes says little", counted(tally.hits, "hit"), grouped(tally.gets)));
+        } else if is_cache && 20 * tally.hits < gets {
+            said.push(format!("{} in {} gets: a yes says little", counted(tally.hits, "hit"), grouped(gets)));
         }
         if is_cache && tally.losses == 0 {
             said.push("no key was lost: eviction was not tested".to_string());
@@ -2509,7 +2487,7 @@ struct Options {
     cache: Option<String>,
     fresh: u64,
     span: u64,
-    spare: u64,
+    has_del: bool,
     is_reopened: bool,
     is_stream: bool,
     has_void: bool,
@@ -2525,7 +2503,7 @@ impl Options {
         let mut options = Options {
             name: name.to_string(), void: "done".to_string(), scan: "snapshot".to_string(), out: ".".to_string(), broken: None, bench: None,
             seconds: 0, rounds: 0, threads: 4, keys: 0, hot: 0, calls: 0, seed, yields: 0, budget: 100_000,
-            cache: None, fresh: 0, span: SPAN, spare: 0, is_reopened: false, is_stream: false, has_void: false, has_mix: false, shares: [0; 9], shows: std::io::stderr().is_terminal(), shown: Instant::now(),
+            cache: None, fresh: 0, span: SPAN, has_del: false, is_reopened: false, is_stream: false, has_void: false, has_mix: false, shares: [0; 9], shows: std::io::stderr().is_terminal(), shown: Instant::now(),
         };
         let mut words = words.iter().peekable();
         while let Some(word) = words.next() {
@@ -2648,10 +2626,9 @@ impl Options {
             (!self.is_stream && self.calls > most, &many_calls),
         ];
         rows.iter().find(|(is_wrong, _)| *is_wrong).map_or(Ok(()), |(_, line)| fail(BAD_WORDS, *line))?;
-        if !self.is_stream {
-            self.spare = CALLS - threads * self.calls - self.keys;
-            let room = (PROCESSES as u64 - 1 - threads) / threads; // each missing key needs a process
-            self.span = if self.cache.is_some() { SPAN.min(room).max(1) } else { SPAN };
+        self.has_del = has[Del as usize];
+        if !self.is_stream && self.cache.is_some() {
+            self.span = SPAN.min((PROCESSES as u64 - 1 - threads) / threads).max(1); // each missing key needs a process
         }
         self.check_out()
     }
