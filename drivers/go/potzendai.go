@@ -210,8 +210,6 @@ func (c *call) text() string {
 	return text + "]"
 }
 
-func (c *call) writes() bool { return isOneOf(c.name, "insert", "remove", "replace") }
-
 func pairsText(pairs [][2]uint64) string {
 	texts := make([]string, len(pairs))
 	for i, pair := range pairs {
@@ -888,7 +886,7 @@ type happening struct {
 }
 
 // A call of a stream that is open, and the put that its key held as it began.
-type opened struct {
+type openCall struct {
 	call   *call
 	stored uint64
 }
@@ -904,7 +902,7 @@ type stream struct {
 	state         atomic.Int32
 	isEnded       atomic.Bool
 	done          chan bool
-	open          map[int]opened
+	open          map[int]openCall
 	writers       map[uint64]int
 	number        uint64
 	notes         map[uint64]string
@@ -936,7 +934,7 @@ func rest(times int) {
 }
 
 func newStream(r *run, stamps *atomic.Uint64, start map[uint64]uint64) *stream {
-	s := &stream{run: r, stamps: stamps, done: make(chan bool), open: map[int]opened{}, writers: map[uint64]int{}, notes: map[uint64]string{}}
+	s := &stream{run: r, stamps: stamps, done: make(chan bool), open: map[int]openCall{}, writers: map[uint64]int{}, notes: map[uint64]string{}}
 	s.taken.Store(stamps.Load() + 1)
 	s.text = []byte(fmt.Sprintf("{\"start\":%s,\"version\":3}\n", pairsText(sorted(start))))
 	go s.write()
@@ -1082,7 +1080,7 @@ func (s *stream) count(what *happening, one part) {
 		key := one.call.words[0]
 		s.run.calls++
 		s.run.overlap += uint64(len(s.open))
-		s.open[one.process] = opened{one.call, s.run.tally.begin(what.kind, key)}
+		s.open[one.process] = openCall{one.call, s.run.tally.begin(what.kind, key)}
 		if writesKey(what.kind) {
 			if s.writers[key] > 0 {
 				s.run.met[key] = true
@@ -1981,14 +1979,16 @@ func saidCall(call interface{}) string {
 	return fmt.Sprintf("%v %v", words[0], words[1])
 }
 
-// A call in words.
-func (c *call) said() string {
+// A call as a report has it, and in words.
+func (c *call) list() []interface{} {
 	words := []interface{}{c.name}
 	for _, word := range c.words {
 		words = append(words, word)
 	}
-	return saidCall(words)
+	return words
 }
+
+func (c *call) said() string { return saidCall(c.list()) }
 
 // The call of an event as it was made, where a history has another one.
 func (r *round) noteOf(number int64) string {
@@ -2001,8 +2001,8 @@ func (r *round) noteOf(number int64) string {
 // A call as it was made.
 func saidMade(r *round, number int64, call interface{}) string {
 	if note := r.noteOf(number); note != "" {
-		made, _, _ := strings.Cut(note, ", answered")
-		return made
+		made, _, _ := strings.Cut(note, ":")
+		return strings.Replace(made, "answered none", "which found none", 1) + ","
 	}
 	return saidCall(call)
 }
@@ -2039,11 +2039,8 @@ func saidOpen(r *round, shown map[int]bool, numbers []int) []string {
 		}
 		for _, of := range numbers {
 			if of < len(r.events) && r.events[of].call != nil && one.call.meets(r.events[of].call) && i < r.lastEvent(of) && of < r.lastEvent(i) {
-				made := one.call.said()
-				if one.note != "" {
-					made, _, _ = strings.Cut(one.note, ", answered")
-				}
-				said = append(said, fmt.Sprintf("%s of process %d (%s)", made, one.process, saidEvents(r, int64(i), int64(one.process))))
+				made, events := saidMade(r, int64(i), one.call.list()), saidEvents(r, int64(i), int64(one.process))
+				said = append(said, fmt.Sprintf("%s of process %d (%s)", made, one.process, events))
 				break
 			}
 		}

@@ -250,7 +250,13 @@ public final class Potzendai {
                 text.append(',').append(Long.toUnsignedString(word));
             return text.append(']').toString();
         }
-        boolean writes() { return name.equals("insert") || name.equals("remove") || name.equals("replace"); }
+        /** The call as a report has it. */
+        List<?> list() {
+            List<Object> list = new ArrayList<>(List.of(name));
+            for (long word : words)
+                list.add(word);
+            return list;
+        }
 
         /** Whether an answer tells what this call puts: then it was done. */
         boolean isToldBy(String answer) {
@@ -1677,12 +1683,7 @@ public final class Potzendai {
         };
     }
 
-    private static String saidCall(Call call) {
-        List<Object> words = new ArrayList<>(List.of(call.name));
-        for (long word : call.words)
-            words.add(word);
-        return saidCall(words);
-    }
+    private static String saidCall(Call call) { return saidCall(call.list()); }
 
     /** The call of an event as it was made, where a history has another one; else null. */
     private static String noteOf(Round round, long number) {
@@ -1692,7 +1693,7 @@ public final class Potzendai {
     /** A call as it was made. */
     private static String saidMade(Round round, long number, List<?> call) {
         String note = noteOf(round, number);
-        return note != null ? note.split(", answered")[0] : saidCall(call);
+        return note != null ? note.split(":")[0].replace("answered none", "which found none") + "," : saidCall(call);
     }
 
     /** The event of a call's answer, or the end where it has none. */
@@ -1718,8 +1719,7 @@ public final class Potzendai {
             if (one.call != null && !shown.contains((long) i) && numbers.stream().filter(of -> of < round.events.size()).mapToInt(Long::intValue)
                     .anyMatch(of -> round.events.get(of).call != null && meets(one.call, round.events.get(of).call)
                         && at < lastEvent(round, of) && of < lastEvent(round, at)))
-                said.add((one.note != null ? one.note.split(", answered")[0] : saidCall(one.call)) + " of process " + one.thread + " ("
-                    + saidEvents(round, i, one.thread) + ")");
+                said.add(saidMade(round, i, one.call.list()) + " of process " + one.thread + " (" + saidEvents(round, i, one.thread) + ")");
         }
         List<String> first = new ArrayList<>(said.subList(0, Math.min(said.size(), OPEN_SHOWN)));
         if (said.size() > OPEN_SHOWN)

@@ -1365,7 +1365,7 @@ def note_of(one, number):
 def said_made(one, number, call):
     """A call as it was made."""
     note = note_of(one, number)
-    return note.partition(", answered")[0] if note else said_call(call)
+    return note.partition(":")[0].replace("answered none", "which found none") + "," if note else said_call(call)
 
 
 def last_event(one, invoked):

@@ -2207,7 +2207,8 @@ fn note_of(round: &Round, number: u64) -> Option<&String> {
 
 /// A call as it was made.
 fn said_made(round: &Round, number: u64, call: String) -> String {
-    note_of(round, number).map_or(call, |note| note.split(", answered").next().unwrap_or("").to_string())
+    let said = |note: &String| note.split(':').next().unwrap_or("").replace("answered none", "which found none") + ",";
+    note_of(round, number).map_or(call, said)
 }
 
 /// The event of a call's answer, or the end where it has none.
