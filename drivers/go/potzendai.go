@@ -337,7 +337,7 @@ func (o *options) recordedOfCache(kind string, words []uint64, said Said, plain 
 	if isLate {
 		for _, pair := range pairs {
 			note := fmt.Sprintf("%s, answered %d: %d", before, pair[0], pair[1])
-			all = append(all, made{call: &call{"get", pair[:1]}, answer: strconv.FormatUint(pair[1], 10), note: note})
+			all = append(all, made{call: &call{"get", []uint64{pair[0]}}, answer: strconv.FormatUint(pair[1], 10), note: note})
 		}
 		if len(all) == 0 {
 			return nil
@@ -885,7 +885,7 @@ type happening struct {
 	isLeftOut  bool
 }
 
-// A call of a stream that is open, and the put that its key held as it began.
+// A call of a stream that is open, and when it began.
 type openCall struct {
 	call   *call
 	stored uint64
@@ -1491,41 +1491,47 @@ func (r *round) text() string {
 // A tally is how often gets found a value; and how often a key was lost, so that nothing was found where a put was answered and no delete begun
 // since.
 type tally struct {
-	hits, misses, losses, puts uint64
-	stored, deletes            map[uint64]uint64
+	hits, misses, losses, clock uint64
+	stored, deletes, deleted    map[uint64]uint64 // when a put ended; open deletes; when a delete began or ended last
 }
 
 // Begins with a new map.
-func (t *tally) forget() { t.stored, t.deletes = map[uint64]uint64{}, map[uint64]uint64{} }
+func (t *tally) forget() {
+	t.stored, t.deletes, t.deleted = map[uint64]uint64{}, map[uint64]uint64{}, map[uint64]uint64{}
+}
 
-// Which put the key holds as the call begins.
+// When the call begins.
 func (t *tally) begin(kind string, key uint64) uint64 {
+	t.clock++
 	if isOneOf(kind, "del", "pop_first") {
 		delete(t.stored, key)
 		t.deletes[key]++
+		t.deleted[key] = t.clock
 	}
-	return t.stored[key]
+	return t.clock
 }
 
-func (t *tally) end(kind string, key uint64, said string, stored uint64) {
+func (t *tally) end(kind string, key uint64, said string, begun uint64) {
+	t.clock++
 	switch {
 	case kind == "get" && said == "none":
 		t.misses++
 	case kind == "get" && isOneOf(said, "told", "found"):
 		t.hits++
 	}
-	if said == "none" && isOneOf(kind, "get", "put", "replace", "rest") && stored != 0 && t.stored[key] == stored {
+	stored, is := t.stored[key]
+	if said == "none" && isOneOf(kind, "get", "put", "replace", "rest") && is && stored < begun {
 		t.losses++
 		delete(t.stored, key)
 	}
 	isDone := kind == "put" && !isOneOf(said, "refused", "unknown") || kind == "put_if_absent" && said == "none" || kind == "replace" && said == "done"
-	if isOneOf(kind, "del", "pop_first") && said != "unknown" {
-		t.deletes[key]--
-	} else if isDone {
-		t.puts++
-		if t.deletes[key] == 0 {
-			t.stored[key] = t.puts
+	if isOneOf(kind, "del", "pop_first") {
+		t.deleted[key] = t.clock
+		if said != "unknown" {
+			t.deletes[key]--
 		}
+	} else if isDone && t.deletes[key] == 0 && t.deleted[key] < begun {
+		t.stored[key] = t.clock
 	}
 }
 

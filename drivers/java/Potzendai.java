@@ -783,7 +783,7 @@ public final class Potzendai {
      * said, where that ends a call. */
     private record Happening(List<Part> parts, String kind, Word said, boolean isLeftOut) { }
 
-    /** A call that is open, and the put that its key held as it began. */
+    /** A call that is open, and when it began. */
     private record Opened(Call call, long stored) { }
 
     /**
@@ -1283,8 +1283,9 @@ public final class Potzendai {
 
     /** How often gets found a value; and how often a key was lost, so that nothing was found where a put was answered and no delete begun since. */
     private static final class Tally {
-        long hits, misses, losses, puts;
-        private final Map<Long, Long> stored = new HashMap<>(), deletes = new HashMap<>();
+        long hits, misses, losses, clock;
+        /** When a put ended; open deletes; when a delete began or ended last. */
+        private final Map<Long, Long> stored = new HashMap<>(), deletes = new HashMap<>(), deleted = new HashMap<>();
 
         private static boolean deletes(String kind) { return kind.equals("del") || kind.equals("pop_first"); }
 
@@ -1292,33 +1293,38 @@ public final class Potzendai {
         void forget() {
             stored.clear();
             deletes.clear();
+            deleted.clear();
         }
 
-        /** Which put the key holds as the call begins. */
+        /** When the call begins. */
         long begin(String kind, long key) {
+            clock++;
             if (deletes(kind)) {
                 stored.remove(key);
                 deletes.merge(key, 1L, Long::sum);
+                deleted.put(key, clock);
             }
-            return stored.getOrDefault(key, 0L);
+            return clock;
         }
 
-        void end(String kind, long key, Word said, long before) {
+        void end(String kind, long key, Word said, long begun) {
+            clock++;
             boolean isGet = kind.equals("get"), isNone = said == Word.NONE;
             hits += isGet && (said == Word.TOLD || said == Word.FOUND) ? 1 : 0;
             misses += isGet && isNone ? 1 : 0;
             boolean looks = isGet || kind.equals("put") || kind.equals("replace") || kind.equals("rest");
-            if (isNone && looks && before != 0 && stored.getOrDefault(key, 0L) == before) {
+            if (isNone && looks && stored.getOrDefault(key, begun) < begun) {
                 losses++;
                 stored.remove(key);
             }
-            if (deletes(kind) && said != Word.UNKNOWN)
-                deletes.merge(key, -1L, Long::sum);
             boolean isDone = kind.equals("put") && said != Word.REFUSED && said != Word.UNKNOWN || kind.equals("put_if_absent") && isNone
                 || kind.equals("replace") && said == Word.DONE;
-            puts += isDone ? 1 : 0;
-            if (isDone && deletes.getOrDefault(key, 0L) == 0)
-                stored.put(key, puts);
+            if (deletes(kind)) {
+                deletes.merge(key, said == Word.UNKNOWN ? 0L : -1L, Long::sum);
+                deleted.put(key, clock);
+            } else if (isDone && deletes.getOrDefault(key, 0L) == 0 && deleted.getOrDefault(key, 0L) < begun) {
+                stored.put(key, clock);
+            }
         }
     }
 

@@ -48,6 +48,7 @@ import types
 NONE, DONE, FOUND, OTHER, REFUSED, UNKNOWN = SAYINGS = ("none", "done", "found", "other", "refused", "unknown")
 GREATEST = 2 ** 64 - 1
 OWN = 2 ** 63  # under --cache, values from here on are the driver's own
+BATCH_ROUNDS = 64  # so many rounds are judged together
 PROCESSES, CALLS, SPAN = 64, 4096, 16  # limits of a history; the most keys of a scan
 STREAM_PROCESSES, STREAM_KEYS = 65536, 16384  # limits of a stream, and of its keys
 AHEAD, BATCH = 8192, 4096  # how many stamps a thread may be in front of what is handed over; how many lines are handed over at once
@@ -850,6 +851,13 @@ class Round:
             opened[process] = kind, call, number in answered, tally.begin(kind, call[1]) if kind else None
         self.pending = [call for _, call, _, _ in opened.values() if call[0] == "remove" or call[-1] not in told_of]
 
+    def is_apart(self, keys):
+        """Whether it is a history of so many keys alone, in which all calls have answers: then it may be judged with others."""
+        answers = [event["answer"] for event in self.events if type(event.get("answer")) is list]
+        calls = [event["invoke"] for event in self.events if "invoke" in event]
+        held = list(self.start) + [pair[0] for pairs in answers for pair in pairs] + [call[1] for call in calls]
+        return 2 * len(calls) == len(self.events) and max(held, default=0) < keys
+
     def text(self):
         answers = [event["answer"] for event in self.events if isinstance(event.get("answer"), str)]
         if any(answer != "refused" for answer in answers) or any("note" in event for event in self.events):
@@ -865,37 +873,57 @@ class Round:
 WRITES = ("insert", "remove", "replace")
 
 
+def together(rounds, keys):
+    """Rounds as one history, in which the keys of each are moved up. It has an order if and only if each round has one, since linearizability is
+    local: a call says nothing of keys that it does not touch (Herlihy and Wing, 1990)."""
+    start, events = [], []
+    for by, one in zip(itertools.count(0, keys), rounds):
+        start += [[key + by, value] for key, value in sorted(one.start.items())]
+        for event in one.events:
+            call, answer = event.get("invoke"), event.get("answer")
+            if call:
+                high = [min(call[2], keys - 1) + by] if call[0] == "scan" else call[2:]
+                events.append({"invoke": [call[0], call[1] + by, *high], "process": event["process"]})
+            else:
+                moved = [[key + by, value] for key, value in answer] if type(answer) is list else answer
+                events.append({"answer": moved, "process": event["process"]})
+    return json.dumps({"events": events, "start": start, "version": 3}, separators=(",", ":"), sort_keys=True) + "\n"
+
+
 class Tally:
     """How often gets found a value; and how often a key was lost, so that nothing was found where a put was answered and no delete begun since."""
 
     def __init__(self):
-        self.hits = self.misses = self.losses = self.puts = 0
-        self.stored, self.deletes = {}, {}
+        self.hits = self.misses = self.losses = self.clock = 0
+        self.forget()
 
     def forget(self):
         """Begins with a new map."""
-        self.stored, self.deletes = {}, {}
+        self.stored, self.deletes, self.deleted = {}, {}, {}  # when a put ended; open deletes; when a delete began or ended last
 
     def begin(self, kind, key):
-        """Which put the key holds as the call begins."""
+        """When the call begins."""
+        self.clock += 1
         if kind in ("delete", "pop_first"):
             self.stored.pop(key, None)
             self.deletes[key] = self.deletes.get(key, 0) + 1
-        return self.stored.get(key)
+            self.deleted[key] = self.clock
+        return self.clock
 
-    def end(self, kind, key, saying, stored):
+    def end(self, kind, key, saying, begun):
+        self.clock += 1
         if kind == "get":
             self.hits += saying in ("told", FOUND)
             self.misses += saying == NONE
-        if saying == NONE and kind in ("get", "put", "replace", "rest") and stored and self.stored.get(key) == stored:
+        if saying == NONE and kind in ("get", "put", "replace", "rest") and self.stored.get(key, begun) < begun:
             self.losses += 1
             del self.stored[key]
         if kind in ("delete", "pop_first"):
             self.deletes[key] -= saying != UNKNOWN
+            self.deleted[key] = self.clock
         elif kind == "put" and saying in ("told", NONE, DONE, FOUND) or (kind, saying) in (("put_if_absent", NONE), ("replace", DONE)):
-            self.puts += 1
-            if not self.deletes.get(key):
-                self.stored[key] = self.puts
+            if not self.deletes.get(key) and self.deleted.get(key, 0) < begun:
+                self.stored[key] = self.clock
 
 
 class Judge:
@@ -1064,6 +1092,9 @@ class Out:
 
 # A run
 
+COUNTED = ("rounds", "calls", "overlap", "left_out", "sayings", "called", "wrong_times", "tally", "met")
+
+
 class Run:
     """Rounds at a new map, each of which begins with what the one before has left: the pairs, and calls without an answer that may still
     come."""
@@ -1072,6 +1103,7 @@ class Run:
         self.options, self.make, self.program = options, make, program
         self.rounds = self.calls = self.overlap = self.undecided = self.helped = self.left_out = self.wrong_times = 0
         self.cut, self.called, self.tally, self.has_points = [], dict.fromkeys(ANSWERS, 0), Tally(), False
+        self.waiting, self.waiting_calls = [], 0  # rounds that are not judged yet
         self.kept, self.length = None, 0  # the stream so far, while it is no longer than is kept
         self.sayings, self.met, self.failed, self.began = dict.fromkeys(("told",) + SAYINGS, 0), set(), None, time.monotonic()
 
@@ -1092,6 +1124,7 @@ class Run:
                     self.cut = ["%s: calls without an answer leave no room for others: %d" % (self.options.name, len(self.pending))]
                     break
                 self.round(number + self.rounds, lives)
+            self.judge_waiting()
         finally:
             self.close()
             forget(self.made)
@@ -1198,9 +1231,32 @@ class Run:
             except OSError:
                 raise Stop(FILE, "standard output: a history was not written")
             return
-        status = self.program.judge(one.text())
-        self.undecided += status == UNDECIDED
-        self.failed = one if status == NO else None
+        calls = len(one.events) // 2
+        if self.waiting and (not one.is_apart(self.options.keys) or calls + self.waiting_calls > CALLS):
+            self.judge_waiting()
+        if self.failed:
+            return
+        if not self.waiting:
+            self.waiting_calls, self.waits_since = 0, time.monotonic()
+        self.waiting_calls += calls
+        self.waiting.append((one, {name: copy.copy(getattr(self, name)) for name in COUNTED}))
+        is_full = len(self.waiting) == BATCH_ROUNDS or time.monotonic() - self.waits_since > 1
+        if is_full or self.rounds == 1 or not one.is_apart(self.options.keys):
+            self.judge_waiting()
+
+    def judge_waiting(self):
+        """Judges the rounds that wait: all at once, and each on its own where that is not a yes. Of a no, what was counted is that up to its end."""
+        waiting, self.waiting = self.waiting, []
+        all_rounds = together([one for one, _ in waiting], self.options.keys) if len(waiting) > 1 else None
+        if all_rounds and self.program.ask("judge", all_rounds, self.program.budget)[0] == YES:
+            return
+        for one, counts in waiting:
+            status = self.program.judge(one.text())
+            self.undecided += status == UNDECIDED
+            if status == NO:
+                self.failed = one
+                self.__dict__.update(counts)
+                return
 
     def is_over(self):
         """At least one round is made."""

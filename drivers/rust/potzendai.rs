@@ -1346,9 +1346,11 @@ struct Tally {
     hits: u64,
     misses: u64,
     losses: u64,
-    puts: u64,
+    clock: u64,
+    /// When a put ended; open deletes; when a delete began or ended last.
     stored: HashMap<u64, u64>,
     deletes: HashMap<u64, u64>,
+    deleted: HashMap<u64, u64>,
 }
 
 impl Tally {
@@ -1356,37 +1358,43 @@ impl Tally {
     fn forget(&mut self) {
         self.stored.clear();
         self.deletes.clear();
+        self.deleted.clear();
     }
 
-    /// Which put the key holds as the call begins.
+    /// When the call begins.
     fn begin(&mut self, kind: &str, key: u64) -> u64 {
+        self.clock += 1;
         if matches!(kind, "del" | "pop_first") {
             self.stored.remove(&key);
             *self.deletes.entry(key).or_insert(0) += 1;
+            self.deleted.insert(key, self.clock);
         }
-        self.stored.get(&key).copied().unwrap_or(0)
+        self.clock
     }
 
-    fn end(&mut self, kind: &str, key: u64, said: usize, stored: u64) {
+    fn end(&mut self, kind: &str, key: u64, said: usize, begun: u64) {
         let said = SAYINGS[said];
+        self.clock += 1;
         self.hits += u64::from(kind == "get" && matches!(said, "told" | "found"));
         self.misses += u64::from(kind == "get" && said == "none");
         let looks = matches!(kind, "get" | "put" | "replace" | "rest");
-        if said == "none" && looks && stored != 0 && self.stored.get(&key) == Some(&stored) {
+        if said == "none" && looks && self.stored.get(&key).is_some_and(|stored| *stored < begun) {
             self.losses += 1;
             self.stored.remove(&key);
-        }
-        if matches!(kind, "del" | "pop_first") && said != "unknown" {
-            self.deletes.entry(key).and_modify(|count| *count -= 1);
         }
         let is_done = match kind {
             "put" => !matches!(said, "refused" | "unknown"),
             "put_if_absent" => said == "none",
             _ => kind == "replace" && said == "done",
         };
-        self.puts += u64::from(is_done);
-        if is_done && self.deletes.get(&key).map_or(true, |count| *count == 0) {
-            self.stored.insert(key, self.puts);
+        let is_kept = self.deletes.get(&key).map_or(true, |count| *count == 0) && self.deleted.get(&key).map_or(true, |last| *last < begun);
+        if matches!(kind, "del" | "pop_first") {
+            self.deleted.insert(key, self.clock);
+            if said != "unknown" {
+                self.deletes.entry(key).and_modify(|count| *count -= 1);
+            }
+        } else if is_done && is_kept {
+            self.stored.insert(key, self.clock);
         }
     }
 }
