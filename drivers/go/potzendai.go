@@ -104,6 +104,7 @@ const (
 	mostBeside                                = 32      // calls that a stream has on behalf of one
 	keptNotes                                 = 1000000 // of so many events of a stream the notes are kept for the words of a no
 	openShown                                 = 6       // of the other calls that were open
+	batchRounds, batchCalls                   = 64, 256 // so many rounds are judged together, of so many calls
 )
 
 var (
@@ -1488,6 +1489,78 @@ func (r *round) text() string {
 	return fmt.Sprintf("%s,\"version\":%d}\n", begin, version)
 }
 
+// The pairs that an answer has, or none where it is no list of them.
+func pairsOf(answer string) (pairs [][2]uint64) {
+	numbers := strings.FieldsFunc(answer, func(one rune) bool { return one < '0' || one > '9' })
+	for i := 1; i < len(numbers) && answer[0] == '['; i += 2 {
+		key, _ := strconv.ParseUint(numbers[i-1], 10, 64)
+		value, _ := strconv.ParseUint(numbers[i], 10, 64)
+		pairs = append(pairs, [2]uint64{key, value})
+	}
+	return pairs
+}
+
+// Whether it is a history of so many keys alone, in which all calls have answers: then it may be judged with others.
+func (r *round) isApart(keys uint64) bool {
+	calls := 0
+	for key := range r.start {
+		if key >= keys {
+			return false
+		}
+	}
+	for _, one := range r.events {
+		if one.call != nil {
+			calls++
+		}
+		if one.call != nil && one.call.words[0] >= keys {
+			return false
+		}
+		for _, pair := range pairsOf(one.answer) {
+			if pair[0] >= keys {
+				return false
+			}
+		}
+	}
+	return 2*calls == len(r.events)
+}
+
+// Rounds as one history, in which the keys of each are moved up. It has an order if and only if each round has one, since linearizability is
+// local: a call says nothing of keys that it does not touch (Herlihy and Wing, 1990).
+func together(rounds []waiting, keys uint64) string {
+	var start [][2]uint64
+	var texts []string
+	for i, each := range rounds {
+		by := uint64(i) * keys
+		for _, pair := range sorted(each.one.start) {
+			start = append(start, [2]uint64{pair[0] + by, pair[1]})
+		}
+		for _, one := range each.one.events {
+			if one.call == nil {
+				answer := one.answer
+				if answer[0] == '[' {
+					pairs := pairsOf(answer)
+					for j := range pairs {
+						pairs[j][0] += by
+					}
+					answer = pairsText(pairs)
+				}
+				texts = append(texts, fmt.Sprintf(`{"answer":%s,"process":%d}`, answer, one.process))
+				continue
+			}
+			moved := &call{one.call.name, append([]uint64{}, one.call.words...)}
+			moved.words[0] += by
+			if one.call.name == "scan" && one.call.words[1] >= keys {
+				moved.words[1] = keys - 1
+			}
+			if one.call.name == "scan" {
+				moved.words[1] += by
+			}
+			texts = append(texts, fmt.Sprintf(`{"invoke":%s,"process":%d}`, moved.text(), one.process))
+		}
+	}
+	return fmt.Sprintf("{\"events\":[%s],\"start\":%s,\"version\":3}\n", strings.Join(texts, ","), pairsText(start))
+}
+
 // A tally is how often gets found a value; and how often a key was lost, so that nothing was found where a put was answered and no delete begun
 // since.
 type tally struct {
@@ -1650,32 +1723,46 @@ func (p *program) checked(command string, err error, asked *exec.Cmd, answer str
 // A run is of rounds at a new map, each of which begins with what the one before has left: the pairs, and calls without an answer that may
 // still come.
 type run struct {
-	options                            *options
-	make                               func() Map
-	program                            *program
-	sayings, called                    map[string]uint64
-	met                                map[uint64]bool
-	began                              time.Time
-	rounds, calls, overlap, undecideds uint64
-	helped, leftOut, wrongTimes        uint64 // further calls on behalf of others; calls left out; how often a broken map went wrong
-	tally                              tally
-	failed                             *round
-	cut                                []string
-	report                             string
-	notes                              map[uint64]string
-	kept                               []byte // of a stream
+	counts
+	options                        *options
+	make                           func() Map
+	program                        *program
+	met                            map[uint64]bool
+	began                          time.Time
+	undecideds, helped, wrongTimes uint64 // the last two: further calls on behalf of others; how often a broken map went wrong
+	waiting                        []waiting
+	waitingCalls                   uint64
+	waitsSince                     time.Time
+	failed                         *round
+	cut                            []string
+	report                         string
+	notes                          map[uint64]string
+	kept                           []byte // of a stream
+}
+
+// What is counted, up to the end of a round.
+type counts struct {
+	rounds, calls, overlap, leftOut uint64
+	sayings, called                 map[string]uint64
+	tally                           tally
+}
+
+// A round that is not judged yet.
+type waiting struct {
+	one    *round
+	counts counts
 }
 
 // Rounds from this number on, until one has no order, or the time is over; or one stream.
 func newRun(o *options, make func() Map, p *program, number uint64) *run {
-	r := &run{options: o, make: make, program: p, met: map[uint64]bool{}, began: time.Now(), sayings: map[string]uint64{}}
+	r := &run{options: o, make: make, program: p, met: map[uint64]bool{}, began: time.Now()}
+	r.sayings = map[string]uint64{}
 	atomic.StoreUint64(&yields, o.yields)
 	hasPoints.Store(false)
 	c := newCrew(o)
 	defer c.end()
 	r.open(c)
 	defer func() {
-		r.called = calledBy(c.workers)
 		for _, one := range c.workers {
 			r.wrongTimes += one.wrongTimes
 			if one.broken != nil {
@@ -1685,6 +1772,7 @@ func newRun(o *options, make func() Map, p *program, number uint64) *run {
 	}()
 	if o.isStream {
 		r.follow(c)
+		r.called = calledBy(c.workers)
 		return r
 	}
 	var pending []*call
@@ -1708,6 +1796,7 @@ func newRun(o *options, make func() Map, p *program, number uint64) *run {
 		r.take(one, c.workers)
 		pending = one.pending
 	}
+	r.judgeWaiting()
 	return r
 }
 
@@ -1786,7 +1875,7 @@ func (r *run) take(one *round, workers []*worker) {
 	for key := range one.met {
 		r.met[key] = true
 	}
-	r.sayings = map[string]uint64{}
+	r.sayings, r.called = map[string]uint64{}, calledBy(workers)
 	for _, each := range workers {
 		for word, count := range each.sayings {
 			r.sayings[word] += count
@@ -1798,11 +1887,41 @@ func (r *run) take(one *round, workers []*worker) {
 		}
 		return
 	}
-	switch r.program.judge(one.text()) {
-	case no:
-		r.failed = one
-	case undecided:
-		r.undecideds++
+	calls := uint64(len(one.events) / 2)
+	isApart := calls <= batchCalls && one.isApart(r.options.keys)
+	if len(r.waiting) > 0 && (!isApart || calls+r.waitingCalls > mostCalls) {
+		r.judgeWaiting()
+	}
+	if r.failed != nil {
+		return
+	}
+	if len(r.waiting) == 0 {
+		r.waitingCalls, r.waitsSince = 0, time.Now()
+	}
+	r.waitingCalls += calls
+	r.waiting = append(r.waiting, waiting{one, r.counts})
+	if len(r.waiting) == batchRounds || time.Since(r.waitsSince) > time.Second || r.rounds == 1 || !isApart {
+		r.judgeWaiting()
+	}
+}
+
+// Judges the rounds that wait: all at once, and each on its own where that is not a yes. Of a no, what was counted is that up to its end.
+func (r *run) judgeWaiting() {
+	all := r.waiting
+	r.waiting = nil
+	if len(all) > 1 {
+		if status, _ := r.program.ask("judge", together(all, r.options.keys), r.program.budget); status == yes {
+			return
+		}
+	}
+	for _, each := range all {
+		switch r.program.judge(each.one.text()) {
+		case no:
+			r.failed, r.counts = each.one, each.counts
+			return
+		case undecided:
+			r.undecideds++
+		}
 	}
 }
 

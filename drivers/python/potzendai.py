@@ -48,7 +48,7 @@ import types
 NONE, DONE, FOUND, OTHER, REFUSED, UNKNOWN = SAYINGS = ("none", "done", "found", "other", "refused", "unknown")
 GREATEST = 2 ** 64 - 1
 OWN = 2 ** 63  # under --cache, values from here on are the driver's own
-BATCH_ROUNDS = 64  # so many rounds are judged together
+BATCH_ROUNDS, BATCH_CALLS = 64, 256  # so many rounds are judged together, of so many calls
 PROCESSES, CALLS, SPAN = 64, 4096, 16  # limits of a history; the most keys of a scan
 STREAM_PROCESSES, STREAM_KEYS = 65536, 16384  # limits of a stream, and of its keys
 AHEAD, BATCH = 8192, 4096  # how many stamps a thread may be in front of what is handed over; how many lines are handed over at once
@@ -1232,7 +1232,8 @@ class Run:
                 raise Stop(FILE, "standard output: a history was not written")
             return
         calls = len(one.events) // 2
-        if self.waiting and (not one.is_apart(self.options.keys) or calls + self.waiting_calls > CALLS):
+        is_apart = calls <= BATCH_CALLS and one.is_apart(self.options.keys)
+        if self.waiting and (not is_apart or calls + self.waiting_calls > CALLS):
             self.judge_waiting()
         if self.failed:
             return
@@ -1241,7 +1242,7 @@ class Run:
         self.waiting_calls += calls
         self.waiting.append((one, {name: copy.copy(getattr(self, name)) for name in COUNTED}))
         is_full = len(self.waiting) == BATCH_ROUNDS or time.monotonic() - self.waits_since > 1
-        if is_full or self.rounds == 1 or not one.is_apart(self.options.keys):
+        if is_full or self.rounds == 1 or not is_apart:
             self.judge_waiting()
 
     def judge_waiting(self):
