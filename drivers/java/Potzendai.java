@@ -168,6 +168,7 @@ public final class Potzendai {
     private static final long OWN_VALUES = Long.MIN_VALUE; // under --cache, values from here on are the driver's own
     /** How many calls a stream has on behalf of one; of how many of its events the notes are kept; how many other open calls are shown. */
     private static final int BESIDE = 32, NOTES = 1000000, OPEN_SHOWN = 6;
+    private static final int BATCH_ROUNDS = 64, BATCH_CALLS = 256; // so many rounds are judged together, of so many calls
     private static final String ANEW =
         "events and processes are numbered anew here and in the files, for the calls \"invoked\" above that had not taken effect, in that order:";
     private static final String AGAIN = "  again (draws the same calls; threads may interleave otherwise): ";
@@ -250,6 +251,15 @@ public final class Potzendai {
                 text.append(',').append(Long.toUnsignedString(word));
             return text.append(']').toString();
         }
+        /** The call at keys that are moved up. A range ends at the last of so many keys. */
+        Call moved(long by, long keys) {
+            long[] moved = words.clone();
+            moved[0] += by;
+            if (name.equals("scan"))
+                moved[1] = by + (Long.compareUnsigned(words[1], keys) < 0 ? words[1] : keys - 1);
+            return new Call(name, moved);
+        }
+
         /** The call as a report has it. */
         List<?> list() {
             List<Object> list = new ArrayList<>(List.of(name));
@@ -1265,6 +1275,46 @@ public final class Potzendai {
             return open.values().stream().map(Event::call).filter(call -> events.stream().noneMatch(event -> call.isToldBy(event.answer))).toList();
         }
 
+        /** The pairs that an answer has, or none where it is no list of them. */
+        private static List<long[]> pairs(String answer) {
+            List<long[]> pairs = new ArrayList<>();
+            if (answer != null && answer.startsWith("[["))
+                for (String pair : answer.substring(2, answer.length() - 2).split("\\],\\["))
+                    pairs.add(Arrays.stream(pair.split(",")).mapToLong(Long::parseUnsignedLong).toArray());
+            return pairs;
+        }
+
+        /** Whether it is a history of so many keys alone, in which all calls have answers: then it may be judged with others. */
+        boolean isApart(long keys) {
+            long count = 0;
+            for (Event event : events) {
+                count += event.call != null ? 1 : 0;
+                if (event.call != null && Long.compareUnsigned(event.call.words[0], keys) >= 0)
+                    return false;
+                if (pairs(event.answer).stream().anyMatch(pair -> Long.compareUnsigned(pair[0], keys) >= 0))
+                    return false;
+            }
+            return 2 * count == events.size() && start.keySet().stream().allMatch(key -> key < keys);
+        }
+
+        /** Rounds as one history, in which the keys of each are moved up. It has an order if and only if each round has one, since linearizability is
+         * local: a call says nothing of keys that it does not touch (Herlihy and Wing, 1990). */
+        static String together(List<Round> rounds, long keys) {
+            List<String> texts = new ArrayList<>(), start = new ArrayList<>();
+            for (int i = 0; i < rounds.size(); i++) {
+                long by = i * keys;
+                rounds.get(i).start.forEach((key, value) -> start.add(pairText(key + by, value)));
+                for (Event event : rounds.get(i).events)
+                    texts.add(eventText(event.call == null ? null : event.call.moved(by, keys), moved(event.answer, by), null, event.thread));
+            }
+            return "{\"events\":[" + String.join(",", texts) + "],\"start\":[" + String.join(",", start) + "],\"version\":3}\n";
+        }
+
+        private static String moved(String answer, long by) {
+            return answer == null || !answer.startsWith("[") ? answer
+                : pairs(answer).stream().map(pair -> pairText(pair[0] + by, pair[1])).collect(Collectors.joining(",", "[", "]"));
+        }
+
         String text() {
             boolean tellsLess = events.stream().anyMatch(event -> LESS.contains("" + event.answer) || event.note != null);
             boolean replaces = events.stream().anyMatch(event -> event.call != null && event.call.name.equals("replace"));
@@ -1400,6 +1450,8 @@ public final class Potzendai {
         final long began = System.nanoTime();
         final List<String> cut = new ArrayList<>();
         final Tally tally = new Tally();
+        private final List<Waiting> waiting = new ArrayList<>();
+        private long waitingCalls, waitsSince;
         Map<Long, String> notes = Map.of();
         long rounds, calls, overlap, undecided, helped, leftOut, wrongTimes; // calls on behalf of others; calls left out; how often a map went wrong
         Round failed;
@@ -1422,11 +1474,23 @@ public final class Potzendai {
                     follow(crew);
                 else
                     goRounds(crew, number);
-                for (Worker worker : crew.workers)
-                    worker.called.forEach((kind, count) -> called.merge(kind, count, Long::sum));
+                if (options.isStream)
+                    count(crew);
                 wrongTimes = crew.workers.stream().mapToLong(Worker::wrongTimes).sum();
             }
             return this;
+        }
+
+        /** How often the threads called each function, and in rounds what the map said. */
+        private void count(Crew crew) {
+            called.clear();
+            for (Worker worker : crew.workers)
+                worker.called.forEach((kind, count) -> called.merge(kind, count, Long::sum));
+            if (options.isStream)
+                return;
+            sayings.clear();
+            for (Worker worker : crew.workers)
+                worker.sayings.forEach((word, count) -> sayings.merge(word, count, Long::sum));
         }
 
         /** Begins with a new map. */
@@ -1454,12 +1518,11 @@ public final class Potzendai {
                 Map<Long, Long> start = crew.contents;
                 Set<Long> doubtful = pending.stream().map(call -> call.words[0]).collect(Collectors.toSet());
                 Round round = new Round(crew.round(new Task(number + rounds, lives, start, doubtful, crew.from)), start, pending, tally);
+                count(crew);
                 take(round);
                 pending = round.pending;
-                sayings.clear();
-                for (Worker worker : crew.workers)
-                    worker.sayings.forEach((word, count) -> sayings.merge(word, count, Long::sum));
             }
+            judgeWaiting();
         }
 
         /** One stream, until it has no order, or the time is over. */
@@ -1503,15 +1566,58 @@ public final class Potzendai {
             overlap += round.overlap;
             leftOut += round.leftOut;
             met.addAll(round.met);
-            int status = YES;
             if (program == null)
                 System.out.print(round.text());
             if (program == null && System.out.checkError())
                 throw new Stop(FILE, "standard output: a history was not written");
             if (program != null)
-                status = program.askTwice("judge", round.text()).status;
-            undecided += status == UNDECIDED ? 1 : 0;
-            failed = status == NO ? round : null;
+                judgeSoon(round);
+        }
+
+        /** What is counted, up to the end of a round that is not judged yet. */
+        private record Waiting(Round round, long rounds, long calls, long overlap, long leftOut, EnumMap<Word, Long> sayings,
+                EnumMap<Kind, Long> called, long hits, long misses, long losses) { }
+
+        private void judgeSoon(Round round) {
+            int count = round.events.size() / 2;
+            boolean isApart = count <= BATCH_CALLS && round.isApart(options.keys);
+            if (!waiting.isEmpty() && (!isApart || count + waitingCalls > CALLS))
+                judgeWaiting();
+            if (failed != null)
+                return;
+            waitsSince = waiting.isEmpty() ? System.nanoTime() : waitsSince;
+            waitingCalls = waiting.isEmpty() ? count : waitingCalls + count;
+            waiting.add(new Waiting(round, rounds, calls, overlap, leftOut, sayings.clone(), called.clone(), tally.hits, tally.misses, tally.losses));
+            if (waiting.size() == BATCH_ROUNDS || System.nanoTime() - waitsSince > 1000000000L || rounds == 1 || !isApart)
+                judgeWaiting();
+        }
+
+        /** Judges the rounds that wait: all at once, and each on its own where that is not a yes. Of a no, what was counted is that up to its end. */
+        private void judgeWaiting() {
+            List<Waiting> all = List.copyOf(waiting);
+            waiting.clear();
+            String text = all.size() > 1 ? Round.together(all.stream().map(Waiting::round).toList(), options.keys) : null;
+            if (text != null && program.ask("judge", text, program.budget).status == YES)
+                return;
+            for (Waiting one : all) {
+                int status = program.askTwice("judge", one.round.text()).status;
+                undecided += status == UNDECIDED ? 1 : 0;
+                if (status != NO)
+                    continue;
+                failed = one.round;
+                rounds = one.rounds;
+                calls = one.calls;
+                overlap = one.overlap;
+                leftOut = one.leftOut;
+                sayings.clear();
+                sayings.putAll(one.sayings);
+                called.clear();
+                called.putAll(one.called);
+                tally.hits = one.hits;
+                tally.misses = one.misses;
+                tally.losses = one.losses;
+                return;
+            }
         }
 
         double seconds() { return (System.nanoTime() - began) / 1e9; }
