@@ -141,6 +141,9 @@ const OWN_VALUES: u64 = 1 << 63;
 const BESIDE: usize = 32;
 const NOTES: u64 = 1_000_000;
 const OPEN_SHOWN: usize = 6;
+/// So many rounds are judged together, of so many calls.
+const BATCH_ROUNDS: usize = 64;
+const BATCH_CALLS: usize = 256;
 const GONE: &str = ", answered none: the key was gone";
 const AGAIN: &str = "  again (draws the same calls; threads may interleave otherwise): ";
 const ANEW: &str = "events and processes are numbered anew here and in the files, for the calls \"invoked\" above that had not taken effect, in \
@@ -1312,6 +1315,42 @@ impl Round {
         }
     }
 
+    /// Whether it is a history of so many keys alone, in which all calls have answers: then it may be judged with others.
+    fn is_apart(&self, keys: u64) -> bool {
+        let calls = self.events.iter().filter_map(One::call);
+        let is_own = self.events.iter().all(|one| match &one.what {
+            What::Invoke(call) => call.1[0] < keys,
+            What::Answer(answer) => pairs_of(answer).iter().flatten().all(|(key, _)| *key < keys),
+        });
+        is_own && 2 * calls.count() == self.events.len() && self.start.keys().all(|key| *key < keys)
+    }
+
+    /// Rounds as one history, in which the keys of each are moved up. It has an order if and only if each round has one, since linearizability is
+    /// local: a call says nothing of keys that it does not touch (Herlihy and Wing, 1990).
+    fn together(rounds: &[Waiting], keys: u64) -> String {
+        let (mut start, mut texts) = (vec![], vec![]);
+        for (number, each) in rounds.iter().enumerate() {
+            let by = number as u64 * keys;
+            let moved = |pairs: &[(u64, u64)]| pairs.iter().map(|(key, value)| (key + by, *value)).collect::<Vec<_>>();
+            start.extend(each.round.start.iter().map(|(key, value)| (key + by, *value)));
+            texts.extend(each.round.events.iter().map(|one| match &one.what {
+                What::Invoke(call) => {
+                    let mut words = call.1.clone();
+                    words[0] += by;
+                    if call.0 == "scan" {
+                        words[1] = words[1].min(keys - 1) + by;
+                    }
+                    format!("{{\"invoke\":{},\"process\":{}}}", Call(call.0, words).text(), one.process)
+                }
+                What::Answer(answer) => {
+                    let answer = pairs_of(answer).map_or(answer.clone(), |pairs| pairs_text(&moved(&pairs)));
+                    format!("{{\"answer\":{answer},\"process\":{}}}", one.process)
+                }
+            }));
+        }
+        format!("{{\"events\":[{}],\"start\":{},\"version\":3}}\n", texts.join(","), pairs_text(&start))
+    }
+
     fn text(&self) -> String {
         let mut version = if self.start.is_empty() { 1 } else { 2 };
         let mut texts = vec![];
@@ -1333,6 +1372,14 @@ impl Round {
         let pairs: Vec<(u64, u64)> = self.start.iter().map(|(key, value)| (*key, *value)).collect();
         let start = if version > 1 { format!(",\"start\":{}", pairs_text(&pairs)) } else { String::new() };
         format!("{{\"events\":[{}]{start},\"version\":{version}}}\n", texts.join(","))
+    }
+}
+
+/// The pairs that an answer has, or none where it is no list of them.
+fn pairs_of(answer: &str) -> Option<Vec<(u64, u64)>> {
+    match Json::read(&mut &*answer) {
+        Json::List(pairs) => Some(pairs.iter().map(|pair| (pair.word(0), pair.word(1))).collect()),
+        _ => None,
     }
 }
 
@@ -1602,21 +1649,38 @@ impl Program {
 
 // A run
 
-/// Rounds at a new map, each of which begins with what the one before has left: the pairs, and calls without an answer that may still come.
-struct Run {
-    options: Options,
+/// What is counted, up to the end of a round.
+#[derive(Clone, Default)]
+struct Counted {
     sayings: [u64; 8],
     called: [u64; 9],
-    met: HashSet<u64>,
-    began: Instant,
     rounds: u64,
     calls: u64,
     overlap: u64,
+    left_out: u64,
+    hits: u64,
+    misses: u64,
+    losses: u64,
+}
+
+/// A round that is not judged yet.
+struct Waiting {
+    round: Round,
+    counted: Counted,
+}
+
+/// Rounds at a new map, each of which begins with what the one before has left: the pairs, and calls without an answer that may still come.
+struct Run {
+    options: Options,
+    counted: Counted,
+    met: HashSet<u64>,
+    began: Instant,
     undecided: u64,
     helped: u64, // calls on behalf of others
-    left_out: u64,
     wrong_times: u64, // how often a broken map went wrong
     tally: Tally,
+    waiting: Vec<Waiting>,
+    waits_since: Instant,
     notes: HashMap<u64, String>,
     events: u64, // of a stream
     cut: Vec<String>,
@@ -1662,8 +1726,8 @@ impl Run {
         let stream = options.is_stream.then(|| Stream::new(options.threads));
         let shared = Shared { stamps: Arc::new(AtomicU64::new(0)), locks, stream };
         let mut run = Run {
-            options: options.clone(), sayings: [0; 8], called: [0; 9], met: HashSet::new(), began: Instant::now(), rounds: 0, calls: 0,
-            overlap: 0, undecided: 0, helped: 0, left_out: 0, wrong_times: 0, tally: Tally::default(), notes: HashMap::new(), events: 0,
+            options: options.clone(), counted: Counted::default(), met: HashSet::new(), began: Instant::now(), undecided: 0, helped: 0,
+            wrong_times: 0, tally: Tally::default(), waiting: vec![], waits_since: Instant::now(), notes: HashMap::new(), events: 0,
             cut: vec![], failed: None, report: String::new(), kept: program.map(|_| String::new()),
         };
         let (mut map, mut kept, mut at) = (make(), vec![Kept::default(); options.threads as usize], At::default());
@@ -1750,14 +1814,14 @@ impl Run {
         for one in ended.into_iter().flatten() {
             counts.add(&one.map_err(named)?.1);
         }
-        (self.called, self.wrong_times) = (counts.called, counts.wrong);
+        (self.counted.called, self.wrong_times) = (counts.called, counts.wrong);
         let (status, report) = written?;
         self.conclude(stream, status, report)
     }
 
     /// What the verdict on a stream says. One that was cut off has no yes.
     fn conclude(&mut self, stream: &Stream, status: i32, report: String) -> Result<(), Stop> {
-        let counts_all = self.options.out == "-" || report.starts_with(&format!("{{\"calls\":{},", self.calls + self.helped));
+        let counts_all = self.options.out == "-" || report.starts_with(&format!("{{\"calls\":{},", self.counted.calls + self.helped));
         match status {
             YES if stream.state.load(SeqCst) == FAILED || !counts_all => {
                 return fail(BAD_FILE, format!("{}: the stream was cut off", self.options.name));
@@ -1844,8 +1908,8 @@ impl Run {
             self.events += u64::from(part.call.is_some() || part.answer.is_some());
             match part.call {
                 Some(call) if is_first => {
-                    self.calls += 1;
-                    self.overlap += open.len() as u64;
+                    self.counted.calls += 1;
+                    self.counted.overlap += open.len() as u64;
                     if writes_key(what.kind) {
                         let count = writers.entry(call.1[0]).or_insert(0);
                         *count += 1;
@@ -1872,9 +1936,9 @@ impl Run {
             let events = self.events;
             self.notes.retain(|number, _| number + NOTES >= events);
         }
-        self.left_out += u64::from(what.is_left_out);
+        self.counted.left_out += u64::from(what.is_left_out);
         if let Some(word) = what.said {
-            self.sayings[word] += 1;
+            self.counted.sayings[word] += 1;
         }
     }
 
@@ -1912,7 +1976,7 @@ impl Run {
             at.rounds += 1;
             let doubtful = Arc::new(at.pending.iter().map(|call: &Call| call.1[0]).collect());
             let missing = Arc::new(AtomicUsize::new(threads.len()));
-            let task = Task { round: number + self.rounds, lives, start: at.start.clone(), doubtful, missing, values_from: at.values.from };
+            let task = Task { round: number + self.counted.rounds, lives, start: at.start.clone(), doubtful, missing, values_from: at.values.from };
             for (tasks, _) in threads {
                 let _ = tasks.send(task.clone());
             }
@@ -1922,13 +1986,14 @@ impl Run {
                 events.extend(log);
                 counts.add(&more);
             }
-            (self.sayings, self.called, self.wrong_times) = (counts.sayings, counts.called, counts.wrong);
+            (self.counted.sayings, self.counted.called, self.wrong_times) = (counts.sayings, counts.called, counts.wrong);
             if options.is_reopened {
                 at.events = Some(events);
                 return Ok(Next::Reopened);
             }
             self.end_round(&mut *connection, shared, events, program, at).map_err(named)?;
         }
+        program.map_or(Ok(()), |program| self.judge_waiting(program))?;
         Ok(Next::End)
     }
 
@@ -1936,7 +2001,7 @@ impl Run {
     fn end_round(
         &mut self, connection: &mut dyn Connection, shared: &Shared, mut events: Vec<Event>, program: Option<&Program>, at: &mut At,
     ) -> Result<(), Stop> {
-        let left = Rest::of(connection, &self.options, shared, self.rounds, &mut at.values)?;
+        let left = Rest::of(connection, &self.options, shared, self.counted.rounds, &mut at.values)?;
         events.extend(left.events);
         let round = Round::new(events, at.start.clone(), &at.pending, &mut self.tally);
         (at.start, at.pending) = (Arc::new(left.contents), round.pending.clone());
@@ -1944,19 +2009,53 @@ impl Run {
     }
 
     fn take(&mut self, round: Round, program: Option<&Program>) -> Result<(), Stop> {
-        self.rounds += 1;
-        self.calls += round.calls;
-        self.overlap += round.overlap;
-        self.left_out += round.left_out;
+        self.counted.rounds += 1;
+        self.counted.calls += round.calls;
+        self.counted.overlap += round.overlap;
+        self.counted.left_out += round.left_out;
         self.met.extend(&round.met);
         let Some(program) = program else {
             let written = std::io::stdout().write_all(round.text().as_bytes());
             return written.or_else(|_| fail(BAD_FILE, "standard output: a history was not written"));
         };
-        match program.ask_twice("judge", &round.text())?.0 {
-            NO => self.failed = Some(round),
-            UNDECIDED => self.undecided += 1,
-            _ => (),
+        let (calls, keys) = (round.events.len() / 2, self.options.keys);
+        let is_apart = calls <= BATCH_CALLS && round.is_apart(keys);
+        let waiting_calls: usize = self.waiting.iter().map(|waiting| waiting.round.events.len() / 2).sum();
+        if !is_apart || calls + waiting_calls > CALLS as usize {
+            self.judge_waiting(program)?;
+        }
+        if self.failed.is_some() {
+            return Ok(());
+        }
+        if self.waiting.is_empty() {
+            self.waits_since = Instant::now();
+        }
+        let (hits, misses, losses) = (self.tally.hits, self.tally.misses, self.tally.losses);
+        self.waiting.push(Waiting { round, counted: Counted { hits, misses, losses, ..self.counted.clone() } });
+        let is_late = self.waits_since.elapsed() > Duration::from_secs(1);
+        if self.waiting.len() == BATCH_ROUNDS || is_late || self.counted.rounds == 1 || !is_apart {
+            self.judge_waiting(program)?;
+        }
+        Ok(())
+    }
+
+    /// Judges the rounds that wait: all at once, and each on its own where that is not a yes. Of a no, what was counted is that up to its end.
+    fn judge_waiting(&mut self, program: &Program) -> Result<(), Stop> {
+        let all = std::mem::take(&mut self.waiting);
+        let is_batch = all.len() > 1;
+        if is_batch && program.ask("judge", &Round::together(&all, self.options.keys), program.budget)?.0 == YES {
+            return Ok(());
+        }
+        for Waiting { round, counted } in all {
+            match program.ask_twice("judge", &round.text())?.0 {
+                NO => {
+                    (self.tally.hits, self.tally.misses, self.tally.losses) = (counted.hits, counted.misses, counted.losses);
+                    (self.failed, self.counted) = (Some(round), counted);
+                    break;
+                }
+                UNDECIDED => self.undecided += 1,
+                _ => (),
+            }
         }
         Ok(())
     }
@@ -1965,18 +2064,18 @@ impl Run {
     fn is_over(&mut self) -> bool {
         self.progress();
         let is_late = self.began.elapsed().as_secs_f64() >= self.options.seconds as f64;
-        self.rounds > 0 && (self.options.rounds > 0 && self.rounds >= self.options.rounds || is_late)
+        self.counted.rounds > 0 && (self.options.rounds > 0 && self.counted.rounds >= self.options.rounds || is_late)
     }
 
     /// Each second a line on a terminal says how far this is.
     fn progress(&mut self) {
         let seconds = self.began.elapsed().as_secs_f64();
-        if self.options.shows && self.options.shown.elapsed() > Duration::from_secs(1) && self.calls > 0 {
+        if self.options.shows && self.options.shown.elapsed() > Duration::from_secs(1) && self.counted.calls > 0 {
             self.options.shown = Instant::now();
-            let (calls, all) = (self.calls as f64, self.sayings.iter().sum::<u64>().max(1) as f64);
+            let (calls, all) = (self.counted.calls as f64, self.counted.sayings.iter().sum::<u64>().max(1) as f64);
             eprintln!(
                 "{}, {:.0} a second, overlap {:.1} a call, {:.1}% refused, two writers met on {} of {}",
-                counted(self.calls, "call"), calls / seconds, self.overlap as f64 / calls, 100.0 * self.sayings[5] as f64 / all,
+                counted(self.counted.calls, "call"), calls / seconds, self.counted.overlap as f64 / calls, 100.0 * self.counted.sayings[5] as f64 / all,
                 self.met.len(), counted(self.options.keys, "key")
             );
         }
@@ -1985,17 +2084,17 @@ impl Run {
     /// The verdict, and what it rests on.
     fn summary(&self, verdict: &str) -> String {
         let said: Vec<String> =
-            self.sayings.iter().zip(SAYINGS).filter(|(count, _)| **count > 0).map(|(count, word)| format!("{count} {word}")).collect();
+            self.counted.sayings.iter().zip(SAYINGS).filter(|(count, _)| **count > 0).map(|(count, word)| format!("{count} {word}")).collect();
         let undecided = if self.undecided > 0 { format!("; {} undecided", self.undecided) } else { String::new() };
-        let rounds = if self.options.is_stream { String::new() } else { counted(self.rounds, "round") + ", " };
+        let rounds = if self.options.is_stream { String::new() } else { counted(self.counted.rounds, "round") + ", " };
         let mut parts = vec![format!(
             "{verdict}: {rounds}{} in {:.1} seconds, overlap {:.2} a call: {}{undecided}",
-            counted(self.calls, "call"), self.began.elapsed().as_secs_f64(), self.overlap as f64 / self.calls.max(1) as f64, said.join(", ")
+            counted(self.counted.calls, "call"), self.began.elapsed().as_secs_f64(), self.counted.overlap as f64 / self.counted.calls.max(1) as f64, said.join(", ")
         )];
         if self.options.cache.is_some() {
             let tally = &self.tally;
             let is_late = self.options.cache.as_ref().is_some_and(|how| how == "late");
-            let misses = if is_late { self.called[Get as usize] - tally.hits } else { tally.misses };
+            let misses = if is_late { self.counted.called[Get as usize] - tally.hits } else { tally.misses };
             parts.push([counted(tally.hits, "hit"), counted(misses, "miss"), counted(tally.losses, "loss")].join(", "));
         }
         if !verdict.starts_with("no") || verdict == "not judged" {
@@ -2006,8 +2105,8 @@ impl Run {
 
     /// Why a yes of this run says little.
     fn cautions(&self) -> Vec<String> {
-        let (mut said, tally, is_cache, gets) = (vec![], &self.tally, self.options.cache.is_some(), self.called[Get as usize]);
-        if 2 * self.sayings[Said::Refused.word()] > self.sayings.iter().sum() {
+        let (mut said, tally, is_cache, gets) = (vec![], &self.tally, self.options.cache.is_some(), self.counted.called[Get as usize]);
+        if 2 * self.counted.sayings[Said::Refused.word()] > self.counted.sayings.iter().sum() {
             said.push("most calls were refused: a yes says little".to_string());
         }
         if tally.hits == 0 && is_cache {
@@ -2020,11 +2119,11 @@ impl Run {
         if is_cache && tally.losses == 0 {
             said.push("no key was lost: eviction was not tested".to_string());
         }
-        if self.left_out > 0 {
+        if self.counted.left_out > 0 {
             let rest = "left out, since no processes were left for the keys that it missed: fewer --keys or --threads, or --stream";
-            said.push(format!("{} {rest}", counted(self.left_out, "call")));
+            said.push(format!("{} {rest}", counted(self.counted.left_out, "call")));
         }
-        if (self.overlap as f64) < 0.05 * self.calls as f64 {
+        if (self.counted.overlap as f64) < 0.05 * self.counted.calls as f64 {
             let rest = "the threads hardly met, and a yes says little: call point() in the map, and run with --yield 200";
             said.push(format!("overlap below 0.05: {rest}"));
         }
@@ -2050,7 +2149,7 @@ fn grouped(number: u64) -> String {
 fn smaller<M: Map>(run: &Run, make: &dyn Fn() -> M, program: &Program) -> Result<Option<Run>, Stop> {
     let (mut best, began, mut tries, mut how) = (None, Instant::now(), 0, 0);
     let mut options = run.options.clone();
-    while how < 3 && run.sayings[Said::Unknown.word()] == 0 {
+    while how < 3 && run.counted.sayings[Said::Unknown.word()] == 0 {
         let less = options.less(how);
         how += 1;
         for _ in 0..if less.is_some() { 6 } else { 0 } {
@@ -2058,7 +2157,7 @@ fn smaller<M: Map>(run: &Run, make: &dyn Fn() -> M, program: &Program) -> Result
             if tries > 60 || began.elapsed() > Duration::from_secs(5) {
                 break;
             }
-            let again = Run::new(less.as_ref().unwrap_or(&options), make, Some(program), run.rounds - 1)?;
+            let again = Run::new(less.as_ref().unwrap_or(&options), make, Some(program), run.counted.rounds - 1)?;
             if again.failed.is_some() {
                 options = again.options.clone();
                 (best, how) = (Some(again), 0);
@@ -2340,7 +2439,7 @@ fn said_report(report: &str, round: &Round) -> (Vec<String>, Option<String>) {
 
 /// Writes a file of a round, or of a stream, and says how it is called.
 fn keep(run: &Run, ending: &str, text: &str) -> String {
-    let name = format!("{}-{}-{}{ending}", run.options.name, run.options.seed, run.rounds.saturating_sub(1));
+    let name = format!("{}-{}-{}{ending}", run.options.name, run.options.seed, run.counted.rounds.saturating_sub(1));
     let path = std::path::Path::new(&run.options.out).join(name);
     match std::fs::write(&path, text) {
         Ok(()) => format!("  file: {}", path.display()),
@@ -2441,7 +2540,7 @@ fn refuted<M: Map>(run: &Run, make: &dyn Fn() -> M, program: &Program) -> Result
     let least = less.as_ref().unwrap_or(run);
     let Some(round) = &least.failed else { return Ok(vec![]) };
     let (threads, keys, calls) = (least.options.threads, least.options.keys, least.options.calls);
-    let mut said = vec![format!("round {} has no order", run.rounds - 1)];
+    let mut said = vec![format!("round {} has no order", run.counted.rounds - 1)];
     said.push(format!("the smallest of some tries that failed: threads {threads}, keys {keys}, calls {calls}"));
     let text = round.text();
     let kept = keep(run, ".json", &text); // before: the part that explains may be built first
@@ -2449,7 +2548,7 @@ fn refuted<M: Map>(run: &Run, make: &dyn Fn() -> M, program: &Program) -> Result
         Ok((_, explained)) => said.extend(shown(run, &text, &explained, round, program)?),
         Err(Stop(_, line)) => said.extend([kept, format!("few calls are not shown: {line}")]),
     }
-    said.push(format!("{AGAIN}{}", run.options.again(run.rounds)));
+    said.push(format!("{AGAIN}{}", run.options.again(run.counted.rounds)));
     Ok(said)
 }
 
@@ -2731,7 +2830,7 @@ fn tested<M: Map>(name: &str, make: &dyn Fn() -> M, words: &[String]) -> Result<
     let is_empty = program.is_some() && options.cache.is_some() && run.tally.hits == 0;
     let is_undecided = run.undecided > 0 || !run.cut.is_empty() || is_empty;
     let status = if run.failed.is_some() { NO } else if is_undecided { UNDECIDED } else { YES };
-    let (mut said, calls) = (run.cut.clone(), said_calls(has, run.called));
+    let (mut said, calls) = (run.cut.clone(), said_calls(has, run.counted.called));
     let Some(program) = program else {
         said.extend([calls, run.summary("not judged")]);
         return Ok((status, said, String::new()));
@@ -2760,7 +2859,7 @@ fn all_broken<M: Map>(
         let run = Run::new(&options, make, Some(program), 0)?;
         let is_refuted = run.failed.is_some() && run.wrong_times > 0;
         missed += usize::from(!is_refuted);
-        (0..9).for_each(|kind| called[kind] += run.called[kind]);
+        (0..9).for_each(|kind| called[kind] += run.counted.called[kind]);
         let verdict = if is_refuted { "no" } else if run.failed.is_some() { "no of the map as it is" } else { "yes" };
         said.push(format!("{how}: {}", run.summary(verdict)));
     }
