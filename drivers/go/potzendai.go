@@ -418,7 +418,7 @@ func (f functions) ask(o *options, kind string, words ...uint64) Said {
 	said := f[kind](words...)
 	for _, pair := range append([][2]uint64{{said.key, said.value}}, said.pairs...) {
 		if o.cache != "" && said.word == "told" && pair[1] >= ownValues {
-			fail(badWords, "%s said %d, and --cache needs the values from 2^63 on for its own use", kind, pair[1])
+			fail(badWords, "%s said a value from 2^63 on, and --cache needs these for its own use", kind)
 		}
 	}
 	if !isOneOf(said.word, fits[kind]...) {
@@ -2009,8 +2009,7 @@ func (r *run) cautions() (said []string) {
 		said = append(said, "no key was lost: eviction was not tested")
 	}
 	if r.leftOut > 0 {
-		said = append(said, counted(r.leftOut, "call")+
-			" left out, since no processes were left for the keys that it missed: fewer --keys or --threads, or --stream")
+		said = append(said, counted(r.leftOut, "scan")+" without some of the keys left out")
 	}
 	if float64(r.overlap) < 0.05*float64(r.calls) {
 		said = append(said, "overlap below 0.05: the threads hardly met, and a yes says little: call point() in the map, and run with --yield 200")

@@ -386,19 +386,15 @@ public final class Potzendai {
 
     private static final String GONE = ", answered none: the key was gone";
 
-    /** Whether an answer has a value that --cache needs for its own use; that, or null. */
-    private static Long ownValue(Said said) {
-        if (said.word != Word.TOLD)
-            return null;
-        List<Long> values = said.pairs == null ? List.of(said.value) : said.pairs.stream().map(pair -> pair[1]).toList();
-        return values.stream().filter(value -> Long.compareUnsigned(value, OWN_VALUES) >= 0).findFirst().orElse(null);
+    /** Whether an answer has a value that --cache needs for its own use. */
+    private static boolean hasOwnValue(Said said) {
+        return said.word == Word.TOLD && (said.pairs == null ? said.value < 0 : said.pairs.stream().anyMatch(pair -> pair[1] < 0));
     }
 
     private static Said ask(Options options, Index connection, Kind kind, long... words) {
         Said said = ask(connection, kind, words);
-        if (options.cache != null && ownValue(said) != null)
-            throw new Stop(WORDS, kind.name + " said " + Long.toUnsignedString(ownValue(said))
-                + ", and --cache needs the values from 2^63 on for its own use");
+        if (options.cache != null && hasOwnValue(said))
+            throw new Stop(WORDS, kind.name + " said a value from 2^63 on, and --cache needs these for its own use");
         return said;
     }
 
@@ -1674,8 +1670,7 @@ public final class Potzendai {
             if (isCache && tally.losses == 0)
                 said.add("no key was lost: eviction was not tested");
             if (leftOut > 0)
-                said.add(counted(leftOut, "call")
-                    + " left out, since no processes were left for the keys that it missed: fewer --keys or --threads, or --stream");
+                said.add(counted(leftOut, "scan") + " without some of the keys left out");
             if (overlap < 0.05 * calls)
                 said.add("overlap below 0.05: the threads hardly met, and a yes says little: call point() in the map, and run with --yield 200");
             if (options.yields > 0 && !hasPoints)

@@ -163,9 +163,8 @@ def checked(kind, answer, cache=None):
         return NONE
     _, tells, words = ANSWERS[kind]
     if tells(answer):
-        own = [value for value in values_of(answer) if is_value(value) and value >= OWN] if cache else []
-        if own:
-            raise Stop(WORDS, "%s said %d, and --cache needs the values from 2^63 on for its own use" % (word(kind), own[0]))
+        if cache and any(is_value(value) and value >= OWN for value in values_of(answer)):
+            raise Stop(WORDS, "%s said a value from 2^63 on, and --cache needs these for its own use" % word(kind))
         return answer
     if isinstance(answer, str) and answer in words:
         return answer
@@ -1302,8 +1301,7 @@ class Run:
         if options.cache and tally.losses == 0:
             said.append("no key was lost: eviction was not tested")
         if self.left_out:
-            said.append("%s left out, since no processes were left for the keys that it missed: fewer --keys or --threads, or --stream" %
-                        counted(self.left_out, "call"))
+            said.append("%s without some of the keys left out" % counted(self.left_out, "scan"))
         if self.overlap < 0.05 * self.calls:
             said.append("overlap below 0.05: the threads hardly met, and a yes says little: call point() in the map, and run with --yield 200")
         if options.yields and not self.has_points:

@@ -448,8 +448,8 @@ fn ask(options: &Options, connection: &mut dyn Connection, kind: Kind, words: &[
         Said::Pairs(pairs) => pairs.iter().map(|(_, value)| *value).collect(),
         _ => vec![],
     };
-    if let (true, Some(own)) = (options.cache.is_some(), values.iter().find(|value| **value >= OWN_VALUES)) {
-        return fail(BAD_WORDS, format!("{} said {own}, and --cache needs the values from 2^63 on for its own use", kind.name()));
+    if options.cache.is_some() && values.iter().any(|value| *value >= OWN_VALUES) {
+        return fail(BAD_WORDS, format!("{} said a value from 2^63 on, and --cache needs these for its own use", kind.name()));
     }
     if kind.fits(&said) {
         return Ok(said);
@@ -2120,8 +2120,7 @@ impl Run {
             said.push("no key was lost: eviction was not tested".to_string());
         }
         if self.counted.left_out > 0 {
-            let rest = "left out, since no processes were left for the keys that it missed: fewer --keys or --threads, or --stream";
-            said.push(format!("{} {rest}", counted(self.counted.left_out, "call")));
+            said.push(format!("{} without some of the keys left out", counted(self.counted.left_out, "scan")));
         }
         if (self.counted.overlap as f64) < 0.05 * self.counted.calls as f64 {
             let rest = "the threads hardly met, and a yes says little: call point() in the map, and run with --yield 200";
