@@ -319,12 +319,15 @@ func (o *options) recordedOfCache(kind string, words []uint64, said Said, plain 
 	if isLate && (said.word == "other" || said.word == "none" && !isWritten) {
 		return nil
 	}
-	before := plain.call.said()
+	before, none := plain.call.said(), ", answered none: the key was gone"
+	if isLate {
+		none = ", answered none"
+	}
 	switch {
 	case said.word == "none" && isOneOf(kind, "put", "put_if_absent"):
-		return &made{call: &call{"insert", words}, answer: `"done"`, note: before + ", answered none: the key was gone"}
+		return &made{call: &call{"insert", words}, answer: `"done"`, note: before + none}
 	case said.word == "none" && isOneOf(kind, "get", "del", "replace"):
-		return &made{call: &call{"remove", words[:1]}, answer: `"done"`, note: before + ", answered none: the key was gone"}
+		return &made{call: &call{"remove", words[:1]}, answer: `"done"`, note: before + none}
 	case said.word == "other":
 		return &made{call: &call{"replace", []uint64{words[0], words[1], fresh()}}, answer: `"done"`, note: before + ", answered another value"}
 	case plain.call.name != "scan":
@@ -334,6 +337,11 @@ func (o *options) recordedOfCache(kind string, words []uint64, said Said, plain 
 	if kind != "scan" && said.word == "told" {
 		pairs = [][2]uint64{{said.key, said.value}}
 	}
+	return o.scanOfCache(plain, pairs, isLate, before)
+}
+
+// A scan with a remove of each key that it did not have; or, where a miss says nothing, gets of those that it had.
+func (o *options) scanOfCache(plain *made, pairs [][2]uint64, isLate bool, before string) *made {
 	var all []made
 	if isLate {
 		for _, pair := range pairs {
@@ -1277,7 +1285,17 @@ func (c *crew) end() {
 // Closes the map, at rest, and opens it again.
 func (c *crew) reopen() {
 	c.closeAll()
-	made := c.made.(interface{ Reopen() Map }).Reopen()
+	defer func() {
+		if met := recover(); met != nil {
+			if it, is := met.(stop); is {
+				panic(it)
+			}
+			fail(badWords, "%s: reopen: %v", c.options.name, met)
+		}
+	}()
+	closed := c.made
+	c.made = nil
+	made := closed.(interface{ Reopen() Map }).Reopen()
 	if made == nil {
 		fail(badWords, "%s: Reopen said nothing, where it has to return the map", c.options.name)
 	}
@@ -2309,6 +2327,17 @@ func saidReport(report string, r *round) (said []string, few string) {
 	return append(said, saidOpen(r, shown, next)...), few
 }
 
+// A line of a report, without the values that replaces of a cache put which said that they changed nothing.
+func unmarked(line string) string {
+	return regexp.MustCompile(`[0-9]{19,20}`).ReplaceAllStringFunc(line, func(found string) string {
+		value, err := strconv.ParseUint(found, 10, 64)
+		if err != nil || value < ownValues || value == math.MaxUint64 {
+			return found
+		}
+		return "a value that no call puts"
+	})
+}
+
 // Writes a file of a round, or of a stream, and says how it is called.
 func (r *run) keep(ending, text string) string {
 	number := r.rounds
@@ -2426,6 +2455,11 @@ func whyNotFew(report string) string {
 // file.
 func (r *run) shown(text, report string, one *round) []string {
 	lines, few := saidReport(report, one)
+	for i := range lines {
+		if r.options.cache != "" {
+			lines[i] = unmarked(lines[i])
+		}
+	}
 	said := append(lines, r.keep(".json", text))
 	if few != "" {
 		said = append(said, r.keep("-few.json", few))

@@ -38,6 +38,7 @@ import java.util.concurrent.atomic.AtomicReferenceArray;
 import java.util.concurrent.locks.LockSupport;
 import java.util.concurrent.locks.ReentrantLock;
 import java.util.function.Supplier;
+import java.util.regex.Pattern;
 import java.util.stream.Collectors;
 
 /**
@@ -361,11 +362,11 @@ public final class Potzendai {
             return plain;
         if (isLate && (said.word == Word.OTHER || isNone && !isPut && kind != Kind.DEL))
             return null;
-        String before = saidCall(plain.call);
+        String before = saidCall(plain.call), none = ", answered none" + (isLate ? "" : ": the key was gone");
         if (isNone && isPut)
-            return new Noted(new Call("insert", words), "\"done\"", before + GONE, List.of());
+            return new Noted(new Call("insert", words), "\"done\"", before + none, List.of());
         if (isNone && (kind == Kind.GET || kind == Kind.DEL || kind == Kind.REPLACE))
-            return new Noted(new Call("remove", words[0]), "\"done\"", before + GONE, List.of());
+            return new Noted(new Call("remove", words[0]), "\"done\"", before + none, List.of());
         if (said.word == Word.OTHER)
             return new Noted(new Call("replace", words[0], words[1], fresh.get()), "\"done\"", before + ", answered another value", List.of());
         if (!plain.call.name.equals("scan"))
@@ -383,8 +384,6 @@ public final class Potzendai {
                 missing.add(new Noted(new Call("remove", key), "\"done\"", before + ", which did not have " + key + ": the key was gone", List.of()));
         return new Noted(plain.call, plain.answer, null, missing);
     }
-
-    private static final String GONE = ", answered none: the key was gone";
 
     /** Whether an answer has a value that --cache needs for its own use. */
     private static boolean hasOwnValue(Said said) {
@@ -1032,9 +1031,10 @@ public final class Potzendai {
         /** Closes the map, at rest, and opens it again. */
         private void reopen() {
             closeConnections();
-            Index opened;
+            Index opened, closed = map;
+            map = null;
             try {
-                opened = map.reopen();
+                opened = closed.reopen();
             } catch (Exception wrong) {
                 throw new Stop(WORDS, options.name + ": reopen: " + wrong);
             }
@@ -1922,6 +1922,14 @@ public final class Potzendai {
         return said;
     }
 
+    /** A line of a report, without the values that replaces of a cache put which said that they changed nothing. */
+    private static String unmarked(String line) {
+        return Pattern.compile("[0-9]{19,20}").matcher(line).replaceAll(found -> {
+            long value = Long.parseUnsignedLong(found.group());
+            return value < 0 && value != GREATEST ? "a value that no call puts" : found.group();
+        });
+    }
+
     /** Writes a file of a round, or of a stream, and says how it is called. */
     private static String keep(Run run, String ending, byte[] text) {
         long round = Math.max(run.rounds - 1, 0);
@@ -2009,6 +2017,8 @@ public final class Potzendai {
      * first file. */
     private static List<String> shown(Run run, String text, String explained, Round round) {
         List<String> report = explained.lines().toList(), said = saidReport(report, round);
+        if (run.options.cache != null)
+            said.replaceAll(Potzendai::unmarked);
         String few = report.stream().filter(line -> line.startsWith("{\"events\"")).findFirst().map(line -> line + "\n").orElse(null);
         said.add(keep(run, ".json", text));
         if (few != null)

@@ -206,7 +206,7 @@ def noted_by_cache(kind, words, answer, options, fresh):
         return None
     if answer == NONE and kind in ("get", "put", "delete", "replace", "put_if_absent"):
         call = ["insert", *words] if kind in ("put", "put_if_absent") else ["remove", words[0]]
-        return Noted(call, "done", said_call(plain.call) + ", answered none: the key was gone")
+        return Noted(call, "done", said_call(plain.call) + ", answered none" + ("" if is_late else ": the key was gone"))
     if answer == OTHER:
         return Noted(["replace", *words[:2], next(fresh)], "done", said_call(plain.call) + ", answered another value")
     if plain.call[0] != "scan":
@@ -1145,7 +1145,11 @@ class Run:
         """Closes the map, at rest, and opens it again."""
         stamp = self.crew.stamp
         self.close()
-        made = self.made.reopen()
+        closed, self.made = self.made, None
+        try:
+            made = closed.reopen()
+        except Exception:
+            raise Stop(WORDS, "%s: reopen: %s" % (self.options.name, traceback.format_exc().rstrip()))
         if made is None:
             raise Stop(WORDS, "%s: reopen said nothing, where it has to return the map" % self.options.name)
         self.made, self.crew = made, Crew(self.options, made, stamp, self.top + 1)
@@ -1478,6 +1482,11 @@ def said_report(report, one):
     return said + said_open(one, events, late or events[-1:]), few
 
 
+def unmarked(line):
+    """A line of a report, without the values that replaces of a cache put which said that they changed nothing."""
+    return re.sub("[0-9]{19,20}", lambda found: "a value that no call puts" if OWN <= int(found[0]) < GREATEST else found[0], line)
+
+
 def keep(options, ending, text):
     """Writes a file of a round, or of a stream, and says how it is called."""
     path = os.path.join(options.out, "%s-%d-%d%s" % (options.name, options.seed, options.round, ending))
@@ -1729,6 +1738,7 @@ def shown(run, text, report, one):
     """What a report of `explain` says of a history, and the files that show it. The words and the picture have the processes and events of the
     first file."""
     said, few = said_report(report, one)
+    said = [unmarked(line) for line in said] if run.options.cache else said
     said += [keep(run.options, ".json", text)] + ([keep(run.options, "-few.json", few + "\n")] if few else [])
     return said + [keep(run.options, ".svg", run.program.asked("draw", text)[1])]
 

@@ -144,7 +144,6 @@ const OPEN_SHOWN: usize = 6;
 /// So many rounds are judged together, of so many calls.
 const BATCH_ROUNDS: usize = 64;
 const BATCH_CALLS: usize = 256;
-const GONE: &str = ", answered none: the key was gone";
 const AGAIN: &str = "  again (draws the same calls; threads may interleave otherwise): ";
 const ANEW: &str = "events and processes are numbered anew here and in the files, for the calls \"invoked\" above that had not taken effect, in \
                     that order:";
@@ -396,9 +395,10 @@ fn recorded(options: &Options, kind: Kind, words: &[u64], said: &Said, fresh: &m
     if is_late && (*said == Said::Other || is_none && !matches!(kind, Put | Del | PutIfAbsent)) {
         return None;
     }
+    let none = if is_late { ", answered none" } else { ", answered none: the key was gone" };
     match (kind, said) {
-        (Put | PutIfAbsent, Said::None) => Some(Noted::done(Call("insert", words.to_vec()), before + GONE)),
-        (Get | Del | Replace, Said::None) => Some(Noted::done(Call("remove", vec![words[0]]), before + GONE)),
+        (Put | PutIfAbsent, Said::None) => Some(Noted::done(Call("insert", words.to_vec()), before + none)),
+        (Get | Del | Replace, Said::None) => Some(Noted::done(Call("remove", vec![words[0]]), before + none)),
         (_, Said::Other) => Some(Noted::done(Call("replace", vec![words[0], words[1], fresh()]), before + ", answered another value")),
         _ if plain.call.0 == "scan" => recorded_scan(options, plain, said, is_late, &before),
         _ => Some(plain),
@@ -1735,9 +1735,10 @@ impl Run {
             match run.use_map(&map, &shared, program, number, &mut kept, &mut at)? {
                 Next::End => return Ok(run),
                 Next::NewMap => (map, at) = (make(), At { values: at.values, ..At::default() }),
-                Next::Reopened => match map.reopen() {
-                    Some(opened) => map = opened,
-                    None => return fail(BAD_WORDS, format!("{}: reopen said nothing, where it has to return the map", run.options.name)),
+                Next::Reopened => match catch_unwind(AssertUnwindSafe(|| map.reopen())) {
+                    Ok(Some(opened)) => map = opened,
+                    Ok(None) => return fail(BAD_WORDS, format!("{}: reopen said nothing, where it has to return the map", run.options.name)),
+                    Err(_) => return fail(BAD_WORDS, format!("{}: reopen has panicked", run.options.name)),
                 },
             }
         }
@@ -2436,6 +2437,18 @@ fn said_report(report: &str, round: &Round) -> (Vec<String>, Option<String>) {
     (said, few)
 }
 
+/// A line of a report, without the values that replaces of a cache put which said that they changed nothing.
+fn unmarked(line: &str) -> String {
+    let texts = line.split_inclusive(|one: char| !one.is_ascii_digit());
+    texts.map(|text| {
+        let digits = text.trim_end_matches(|one: char| !one.is_ascii_digit());
+        match digits.parse::<u64>() {
+            Ok(value) if (OWN_VALUES..u64::MAX).contains(&value) => text.replace(digits, "a value that no call puts"),
+            _ => text.to_string(),
+        }
+    }).collect()
+}
+
 /// Writes a file of a round, or of a stream, and says how it is called.
 fn keep(run: &Run, ending: &str, text: &str) -> String {
     let name = format!("{}-{}-{}{ending}", run.options.name, run.options.seed, run.counted.rounds.saturating_sub(1));
@@ -2524,6 +2537,9 @@ fn why_not_few(report: &str) -> &'static str {
 /// first file.
 fn shown(run: &Run, text: &str, report: &str, round: &Round, program: &Program) -> Result<Vec<String>, Stop> {
     let (mut said, few) = said_report(report, round);
+    if run.options.cache.is_some() {
+        said.iter_mut().for_each(|line| *line = unmarked(line));
+    }
     said.push(keep(run, ".json", text));
     said.extend(few.as_ref().map(|few| keep(run, "-few.json", few)));
     said.push(keep(run, ".svg", &program.ask_twice("draw", text)?.1));
