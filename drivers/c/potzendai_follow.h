@@ -26,9 +26,9 @@ struct potzendai_following {
 /* The calls that the threads have made so far. */
 static inline void potzendai_count_calls(struct potzendai_following *f)
 {
-    f->tester->calls = f->tester->refused = 0;
+    f->tester->run->counts.calls = f->tester->refused = 0;
     for (uint64_t i = 0; i < f->tester->run->threads; i++) {
-        f->tester->calls += atomic_load_explicit(&f->threads[i].calls, POTZENDAI_RELAXED);
+        f->tester->run->counts.calls += atomic_load_explicit(&f->threads[i].calls, POTZENDAI_RELAXED);
         f->tester->refused += atomic_load_explicit(&f->threads[i].refused, POTZENDAI_RELAXED);
     }
 }
@@ -207,7 +207,7 @@ static inline void potzendai_wait(struct potzendai_following *f)
     struct potzendai_run *run = f->tester->run;
     double until = f->tester->began + (double)f->tester->options->seconds;
     struct timespec some_time = {0, 10000000};
-    while (potzendai_now() < until && !atomic_load(&run->fault) && !atomic_load(&f->is_done) && atomic_load(&run->arrived))
+    while (potzendai_now() < until && !potzendai_is_interrupted() && !atomic_load(&run->fault) && !atomic_load(&f->is_done) && atomic_load(&run->arrived))
         nanosleep(&some_time, NULL);
 }
 

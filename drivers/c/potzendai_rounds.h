@@ -2,6 +2,7 @@
 #ifndef POTZENDAI_ROUNDS_H
 #define POTZENDAI_ROUNDS_H
 
+#include "potzendai_batch.h"
 #include "potzendai_break.h"
 #include "potzendai_tell.h"
 #include "potzendai_threads.h"
@@ -10,8 +11,40 @@
 #else
 #include "potzendai.h"
 #endif
+#include <signal.h>
+
+/* Whether the run is interrupted, as by Ctrl-C: it ends with what is recorded by then. A second time ends the program. */
+static recording_word potzendai_interrupted;
+
+static inline bool potzendai_is_interrupted(void)
+{
+    return atomic_load(&potzendai_interrupted) != 0;
+}
+
+static inline void potzendai_interrupt(int number)
+{
+    (void)number;
+    atomic_store(&potzendai_interrupted, (uint64_t)1);
+}
+
+/* Has Ctrl-C end the run, unless the program that tests its map has another use for it. */
+static inline void potzendai_await_interrupt(void)
+{
+    struct sigaction action;
+    if (sigaction(SIGINT, NULL, &action) || (action.sa_flags & SA_SIGINFO) || action.sa_handler != SIG_DFL)
+        return;
+    action.sa_handler = potzendai_interrupt;
+    action.sa_flags = SA_RESETHAND | SA_RESTART;
+    sigaction(SIGINT, &action, NULL);
+}
 
 enum { POTZENDAI_TRIES = 8, POTZENDAI_TRIES_SECONDS = 5, POTZENDAI_GETS = 1000, POTZENDAI_BITS = 40 };
+
+/* A recording as a text, and what the library, or the program, says of it. */
+struct potzendai_told { char *text, *report; size_t length, room; bool is_left; };
+
+/* A round that is recorded and not judged yet, with its number and what was counted up to its end. */
+struct potzendai_waiting { struct potzendai_told told; struct potzendai_counts counts; uint64_t round; };
 
 /* A run with what comes of it. `connection` is of the thread that runs all of it. Where it is quiet, a no is not told. */
 struct potzendai_tester {
@@ -21,13 +54,12 @@ struct potzendai_tester {
     void *connection;
     struct recording_pair *start, *next_start;
     size_t pairs_at_start, pairs_next;
-    uint64_t rounds, calls, refused, undecided, overlap;
-    double began, told, overlap_a_call;
+    uint64_t rounds, refused, undecided, calls_judged;
+    double began, told, overlap_a_call, waits_since;
     bool has_terminal, has_overlap, is_quiet;
+    struct potzendai_waiting waiting[POTZENDAI_BATCH];
+    size_t waiting_count;
 };
-
-/* A recording as a text, and what the library, or the program, says of it. */
-struct potzendai_told { char *text, *report; size_t length, room; bool is_left; };
 
 static inline void potzendai_forget(struct potzendai_told *told)
 {
@@ -190,9 +222,9 @@ static inline int potzendai_add_overlap(struct potzendai_tester *tester)
     char *kinds = (char *)calloc(stamps + 1, 1);
     if (!kinds)
         return potzendai_fail(tester->run, POTZENDAI_NO_MEMORY, "memory: a round has no room");
-    tester->overlap += potzendai_count_overlap(tester->run->recording, kinds, stamps);
+    tester->run->counts.overlap += potzendai_count_overlap(tester->run->recording, kinds, stamps);
     for (unsigned p = 0; p < tester->run->recording->processes; p++)
-        tester->calls += (tester->run->recording->logs[p].length + 1) / 2;
+        tester->run->counts.calls += (tester->run->recording->logs[p].length + 1) / 2;
     free(kinds);
     return 0;
 }
@@ -258,23 +290,24 @@ static inline int potzendai_write_file(const struct potzendai_tester *tester, co
 /* How many other calls were open at an invocation, on average: of a stream the follower counts them, as long as it says yes. */
 static inline double potzendai_overlap_a_call(const struct potzendai_tester *tester)
 {
-    return tester->options->is_stream ? tester->overlap_a_call : (double)tester->overlap / (double)(tester->calls ? tester->calls : 1);
+    const struct potzendai_counts *counts = &tester->run->counts;
+    return tester->options->is_stream ? tester->overlap_a_call : (double)counts->overlap / (double)(counts->calls ? counts->calls : 1);
 }
 
 /* Says each second how far this is, where somebody looks. */
 static inline void potzendai_progress(struct potzendai_tester *tester)
 {
     double now = potzendai_now(), seconds = now - tester->began;
-    uint64_t met = 0;
-    if (!tester->has_terminal || now - tester->told < 1 || tester->calls == 0)
+    uint64_t met = 0, calls = tester->run->counts.calls;
+    if (!tester->has_terminal || now - tester->told < 1 || calls == 0)
         return;
     for (uint64_t key = 0; key < tester->options->keys; key++)
         met += atomic_load_explicit(&tester->run->keys[key].is_met, POTZENDAI_RELAXED);
-    fprintf(stderr, "%" PRIu64 " call%s, %.0f a second, ", tester->calls, potzendai_plural(tester->calls), (double)tester->calls / seconds);
+    fprintf(stderr, "%" PRIu64 " call%s, %.0f a second, ", calls, potzendai_plural(calls), (double)calls / seconds);
     if (!tester->options->is_stream || tester->has_overlap)
         fprintf(stderr, "overlap %.1f a call, ", potzendai_overlap_a_call(tester));
     fprintf(stderr, "%.1f%% refused, two writers met on %" PRIu64 " of %" PRIu64 " key%s\n",
-            100.0 * (double)tester->refused / (double)tester->calls, met, tester->options->keys, potzendai_plural(tester->options->keys));
+            100.0 * (double)tester->refused / (double)calls, met, tester->options->keys, potzendai_plural(tester->options->keys));
     tester->told = now;
 }
 
@@ -345,6 +378,12 @@ static inline enum potzendai_status potzendai_ask_twice(const struct potzendai_o
     return status == POTZENDAI_IS_UNDECIDED ? potzendai_ask_once(question, text, length, potzendai_more(o), report, room) : status;
 }
 
+/* The verdict on many rounds at once. What is no yes is asked again, of each. */
+static inline enum potzendai_status potzendai_judged_once(const struct potzendai_options *o, struct potzendai_told *told)
+{
+    return potzendai_ask_once(potzendai_judge, told->text, told->length, (uint32_t)o->budget, &told->report, &told->room);
+}
+
 /* The verdict on a recording, with few calls that show a no. */
 static inline enum potzendai_status potzendai_explained(const struct potzendai_options *o, struct potzendai_told *told)
 {
@@ -368,12 +407,9 @@ static inline enum potzendai_status potzendai_judged(const struct potzendai_opti
 /* Records the round once more, as large as the run now says, and answers whether it has no order. What it says is in `told`. */
 static inline bool potzendai_fails_again(struct potzendai_tester *tester, struct potzendai_told *told)
 {
-    struct potzendai_tester before = *tester;
     memset(told, 0, sizeof *told);
     bool fails = potzendai_read_start(tester) == 0 && potzendai_record(tester, told) == 0
         && potzendai_judged(tester->options, told) == POTZENDAI_IS_NO;
-    tester->calls = before.calls;
-    tester->overlap = before.overlap;
     if (!fails)
         potzendai_forget(told);
     return fails;
@@ -400,7 +436,7 @@ static inline bool potzendai_fails_with_less(struct potzendai_tester *tester, in
     bool fails = false;
     if (potzendai_lessen(run, how))
         return false;
-    for (int i = 0; i < POTZENDAI_TRIES && !fails && potzendai_now() < until; i++)
+    for (int i = 0; i < POTZENDAI_TRIES && !fails && potzendai_now() < until && !potzendai_is_interrupted(); i++)
         fails = potzendai_fails_again(tester, &smaller);
     if (fails) {
         potzendai_forget(told);
@@ -486,16 +522,13 @@ static inline void potzendai_tell_round(struct potzendai_tester *tester, struct 
 static inline int potzendai_refuted(struct potzendai_tester *tester, struct potzendai_told *told)
 {
     struct potzendai_run *run = tester->run;
-    uint64_t sayings[POTZENDAI_SAYINGS], functions_called[POTZENDAI_FUNCTIONS];
-    memcpy(sayings, run->sayings, sizeof sayings);
-    memcpy(functions_called, run->functions_called, sizeof functions_called);
+    struct potzendai_counts counts = run->counts;
     fprintf(stderr, "round %" PRIu64 " has no order\n", run->round);
     potzendai_smaller(tester, told);
     fprintf(stderr, "the smallest of some tries that failed: threads %" PRIu64 ", keys %" PRIu64 ", calls %" PRIu64 "\n",
             run->threads, run->keys_drawn, run->calls);
     potzendai_tell_round(tester, told);
-    memcpy(run->sayings, sayings, sizeof sayings);
-    memcpy(run->functions_called, functions_called, sizeof functions_called);
+    run->counts = counts;
     potzendai_tell_again(tester, run->round + 1);
     return POTZENDAI_IS_NO;
 }
@@ -503,8 +536,6 @@ static inline int potzendai_refuted(struct potzendai_tester *tester, struct potz
 /* The verdict on a round, and what follows of it. */
 static inline int potzendai_take_round(struct potzendai_tester *tester, struct potzendai_told *told)
 {
-    if (potzendai_is_unjudged(tester->options))
-        return potzendai_write_round(tester, told);
     enum potzendai_status status = potzendai_judged(tester->options, told);
     switch (status) {
     case POTZENDAI_IS_YES: return POTZENDAI_IS_YES;
@@ -527,23 +558,115 @@ static inline void potzendai_go_on(struct potzendai_tester *tester)
     tester->rounds++;
 }
 
-/* Round after round, until one has no order, the time is over, or the run fails, which answers -1. */
-static inline int potzendai_rounds(struct potzendai_tester *tester)
+/* The verdict on all that wait, as one history: yes, or any other, which says nothing of each. `is_in` says which of them it has; those that it
+ * does not have are judged on their own. */
+static inline enum potzendai_status potzendai_judge_together(struct potzendai_tester *tester, bool is_in[POTZENDAI_BATCH])
+{
+    struct potzendai_batch batch;
+    struct potzendai_told told;
+    int added = 0;
+    memset(&batch, 0, sizeof batch);
+    memset(&told, 0, sizeof told);
+    for (size_t i = 0; i < tester->waiting_count && added >= 0; i++) {
+        added = potzendai_add_round(&batch, tester->waiting[i].told.text, tester->options->keys);
+        is_in[i] = added == 0;
+    }
+    bool is_batch = batch.rounds > 1;
+    told.text = added >= 0 && is_batch ? potzendai_text_of_batch(&batch, &told.length) : NULL;
+    potzendai_close_batch(&batch);
+    if (added >= 0 && !is_batch)
+        return POTZENDAI_IS_UNDECIDED;
+    enum potzendai_status status = told.text ? potzendai_judged_once(tester->options, &told) : POTZENDAI_NO_MEMORY;
+    potzendai_forget(&told);
+    return status;
+}
+
+/* Judges one that waits. What was counted is that up to its end, where it is the last one that counts. */
+static inline int potzendai_take_waiting(struct potzendai_tester *tester, struct potzendai_waiting *waiting)
+{
+    struct potzendai_counts counts = tester->run->counts;
+    uint64_t rounds = tester->rounds;
+    tester->run->counts = waiting->counts;
+    tester->run->round = waiting->round;
+    tester->rounds = waiting->round + 1;
+    int status = potzendai_take_round(tester, &waiting->told);
+    if (status)
+        return status;
+    tester->run->counts = counts;
+    tester->rounds = rounds;
+    return 0;
+}
+
+static inline void potzendai_forget_waiting(struct potzendai_tester *tester)
+{
+    for (size_t i = 0; i < tester->waiting_count; i++)
+        potzendai_forget(&tester->waiting[i].told);
+    tester->waiting_count = 0;
+}
+
+/* Judges all rounds that wait: together, and one by one unless that is a yes, so that the first of them that has no order is named. */
+static inline int potzendai_judge_waiting(struct potzendai_tester *tester)
+{
+    bool is_in[POTZENDAI_BATCH] = {false};
+    int status = 0;
+    enum potzendai_status all = tester->waiting_count > 1 ? potzendai_judge_together(tester, is_in) : POTZENDAI_IS_UNDECIDED;
+    if (all == POTZENDAI_NO_MEMORY)
+        status = potzendai_fail(tester->run, POTZENDAI_NO_MEMORY, "memory: a round was not judged");
+    for (size_t i = 0; i < tester->waiting_count && status == 0; i++)
+        if (all != POTZENDAI_IS_YES || !is_in[i])
+            status = potzendai_take_waiting(tester, &tester->waiting[i]);
+    potzendai_forget_waiting(tester);
+    return status;
+}
+
+/* Takes a round, whose text is the batch's from now on. All that wait are judged where one more may have no room, or after a second. */
+static inline int potzendai_await(struct potzendai_tester *tester, struct potzendai_told *told)
+{
+    const struct potzendai_options *o = tester->options;
+    struct potzendai_waiting *waiting = &tester->waiting[tester->waiting_count];
+    uint64_t calls = tester->run->counts.calls;
+    if (tester->waiting_count == 0)
+        tester->waits_since = potzendai_now();
+    waiting->told = *told;
+    waiting->counts = tester->run->counts;
+    waiting->round = tester->run->round;
+    tester->waiting_count++;
+    memset(told, 0, sizeof *told);
+    uint64_t more = o->threads * o->calls + o->keys;
+    bool is_full = tester->waiting_count == POTZENDAI_BATCH || calls - tester->calls_judged + more > RECORDING_CALLS;
+    if (!is_full && potzendai_now() - tester->waits_since < 1)
+        return 0;
+    tester->calls_judged = calls;
+    return potzendai_judge_waiting(tester);
+}
+
+/* Whether the words ask for one round more. */
+static inline bool potzendai_is_more(const struct potzendai_tester *tester)
 {
     const struct potzendai_options *o = tester->options;
     double until = tester->began + (double)o->seconds;
+    return (o->rounds == 0 || tester->rounds < o->rounds) && (tester->rounds == 0 || potzendai_now() < until)
+        && !potzendai_is_interrupted();
+}
+
+/* Round after round, until one has no order, the time is over, or the run fails, which answers -1. */
+static inline int potzendai_rounds(struct potzendai_tester *tester)
+{
     int status = potzendai_read_start(tester);
-    while (status == 0 && (o->rounds == 0 || tester->rounds < o->rounds) && (tester->rounds == 0 || potzendai_now() < until)) {
+    while (status == 0 && potzendai_is_more(tester)) {
         struct potzendai_told told;
         memset(&told, 0, sizeof told);
         tester->run->round = tester->rounds;
         status = potzendai_record(tester, &told);
-        status = status ? status : potzendai_take_round(tester, &told);
-        potzendai_forget(&told);
         potzendai_go_on(tester);
-        tester->refused = tester->run->sayings[MAP_REFUSED];
+        if (status == 0)
+            status = potzendai_is_unjudged(tester->options) ? potzendai_write_round(tester, &told) : potzendai_await(tester, &told);
+        potzendai_forget(&told);
+        tester->refused = tester->run->counts.sayings[MAP_REFUSED];
         potzendai_progress(tester);
     }
+    status = status ? status : potzendai_judge_waiting(tester);
+    potzendai_forget_waiting(tester);
     return status == 0 && tester->undecided > 0 ? POTZENDAI_IS_UNDECIDED : status;
 }
 

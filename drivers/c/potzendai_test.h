@@ -36,7 +36,7 @@ static inline void potzendai_tell_calls(FILE *out, const struct potzendai_run *r
                 continue;
             fprintf(out, "%s%s", comma, potzendai_functions[f]);
             if (is_there)
-                fprintf(out, " %" PRIu64, run->functions_called[f]);
+                fprintf(out, " %" PRIu64, run->counts.functions_called[f]);
             comma = ", ";
         }
         comma = "; not there: ";
@@ -48,15 +48,16 @@ static inline void potzendai_tell_calls(FILE *out, const struct potzendai_run *r
 static inline void potzendai_tell_all(FILE *out, const struct potzendai_tester *tester, const char *verdict)
 {
     const char *comma = ": ";
+    uint64_t calls = tester->run->counts.calls;
     fprintf(out, "%s: ", verdict);
     if (!tester->options->is_stream)
         fprintf(out, "%" PRIu64 " round%s, ", tester->rounds, potzendai_plural(tester->rounds));
-    fprintf(out, "%" PRIu64 " call%s in %.1f seconds", tester->calls, potzendai_plural(tester->calls), potzendai_now() - tester->began);
+    fprintf(out, "%" PRIu64 " call%s in %.1f seconds", calls, potzendai_plural(calls), potzendai_now() - tester->began);
     if (!tester->options->is_stream || tester->has_overlap)
         fprintf(out, ", overlap %.2f a call", potzendai_overlap_a_call(tester));
     for (int said = 0; said < POTZENDAI_SAYINGS; said++)
-        if (tester->run->sayings[said] > 0) {
-            fprintf(out, "%s%" PRIu64 " %s", comma, tester->run->sayings[said], potzendai_sayings[said]);
+        if (tester->run->counts.sayings[said] > 0) {
+            fprintf(out, "%s%" PRIu64 " %s", comma, tester->run->counts.sayings[said], potzendai_sayings[said]);
             comma = ", ";
         }
     if (tester->undecided > 0)
@@ -201,6 +202,8 @@ static inline int potzendai_test_each(const struct potzendai_options *options, c
             continue;
         }
         int status = potzendai_test(&one, program, map, true);
+        if (potzendai_is_interrupted())
+            return POTZENDAI_IS_UNDECIDED;
         if (status > POTZENDAI_IS_UNDECIDED)
             return status;
         missed += status != POTZENDAI_IS_NO;
@@ -236,6 +239,7 @@ static inline int potzendai_test_main(int argc, char **argv, const struct potzen
     if (status)
         return status;
 #endif
+    potzendai_await_interrupt();
     if (options.broken == POTZENDAI_EACH_BREAK)
         return potzendai_test_each(&options, argv[0], map);
     return potzendai_test(&options, argv[0], map, false);

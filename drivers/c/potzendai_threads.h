@@ -26,6 +26,9 @@ struct potzendai_key {
 /* A call of which nobody knows whether it was done, as it is recorded. */
 struct potzendai_open { enum recording_kind call; uint64_t words[3]; };
 
+/* What was counted of a run: its calls, how many others were open at their invocations, what was said to them, and what was called. */
+struct potzendai_counts { uint64_t calls, overlap, sayings[POTZENDAI_SAYINGS], functions_called[POTZENDAI_FUNCTIONS]; };
+
 /* What the threads share. `truly` is the map that was given, `map` the one that is called, which may be made wrong. */
 struct potzendai_run {
     const struct potzendai_options *options;
@@ -35,7 +38,7 @@ struct potzendai_run {
     struct streaming *stream;
     uint64_t threads, keys_drawn, calls, round;
     uint64_t puts[1024], values_from;
-    uint64_t sayings[POTZENDAI_SAYINGS], functions_called[POTZENDAI_FUNCTIONS];
+    struct potzendai_counts counts;
     struct potzendai_open open_calls[RECORDING_PROCESSES];
     recording_word open_count;
     recording_word next_process, processes, arrived, has_begun, is_over, fault;
@@ -441,9 +444,9 @@ static inline void potzendai_join_threads(struct potzendai_run *run, struct potz
     for (uint64_t i = 0; i < started; i++) {
         pthread_join(threads[i].id, NULL);
         for (int said = 0; said < POTZENDAI_SAYINGS; said++)
-            run->sayings[said] += threads[i].sayings[said];
+            run->counts.sayings[said] += threads[i].sayings[said];
         for (int f = 0; f < POTZENDAI_FUNCTIONS; f++)
-            run->functions_called[f] += threads[i].functions_called[f];
+            run->counts.functions_called[f] += threads[i].functions_called[f];
     }
 }
 
