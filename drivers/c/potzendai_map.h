@@ -2,6 +2,7 @@
 #ifndef POTZENDAI_MAP_H
 #define POTZENDAI_MAP_H
 
+#include "potzendai_schedule.h"
 #include "streaming.h"
 #include <inttypes.h>
 #include <time.h>
@@ -84,6 +85,17 @@ static inline bool potzendai_writes(enum potzendai_function function)
         || function == POTZENDAI_POP_FIRST;
 }
 
+#ifdef __cplusplus
+extern "C" {
+#endif
+
+/* None, where the program is linked without one. */
+__attribute__((weak)) const struct potzendai_scheduler *potzendai_scheduler;
+
+#ifdef __cplusplus
+}
+#endif
+
 /* Calls a function of the map. */
 static inline void potzendai_ask(const struct potzendai_map *map, void *connection, const struct potzendai_request *request,
                                  struct potzendai_answer *answer)
@@ -92,6 +104,8 @@ static inline void potzendai_ask(const struct potzendai_map *map, void *connecti
     answer->pair.key = key;
     answer->pair.value = 0;
     answer->count = 0;
+    if (potzendai_scheduler)
+        potzendai_scheduler->in();
     switch (request->function) {
     case POTZENDAI_GET: answer->said = map->get(connection, key, found); break;
     case POTZENDAI_PUT: answer->said = map->put(connection, key, request->value, found); break;
@@ -103,6 +117,8 @@ static inline void potzendai_ask(const struct potzendai_map *map, void *connecti
     case POTZENDAI_CEILING: answer->said = map->ceiling(connection, key, &answer->pair); break;
     default: answer->said = map->pop_first(connection, &answer->pair);
     }
+    if (potzendai_scheduler)
+        potzendai_scheduler->out();
 }
 
 /* What becomes of a call: it does not fit what was said, is left out since it tells nothing, stays without an answer, or is a call
@@ -194,10 +210,19 @@ static inline uint64_t potzendai_draw_below(uint64_t *state, uint64_t limit)
     return potzendai_mix(state) % limit;
 }
 
+/* The time, also where a scheduler shows the map another one. */
+static inline void potzendai_clock(clockid_t clock, struct timespec *now)
+{
+    if (potzendai_scheduler)
+        potzendai_scheduler->clock(clock, now);
+    else
+        clock_gettime(clock, now);
+}
+
 static inline double potzendai_now(void)
 {
     struct timespec now;
-    clock_gettime(CLOCK_MONOTONIC, &now);
+    potzendai_clock(CLOCK_MONOTONIC, &now);
     return (double)now.tv_sec + (double)now.tv_nsec / 1e9;
 }
 

@@ -22,6 +22,9 @@
 #define _POSIX_C_SOURCE 200809L
 #endif
 #include "potzendai_follow.h"
+#ifdef __linux__
+#include "potzendai_scheduled.h"
+#endif
 #include <signal.h>
 
 static const char *const potzendai_verdicts[] = {"yes", "no", "undecided"};
@@ -99,7 +102,7 @@ static inline int potzendai_finish(const struct potzendai_tester *tester, int st
     if (status == POTZENDAI_IS_YES && tester->options->broken != POTZENDAI_UNBROKEN)
         fprintf(stderr, "--break %s: the map was wrong now and then, and these calls did not show it\n",
                 potzendai_breaks[tester->options->broken]);
-    potzendai_tell_all(stdout, tester, potzendai_verdicts[status]);
+    potzendai_tell_all(stdout, tester, tester->ending ? tester->ending : potzendai_verdicts[status]);
     if (fflush(stdout) == 0)
         return status;
     fputs("standard output: not written\n", stderr);
@@ -156,7 +159,8 @@ static inline int potzendai_run_all(struct potzendai_tester *tester, const struc
     tester->connection = potzendai_open_connection(run, map, (unsigned)run->threads);
     if (map->open && !tester->connection)
         return -1;
-    int status = tester->options->is_stream ? potzendai_stream(tester) : potzendai_rounds(tester);
+    int status = tester->options->is_stream ? potzendai_stream(tester)
+               : tester->options->schedule.way != POTZENDAI_FREE ? potzendai_schedule_rounds(tester) : potzendai_rounds(tester);
     if (map->close)
         map->close(tester->connection);
     return status;
