@@ -165,17 +165,11 @@ static void leave(void)
         go_to(t, next);
     else
         give_turn_to_main(t);
-    me = NULL;
-    wait_for_exit(t);
+    for (;;) /* by kernel threads; the stack of a fiber is never gone back to */
+        pause();
 }
 
-static void release(unsigned number)
-{
-    let_exit(&threads[number]);
-}
-
-static const struct potzendai_scheduler scheduler = {is_pinned, real_clock, begin, enter, ready, run, call, in, out, leave, release,
-                                                      locate};
+static const struct potzendai_scheduler scheduler = {is_pinned, real_clock, begin, enter, ready, run, call, in, out, leave, locate};
 const struct potzendai_scheduler *potzendai_scheduler = &scheduler;
 
 /* A point that a map names itself. */

@@ -83,8 +83,7 @@ struct potzendai_scheduler {
     bool (*call)(uint32_t function, uint64_t key); /* in a thread that has drawn a call: whether it is to be made */
     void (*in)(void);               /* around each function of the map */
     void (*out)(void);
-    void (*leave)(void);            /* in a thread, last of all */
-    void (*release)(unsigned number); /* before a thread is joined, so that they exit in turn */
+    void (*leave)(void);            /* in a thread, last of all: it does not return, since the process ends with the round */
     void (*locate)(uintptr_t code, char *text, size_t room); /* where an instruction is in the source, as far as is known */
 };
 

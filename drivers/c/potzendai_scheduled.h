@@ -2,6 +2,9 @@
 #ifndef POTZENDAI_SCHEDULED_H
 #define POTZENDAI_SCHEDULED_H
 
+#include "potzendai_rounds.h"
+
+#ifdef __linux__
 #include "potzendai_forked.h"
 
 /* Rounds that are made before the first, and always are the same: of the one the words at which threads meet are learned, of the others how many
@@ -289,5 +292,16 @@ static inline int potzendai_schedule_rounds(struct potzendai_tester *tester)
 }
 
 #include "potzendai_shrink.h"
+
+#else /* nothing is scheduled here, since there is no scheduler: the words say so before */
+
+static inline int potzendai_schedule_rounds(struct potzendai_tester *tester) { (void)tester; return -1; }
+static inline int potzendai_refuted_by_schedule(struct potzendai_tester *tester, struct potzendai_told *told)
+{
+    (void)told;
+    return tester ? POTZENDAI_IS_NO : -1;
+}
+
+#endif
 
 #endif

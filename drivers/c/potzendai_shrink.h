@@ -4,6 +4,8 @@
 
 #include "potzendai_scheduled.h"
 
+enum { POTZENDAI_SHRINK_SECONDS = 60 };
+
 /* Things of which as many as can be are taken away: numbers of calls or of switches. */
 struct potzendai_items { uint32_t *numbers; size_t count; };
 
@@ -208,7 +210,7 @@ static inline void potzendai_tell_schedule(struct potzendai_plan *plan, struct p
     s.asked = potzendai_schedule_of(plan, tester->run->round);
     s.ending = tester->ending;
     s.told = told;
-    s.until = potzendai_now() + (double)POTZENDAI_TRIES_SECONDS;
+    s.until = potzendai_now() + (double)POTZENDAI_SHRINK_SECONDS;
     bool is_outside = s.ending && strcmp(s.ending, "outside") == 0;
     if (!potzendai_open_shrinking(&s) && !potzendai_make_one(plan, &s.asked, true)) {
         if (is_outside || !potzendai_shrink(&s))

@@ -22,9 +22,7 @@
 #define _POSIX_C_SOURCE 200809L
 #endif
 #include "potzendai_follow.h"
-#ifdef __linux__
 #include "potzendai_scheduled.h"
-#endif
 #include <signal.h>
 
 static const char *const potzendai_verdicts[] = {"yes", "no", "undecided"};

@@ -459,9 +459,8 @@ static inline uint64_t potzendai_start_threads(struct potzendai_run *run, struct
 static inline void potzendai_join_threads(struct potzendai_run *run, struct potzendai_thread *threads, uint64_t started)
 {
     for (uint64_t i = 0; i < started; i++) {
-        if (run->is_scheduled)
-            potzendai_scheduler->release((unsigned)i);
-        pthread_join(threads[i].id, NULL);
+        if (!run->is_scheduled) /* those have left, and end with their process */
+            pthread_join(threads[i].id, NULL);
         for (int said = 0; said < POTZENDAI_SAYINGS; said++)
             run->counts.sayings[said] += threads[i].sayings[said];
         for (int f = 0; f < POTZENDAI_FUNCTIONS; f++)

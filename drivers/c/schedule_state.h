@@ -33,7 +33,7 @@ struct thread {
     unsigned id;
     enum thread_state state;
     bool is_in_map, was_woken;
-    _Atomic int has_turn, may_exit;
+    _Atomic int has_turn;
     const void *waits_for;
     uint64_t priority;
     struct event next;

@@ -61,21 +61,20 @@ __attribute__((naked, noinline)) static void change_stack(__attribute__((unused)
     __asm__ volatile(SAVE_REGISTERS "wrfsbase %rdx\n mov %rsi,%rsp\n" LOAD_REGISTERS);
 }
 
-/* Leaves a stack to the carrier: the kernel thread that owns it waits on another one until the carrier needs it no more, and then goes on
- * where the carrier left it. */
-__attribute__((naked, noinline)) static void park(__attribute__((unused)) void **left, __attribute__((unused)) void *park_stack,
-                                                  __attribute__((unused)) struct thread *t)
+/* Leaves a stack to the carrier for good: the kernel thread that owns it waits on another one until the process ends. */
+__attribute__((naked, noinline)) static void park(__attribute__((unused)) void **left, __attribute__((unused)) void *park_stack)
 {
-    __asm__ volatile(SAVE_REGISTERS "mov %rsi,%rsp\n mov %rdx,%rdi\n call schedule_wait_parked\n mov %rax,%rsp\n" LOAD_REGISTERS);
+    __asm__ volatile(SAVE_REGISTERS "mov %rsi,%rsp\n call schedule_wait_parked\n");
 }
 
 /* Called by that code only. */
-__attribute__((used, noinline)) void *schedule_wait_parked(struct thread *t);
-void *schedule_wait_parked(struct thread *t)
+__attribute__((used, noinline)) void schedule_wait_parked(void);
+void schedule_wait_parked(void)
 {
+    static _Atomic int end;
     arrive();
-    wait_for(&t->has_turn);
-    return t->stack_pointer;
+    for (;;)
+        wait_for(&end);
 }
 
 static uintptr_t read_thread_locals(void)
@@ -103,7 +102,7 @@ static void enter_fiber(struct thread *t)
     sigfillset(&all);
     pthread_sigmask(SIG_SETMASK, &all, NULL);
     t->thread_locals = read_thread_locals();
-    park(&t->stack_pointer, t->park_stack + sizeof t->park_stack, t);
+    park(&t->stack_pointer, t->park_stack + sizeof t->park_stack);
 }
 
 static void run_fibers(void)
@@ -127,7 +126,7 @@ static void leave_fibers(struct thread *from) { (void)from; }
 
 #endif
 
-/* Gives the turn to another thread, and returns when it comes back; a thread that is done gets it no more. */
+/* Gives the turn to another thread, and returns when it comes back: to one that is done it does not, and returns at once by kernel threads. */
 static void give_turn(struct thread *from, struct thread *to)
 {
     if (to == from)
@@ -159,18 +158,6 @@ static void wait_for_first_turn(struct thread *t)
     }
     arrive();
     wait_for(&t->has_turn);
-}
-
-/* A thread that has left waits until it may exit. A parked one goes on only then. */
-static void wait_for_exit(struct thread *t)
-{
-    if (!has_fibers)
-        wait_for(&t->may_exit);
-}
-
-static void let_exit(struct thread *t)
-{
-    wake_up(has_fibers ? &t->has_turn : &t->may_exit);
 }
 
 #endif
