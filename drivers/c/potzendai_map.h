@@ -84,6 +84,20 @@ static inline bool potzendai_writes(enum potzendai_function function)
         || function == POTZENDAI_POP_FIRST;
 }
 
+#ifdef __cplusplus
+#define POTZENDAI_OF_THREAD static thread_local
+#else
+#define POTZENDAI_OF_THREAD static _Thread_local
+#endif
+
+/* Of a thread that calls the map: of a thousand points, how many give way to other threads; and what draws them. */
+POTZENDAI_OF_THREAD unsigned potzendai_yields;
+POTZENDAI_OF_THREAD uint64_t potzendai_yield_state;
+
+/* Of such a thread: whether it is within a call, and how many points it has reached within calls under `--yield`. */
+POTZENDAI_OF_THREAD bool potzendai_is_calling;
+POTZENDAI_OF_THREAD uint64_t potzendai_points;
+
 /* Calls a function of the map. */
 static inline void potzendai_ask(const struct potzendai_map *map, void *connection, const struct potzendai_request *request,
                                  struct potzendai_answer *answer)
@@ -92,6 +106,7 @@ static inline void potzendai_ask(const struct potzendai_map *map, void *connecti
     answer->pair.key = key;
     answer->pair.value = 0;
     answer->count = 0;
+    potzendai_is_calling = true;
     switch (request->function) {
     case POTZENDAI_GET: answer->said = map->get(connection, key, found); break;
     case POTZENDAI_PUT: answer->said = map->put(connection, key, request->value, found); break;
@@ -103,6 +118,7 @@ static inline void potzendai_ask(const struct potzendai_map *map, void *connecti
     case POTZENDAI_CEILING: answer->said = map->ceiling(connection, key, &answer->pair); break;
     default: answer->said = map->pop_first(connection, &answer->pair);
     }
+    potzendai_is_calling = false;
 }
 
 /* What becomes of a call: it does not fit what was said, is left out since it tells nothing, stays without an answer, or is a call
@@ -201,16 +217,6 @@ static inline double potzendai_now(void)
     return (double)now.tv_sec + (double)now.tv_nsec / 1e9;
 }
 
-#ifdef __cplusplus
-#define POTZENDAI_OF_THREAD static thread_local
-#else
-#define POTZENDAI_OF_THREAD static _Thread_local
-#endif
-
-/* Of a thread that calls the map: of a thousand points, how many give way to other threads; and what draws them. */
-POTZENDAI_OF_THREAD unsigned potzendai_yields;
-POTZENDAI_OF_THREAD uint64_t potzendai_yield_state;
-
 static inline void potzendai_pause(void)
 {
     struct timespec some_time = {0, (long)(1000 + potzendai_draw_below(&potzendai_yield_state, 50000))};
@@ -229,7 +235,10 @@ extern "C" {
 __attribute__((weak)) void potzendai_point(void);
 __attribute__((weak)) void potzendai_point(void)
 {
-    if (potzendai_yields > 0 && potzendai_draw_below(&potzendai_yield_state, 1000) < potzendai_yields)
+    if (potzendai_yields == 0)
+        return;
+    potzendai_points += potzendai_is_calling;
+    if (potzendai_draw_below(&potzendai_yield_state, 1000) < potzendai_yields)
         potzendai_pause();
 }
 

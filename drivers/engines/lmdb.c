@@ -10,11 +10,11 @@ static bool is_plain;
 static MDB_val bytes_of(uint64_t *number) { return (MDB_val){sizeof *number, number}; }
 static uint64_t number_in(MDB_val value) { uint64_t number; memcpy(&number, value.mv_data, sizeof number); return number; }
 
-/* Ends a transaction: what it says holds where it is committed. */
+/* Ends a transaction: what it says holds where it is committed. Of a commit that fails the manual does not say that nothing has changed. */
 static enum map_said end(MDB_txn *txn, int status, enum map_said said)
 {
     if (status == 0 && said != MAP_REFUSED)
-        return mdb_txn_commit(txn) ? MAP_REFUSED : said;
+        return mdb_txn_commit(txn) ? MAP_UNKNOWN : said;
     mdb_txn_abort(txn);
     return MAP_REFUSED;
 }

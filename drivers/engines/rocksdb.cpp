@@ -35,7 +35,8 @@ static map_said told(const Status &status, const std::string &value, uint64_t &f
     return status.ok() ? MAP_TOLD : status.IsNotFound() ? MAP_NONE : MAP_REFUSED;
 }
 
-// Looks what is there under the key's lock, and then puts a value or deletes; a replace only where the old value is there.
+// Looks what is there under the key's lock, and then puts a value or deletes; a replace only where the old value is there. Nothing has changed
+// where the transaction has expired or met a conflict; of a commit that fails otherwise nobody knows.
 static map_said change(uint64_t key, const uint64_t *value, const uint64_t *old, uint64_t &found)
 {
     std::string before, at = bytes_of(key);
@@ -46,7 +47,10 @@ static map_said change(uint64_t key, const uint64_t *value, const uint64_t *old,
     Status status;
     if (!old || (said == MAP_TOLD && found == *old))
         status = value ? transaction->Put(at, bytes_of(*value)) : transaction->Delete(at);
-    return status.ok() && transaction->Commit().ok() ? said : MAP_REFUSED;
+    if (!status.ok())
+        return MAP_REFUSED;
+    status = transaction->Commit();
+    return status.ok() ? said : status.IsExpired() || status.IsBusy() || status.IsTryAgain() ? MAP_REFUSED : MAP_UNKNOWN;
 }
 
 struct Rocks {
