@@ -19,7 +19,8 @@ enum map_said {
 
 enum { POTZENDAI_SAYINGS = 7 };
 
-/* Any function but `get` and `put` may be NULL: it is not called then. Keys are from 0 up; the map holds no others. */
+/* Any function but `get` and `put` may be NULL: it is not called then. Keys are from 0 up; the map holds no others. With `begin` the run makes
+ * its maps itself, one after another, and `map` is what they are made of: anything, or NULL. */
 struct potzendai_map {
     const char *name;
     void *map;
@@ -37,6 +38,9 @@ struct potzendai_map {
     enum map_said (*floor)(void *connection, uint64_t key, struct recording_pair *pair);
     enum map_said (*ceiling)(void *connection, uint64_t key, struct recording_pair *pair);
     enum map_said (*pop_first)(void *connection, struct recording_pair *pair);
+    void *(*begin)(void *map);     /* makes a new map, which is given to `open`, or to the functions; NULL where it fails, as of `open` */
+    void (*end)(void *opened);     /* closes it for good */
+    void *(*reopen)(void *opened); /* closes it, at rest, and opens it again, with what it held: the same pointer, or another one */
 };
 
 enum potzendai_function {

@@ -46,9 +46,12 @@ struct potzendai_told { char *text, *report; size_t length, room; bool is_left; 
 /* A round that is recorded and not judged yet, with its number and what was counted up to its end. */
 struct potzendai_waiting { struct potzendai_told told; struct potzendai_counts counts; uint64_t round; };
 
-/* A run with what comes of it. `connection` is of the thread that runs all of it. Where it is quiet, a no is not told. */
+/* A run with what comes of it. `given` is the map of the program, `opened` the one of it that is tested now. `connection` is of the thread that
+ * runs all of it. Where it is quiet, a no is not told. */
 struct potzendai_tester {
     struct potzendai_run *run;
+    const struct potzendai_map *given;
+    struct potzendai_map opened;
     const struct potzendai_options *options;
     const char *program;
     void *connection;
@@ -56,7 +59,7 @@ struct potzendai_tester {
     size_t pairs_at_start, pairs_next;
     uint64_t rounds, refused, undecided, calls_judged;
     double began, told, overlap_a_call, waits_since;
-    bool has_terminal, has_overlap, is_quiet;
+    bool has_terminal, has_overlap, is_quiet, is_connected;
     struct potzendai_waiting waiting[POTZENDAI_BATCH];
     size_t waiting_count;
 };
@@ -66,6 +69,54 @@ static inline void potzendai_forget(struct potzendai_told *told)
     free(told->text);
     free(told->report);
     memset(told, 0, sizeof *told);
+}
+
+/* Opens the connection of this thread to the map that is tested now. */
+static inline int potzendai_connect(struct potzendai_tester *tester)
+{
+    tester->connection = potzendai_open_connection(tester->run, &tester->opened, (unsigned)tester->run->threads);
+    tester->is_connected = tester->connection || !tester->opened.open;
+    return tester->is_connected ? 0 : -1;
+}
+
+static inline void potzendai_disconnect(struct potzendai_tester *tester)
+{
+    if (tester->opened.close && tester->is_connected)
+        tester->opened.close(tester->connection);
+    tester->is_connected = false;
+}
+
+/* Takes a map that was made or opened again: none, and the run ends, where that failed. */
+static inline int potzendai_take_map(struct potzendai_tester *tester, void *map, const char *how)
+{
+    tester->opened.map = map;
+    if (!map && errno == ENOMEM)
+        return potzendai_fail(tester->run, POTZENDAI_NO_MEMORY, "memory: %s made no map", how);
+    if (!map)
+        return potzendai_fail(tester->run, POTZENDAI_BAD_WORDS, "%s made no map", how);
+    return potzendai_connect(tester);
+}
+
+/* Begins with a map: a new one, where the program makes such. */
+static inline int potzendai_begin_map(struct potzendai_tester *tester)
+{
+    errno = 0;
+    return tester->given->begin ? potzendai_take_map(tester, tester->given->begin(tester->given->map), "begin") : potzendai_connect(tester);
+}
+
+static inline void potzendai_end_map(struct potzendai_tester *tester)
+{
+    potzendai_disconnect(tester);
+    if (tester->given->begin && tester->given->end && tester->opened.map)
+        tester->given->end(tester->opened.map);
+}
+
+/* Closes the map, at rest, and opens it again. */
+static inline int potzendai_reopen_map(struct potzendai_tester *tester)
+{
+    potzendai_disconnect(tester);
+    errno = 0;
+    return potzendai_take_map(tester, tester->given->reopen(tester->opened.map), "reopen");
 }
 
 /* Asks the map that is not made wrong, at rest: again where it refuses. A get may be asked again where nobody knows, too. */
@@ -152,6 +203,16 @@ static inline int potzendai_get_all(struct potzendai_tester *tester, unsigned p)
         tester->pairs_next += is_there;
     }
     return 0;
+}
+
+/* A new map in the place of the one before, whose calls without an answer cannot come about in it. */
+static inline int potzendai_renew(struct potzendai_tester *tester)
+{
+    potzendai_end_map(tester);
+    atomic_store(&tester->run->open_count, (uint64_t)0);
+    for (uint64_t key = 0; key < tester->options->keys; key++)
+        tester->run->keys[key].is_loose = false;
+    return potzendai_begin_map(tester) || potzendai_read_start(tester) ? -1 : 0;
 }
 
 /* Calls of rounds before, of which nobody knows whether they were done, are open from the beginning: each may yet come about. */
@@ -287,7 +348,8 @@ static inline int potzendai_make_round(struct potzendai_tester *tester)
     if (potzendai_carry_on(run) == 0)
         potzendai_join_threads(run, threads, potzendai_start_threads(run, threads));
     potzendai_free_threads(threads, run->threads);
-    if (atomic_load(&run->fault) || potzendai_get_all(tester, (unsigned)atomic_load(&run->processes)))
+    if (atomic_load(&run->fault) || (run->options->is_reopened && potzendai_reopen_map(tester))
+        || potzendai_get_all(tester, (unsigned)atomic_load(&run->processes)))
         return -1;
     potzendai_settle(run);
     return 0;
@@ -445,7 +507,8 @@ static inline enum potzendai_status potzendai_judged(const struct potzendai_opti
 static inline bool potzendai_fails_again(struct potzendai_tester *tester, struct potzendai_told *told)
 {
     memset(told, 0, sizeof *told);
-    bool fails = potzendai_read_start(tester) == 0 && potzendai_record(tester, told) == 0
+    bool is_ready = (tester->options->fresh ? potzendai_renew(tester) : potzendai_read_start(tester)) == 0;
+    bool fails = is_ready && potzendai_record(tester, told) == 0
         && potzendai_judged(tester->options, told) == POTZENDAI_IS_NO;
     if (!fails)
         potzendai_forget(told);
@@ -694,7 +757,9 @@ static inline int potzendai_rounds(struct potzendai_tester *tester)
         struct potzendai_told told;
         memset(&told, 0, sizeof told);
         tester->run->round = tester->rounds;
-        status = potzendai_record(tester, &told);
+        if (tester->rounds > 0 && tester->options->fresh && tester->rounds % tester->options->fresh == 0)
+            status = potzendai_renew(tester);
+        status = status ? status : potzendai_record(tester, &told);
         potzendai_go_on(tester);
         if (status == 0)
             status = potzendai_is_unjudged(tester->options) ? potzendai_write_round(tester, &told) : potzendai_await(tester, &told);

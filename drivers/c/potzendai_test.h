@@ -8,7 +8,7 @@
  *     static enum map_said put(void *connection, uint64_t key, uint64_t value, uint64_t *found) { .. }
  *     int main(int argc, char **argv)
  *     {
- *         struct potzendai_map map = {"mine", &mine, 0, NULL, NULL, get, put, NULL, NULL, NULL, NULL, NULL, NULL, NULL};
+ *         struct potzendai_map map = {.name = "mine", .map = &mine, .get = get, .put = put};
  *         return potzendai_test_main(argc, argv, &map);
  *     }
  *
@@ -174,16 +174,13 @@ static inline int potzendai_open_tester(struct potzendai_tester *tester, const s
     return run && run->recording && run->keys && tester->start && tester->next_start ? 0 : -1;
 }
 
-/* Opens the connection of this thread, and runs rounds or a stream. */
-static inline int potzendai_run_all(struct potzendai_tester *tester, const struct potzendai_map *map)
+/* Begins with a map, runs rounds or a stream, and ends the map that there is then. */
+static inline int potzendai_run_all(struct potzendai_tester *tester)
 {
-    struct potzendai_run *run = tester->run;
-    tester->connection = potzendai_open_connection(run, map, (unsigned)run->threads);
-    if (map->open && !tester->connection)
-        return -1;
-    int status = tester->options->is_stream ? potzendai_stream(tester) : potzendai_rounds(tester);
-    if (map->close)
-        map->close(tester->connection);
+    int status = potzendai_begin_map(tester);
+    if (status == 0)
+        status = tester->options->is_stream ? potzendai_stream(tester) : potzendai_rounds(tester);
+    potzendai_end_map(tester);
     return status;
 }
 
@@ -204,12 +201,15 @@ static inline int potzendai_test(const struct potzendai_options *options, const 
     tester.has_terminal = isatty(2);
     tester.began = tester.told = potzendai_now();
     tester.run->options = options;
-    tester.run->truly = map;
-    tester.run->map = potzendai_break_map(&broken, map, options, &tester.run->round, &tester.run->wrongs);
+    tester.given = map;
+    tester.opened = *map;
+    tester.opened.map = map->begin ? NULL : map->map;
+    tester.run->truly = &tester.opened;
+    tester.run->map = potzendai_break_map(&broken, &tester.opened, options, &tester.run->round, &tester.run->wrongs);
     tester.run->threads = options->threads;
     tester.run->keys_drawn = options->keys;
     tester.run->calls = options->calls;
-    int status = potzendai_run_all(&tester, map);
+    int status = potzendai_run_all(&tester);
     status = is_quiet ? potzendai_finish_quietly(&tester, status) : potzendai_finish(&tester, status);
     potzendai_close_tester(&tester);
     return status;

@@ -62,6 +62,29 @@ struct potzendai_thread {
     char apart[128];
 };
 
+/* Of a thread that makes a call which only reads: itself. */
+POTZENDAI_OF_THREAD struct potzendai_thread *potzendai_reader;
+
+#ifdef __cplusplus
+extern "C" {
+#endif
+
+/* A read of the map may call this once it has taken its snapshot: it counts as answered at this moment, and its pairs may be read later. Of
+ * several such moments the last one counts. Sources of their own declare it: void potzendai_taken(void); */
+__attribute__((weak)) void potzendai_taken(void);
+__attribute__((weak)) void potzendai_taken(void)
+{
+    struct potzendai_thread *t = potzendai_reader;
+    if (t && t->run->stream)
+        streaming_taken(t->run->stream, t->process);
+    else if (t)
+        recording_taken(t->run->recording, t->process);
+}
+
+#ifdef __cplusplus
+}
+#endif
+
 /* Ends the run with a status, and says why: the first that is wrong. */
 __attribute__((format(printf, 3, 4)))
 static inline int potzendai_fail(struct potzendai_run *run, enum potzendai_status status, const char *format, ...)
@@ -266,10 +289,12 @@ static inline int potzendai_make(struct potzendai_thread *t, const struct potzen
         return -1;
     bool is_locked = run->options->void_puts == POTZENDAI_VOID_LOCK
         && (request->function == POTZENDAI_PUT || request->function == POTZENDAI_DEL);
+    potzendai_reader = potzendai_writes(request->function) ? NULL : t;
     if (is_locked)
         potzendai_ask_locked(t, request, answer);
     else
         potzendai_ask_and_count(t, request, answer);
+    potzendai_reader = NULL;
     if (answer->said == MAP_UNKNOWN && potzendai_has_key_of_its_own(run, request->function))
         run->keys[request->key].is_loose = true;
     if (run->options->void_puts == POTZENDAI_VOID_OWN && potzendai_writes(request->function))

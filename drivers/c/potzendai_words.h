@@ -28,11 +28,11 @@ static const char *const potzendai_breaks[] = {"drop", "race", "replay", "stale"
 static const char *const potzendai_scans[] = {"snapshot", "steps", NULL};
 
 struct potzendai_options {
-    uint64_t seconds, threads, keys, hot, calls, seed, rounds, yields, budget;
+    uint64_t seconds, threads, keys, hot, calls, seed, rounds, yields, budget, fresh;
     uint64_t shares[POTZENDAI_FUNCTIONS];
     enum potzendai_void void_puts;
     enum potzendai_break broken;
-    bool is_steps, is_stream, has_mix, has_void;
+    bool is_steps, is_stream, has_mix, has_void, is_reopened;
     const char *out, *bench;
 };
 
@@ -57,6 +57,8 @@ static const char potzendai_usage[] =
     "  --scan HOW        snapshot: a scan is of one moment; steps: steps of ceiling (snapshot)\n"
     "  --yield N         of a thousand points between and in calls, so many give way to other threads (0)\n"
     "  --break HOW       makes the map wrong now and then: drop, race, replay, stale, zombie, torn or cas; all: in each of these ways\n"
+    "  --fresh N         a new map after each so many rounds (one map)\n"
+    "  --reopen          the map is closed and opened again after each round\n"
     "  --stream          one stream that is followed, in the place of rounds\n"
     "  --budget N        the judge's (100000); a round that it leaves undecided is asked once more at ten times as much\n"
 #ifdef POTZENDAI_NO_LIBRARY
@@ -132,7 +134,8 @@ static inline int potzendai_read_numbered(struct potzendai_options *o, const cha
     const struct potzendai_numbered all[] = {
         {"--seconds", 1, 1000000000, &o->seconds}, {"--rounds", 1, UINT64_MAX, &o->rounds}, {"--threads", 1, 1024, &o->threads},
         {"--keys", 1, 16384, &o->keys}, {"--hot", 1, 16384, &o->hot}, {"--calls", 1, UINT64_MAX, &o->calls},
-        {"--seed", 0, UINT64_MAX, &o->seed}, {"--yield", 0, 1000, &o->yields}, {"--budget", 1, POTZENDAI_MOST, &o->budget}
+        {"--seed", 0, UINT64_MAX, &o->seed}, {"--yield", 0, 1000, &o->yields}, {"--budget", 1, POTZENDAI_MOST, &o->budget},
+        {"--fresh", 1, UINT64_MAX, &o->fresh}
     };
     for (size_t i = 0; i < sizeof all / sizeof *all; i++)
         if (strcmp(word, all[i].name) == 0) {
@@ -168,8 +171,9 @@ static inline int potzendai_read_named(struct potzendai_options *o, const char *
 static inline int potzendai_read_word(struct potzendai_options *o, char **words, int *at)
 {
     const char *word = words[*at];
-    if (strcmp(word, "--stream") == 0) {
-        o->is_stream = true;
+    if (strcmp(word, "--stream") == 0 || strcmp(word, "--reopen") == 0) {
+        o->is_stream = o->is_stream || word[2] == 's';
+        o->is_reopened = o->is_reopened || word[2] == 'r';
         return 0;
     }
     const char *text = words[++*at];
@@ -241,6 +245,16 @@ static inline int potzendai_check_break(const struct potzendai_options *o)
             && potzendai_is_called(o, (enum potzendai_break)how))
             return 0;
     return potzendai_complain("--break", "what it makes wrong is not called");
+}
+
+/* Whether there can be new maps, and maps that are opened again. */
+static inline int potzendai_check_maps(const struct potzendai_options *o, const struct potzendai_map *map)
+{
+    if (o->is_stream && (o->fresh || o->is_reopened))
+        return potzendai_complain(o->fresh ? "--fresh" : "--reopen", "not with --stream, which is of one map");
+    if (o->fresh && !map->begin)
+        return potzendai_complain("--fresh", "the map has no function begin, which makes a new one");
+    return o->is_reopened && !map->reopen ? potzendai_complain("--reopen", "the map has no function reopen") : 0;
 }
 
 /* How many calls a process may make in a round: those of a thread, or the last gets of all keys. */
@@ -349,6 +363,7 @@ static inline int potzendai_read_words(struct potzendai_options *o, int argc, ch
         potzendai_take_shares(o, map);
     int status = potzendai_check_shares(o, map);
     status = status ? status : potzendai_check_break(o);
+    status = status ? status : potzendai_check_maps(o, map);
     status = status ? status : potzendai_check_sizes(o);
     return status ? status : potzendai_check_out(o);
 }
@@ -373,6 +388,10 @@ static inline void potzendai_write_words(FILE *out, const struct potzendai_optio
     fprintf(out, " --scan %s", potzendai_scans[o->is_steps]);
     if (o->yields)
         fprintf(out, " --yield %" PRIu64, o->yields);
+    if (o->fresh)
+        fprintf(out, " --fresh %" PRIu64, o->fresh);
+    if (o->is_reopened)
+        fputs(" --reopen", out);
     if (o->broken != POTZENDAI_UNBROKEN)
         fprintf(out, " --break %s", potzendai_breaks[o->broken]);
     if (o->is_stream)

@@ -18,7 +18,7 @@ static const char first[] =
 
 struct connection { sqlite3 *base; sqlite3_stmt *all[STATEMENTS]; };
 
-static char file[] = "/tmp/potzendai-sqlite-XXXXXX";
+static char file[32];
 static bool is_plain;
 
 /* Runs a statement to its end, which commits it where no transaction is open: the pairs; MAP_REFUSED where it is busy, which changes nothing; or
@@ -148,22 +148,34 @@ static void *open_connection(void *map, unsigned thread)
     return is_open ? s : NULL;
 }
 
+/* A new map, in a file of its own, which each connection opens. */
+static void *begin(void *map)
+{
+    (void)map;
+    strcpy(file, "/tmp/potzendai-sqlite-XXXXXX");
+    int made = mkstemp(file);
+    return made >= 0 && close(made) == 0 ? file : NULL;
+}
+
+static void end_map(void *opened)
+{
+    unlink((const char *)opened);
+}
+
+/* The file was closed with its last connection, so the next one opens it again. */
+static void *reopen(void *opened)
+{
+    return opened;
+}
+
 int main(int argc, char **argv)
 {
     struct potzendai_map map = {.name = "sqlite", .value_bits = 63, .open = open_connection, .close = close_connection, .get = get, .put = put,
                                 .del = del, .scan = scan, .replace = replace, .put_if_absent = put_if_absent, .floor = floor_of,
-                                .ceiling = ceiling_of, .pop_first = pop_first};
+                                .ceiling = ceiling_of, .pop_first = pop_first, .begin = begin, .end = end_map, .reopen = reopen};
     char again[] = "sqlite plain";
-    int made = mkstemp(file);
     is_plain = argc > 1 && strcmp(argv[1], "plain") == 0;
-    if (made < 0) {
-        fputs("sqlite: no file\n", stderr);
-        return 6;
-    }
-    close(made);
     if (is_plain)
         argv[1] = again;
-    int status = potzendai_test_main(argc - is_plain, argv + is_plain, &map);
-    unlink(file);
-    return status;
+    return potzendai_test_main(argc - is_plain, argv + is_plain, &map);
 }
