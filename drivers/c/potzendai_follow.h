@@ -8,6 +8,10 @@
  * that are kept for a file, and for how many of them there is room at first. */
 enum { POTZENDAI_SLOTS = 8192, POTZENDAI_OTHERS = 4096, POTZENDAI_SHOWN = 1000, POTZENDAI_KEPT = 1 << 26, POTZENDAI_KEPT_FIRST = 1 << 16 };
 
+/* How calls of a stream meet: how many there are, how many are open, and how many others were open at their invocations, all added up. Of each
+ * process that has an open call it has how many calls there were with that one, and 0 of the others. */
+struct potzendai_meetings { uint64_t calls, open, overlap, *with, processes; };
+
 /* A stream, who takes its lines, and how far it is. */
 struct potzendai_following {
     struct potzendai_tester *tester;
@@ -18,6 +22,7 @@ struct potzendai_following {
     FILE *file;
     struct potzendai_follower follower;
     struct potzendai_told told;
+    struct potzendai_meetings meetings;
     char *kept; /* the stream so far, while it is kept */
     size_t kept_length, kept_room;
     bool is_long, is_unkept;
@@ -33,18 +38,40 @@ static inline void potzendai_count_calls(struct potzendai_following *f)
     }
 }
 
-/* How far it is. What the library's follower says so far has the overlap a call of all calls that it has. */
+/* Counts the events of these lines, each of which ends with its process. */
+static inline void potzendai_meet(struct potzendai_meetings *m, const char *text, size_t length)
+{
+    for (const char *line = text, *end; (end = (const char *)memchr(line, '\n', (size_t)(text + length - line))) != NULL; line = end + 1) {
+        const char *digits = end - 1;
+        while (digits > line && digits[-1] >= '0' && digits[-1] <= '9')
+            digits--;
+        uint64_t process = strtoull(digits, NULL, 10);
+        bool is_call = strncmp(line, "{\"invoke\":", 10) == 0, is_event = is_call || strncmp(line, "{\"answer\":", 10) == 0;
+        if (!is_event || process >= m->processes)
+            continue;
+        m->overlap += is_call ? m->open : 0;
+        m->calls += is_call;
+        m->open = is_call ? m->open + 1 : m->open - 1;
+        m->with[process] = is_call ? m->calls : 0;
+    }
+}
+
+/* How many other calls were open at an invocation, on average. A call that has no answer is not open for others: nobody makes it any more. */
+static inline double potzendai_met_a_call(const struct potzendai_meetings *m)
+{
+    uint64_t overlap = m->overlap;
+    for (uint64_t p = 0; p < m->processes; p++)
+        overlap -= m->with[p] > 0 ? m->calls - m->with[p] : 0;
+    return (double)overlap / (double)(m->calls ? m->calls : 1);
+}
+
+/* How far it is. */
 static inline void potzendai_follow_progress(struct potzendai_following *f)
 {
     if (!f->tester->has_terminal || potzendai_now() - f->tester->told < 1)
         return;
-#ifndef POTZENDAI_NO_LIBRARY
-    char report[POTZENDAI_REPORT];
-    size_t length;
-    potzendai_follow_verdict(&f->follower, report, sizeof report, &length);
     f->tester->has_overlap = true;
-    f->tester->overlap_a_call = potzendai_decimal(report, "\"overlap\":");
-#endif
+    f->tester->overlap_a_call = potzendai_met_a_call(&f->meetings);
     potzendai_count_calls(f);
     potzendai_progress(f->tester);
 }
@@ -87,6 +114,7 @@ static inline int potzendai_take_lines(void *to, const char *text, size_t length
     struct potzendai_following *f = (struct potzendai_following *)to;
     uint32_t status = potzendai_follow_event(&f->follower, text, length);
     potzendai_keep_lines(f, text, length);
+    potzendai_meet(&f->meetings, text, length);
     potzendai_follow_progress(f);
     return status == POTZENDAI_IS_YES ? 0 : -1;
 }
@@ -156,7 +184,7 @@ static inline int potzendai_end_stream(struct potzendai_following *f)
     struct potzendai_run *run = f->tester->run;
     enum potzendai_status status = potzendai_stream_verdict(f);
     f->tester->has_overlap = f->told.report && potzendai_member(f->told.report, "\"overlap\":");
-    f->tester->overlap_a_call = f->tester->has_overlap ? potzendai_decimal(f->told.report, "\"overlap\":") : 0;
+    f->tester->overlap_a_call = potzendai_met_a_call(&f->meetings);
     if (atomic_load(&run->fault))
         return -1;
     if (status == POTZENDAI_IS_YES && f->written)
@@ -237,6 +265,10 @@ static inline int potzendai_open_stream(struct potzendai_following *f)
     if (potzendai_read_start(f->tester))
         return -1;
     potzendai_remember_start(f->tester);
+    f->meetings.processes = processes;
+    f->meetings.with = (uint64_t *)calloc((size_t)processes, sizeof *f->meetings.with);
+    if (!f->meetings.with)
+        return potzendai_fail(run, POTZENDAI_NO_MEMORY, "memory: a stream has no room");
     if (streaming_open(&f->stream, (unsigned)processes, POTZENDAI_SLOTS, pairs, 1)
         || streaming_start(&f->stream, f->tester->start, f->tester->pairs_at_start))
         return potzendai_fail(run, POTZENDAI_NO_MEMORY, "memory: a stream has no room");
@@ -280,6 +312,7 @@ static inline int potzendai_stream(struct potzendai_tester *tester)
     if (f->file && fclose(f->file) && status == 0)
         status = potzendai_fail(tester->run, POTZENDAI_BAD_FILE, "the stream was not written");
     free(f->kept);
+    free(f->meetings.with);
     free(f);
     return status;
 }

@@ -20,7 +20,8 @@ enum map_said {
 
 enum { POTZENDAI_SAYINGS = 7 };
 
-/* Any function but `get` and `put` may be NULL: it is not called then. Keys are from 0 up; the map holds no others. */
+/* Any function but `get` and `put` may be NULL: it is not called then. Keys are from 0 up; the map holds no others. With `begin` the run makes
+ * its maps itself, one after another, and `map` is what they are made of: anything, or NULL. */
 struct potzendai_map {
     const char *name;
     void *map;
@@ -38,6 +39,9 @@ struct potzendai_map {
     enum map_said (*floor)(void *connection, uint64_t key, struct recording_pair *pair);
     enum map_said (*ceiling)(void *connection, uint64_t key, struct recording_pair *pair);
     enum map_said (*pop_first)(void *connection, struct recording_pair *pair);
+    void *(*begin)(void *map);     /* makes a new map, which is given to `open`, or to the functions; NULL where it fails, as of `open` */
+    void (*end)(void *opened);     /* closes it for good */
+    void *(*reopen)(void *opened); /* closes it, at rest, and opens it again, with what it held: the same pointer, or another one */
 };
 
 enum potzendai_function {
@@ -96,6 +100,20 @@ __attribute__((weak)) const struct potzendai_scheduler *potzendai_scheduler;
 }
 #endif
 
+#ifdef __cplusplus
+#define POTZENDAI_OF_THREAD static thread_local
+#else
+#define POTZENDAI_OF_THREAD static _Thread_local
+#endif
+
+/* Of a thread that calls the map: of a thousand points, how many give way to other threads; and what draws them. */
+POTZENDAI_OF_THREAD unsigned potzendai_yields;
+POTZENDAI_OF_THREAD uint64_t potzendai_yield_state;
+
+/* Of such a thread: whether it is within a call, and how many points it has reached within calls under `--yield`. */
+POTZENDAI_OF_THREAD bool potzendai_is_calling;
+POTZENDAI_OF_THREAD uint64_t potzendai_points;
+
 /* Calls a function of the map. */
 static inline void potzendai_ask(const struct potzendai_map *map, void *connection, const struct potzendai_request *request,
                                  struct potzendai_answer *answer)
@@ -104,6 +122,7 @@ static inline void potzendai_ask(const struct potzendai_map *map, void *connecti
     answer->pair.key = key;
     answer->pair.value = 0;
     answer->count = 0;
+    potzendai_is_calling = true;
     if (potzendai_scheduler)
         potzendai_scheduler->in();
     switch (request->function) {
@@ -119,6 +138,7 @@ static inline void potzendai_ask(const struct potzendai_map *map, void *connecti
     }
     if (potzendai_scheduler)
         potzendai_scheduler->out();
+    potzendai_is_calling = false;
 }
 
 /* What becomes of a call: it does not fit what was said, is left out since it tells nothing, stays without an answer, or is a call
@@ -226,16 +246,6 @@ static inline double potzendai_now(void)
     return (double)now.tv_sec + (double)now.tv_nsec / 1e9;
 }
 
-#ifdef __cplusplus
-#define POTZENDAI_OF_THREAD static thread_local
-#else
-#define POTZENDAI_OF_THREAD static _Thread_local
-#endif
-
-/* Of a thread that calls the map: of a thousand points, how many give way to other threads; and what draws them. */
-POTZENDAI_OF_THREAD unsigned potzendai_yields;
-POTZENDAI_OF_THREAD uint64_t potzendai_yield_state;
-
 static inline void potzendai_pause(void)
 {
     struct timespec some_time = {0, (long)(1000 + potzendai_draw_below(&potzendai_yield_state, 50000))};
@@ -254,7 +264,10 @@ extern "C" {
 __attribute__((weak)) void potzendai_point(void);
 __attribute__((weak)) void potzendai_point(void)
 {
-    if (potzendai_yields > 0 && potzendai_draw_below(&potzendai_yield_state, 1000) < potzendai_yields)
+    if (potzendai_yields == 0)
+        return;
+    potzendai_points += potzendai_is_calling;
+    if (potzendai_draw_below(&potzendai_yield_state, 1000) < potzendai_yields)
         potzendai_pause();
 }
 

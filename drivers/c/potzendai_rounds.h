@@ -48,9 +48,12 @@ struct potzendai_waiting { struct potzendai_told told; struct potzendai_counts c
 
 struct potzendai_plan;
 
-/* A run with what comes of it. `connection` is of the thread that runs all of it. Where it is quiet, a no is not told. */
+/* A run with what comes of it. `given` is the map of the program, `opened` the one of it that is tested now. `connection` is of the thread that
+ * runs all of it. Where it is quiet, a no is not told. */
 struct potzendai_tester {
     struct potzendai_run *run;
+    const struct potzendai_map *given;
+    struct potzendai_map opened;
     const struct potzendai_options *options;
     const char *program;
     void *connection;
@@ -58,7 +61,7 @@ struct potzendai_tester {
     size_t pairs_at_start, pairs_next;
     uint64_t rounds, refused, undecided, calls_judged;
     double began, told, overlap_a_call, waits_since;
-    bool has_terminal, has_overlap, is_quiet;
+    bool has_terminal, has_overlap, is_quiet, is_connected;
     struct potzendai_plan *plan; /* of a scheduled run */
     const char *ending;          /* how its last round ended, where that has no recording */
     struct potzendai_waiting waiting[POTZENDAI_BATCH];
@@ -72,35 +75,123 @@ static inline void potzendai_forget(struct potzendai_told *told)
     memset(told, 0, sizeof *told);
 }
 
-/* Gets a key at rest, from the map that is not made wrong: again where it is refused. */
-static inline int potzendai_get_at_rest(struct potzendai_tester *tester, uint64_t key, struct potzendai_answer *answer)
+/* Opens the connection of this thread to the map that is tested now. */
+static inline int potzendai_connect(struct potzendai_tester *tester)
 {
-    struct potzendai_request get = {POTZENDAI_GET, key, 0, 0};
-    for (int i = 0; i < POTZENDAI_GETS; i++) {
-        potzendai_ask(tester->run->truly, tester->connection, &get, answer);
-        if (answer->said == MAP_TOLD || answer->said == MAP_NONE)
-            return 0;
-        if (answer->said != MAP_REFUSED && answer->said != MAP_UNKNOWN)
-            break;
+    tester->connection = potzendai_open_connection(tester->run, &tester->opened, (unsigned)tester->run->threads);
+    tester->is_connected = tester->connection || !tester->opened.open;
+    return tester->is_connected ? 0 : -1;
+}
+
+static inline void potzendai_disconnect(struct potzendai_tester *tester)
+{
+    if (tester->opened.close && tester->is_connected)
+        tester->opened.close(tester->connection);
+    tester->is_connected = false;
+}
+
+/* Takes a map that was made or opened again: none, and the run ends, where that failed. */
+static inline int potzendai_take_map(struct potzendai_tester *tester, void *map, const char *how)
+{
+    tester->opened.map = map;
+    if (!map && errno == ENOMEM)
+        return potzendai_fail(tester->run, POTZENDAI_NO_MEMORY, "memory: %s made no map", how);
+    if (!map)
+        return potzendai_fail(tester->run, POTZENDAI_BAD_WORDS, "%s made no map", how);
+    return potzendai_connect(tester);
+}
+
+/* Begins with a map: a new one, where the program makes such. */
+static inline int potzendai_begin_map(struct potzendai_tester *tester)
+{
+    errno = 0;
+    return tester->given->begin ? potzendai_take_map(tester, tester->given->begin(tester->given->map), "begin") : potzendai_connect(tester);
+}
+
+static inline void potzendai_end_map(struct potzendai_tester *tester)
+{
+    potzendai_disconnect(tester);
+    if (tester->given->begin && tester->given->end && tester->opened.map)
+        tester->given->end(tester->opened.map);
+}
+
+/* Closes the map, at rest, and opens it again. */
+static inline int potzendai_reopen_map(struct potzendai_tester *tester)
+{
+    potzendai_disconnect(tester);
+    errno = 0;
+    return potzendai_take_map(tester, tester->given->reopen(tester->opened.map), "reopen");
+}
+
+/* Asks the map that is not made wrong, at rest: again where it refuses. A get may be asked again where nobody knows, too. */
+static inline void potzendai_ask_at_rest(struct potzendai_tester *tester, const struct potzendai_request *request, struct potzendai_answer *answer)
+{
+    bool is_get = request->function == POTZENDAI_GET;
+    answer->said = MAP_REFUSED;
+    for (int i = 0; i < POTZENDAI_GETS && (answer->said == MAP_REFUSED || (is_get && answer->said == MAP_UNKNOWN)); i++) {
+        memset(answer, 0, sizeof *answer);
+        potzendai_ask(tester->run->truly, tester->connection, request, answer);
     }
-    return potzendai_fail(tester->run, POTZENDAI_BAD_WORDS, "get of %" PRIu64 " said %s at rest, where it has to tell", key,
-                          (unsigned)answer->said < POTZENDAI_SAYINGS ? potzendai_sayings[answer->said] : "no answer");
+}
+
+/* The write by which is known what a key holds, where gets do not tell: a put of a new value or, at every second key, a del. The map has one. */
+static inline void potzendai_write_at_rest(struct potzendai_run *run, uint64_t key, struct potzendai_request *request)
+{
+    bool is_del = run->truly->del && (!run->truly->put || (key + run->round) % 2 == 1);
+    request->function = is_del ? POTZENDAI_DEL : POTZENDAI_PUT;
+    request->key = key;
+    request->value = is_del ? 0 : potzendai_new_value(run, 0);
+    request->other = 0;
+}
+
+/* Whether what was said at rest says what the key holds, or that a write was done. */
+static inline bool potzendai_is_known(const struct potzendai_request *request, enum map_said said)
+{
+    bool is_told = said == MAP_TOLD || said == MAP_NONE;
+    return is_told || (request->function != POTZENDAI_GET && (said == MAP_DONE || said == MAP_FOUND));
+}
+
+/* Has a key known at rest: by a get, or by a write where the get does not tell. As calls of a process, where it is one of the recording. */
+static inline int potzendai_know(struct potzendai_tester *tester, uint64_t key, const unsigned *process, struct recording_pair *pair, bool *is_there)
+{
+    struct potzendai_run *run = tester->run;
+    struct potzendai_request request = {POTZENDAI_GET, key, 0, 0};
+    struct potzendai_answer answer;
+    uint64_t words[3];
+    if (process && recording_hold(run->recording, *process))
+        return -1;
+    potzendai_ask_at_rest(tester, &request, &answer);
+    if ((answer.said == MAP_DONE || answer.said == MAP_FOUND) && (run->truly->put || run->truly->del)) {
+        potzendai_write_at_rest(run, key, &request);
+        potzendai_ask_at_rest(tester, &request, &answer);
+    }
+    if (!potzendai_is_known(&request, answer.said))
+        return potzendai_fail(run, POTZENDAI_BAD_WORDS, "%s of %" PRIu64 " said %s at rest, where it has to tell",
+                              potzendai_functions[request.function], key,
+                              (unsigned)answer.said < POTZENDAI_SAYINGS ? potzendai_sayings[answer.said] : "no answer");
+    const struct potzendai_row *row = &potzendai_rows[request.function][answer.said];
+    potzendai_words(&request, &answer, row->call, words);
+    if (process && (recording_add(run->recording, *process, row->call, words[0], words[1], words[2])
+                    || recording_add(run->recording, *process, row->answer, answer.pair.value, 0, 0)))
+        return -1;
+    pair->key = key;
+    pair->value = request.function == POTZENDAI_PUT ? request.value : answer.pair.value;
+    *is_there = request.function == POTZENDAI_PUT || (request.function == POTZENDAI_GET && answer.said == MAP_TOLD);
+    return 0;
 }
 
 /* Reads all keys at rest, for what a recording starts from. */
 static inline int potzendai_read_start(struct potzendai_tester *tester)
 {
-    struct potzendai_answer answer;
     tester->pairs_at_start = 0;
     for (uint64_t key = 0; key < tester->options->keys; key++) {
-        memset(&answer, 0, sizeof answer);
-        if (potzendai_get_at_rest(tester, key, &answer))
+        struct recording_pair *pair = &tester->start[tester->pairs_at_start];
+        bool is_there;
+        if (potzendai_know(tester, key, NULL, pair, &is_there))
             return -1;
-        if (answer.said != MAP_TOLD)
-            continue;
-        tester->start[tester->pairs_at_start++] = answer.pair;
-        if (tester->rounds == 0 && answer.pair.value > tester->run->values_from)
-            tester->run->values_from = answer.pair.value;
+        if (is_there && tester->rounds == 0 && pair->value > tester->run->values_from)
+            tester->run->values_from = pair->value;
+        tester->pairs_at_start += is_there;
     }
     return 0;
 }
@@ -108,18 +199,24 @@ static inline int potzendai_read_start(struct potzendai_tester *tester)
 /* The last calls of a round: one process gets all keys. What it finds is what the next round starts from. */
 static inline int potzendai_get_all(struct potzendai_tester *tester, unsigned p)
 {
-    struct potzendai_answer answer;
-    struct recording *recording = tester->run->recording;
     tester->pairs_next = 0;
     for (uint64_t key = 0; key < tester->options->keys; key++) {
-        memset(&answer, 0, sizeof answer);
-        if (recording_invoke_get(recording, p, key) || potzendai_get_at_rest(tester, key, &answer)
-            || recording_answer(recording, p, answer.said == MAP_TOLD, answer.pair.value))
+        bool is_there;
+        if (potzendai_know(tester, key, &p, &tester->next_start[tester->pairs_next], &is_there))
             return -1;
-        if (answer.said == MAP_TOLD)
-            tester->next_start[tester->pairs_next++] = answer.pair;
+        tester->pairs_next += is_there;
     }
     return 0;
+}
+
+/* A new map in the place of the one before, whose calls without an answer cannot come about in it. */
+static inline int potzendai_renew(struct potzendai_tester *tester)
+{
+    potzendai_end_map(tester);
+    atomic_store(&tester->run->open_count, (uint64_t)0);
+    for (uint64_t key = 0; key < tester->options->keys; key++)
+        tester->run->keys[key].is_loose = false;
+    return potzendai_begin_map(tester) || potzendai_read_start(tester) ? -1 : 0;
 }
 
 /* Calls of rounds before, of which nobody knows whether they were done, are open from the beginning: each may yet come about. */
@@ -206,16 +303,17 @@ static inline int potzendai_open_recording(struct potzendai_tester *tester)
     return 0;
 }
 
-/* How many other calls were open at the invocations of a recording, all added up; `kinds` has a byte for each stamp. */
+/* How many other calls were open at the invocations of a recording, all added up; `kinds` has a byte for each stamp. A call that has no answer
+ * is not open for others: nobody makes it any more. */
 static inline uint64_t potzendai_count_overlap(const struct recording *r, char *kinds, size_t stamps)
 {
     uint64_t overlap = 0, open = 0;
     for (unsigned p = 0; p < r->processes; p++)
         for (size_t i = 0; i < r->logs[p].length; i++)
-            kinds[r->logs[p].events[i].stamp] = r->logs[p].events[i].kind < RECORDING_NONE ? 1 : 2;
+            kinds[r->logs[p].events[i].stamp] = r->logs[p].events[i].kind >= RECORDING_NONE ? 'a' : i + 1 < r->logs[p].length ? 'i' : 'd';
     for (size_t i = 0; i < stamps; i++) {
-        overlap += kinds[i] == 1 ? open : 0;
-        open = kinds[i] == 1 ? open + 1 : kinds[i] == 2 ? open - 1 : open;
+        overlap += kinds[i] == 'i' || kinds[i] == 'd' ? open : 0;
+        open = kinds[i] == 'i' ? open + 1 : kinds[i] == 'a' ? open - 1 : open;
     }
     return overlap;
 }
@@ -254,7 +352,8 @@ static inline int potzendai_make_round(struct potzendai_tester *tester)
     if (potzendai_carry_on(run) == 0)
         potzendai_join_threads(run, threads, potzendai_start_threads(run, threads));
     potzendai_free_threads(threads, run->threads);
-    if (atomic_load(&run->fault) || potzendai_get_all(tester, (unsigned)atomic_load(&run->processes)))
+    if (atomic_load(&run->fault) || (run->options->is_reopened && potzendai_reopen_map(tester))
+        || potzendai_get_all(tester, (unsigned)atomic_load(&run->processes)))
         return -1;
     potzendai_settle(run);
     return 0;
@@ -291,7 +390,7 @@ static inline int potzendai_write_file(const struct potzendai_tester *tester, co
     return is_kept ? 0 : -1;
 }
 
-/* How many other calls were open at an invocation, on average: of a stream the follower counts them, as long as it says yes. */
+/* How many other calls were open at an invocation, on average. */
 static inline double potzendai_overlap_a_call(const struct potzendai_tester *tester)
 {
     const struct potzendai_counts *counts = &tester->run->counts;
@@ -412,7 +511,8 @@ static inline enum potzendai_status potzendai_judged(const struct potzendai_opti
 static inline bool potzendai_fails_again(struct potzendai_tester *tester, struct potzendai_told *told)
 {
     memset(told, 0, sizeof *told);
-    bool fails = potzendai_read_start(tester) == 0 && potzendai_record(tester, told) == 0
+    bool is_ready = (tester->options->fresh ? potzendai_renew(tester) : potzendai_read_start(tester)) == 0;
+    bool fails = is_ready && potzendai_record(tester, told) == 0
         && potzendai_judged(tester->options, told) == POTZENDAI_IS_NO;
     if (!fails)
         potzendai_forget(told);
@@ -668,7 +768,9 @@ static inline int potzendai_rounds(struct potzendai_tester *tester)
         struct potzendai_told told;
         memset(&told, 0, sizeof told);
         tester->run->round = tester->rounds;
-        status = potzendai_record(tester, &told);
+        if (tester->rounds > 0 && tester->options->fresh && tester->rounds % tester->options->fresh == 0)
+            status = potzendai_renew(tester);
+        status = status ? status : potzendai_record(tester, &told);
         potzendai_go_on(tester);
         if (status == 0)
             status = potzendai_is_unjudged(tester->options) ? potzendai_write_round(tester, &told) : potzendai_await(tester, &told);

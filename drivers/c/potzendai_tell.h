@@ -9,6 +9,9 @@
 #include <stdlib.h>
 #include <string.h>
 
+/* Of the other calls that were open, so many are shown. */
+enum { POTZENDAI_OPEN_SHOWN = 6 };
+
 /* What stands behind a member's name in a line, or NULL. */
 static inline const char *potzendai_member(const char *line, const char *name)
 {
@@ -22,13 +25,6 @@ static inline uint64_t potzendai_number(const char *line, const char *name)
 {
     const char *at = potzendai_member(line, name);
     return at ? strtoull(at, NULL, 10) : 0;
-}
-
-/* The same of one that may have decimals. */
-static inline double potzendai_decimal(const char *line, const char *name)
-{
-    const char *at = potzendai_member(line, name);
-    return at ? strtod(at, NULL) : 0;
 }
 
 /* The next line, or NULL. */
@@ -220,7 +216,10 @@ static inline void potzendai_tell_front(FILE *out, const char *text, const char 
     const char *next = potzendai_member(line, "\"next\":[");
     if (!front || !holds || !next)
         return;
-    fprintf(out, "  an order of them gets as far as the events [%.*s; the map then holds ", (int)strcspn(front, "]") + 1, front);
+    if (*front == ']')
+        fputs("  no call of them can come first; the map holds ", out);
+    else
+        fprintf(out, "  an order of them gets as far as the events [%.*s; the map then holds ", (int)strcspn(front, "]") + 1, front);
     potzendai_tell_pairs(out, holds);
     fputs("\n", out);
     for (const char *at = strchr(next, '{'); at; at = strstr(at + 1, "{\"answer\":")) {
@@ -304,6 +303,104 @@ static inline void potzendai_tell_verdict(FILE *out, const char *report)
         fprintf(out, "%.*s\n", (int)length, report);
 }
 
+/* An event of a history: where it stands, its process, and of an invocation which event its answer is, or as many as there are events. */
+struct potzendai_event { const char *at; uint64_t process; size_t answered; bool is_shown, is_late; };
+
+/* The keys of a call, of the text of its event. */
+static inline void potzendai_keys_of(const char *at, uint64_t keys[2])
+{
+    const char *words = at + strcspn(at, ",]");
+    char *end = NULL;
+    keys[0] = keys[1] = *words == ',' ? strtoull(words + 1, &end, 10) : 0;
+    if (strncmp(at, "{\"invoke\":[\"scan\"", 17) == 0 && end && *end == ',')
+        keys[1] = strtoull(end + 1, NULL, 10);
+}
+
+/* Whether two calls were open at once, and have a key in common. */
+static inline bool potzendai_meets(const struct potzendai_event *events, size_t one, size_t other)
+{
+    uint64_t a[2], b[2];
+    if (one >= events[other].answered || other >= events[one].answered)
+        return false;
+    potzendai_keys_of(events[one].at, a);
+    potzendai_keys_of(events[other].at, b);
+    return a[0] <= b[1] && b[0] <= a[1];
+}
+
+/* Takes the events of a history apart; NULL where memory is refused. */
+static inline struct potzendai_event *potzendai_events_of(const char *text, size_t *count)
+{
+    size_t open[64] = {0};
+    *count = 0;
+    for (const char *at = potzendai_event_from(text); at; at = potzendai_event_from(at + 1))
+        ++*count;
+    struct potzendai_event *events = (struct potzendai_event *)calloc(*count + 1, sizeof *events);
+    size_t i = 0;
+    for (const char *at = potzendai_event_from(text); events && at; at = potzendai_event_from(at + 1), i++) {
+        const char *member = strstr(at, "\"process\":");
+        events[i].at = at;
+        events[i].process = member ? strtoull(member + 10, NULL, 10) : 0;
+        events[i].answered = *count;
+        if (strncmp(at, "{\"invoke\":", 10) == 0)
+            open[events[i].process % 64] = i;
+        else
+            events[open[events[i].process % 64]].answered = i;
+    }
+    return events;
+}
+
+/* Marks the events of calls that a report shows, and of those that could come next, or else of the last that is shown. */
+static inline void potzendai_mark_events(struct potzendai_event *events, size_t count, const char *report)
+{
+    size_t last = count;
+    bool is_any = false;
+    for (const char *line = report; line; line = potzendai_next_line(line)) {
+        if (strncmp(line, "{\"answer\":", 10) == 0) {
+            last = (size_t)potzendai_number(line, "\"event\":");
+            if (last < count)
+                events[last].is_shown = true;
+        }
+        const char *next = strncmp(line, "{\"front\"", 8) == 0 ? potzendai_member(line, "\"next\":[") : NULL;
+        for (const char *at = next ? strchr(next, '{') : NULL; at; at = strstr(at + 1, "{\"answer\":")) {
+            size_t event = (size_t)potzendai_number(at, "\"event\":");
+            if (event < count)
+                events[event].is_late = is_any = true;
+        }
+    }
+    if (!is_any && last < count)
+        events[last].is_late = true;
+}
+
+/* Writes which other calls were open meanwhile on the keys of those that could come next: some of them, and how many more there are. */
+static inline void potzendai_tell_open(FILE *out, const char *text, const char *report)
+{
+    size_t count, told = 0;
+    struct potzendai_event *events = potzendai_events_of(text, &count);
+    if (!events)
+        return;
+    potzendai_mark_events(events, count, report);
+    for (size_t i = 0; i < count; i++) {
+        bool is_open = false;
+        bool is_call = strncmp(events[i].at, "{\"invoke\":", 10) == 0 && !events[i].is_shown;
+        for (size_t late = 0; is_call && !is_open && late < count; late++)
+            is_open = events[late].is_late && potzendai_meets(events, i, late);
+        if (!is_open || ++told > POTZENDAI_OPEN_SHOWN)
+            continue;
+        fputs(told == 1 ? "  also open on the same keys meanwhile: " : ", ", out);
+        potzendai_tell_call(out, events[i].at + 10);
+        fprintf(out, " of process %" PRIu64 " (event", events[i].process);
+        if (events[i].answered < count)
+            fprintf(out, "s %zu to %zu)", i, events[i].answered);
+        else
+            fprintf(out, " %zu on)", i);
+    }
+    if (told > POTZENDAI_OPEN_SHOWN)
+        fprintf(out, ", and %zu more", told - POTZENDAI_OPEN_SHOWN);
+    if (told > 0)
+        fputs("\n", out);
+    free(events);
+}
+
 /* Writes a report of `explain` in words; `text` is the history, of a round or of what a follower still had. Behind an undecided `locate` has a
  * line, which is passed over. Answers the line that is the few calls' history, or NULL. */
 static inline const char *potzendai_tell(FILE *out, const char *text, const char *report, bool is_left)
@@ -312,7 +409,8 @@ static inline const char *potzendai_tell(FILE *out, const char *text, const char
     potzendai_tell_verdict(out, report);
     while (line && potzendai_member(line, "\"verdict\":"))
         line = potzendai_next_line(line);
-    if (line)
+    bool is_told = line != NULL;
+    if (is_told)
         fputs("these calls have no order, and no other could mend that:\n", out);
     for (; line; line = potzendai_next_line(line)) {
         const char *answer = potzendai_member(line, "{\"answer\":"), *call = potzendai_member(line, "\"call\":");
@@ -334,6 +432,8 @@ static inline const char *potzendai_tell(FILE *out, const char *text, const char
             fputs("\n", out);
         }
     }
+    if (is_told)
+        potzendai_tell_open(out, text, report);
     return few;
 }
 

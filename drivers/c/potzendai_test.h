@@ -8,7 +8,7 @@
  *     static enum map_said put(void *connection, uint64_t key, uint64_t value, uint64_t *found) { .. }
  *     int main(int argc, char **argv)
  *     {
- *         struct potzendai_map map = {"mine", &mine, 0, NULL, NULL, get, put, NULL, NULL, NULL, NULL, NULL, NULL, NULL};
+ *         struct potzendai_map map = {.name = "mine", .map = &mine, .get = get, .put = put};
  *         return potzendai_test_main(argc, argv, &map);
  *     }
  *
@@ -45,6 +45,24 @@ static inline void potzendai_tell_calls(FILE *out, const struct potzendai_run *r
     fputc('\n', out);
 }
 
+/* Why a yes of this run says little. */
+static inline void potzendai_tell_cautions(FILE *out, const struct potzendai_tester *tester)
+{
+    const struct potzendai_options *o = tester->options;
+    const struct potzendai_counts *counts = &tester->run->counts;
+    uint64_t said = 0;
+    for (int i = 0; i < POTZENDAI_SAYINGS; i++)
+        said += counts->sayings[i];
+    if (2 * counts->sayings[MAP_REFUSED] > said)
+        fputs("; most calls were refused: a yes says little", out);
+    if (counts->functions_called[POTZENDAI_GET] > 0 && counts->hits == 0)
+        fputs("; no get found a value: a yes says little", out);
+    if ((!o->is_stream || tester->has_overlap) && counts->calls > 0 && potzendai_overlap_a_call(tester) < 0.05)
+        fputs("; overlap below 0.05: the threads hardly met, and a yes says little: call potzendai_point() in the map, and run with --yield 200", out);
+    if (o->yields > 0 && counts->points == 0 && counts->calls > 0)
+        fputs("; --yield acted only between calls, since the map called no potzendai_point()", out);
+}
+
 /* The last line: the verdict, and what it rests on. */
 static inline void potzendai_tell_all(FILE *out, const struct potzendai_tester *tester, const char *verdict)
 {
@@ -63,6 +81,8 @@ static inline void potzendai_tell_all(FILE *out, const struct potzendai_tester *
         }
     if (tester->undecided > 0)
         fprintf(out, "; %" PRIu64 " undecided", tester->undecided);
+    if (strncmp(verdict, "no", 2) != 0)
+        potzendai_tell_cautions(out, tester);
     fputc('\n', out);
 }
 
@@ -97,6 +117,9 @@ static inline int potzendai_finish(const struct potzendai_tester *tester, int st
         potzendai_tell_all(stderr, tester, "not judged");
         return status;
     }
+    if (status == POTZENDAI_IS_NO && tester->options->broken != POTZENDAI_UNBROKEN && run->counts.wrongs == 0)
+        fprintf(stderr, "--break %s: the map was not made wrong by then, so this is a no of the map as it is\n",
+                potzendai_breaks[tester->options->broken]);
     if (status == POTZENDAI_IS_YES && tester->options->broken != POTZENDAI_UNBROKEN)
         fprintf(stderr, "--break %s: the map was wrong now and then, and these calls did not show it\n",
                 potzendai_breaks[tester->options->broken]);
@@ -107,16 +130,18 @@ static inline int potzendai_finish(const struct potzendai_tester *tester, int st
     return status == POTZENDAI_IS_YES ? POTZENDAI_BAD_FILE : status;
 }
 
-/* The same of one way to be wrong among others: a line of the verdict, or of what was in its way. */
+/* The same of one way to be wrong among others: a line of the verdict, or of what was in its way. A no of a map that was not made wrong refutes
+ * nothing: then the status is that of a yes. */
 static inline int potzendai_finish_quietly(const struct potzendai_tester *tester, int status)
 {
     struct potzendai_run *run = tester->run;
+    bool is_as_it_is = status == POTZENDAI_IS_NO && run->counts.wrongs == 0;
     fprintf(stderr, "%s: ", potzendai_breaks[tester->options->broken]);
     if (status >= 0)
-        potzendai_tell_all(stderr, tester, potzendai_verdicts[status]);
+        potzendai_tell_all(stderr, tester, is_as_it_is ? "no of the map as it is" : potzendai_verdicts[status]);
     else
         fprintf(stderr, "%s\n", run->complaint);
-    return status < 0 ? (int)atomic_load(&run->fault) : status;
+    return status < 0 ? (int)atomic_load(&run->fault) : is_as_it_is ? (int)POTZENDAI_IS_YES : status;
 }
 
 static inline void potzendai_close_tester(struct potzendai_tester *tester)
@@ -150,17 +175,14 @@ static inline int potzendai_open_tester(struct potzendai_tester *tester, const s
     return run && run->recording && run->keys && tester->start && tester->next_start ? 0 : -1;
 }
 
-/* Opens the connection of this thread, and runs rounds or a stream. */
-static inline int potzendai_run_all(struct potzendai_tester *tester, const struct potzendai_map *map)
+/* Begins with a map, runs rounds or a stream, and ends the map that there is then. */
+static inline int potzendai_run_all(struct potzendai_tester *tester)
 {
-    struct potzendai_run *run = tester->run;
-    tester->connection = potzendai_open_connection(run, map, (unsigned)run->threads);
-    if (map->open && !tester->connection)
-        return -1;
-    int status = tester->options->is_stream ? potzendai_stream(tester)
+    int status = potzendai_begin_map(tester);
+    if (status == 0)
+        status = tester->options->is_stream ? potzendai_stream(tester)
                : tester->options->schedule.way != POTZENDAI_FREE ? potzendai_schedule_rounds(tester) : potzendai_rounds(tester);
-    if (map->close)
-        map->close(tester->connection);
+    potzendai_end_map(tester);
     return status;
 }
 
@@ -181,12 +203,15 @@ static inline int potzendai_test(const struct potzendai_options *options, const 
     tester.has_terminal = isatty(2);
     tester.began = tester.told = potzendai_now();
     tester.run->options = options;
-    tester.run->truly = map;
-    tester.run->map = potzendai_break_map(&broken, map, options, &tester.run->round);
+    tester.given = map;
+    tester.opened = *map;
+    tester.opened.map = map->begin ? NULL : map->map;
+    tester.run->truly = &tester.opened;
+    tester.run->map = potzendai_break_map(&broken, &tester.opened, options, &tester.run->round, &tester.run->wrongs);
     tester.run->threads = options->threads;
     tester.run->keys_drawn = options->keys;
     tester.run->calls = options->calls;
-    int status = potzendai_run_all(&tester, map);
+    int status = potzendai_run_all(&tester);
     status = is_quiet ? potzendai_finish_quietly(&tester, status) : potzendai_finish(&tester, status);
     potzendai_close_tester(&tester);
     return status;
@@ -210,6 +235,7 @@ static inline int potzendai_test_each(const struct potzendai_options *options, c
             return status;
         missed += status != POTZENDAI_IS_NO;
     }
+    fputs("this shows that calls and answers reach the judge; it does not show that threads meet: see the overlap\n", stderr);
     if (missed > 0)
         printf("yes: %d of the broken maps were not refuted\n", missed);
     else

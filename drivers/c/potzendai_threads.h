@@ -26,8 +26,12 @@ struct potzendai_key {
 /* A call of which nobody knows whether it was done, as it is recorded. */
 struct potzendai_open { enum recording_kind call; uint64_t words[3]; };
 
-/* What was counted of a run: its calls, how many others were open at their invocations, what was said to them, and what was called. */
-struct potzendai_counts { uint64_t calls, overlap, sayings[POTZENDAI_SAYINGS], functions_called[POTZENDAI_FUNCTIONS]; };
+/* What was counted of a run: its calls, how many others were open at their invocations, what was said to them, and what was called; how many
+ * gets found a value, how many points were reached within calls, and how often a map that is made wrong was. */
+struct potzendai_counts {
+    uint64_t calls, overlap, sayings[POTZENDAI_SAYINGS], functions_called[POTZENDAI_FUNCTIONS];
+    uint64_t hits, points, wrongs;
+};
 
 /* What the threads share. `truly` is the map that was given, `map` the one that is called, which may be made wrong. */
 struct potzendai_run {
@@ -42,7 +46,7 @@ struct potzendai_run {
     bool is_scheduled;
     struct potzendai_open open_calls[RECORDING_PROCESSES];
     recording_word open_count;
-    recording_word next_process, processes, arrived, has_begun, is_over, fault;
+    recording_word next_process, processes, arrived, has_begun, is_over, fault, wrongs;
     char complaint[200];
 };
 
@@ -50,7 +54,7 @@ struct potzendai_run {
 struct potzendai_thread {
     struct potzendai_run *run;
     unsigned number, process;
-    uint64_t state, made, sayings[POTZENDAI_SAYINGS], functions_called[POTZENDAI_FUNCTIONS];
+    uint64_t state, made, sayings[POTZENDAI_SAYINGS], functions_called[POTZENDAI_FUNCTIONS], hits, points;
     uint64_t *seen;
     struct recording_pair *pairs;
     void *connection;
@@ -58,6 +62,29 @@ struct potzendai_thread {
     recording_word calls, refused;
     char apart[128];
 };
+
+/* Of a thread that makes a call which only reads: itself. */
+POTZENDAI_OF_THREAD struct potzendai_thread *potzendai_reader;
+
+#ifdef __cplusplus
+extern "C" {
+#endif
+
+/* A read of the map may call this once it has taken its snapshot: it counts as answered at this moment, and its pairs may be read later. Of
+ * several such moments the last one counts. Sources of their own declare it: void potzendai_taken(void); */
+__attribute__((weak)) void potzendai_taken(void);
+__attribute__((weak)) void potzendai_taken(void)
+{
+    struct potzendai_thread *t = potzendai_reader;
+    if (t && t->run->stream)
+        streaming_taken(t->run->stream, t->process);
+    else if (t)
+        recording_taken(t->run->recording, t->process);
+}
+
+#ifdef __cplusplus
+}
+#endif
 
 /* Ends the run with a status, and says why: the first that is wrong. */
 __attribute__((format(printf, 3, 4)))
@@ -211,6 +238,7 @@ static inline void potzendai_ask_and_count(struct potzendai_thread *t, const str
 {
     potzendai_ask(t->run->map, t->connection, request, answer);
     t->functions_called[request->function]++;
+    t->hits += request->function == POTZENDAI_GET && (answer->said == MAP_TOLD || answer->said == MAP_FOUND);
     if ((unsigned)answer->said < POTZENDAI_SAYINGS)
         t->sayings[answer->said]++;
 }
@@ -262,10 +290,12 @@ static inline int potzendai_make(struct potzendai_thread *t, const struct potzen
         return -1;
     bool is_locked = run->options->void_puts == POTZENDAI_VOID_LOCK
         && (request->function == POTZENDAI_PUT || request->function == POTZENDAI_DEL);
+    potzendai_reader = potzendai_writes(request->function) ? NULL : t;
     if (is_locked)
         potzendai_ask_locked(t, request, answer);
     else
         potzendai_ask_and_count(t, request, answer);
+    potzendai_reader = NULL;
     if (answer->said == MAP_UNKNOWN && potzendai_has_key_of_its_own(run, request->function))
         run->keys[request->key].is_loose = true;
     if (run->options->void_puts == POTZENDAI_VOID_OWN && potzendai_writes(request->function))
@@ -315,12 +345,12 @@ static inline int potzendai_make_steps(struct potzendai_thread *t, uint64_t low,
     return status;
 }
 
-/* Each put has a value of its own, which was not in the map before, as far as there are enough of them. */
-static inline uint64_t potzendai_next_value(struct potzendai_thread *t)
+/* Each put of a thread has a value of its own, which was not in the map before, as far as there are enough of them. */
+static inline uint64_t potzendai_new_value(struct potzendai_run *run, unsigned thread)
 {
-    unsigned bits = t->run->truly->value_bits;
+    unsigned bits = run->truly->value_bits;
     uint64_t most = bits == 0 || bits >= 64 ? UINT64_MAX : ((uint64_t)1 << bits) - 1;
-    return 1 + (t->run->values_from + t->run->puts[t->number]++ * t->run->options->threads + t->number) % most;
+    return 1 + (run->values_from + run->puts[thread]++ * run->options->threads + thread) % most;
 }
 
 static inline uint64_t potzendai_draw_key(struct potzendai_thread *t, enum potzendai_function function)
@@ -348,7 +378,7 @@ static inline void potzendai_draw_call(struct potzendai_thread *t, struct potzen
     request->key = potzendai_draw_key(t, request->function);
     request->value = request->other = 0;
     if (potzendai_writes(request->function))
-        request->value = potzendai_next_value(t);
+        request->value = potzendai_new_value(t->run, t->number);
     if (request->function == POTZENDAI_REPLACE)
         request->other = t->seen[request->key];
     if (request->function == POTZENDAI_SCAN) {
@@ -393,6 +423,7 @@ static inline void *potzendai_thread_body(void *own)
         sched_yield();
     while (potzendai_may_call(t) && potzendai_draw_and_make(t) == 0)
         ;
+    t->points = potzendai_points;
     if (run->map->close && (t->connection || !run->map->open))
         run->map->close(t->connection);
     atomic_fetch_sub(&run->arrived, (uint64_t)1);
@@ -465,7 +496,10 @@ static inline void potzendai_join_threads(struct potzendai_run *run, struct potz
             run->counts.sayings[said] += threads[i].sayings[said];
         for (int f = 0; f < POTZENDAI_FUNCTIONS; f++)
             run->counts.functions_called[f] += threads[i].functions_called[f];
+        run->counts.hits += threads[i].hits;
+        run->counts.points += threads[i].points;
     }
+    run->counts.wrongs = atomic_load(&run->wrongs);
 }
 
 #endif

@@ -42,11 +42,11 @@ struct potzendai_schedule_words {
 };
 
 struct potzendai_options {
-    uint64_t seconds, threads, keys, hot, calls, seed, rounds, yields, budget;
+    uint64_t seconds, threads, keys, hot, calls, seed, rounds, yields, budget, fresh;
     uint64_t shares[POTZENDAI_FUNCTIONS];
     enum potzendai_void void_puts;
     enum potzendai_break broken;
-    bool is_steps, is_stream, has_mix, has_void, has_seed;
+    bool is_steps, is_stream, has_mix, has_void, has_seed, is_reopened;
     struct potzendai_schedule_words schedule;
     const char *out, *bench;
 };
@@ -73,6 +73,8 @@ static const char potzendai_usage[] =
     "  --scan HOW        snapshot: a scan is of one moment; steps: steps of ceiling (snapshot)\n"
     "  --yield N         of a thousand points between and in calls, so many give way to other threads (0)\n"
     "  --break HOW       makes the map wrong now and then: drop, race, replay, stale, zombie, torn or cas; all: in each of these ways\n"
+    "  --fresh N         a new map after each so many rounds (one map)\n"
+    "  --reopen          the map is closed and opened again after each round\n"
     "  --stream          one stream that is followed, in the place of rounds\n"
     "  --schedule HOW    the scheduler says which thread runs: mix, pos, pct or walk; with 12 calls and 4 keys\n"
     "  --depth N         of pct: at N - 1 drawn points a priority changes (3)\n"
@@ -155,7 +157,8 @@ static inline int potzendai_read_numbered(struct potzendai_options *o, const cha
     const struct potzendai_numbered all[] = {
         {"--seconds", 1, 1000000000, &o->seconds}, {"--rounds", 1, UINT64_MAX, &o->rounds}, {"--threads", 1, 1024, &o->threads},
         {"--keys", 1, 16384, &o->keys}, {"--hot", 1, 16384, &o->hot}, {"--calls", 1, UINT64_MAX, &o->calls},
-        {"--seed", 0, UINT64_MAX, &o->seed}, {"--yield", 0, 1000, &o->yields}, {"--budget", 1, POTZENDAI_MOST, &o->budget}
+        {"--seed", 0, UINT64_MAX, &o->seed}, {"--yield", 0, 1000, &o->yields}, {"--budget", 1, POTZENDAI_MOST, &o->budget},
+        {"--fresh", 1, UINT64_MAX, &o->fresh}
     };
     for (size_t i = 0; i < sizeof all / sizeof *all; i++)
         if (strcmp(word, all[i].name) == 0) {
@@ -232,8 +235,9 @@ static inline int potzendai_read_word(struct potzendai_options *o, char **words,
     if (potzendai_read_schedule_flag(&o->schedule, word) == 0)
         return 0;
     o->has_seed = o->has_seed || strcmp(word, "--seed") == 0;
-    if (strcmp(word, "--stream") == 0) {
-        o->is_stream = true;
+    if (strcmp(word, "--stream") == 0 || strcmp(word, "--reopen") == 0) {
+        o->is_stream = o->is_stream || word[2] == 's';
+        o->is_reopened = o->is_reopened || word[2] == 'r';
         return 0;
     }
     const char *text = words[++*at];
@@ -308,6 +312,16 @@ static inline int potzendai_check_break(const struct potzendai_options *o)
     return potzendai_complain("--break", "what it makes wrong is not called");
 }
 
+/* Whether there can be new maps, and maps that are opened again. */
+static inline int potzendai_check_maps(const struct potzendai_options *o, const struct potzendai_map *map)
+{
+    if (o->is_stream && (o->fresh || o->is_reopened))
+        return potzendai_complain(o->fresh ? "--fresh" : "--reopen", "not with --stream, which is of one map");
+    if (o->fresh && !map->begin)
+        return potzendai_complain("--fresh", "the map has no function begin, which makes a new one");
+    return o->is_reopened && !map->reopen ? potzendai_complain("--reopen", "the map has no function reopen") : 0;
+}
+
 /* How many calls a process may make in a round: those of a thread, or the last gets of all keys. */
 static inline uint64_t potzendai_calls_each(const struct potzendai_options *o)
 {
@@ -377,6 +391,8 @@ static inline int potzendai_check_schedule(const struct potzendai_options *o)
         return potzendai_complain("--schedule", "not with --stream: schedules are of rounds");
     if (o->yields > 0)
         return potzendai_complain("--schedule", "not with --yield: the scheduler says which thread gives way");
+    if (o->fresh > 0 || o->is_reopened)
+        return potzendai_complain("--schedule", "not with --fresh or --reopen: each round begins with the map as it was at first");
     if (s->has_replay && !o->has_seed)
         return potzendai_complain("--replay", "needs --seed: a round is the same again only with its seed");
     if (s->has_replay && s->jobs > 1)
@@ -448,6 +464,7 @@ static inline int potzendai_read_words(struct potzendai_options *o, int argc, ch
     int status = potzendai_check_schedule(o);
     status = status ? status : potzendai_check_shares(o, map);
     status = status ? status : potzendai_check_break(o);
+    status = status ? status : potzendai_check_maps(o, map);
     status = status ? status : potzendai_check_sizes(o);
     return status ? status : potzendai_check_out(o);
 }
@@ -486,6 +503,10 @@ static inline void potzendai_write_words(FILE *out, const struct potzendai_optio
     fprintf(out, " --scan %s", potzendai_scans[o->is_steps]);
     if (o->yields)
         fprintf(out, " --yield %" PRIu64, o->yields);
+    if (o->fresh)
+        fprintf(out, " --fresh %" PRIu64, o->fresh);
+    if (o->is_reopened)
+        fputs(" --reopen", out);
     if (o->broken != POTZENDAI_UNBROKEN)
         fprintf(out, " --break %s", potzendai_breaks[o->broken]);
     if (o->schedule.way != POTZENDAI_FREE)

@@ -71,8 +71,8 @@ struct recording_log {
     struct recording_event *events;
     struct recording_pair *pairs;
     size_t length, pairs_held;
-    uint64_t stamp_held;
-    bool is_held;
+    uint64_t stamp_held, stamp_taken;
+    bool is_held, is_taken;
     char apart[128];
 };
 
@@ -152,10 +152,14 @@ static inline int recording_add(struct recording *r, unsigned p, enum recording_
     if (!recording_may(r, p, kind >= RECORDING_NONE))
         return -1;
     struct recording_log *log = &r->logs[p];
-    struct recording_event e = {log->stamp_held, {a, b, c}, kind, p};
-    if (!log->is_held)
+    bool is_call = kind < RECORDING_NONE;
+    struct recording_event e = {is_call ? log->stamp_held : log->stamp_taken, {a, b, c}, kind, p};
+    if (!(is_call ? log->is_held : log->is_taken))
         e.stamp = atomic_fetch_add(&r->stamps, (uint64_t)1);
-    log->is_held = false;
+    if (is_call)
+        log->is_held = false;
+    else
+        log->is_taken = false;
     log->events[log->length++] = e;
     return 0;
 }
@@ -171,12 +175,23 @@ static inline int recording_hold(struct recording *r, unsigned p)
     return 0;
 }
 
+/* The call of process p, which it holds or has open and which only reads, has taken its snapshot: it is answered by what is there at this
+ * moment, under the stamp that is drawn here, though its answer is noted later. Of several such moments the last one counts. */
+static inline int recording_taken(struct recording *r, unsigned p)
+{
+    if (!recording_may(r, p, true) && !(recording_may(r, p, false) && r->logs[p].is_held))
+        return -1;
+    r->logs[p].stamp_taken = atomic_fetch_add(&r->stamps, (uint64_t)1);
+    r->logs[p].is_taken = true;
+    return 0;
+}
+
 /* The call that process p holds is left out: it has changed nothing. */
 static inline int recording_drop(struct recording *r, unsigned p)
 {
     if (p >= r->processes || !r->logs[p].is_held)
         return -1;
-    r->logs[p].is_held = false;
+    r->logs[p].is_held = r->logs[p].is_taken = false;
     return 0;
 }
 
