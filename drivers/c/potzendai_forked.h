@@ -150,13 +150,6 @@ static inline void potzendai_fork_rounds(struct potzendai_tester *tester, struct
 
 /* ---- In the run's own process. */
 
-/* Memory that the processes share; NULL where it is refused. */
-static inline void *potzendai_share(size_t size)
-{
-    void *at = mmap(NULL, size, PROT_READ | PROT_WRITE, MAP_SHARED | MAP_ANONYMOUS | MAP_NORESERVE, -1, 0);
-    return at == MAP_FAILED ? NULL : at;
-}
-
 /* Closes what it has, and waits for its process. */
 static inline void potzendai_close_forker(struct potzendai_forker *f)
 {

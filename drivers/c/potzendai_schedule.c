@@ -17,6 +17,13 @@
  *     schedule_waits.h     locks and what else waits
  *     schedule_pinned.h    what has to be the same in each process
  *     schedule_places.h    where an instruction is in the source */
+#if defined(__SANITIZE_THREAD__)
+#error "compile potzendai_schedule.c without -fsanitize=thread: it stands in the place of what that links"
+#elif defined(__has_feature)
+#if __has_feature(thread_sanitizer)
+#error "compile potzendai_schedule.c without -fsanitize=thread: it stands in the place of what that links"
+#endif
+#endif
 #ifndef _GNU_SOURCE
 #define _GNU_SOURCE
 #endif
@@ -37,6 +44,7 @@
 #include <stdlib.h>
 #include <string.h>
 #include <sys/auxv.h>
+#include <sys/mman.h>
 #include <sys/personality.h>
 #include <sys/random.h>
 #include <sys/syscall.h>
@@ -55,6 +63,12 @@
 #include "schedule_places.h"
 
 /* ---- What the driver calls, in the order of a round. The round has a process of its own, so all is zero before. */
+
+static void *share(size_t size)
+{
+    void *at = mmap(NULL, size, PROT_READ | PROT_WRITE, MAP_SHARED | MAP_ANONYMOUS | MAP_NORESERVE, -1, 0);
+    return at == MAP_FAILED ? NULL : at;
+}
 
 static void begin(const struct potzendai_schedule *schedule, struct potzendai_scheduled *scheduled_round)
 {
@@ -169,7 +183,7 @@ static void leave(void)
         pause();
 }
 
-static const struct potzendai_scheduler scheduler = {is_pinned, real_clock, begin, enter, ready, run, call, in, out, leave, locate};
+static const struct potzendai_scheduler scheduler = {is_pinned, real_clock, share, begin, enter, ready, run, call, in, out, leave, locate};
 const struct potzendai_scheduler *potzendai_scheduler = &scheduler;
 
 /* A point that a map names itself. */

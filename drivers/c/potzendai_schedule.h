@@ -76,6 +76,7 @@ struct potzendai_scheduled {
 struct potzendai_scheduler {
     bool (*is_pinned)(void);       /* whether addresses are the same in each process */
     void (*clock)(clockid_t clock, struct timespec *now); /* the time as it is, which the map is not shown */
+    void *(*share)(size_t size);   /* memory that processes share, all 0; NULL where it is refused */
     void (*begin)(const struct potzendai_schedule *asked, struct potzendai_scheduled *made); /* before threads are made */
     void (*enter)(unsigned number); /* in a thread, first of all: waits for its turn to open its connection */
     void (*ready)(void);            /* in a thread that has opened it */

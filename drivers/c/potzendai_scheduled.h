@@ -119,6 +119,9 @@ static inline void potzendai_add_counts(struct potzendai_counts *all, const stru
 {
     all->calls += some->calls;
     all->overlap += some->overlap;
+    all->hits += some->hits;
+    all->points += some->points;
+    all->wrongs += some->wrongs;
     for (int said = 0; said < POTZENDAI_SAYINGS; said++)
         all->sayings[said] += some->sayings[said];
     for (int f = 0; f < POTZENDAI_FUNCTIONS; f++)
@@ -252,9 +255,9 @@ static inline int potzendai_open_plan(struct potzendai_plan *plan, struct potzen
     uint64_t jobs = tester->options->schedule.jobs;
     int status = 0;
     plan->tester = tester;
-    plan->words = (struct potzendai_word *)potzendai_share(POTZENDAI_WORDS * sizeof *plan->words);
+    plan->words = (struct potzendai_word *)potzendai_scheduler->share(POTZENDAI_WORDS * sizeof *plan->words);
     for (uint64_t i = 0; i < jobs; i++) {
-        plan->forkers[i].shared = (struct potzendai_shared *)potzendai_share(sizeof *plan->forkers[i].shared);
+        plan->forkers[i].shared = (struct potzendai_shared *)potzendai_scheduler->share(sizeof *plan->forkers[i].shared);
         status = plan->words && plan->forkers[i].shared ? status : -1;
     }
     fflush(NULL);
