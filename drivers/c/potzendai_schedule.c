@@ -24,6 +24,7 @@
 #error "compile potzendai_schedule.c without -fsanitize=thread: it stands in the place of what that links"
 #endif
 #endif
+#undef _FORTIFY_SOURCE /* under which memcpy is an inline function of string.h; here it is defined */
 #ifndef _GNU_SOURCE
 #define _GNU_SOURCE
 #endif

@@ -179,6 +179,25 @@ __attribute__((constructor(101))) static void find_real_copies(void)
 void *memcpy(void *restrict to, const void *restrict from, size_t size) { return copy(to, from, size, real_memcpy, HERE); }
 void *memmove(void *to, const void *from, size_t size) { return copy(to, from, size, real_memmove, HERE); }
 void *memset(void *to, int byte, size_t size) { return fill(to, byte, size, HERE); }
+
+/* The same under _FORTIFY_SOURCE, which knows how much room there is. */
+static void check_room(size_t size, size_t room)
+{
+    if (size > room)
+        abort();
+}
+
+#define CHECKED(name, type, function) \
+    void *__##name##_chk(void *to, type what, size_t size, size_t room) \
+    { \
+        check_room(size, room); \
+        return function; \
+    }
+CHECKED(memcpy, const void *, copy(to, what, size, real_memcpy, HERE))
+CHECKED(memmove, const void *, copy(to, what, size, real_memmove, HERE))
+CHECKED(memset, int, fill(to, what, size, HERE))
+
+/* The names that newer compilers call. */
 void *__tsan_memcpy(void *to, const void *from, size_t size) { return copy(to, from, size, real_memcpy, HERE); }
 void *__tsan_memmove(void *to, const void *from, size_t size) { return copy(to, from, size, real_memmove, HERE); }
 void *__tsan_memset(void *to, int byte, size_t size) { return fill(to, byte, size, HERE); }

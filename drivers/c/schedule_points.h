@@ -150,8 +150,11 @@ static void point(struct thread *t, struct event e)
     note_place(t, e.code);
     count_step(t);
     bool gives_way = e.yields || ++t->idle > STEPS_WITHOUT_CHANGE || (e.looks && look_at(t, e.address) > LOOKS_MOST);
-    if (gives_way)
+    if (gives_way) {
         has_changed(t);
+        if (++times_given_way % WAYS_GIVEN_UNTIL_TIME == 0)
+            let_time_pass();
+    }
     set_priority(t, gives_way);
     drain_by_chance(t);
     go_to(t, choose(t, gives_way));

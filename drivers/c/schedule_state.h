@@ -16,6 +16,7 @@ enum {
     LOOKS_LEFT_OUT = 100,     /* after so many looks a word that is no point becomes one */
     STEPS_WITHOUT_CHANGE = 2000,
     STEPS_WITHOUT_END = 200000, /* in so many steps, during which no call ends, a round is taken to be endless */
+    WAYS_GIVEN_UNTIL_TIME = 256, /* where threads spin, those that wait for a time get it after so many spins */
     PARK_STACK = 16384
 };
 enum { LOOKED_AT = 64, STORES = 16, CHANGES = 64 };
@@ -52,7 +53,7 @@ static struct thread threads[POTZENDAI_SCHEDULED];
 static unsigned count, opened;
 static const struct potzendai_schedule *asked;
 static struct potzendai_scheduled *made;
-static uint64_t random_state, lowest_priority, steps_at_end_of_call;
+static uint64_t random_state, lowest_priority, steps_at_end_of_call, times_given_way;
 static uint64_t change_points[CHANGES];
 static size_t stack_size;
 static bool has_fibers;
