@@ -195,6 +195,17 @@ static inline int potzendai_take_ending(struct potzendai_plan *plan, const struc
     return is_outside ? POTZENDAI_IS_UNDECIDED : POTZENDAI_IS_NO;
 }
 
+/* Says each second how far this is, where somebody looks. */
+static inline void potzendai_scheduled_progress(struct potzendai_tester *tester)
+{
+    double now = potzendai_now();
+    if (!tester->has_terminal || now - tester->told < 1)
+        return;
+    fprintf(stderr, "%" PRIu64 " round%s, %.0f a second\n", tester->rounds, potzendai_plural(tester->rounds),
+            (double)tester->rounds / (now - tester->began));
+    tester->told = now;
+}
+
 /* Takes a round that was made: writes it or has it judged with others. */
 static inline int potzendai_take_scheduled(struct potzendai_plan *plan, const struct potzendai_shared *shared)
 {
@@ -212,7 +223,7 @@ static inline int potzendai_take_scheduled(struct potzendai_plan *plan, const st
     int status = potzendai_is_unjudged(tester->options) ? potzendai_write_round(tester, &told) : potzendai_await(tester, &told);
     potzendai_forget(&told);
     tester->refused = tester->run->counts.sayings[MAP_REFUSED];
-    potzendai_progress(tester);
+    potzendai_scheduled_progress(tester);
     return status;
 }
 
