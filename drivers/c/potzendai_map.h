@@ -2,6 +2,7 @@
 #ifndef POTZENDAI_MAP_H
 #define POTZENDAI_MAP_H
 
+#include "potzendai_schedule.h"
 #include "streaming.h"
 #include <inttypes.h>
 #include <time.h>
@@ -89,6 +90,17 @@ static inline bool potzendai_writes(enum potzendai_function function)
 }
 
 #ifdef __cplusplus
+extern "C" {
+#endif
+
+/* None, where the program is linked without one. */
+__attribute__((weak)) const struct potzendai_scheduler *potzendai_scheduler;
+
+#ifdef __cplusplus
+}
+#endif
+
+#ifdef __cplusplus
 #define POTZENDAI_OF_THREAD static thread_local
 #else
 #define POTZENDAI_OF_THREAD static _Thread_local
@@ -111,6 +123,8 @@ static inline void potzendai_ask(const struct potzendai_map *map, void *connecti
     answer->pair.value = 0;
     answer->count = 0;
     potzendai_is_calling = true;
+    if (potzendai_scheduler)
+        potzendai_scheduler->in();
     switch (request->function) {
     case POTZENDAI_GET: answer->said = map->get(connection, key, found); break;
     case POTZENDAI_PUT: answer->said = map->put(connection, key, request->value, found); break;
@@ -122,6 +136,8 @@ static inline void potzendai_ask(const struct potzendai_map *map, void *connecti
     case POTZENDAI_CEILING: answer->said = map->ceiling(connection, key, &answer->pair); break;
     default: answer->said = map->pop_first(connection, &answer->pair);
     }
+    if (potzendai_scheduler)
+        potzendai_scheduler->out();
     potzendai_is_calling = false;
 }
 
@@ -214,10 +230,19 @@ static inline uint64_t potzendai_draw_below(uint64_t *state, uint64_t limit)
     return potzendai_mix(state) % limit;
 }
 
+/* The time, also where a scheduler shows the map another one. */
+static inline void potzendai_clock(clockid_t clock, struct timespec *now)
+{
+    if (potzendai_scheduler)
+        potzendai_scheduler->clock(clock, now);
+    else
+        clock_gettime(clock, now);
+}
+
 static inline double potzendai_now(void)
 {
     struct timespec now;
-    clock_gettime(CLOCK_MONOTONIC, &now);
+    potzendai_clock(CLOCK_MONOTONIC, &now);
     return (double)now.tv_sec + (double)now.tv_nsec / 1e9;
 }
 

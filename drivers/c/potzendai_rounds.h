@@ -46,6 +46,8 @@ struct potzendai_told { char *text, *report; size_t length, room; bool is_left; 
 /* A round that is recorded and not judged yet, with its number and what was counted up to its end. */
 struct potzendai_waiting { struct potzendai_told told; struct potzendai_counts counts; uint64_t round; };
 
+struct potzendai_plan;
+
 /* A run with what comes of it. `given` is the map of the program, `opened` the one of it that is tested now. `connection` is of the thread that
  * runs all of it. Where it is quiet, a no is not told. */
 struct potzendai_tester {
@@ -60,6 +62,8 @@ struct potzendai_tester {
     uint64_t rounds, refused, undecided, calls_judged;
     double began, told, overlap_a_call, waits_since;
     bool has_terminal, has_overlap, is_quiet, is_connected;
+    struct potzendai_plan *plan; /* of a scheduled run */
+    const char *ending;          /* how its last round ended, where that has no recording */
     struct potzendai_waiting waiting[POTZENDAI_BATCH];
     size_t waiting_count;
 };
@@ -612,7 +616,8 @@ static inline void potzendai_tell_no(struct potzendai_tester *tester, const stru
 /* The words that draw the same calls again, of a run of so many rounds. */
 static inline void potzendai_tell_again(const struct potzendai_tester *tester, uint64_t rounds)
 {
-    fputs("  again (draws the same calls; threads may interleave otherwise): ", stderr);
+    bool is_same = tester->run->is_scheduled && potzendai_scheduler->is_pinned();
+    fprintf(stderr, "  again (%s): ", is_same ? "the same schedule" : "draws the same calls; threads may interleave otherwise");
     potzendai_write_words(stderr, tester->options, tester->program, rounds);
 }
 
@@ -646,13 +651,19 @@ static inline int potzendai_refuted(struct potzendai_tester *tester, struct potz
     return POTZENDAI_IS_NO;
 }
 
+/* The same of a scheduled round: potzendai_scheduled.h. */
+static inline int potzendai_refuted_by_schedule(struct potzendai_tester *tester, struct potzendai_told *told);
+
 /* The verdict on a round, and what follows of it. */
 static inline int potzendai_take_round(struct potzendai_tester *tester, struct potzendai_told *told)
 {
     enum potzendai_status status = potzendai_judged(tester->options, told);
     switch (status) {
     case POTZENDAI_IS_YES: return POTZENDAI_IS_YES;
-    case POTZENDAI_IS_NO: return tester->is_quiet ? POTZENDAI_IS_NO : potzendai_refuted(tester, told);
+    case POTZENDAI_IS_NO:
+        if (tester->is_quiet)
+            return POTZENDAI_IS_NO;
+        return tester->run->is_scheduled ? potzendai_refuted_by_schedule(tester, told) : potzendai_refuted(tester, told);
     case POTZENDAI_IS_UNDECIDED: tester->undecided++; return POTZENDAI_IS_YES;
     case POTZENDAI_NO_MEMORY: return potzendai_fail(tester->run, POTZENDAI_NO_MEMORY, "memory: a round was not judged");
     default:

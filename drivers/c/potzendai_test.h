@@ -22,6 +22,7 @@
 #define _POSIX_C_SOURCE 200809L
 #endif
 #include "potzendai_follow.h"
+#include "potzendai_scheduled.h"
 #include <signal.h>
 
 static const char *const potzendai_verdicts[] = {"yes", "no", "undecided"};
@@ -157,7 +158,7 @@ static inline int potzendai_finish(const struct potzendai_tester *tester, int st
     if (status == POTZENDAI_IS_YES && tester->options->broken != POTZENDAI_UNBROKEN)
         fprintf(stderr, "--break %s: the map was wrong now and then, and these calls did not show it\n",
                 potzendai_breaks[tester->options->broken]);
-    potzendai_tell_all(stdout, tester, potzendai_verdicts[status]);
+    potzendai_tell_all(stdout, tester, tester->ending ? tester->ending : potzendai_verdicts[status]);
     if (fflush(stdout) == 0)
         return status;
     fputs("standard output: not written\n", stderr);
@@ -214,7 +215,8 @@ static inline int potzendai_run_all(struct potzendai_tester *tester)
 {
     int status = potzendai_begin_map(tester);
     if (status == 0)
-        status = tester->options->is_stream ? potzendai_stream(tester) : potzendai_rounds(tester);
+        status = tester->options->is_stream ? potzendai_stream(tester)
+               : tester->options->schedule.way != POTZENDAI_FREE ? potzendai_schedule_rounds(tester) : potzendai_rounds(tester);
     potzendai_end_map(tester);
     return status;
 }

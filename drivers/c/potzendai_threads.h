@@ -44,6 +44,7 @@ struct potzendai_run {
     uint64_t threads, keys_drawn, calls, round;
     uint64_t puts[1024], values_from;
     struct potzendai_counts counts;
+    bool is_scheduled;
     struct potzendai_open open_calls[RECORDING_PROCESSES];
     recording_word open_count;
     recording_word next_process, processes, arrived, has_begun, is_over, fault, wrongs, pops, left_out;
@@ -488,6 +489,10 @@ static inline int potzendai_draw_and_make(struct potzendai_thread *t)
     struct potzendai_request request;
     struct potzendai_answer answer;
     potzendai_draw_call(t, &request);
+    if (t->run->is_scheduled && !potzendai_scheduler->call(request.function, request.key)) {
+        t->made++;
+        return 0;
+    }
     potzendai_point();
     if (request.function == POTZENDAI_SCAN && t->run->options->is_steps)
         return potzendai_make_steps(t, request.key, request.other);
@@ -501,13 +506,17 @@ static inline void *potzendai_thread_body(void *own)
 {
     struct potzendai_thread *t = (struct potzendai_thread *)own;
     struct potzendai_run *run = t->run;
+    if (run->is_scheduled)
+        potzendai_scheduler->enter(t->number);
     uint64_t seed = run->options->seed, round = run->round + ((uint64_t)1 << 40), number = t->number + ((uint64_t)1 << 50);
     t->state = potzendai_mix(&seed) ^ potzendai_mix(&round) ^ potzendai_mix(&number);
     potzendai_yield_state = t->state + 1;
     potzendai_yields = (unsigned)run->options->yields;
     t->connection = potzendai_open_connection(run, run->map, t->number);
     atomic_fetch_add(&run->arrived, (uint64_t)1);
-    while (!atomic_load(&run->has_begun))
+    if (run->is_scheduled)
+        potzendai_scheduler->ready();
+    while (!run->is_scheduled && !atomic_load(&run->has_begun))
         sched_yield();
     while (potzendai_may_call(t) && potzendai_draw_and_make(t) == 0)
         ;
@@ -515,6 +524,8 @@ static inline void *potzendai_thread_body(void *own)
     if (run->map->close && (t->connection || !run->map->open))
         run->map->close(t->connection);
     atomic_fetch_sub(&run->arrived, (uint64_t)1);
+    if (run->is_scheduled)
+        potzendai_scheduler->leave();
     return NULL;
 }
 
@@ -560,6 +571,12 @@ static inline uint64_t potzendai_start_threads(struct potzendai_run *run, struct
         started++;
     if (started < run->threads)
         potzendai_fail(run, POTZENDAI_NO_MEMORY, "memory: thread %" PRIu64 " was not started", started);
+    if (run->is_scheduled) {
+        if (started < run->threads) /* those that were started wait for the others, which never come */
+            _exit(POTZENDAI_NO_MEMORY);
+        potzendai_scheduler->run();
+        return started;
+    }
     for (unsigned times = 0; atomic_load(&run->arrived) < started;)
         streaming_rest(&times);
     atomic_store(&run->has_begun, (uint64_t)1);
@@ -570,7 +587,8 @@ static inline uint64_t potzendai_start_threads(struct potzendai_run *run, struct
 static inline void potzendai_join_threads(struct potzendai_run *run, struct potzendai_thread *threads, uint64_t started)
 {
     for (uint64_t i = 0; i < started; i++) {
-        pthread_join(threads[i].id, NULL);
+        if (!run->is_scheduled) /* those have left, and end with their process */
+            pthread_join(threads[i].id, NULL);
         for (int said = 0; said < POTZENDAI_SAYINGS; said++)
             run->counts.sayings[said] += threads[i].sayings[said];
         for (int f = 0; f < POTZENDAI_FUNCTIONS; f++)

@@ -1,0 +1,48 @@
+/* Where an instruction is in the source: addr2line says it. Part of potzendai_schedule.c. */
+#ifndef SCHEDULE_PLACES_H
+#define SCHEDULE_PLACES_H
+
+/* Whether a line of addr2line is of the map, and not of what the compiler and the driver bring along. */
+static bool is_of_map(const char *line)
+{
+    return line[0] != '?' && strncmp(line, "/usr/", 5) != 0 && !strstr(line, "/potzendai_");
+}
+
+/* Takes the first line that is of the map, else the last: they are those of functions that are inlined in each other, from within. */
+static void read_line(FILE *lines, char *text, size_t room)
+{
+    char line[1024];
+    bool is_found = false;
+    while (!is_found && fgets(line, sizeof line, lines)) {
+        const char *slash = strrchr(line, '/');
+        line[strcspn(line, " \n")] = 0;
+        is_found = is_of_map(line);
+        if (line[0] != '?')
+            snprintf(text, room, "%s", slash ? slash + 1 : line);
+    }
+}
+
+/* Writes a source line, as mine.c:113; and where nobody knows it, as without -g, the file and the number of the instruction in it. */
+static void locate(uintptr_t code, char *text, size_t room)
+{
+    Dl_info file;
+    char command[PATH_MAX + 64];
+    if (!dladdr((void *)code, &file) || !file.dli_fname) {
+        snprintf(text, room, "%#lx", (unsigned long)code);
+        return;
+    }
+    const ElfW(Ehdr) *header = (const ElfW(Ehdr) *)file.dli_fbase;
+    uintptr_t within = code - (header->e_type == ET_DYN ? (uintptr_t)file.dli_fbase : 0);
+    const char *slash = strrchr(file.dli_fname, '/');
+    snprintf(text, room, "%s+%#lx", slash ? slash + 1 : file.dli_fname, (unsigned long)within);
+    if (strchr(file.dli_fname, '\''))
+        return;
+    snprintf(command, sizeof command, "addr2line -i -e '%s' %#lx 2>/dev/null", file.dli_fname, (unsigned long)within - 1);
+    FILE *lines = popen(command, "r");
+    if (!lines)
+        return;
+    read_line(lines, text, room);
+    pclose(lines);
+}
+
+#endif
