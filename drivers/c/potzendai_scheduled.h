@@ -120,6 +120,9 @@ static inline void potzendai_add_counts(struct potzendai_counts *all, const stru
     all->calls += some->calls;
     all->overlap += some->overlap;
     all->hits += some->hits;
+    all->misses += some->misses;
+    all->losses += some->losses;
+    all->left_out += some->left_out;
     all->points += some->points;
     all->wrongs += some->wrongs;
     for (int said = 0; said < POTZENDAI_SAYINGS; said++)
