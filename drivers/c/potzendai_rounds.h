@@ -145,10 +145,10 @@ static inline void potzendai_write_at_rest(struct potzendai_run *run, uint64_t k
 }
 
 /* Whether what was said at rest says what the key holds, or that a write was done. */
-static inline bool potzendai_is_known(const struct potzendai_request *request, enum map_said said)
+static inline bool potzendai_is_known(const struct potzendai_options *o, const struct potzendai_request *request, enum map_said said)
 {
-    bool is_told = said == MAP_TOLD || said == MAP_NONE;
-    return is_told || (request->function != POTZENDAI_GET && (said == MAP_DONE || said == MAP_FOUND));
+    bool is_get = request->function == POTZENDAI_GET, is_none = said == MAP_NONE && !(is_get && o->cache == POTZENDAI_CACHE_LATE);
+    return said == MAP_TOLD || is_none || (!is_get && (said == MAP_DONE || said == MAP_FOUND));
 }
 
 /* Has a key known at rest: by a get, or by a write where the get does not tell. As calls of a process, where it is one of the recording. */
@@ -161,16 +161,22 @@ static inline int potzendai_know(struct potzendai_tester *tester, uint64_t key, 
     if (process && recording_hold(run->recording, *process))
         return -1;
     potzendai_ask_at_rest(tester, &request, &answer);
-    if ((answer.said == MAP_DONE || answer.said == MAP_FOUND) && (run->truly->put || run->truly->del)) {
+    bool is_hidden = answer.said == MAP_DONE || answer.said == MAP_FOUND || (answer.said == MAP_NONE && run->options->cache == POTZENDAI_CACHE_LATE);
+    if (is_hidden && (run->truly->put || run->truly->del)) {
         potzendai_write_at_rest(run, key, &request);
         potzendai_ask_at_rest(tester, &request, &answer);
     }
-    if (!potzendai_is_known(&request, answer.said))
+    if (!potzendai_is_known(run->options, &request, answer.said))
         return potzendai_fail(run, POTZENDAI_BAD_WORDS, "%s of %" PRIu64 " said %s at rest, where it has to tell",
                               potzendai_functions[request.function], key,
                               (unsigned)answer.said < POTZENDAI_SAYINGS ? potzendai_sayings[answer.said] : "no answer");
-    const struct potzendai_row *row = &potzendai_rows[request.function][answer.said];
+    enum recording_note note;
+    const struct potzendai_row *row = potzendai_row_of_cache(run->options->cache, request.function, answer.said,
+                                                             &potzendai_rows[request.function][answer.said], &note);
     potzendai_words(&request, &answer, row->call, words);
+    if (process)
+        run->recording->logs[*process].note = note;
+    run->counts.losses += process && note == RECORDING_GET_MISSED && atomic_exchange(&run->keys[key].is_held, (uint64_t)0) != 0;
     if (process && (recording_add(run->recording, *process, row->call, words[0], words[1], words[2])
                     || recording_add(run->recording, *process, row->answer, answer.pair.value, 0, 0)))
         return -1;
@@ -273,11 +279,14 @@ static inline void potzendai_settle(struct potzendai_run *run)
 static inline void potzendai_remember_start(struct potzendai_tester *tester)
 {
     struct potzendai_key *keys = tester->run->keys;
-    for (uint64_t key = 0; key < tester->options->keys; key++)
+    for (uint64_t key = 0; key < tester->options->keys; key++) {
         keys[key].memory = POTZENDAI_ABSENT;
+        atomic_store(&keys[key].is_held, (uint64_t)0);
+    }
     for (size_t i = 0; i < tester->pairs_at_start; i++) {
         keys[tester->start[i].key].memory = POTZENDAI_PRESENT;
         keys[tester->start[i].key].value = tester->start[i].value;
+        atomic_store(&keys[tester->start[i].key].is_held, (uint64_t)1);
     }
 }
 
@@ -335,7 +344,11 @@ static inline int potzendai_add_overlap(struct potzendai_tester *tester)
 static inline int potzendai_text_of(struct potzendai_tester *tester, struct potzendai_told *told)
 {
     FILE *out = open_memstream(&told->text, &told->length);
-    int status = out ? recording_write(tester->run->recording, out) : -1;
+    const struct potzendai_options *o = tester->options;
+    struct potzendai_run *run = tester->run;
+    bool is_late = o->cache == POTZENDAI_CACHE_LATE;
+    int status = !out ? -1 : o->cache == POTZENDAI_NO_CACHE ? recording_write(run->recording, out)
+                                                            : potzendai_write_cached(run->recording, out, o->keys, is_late, &run->counts.left_out);
     if (!out || fclose(out) || status || !told->text)
         return potzendai_fail(tester->run, POTZENDAI_NO_MEMORY, "memory: a round was not written");
     return 0;

@@ -24,7 +24,7 @@ enum potzendai_points {
     POTZENDAI_LEARNED     /* those at words at which two threads were seen to meet */
 };
 
-enum { POTZENDAI_SCHEDULED = 64, POTZENDAI_SWITCHES = 1 << 16, POTZENDAI_WORDS = 1 << 17 };
+enum { POTZENDAI_SCHEDULED = 64, POTZENDAI_SWITCHES = 1 << 16, POTZENDAI_LEARNED_WORDS = 1 << 17 };
 
 /* Thread `thread` gives way to thread `to` in its call number `call`, at its point number `step` within that. A switch to DRAIN is none: there
  * the oldest store in the thread's buffer reaches the memory. `code` is the address of the instruction, and the rest says which call it is. */

@@ -129,6 +129,9 @@ static inline void potzendai_add_counts(struct potzendai_counts *all, const stru
     all->calls += some->calls;
     all->overlap += some->overlap;
     all->hits += some->hits;
+    all->misses += some->misses;
+    all->losses += some->losses;
+    all->left_out += some->left_out;
     all->points += some->points;
     all->wrongs += some->wrongs;
     for (int said = 0; said < POTZENDAI_SAYINGS; said++)
@@ -275,7 +278,7 @@ static inline int potzendai_open_plan(struct potzendai_plan *plan, struct potzen
     uint64_t jobs = tester->options->schedule.jobs;
     int status = 0;
     plan->tester = tester;
-    plan->words = (struct potzendai_word *)potzendai_scheduler->share(POTZENDAI_WORDS * sizeof *plan->words);
+    plan->words = (struct potzendai_word *)potzendai_scheduler->share(POTZENDAI_LEARNED_WORDS * sizeof *plan->words);
     for (uint64_t i = 0; i < jobs; i++) {
         plan->forkers[i].shared = (struct potzendai_shared *)potzendai_scheduler->share(sizeof *plan->forkers[i].shared);
         status = plan->words && plan->forkers[i].shared ? status : -1;
@@ -291,7 +294,7 @@ static inline void potzendai_close_plan(struct potzendai_plan *plan)
     for (int i = 0; i < POTZENDAI_SCHEDULED; i++)
         potzendai_close_forker(&plan->forkers[i]);
     if (plan->words)
-        munmap(plan->words, POTZENDAI_WORDS * sizeof *plan->words);
+        munmap(plan->words, POTZENDAI_LEARNED_WORDS * sizeof *plan->words);
 }
 
 /* Scheduled rounds until one has no order or ends otherwise, the time is over, or the run fails, which answers -1. */

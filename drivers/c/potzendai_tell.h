@@ -95,6 +95,39 @@ static inline const char *potzendai_event_from(const char *at)
     return at;
 }
 
+/* The note of an event, which says how its call was made where that is recorded as another one; or NULL. */
+static inline const char *potzendai_note_of(const char *event)
+{
+    const char *note = event ? strstr(event, "\"note\":\"") : NULL;
+    return note && note < event + strcspn(event, "}") ? note + strlen("\"note\":\"") : NULL;
+}
+
+/* The event of this number, or NULL. */
+static inline const char *potzendai_event_at(const char *text, uint64_t event)
+{
+    const char *at = potzendai_event_from(text);
+    for (; at && event > 0; event--)
+        at = potzendai_event_from(at + 1);
+    return at;
+}
+
+/* Writes a call in words as it was made: that of an event, of which this is the text of its call. */
+static inline void potzendai_tell_made(FILE *out, const char *event, const char *call)
+{
+    const char *note = potzendai_note_of(event);
+    if (note)
+        fprintf(out, "%.*s", (int)strcspn(note, ",\""), note);
+    else
+        potzendai_tell_call(out, call);
+}
+
+/* Writes what a call found, of which that is noted. */
+static inline void potzendai_tell_found(FILE *out, const char *event)
+{
+    const char *note = potzendai_note_of(event), *found = note ? note + strcspn(note, ",\"") : "\"";
+    fprintf(out, "%.*s", (int)strcspn(found, "\""), found);
+}
+
 /* Writes the events of a call: that of its invocation by a process, and that of its answer, where it has one. */
 static inline void potzendai_tell_events(FILE *out, const char *text, uint64_t invoked, uint64_t process)
 {
@@ -197,15 +230,17 @@ static inline void potzendai_tell_from(FILE *out, const char *line)
 }
 
 /* Writes which calls one misses: they stand where `at` is, or it is NULL. */
-static inline void potzendai_tell_missed(FILE *out, const char *at)
+static inline void potzendai_tell_missed(FILE *out, const char *text, const char *at)
 {
     for (; at && *at == '{'; at = strchr(at, '}') + 1, at += *at == ',') {
         const char *call = potzendai_member(at, "\"call\":");
         if (!call)
             break;
         fputs("; it misses ", out);
-        potzendai_tell_call(out, call);
+        const char *event = potzendai_event_at(text, potzendai_number(at, "\"event\":"));
+        potzendai_tell_made(out, event, call);
         fprintf(out, " of process %" PRIu64 " (event %" PRIu64 ")", potzendai_number(at, "\"process\":"), potzendai_number(at, "\"event\":"));
+        potzendai_tell_found(out, event);
     }
 }
 
@@ -387,12 +422,13 @@ static inline void potzendai_tell_open(FILE *out, const char *text, const char *
         if (!is_open || ++told > POTZENDAI_OPEN_SHOWN)
             continue;
         fputs(told == 1 ? "  also open on the same keys meanwhile: " : ", ", out);
-        potzendai_tell_call(out, events[i].at + 10);
+        potzendai_tell_made(out, events[i].at, events[i].at + 10);
         fprintf(out, " of process %" PRIu64 " (event", events[i].process);
         if (events[i].answered < count)
             fprintf(out, "s %zu to %zu)", i, events[i].answered);
         else
             fprintf(out, " %zu on)", i);
+        potzendai_tell_found(out, events[i].at);
     }
     if (told > POTZENDAI_OPEN_SHOWN)
         fprintf(out, ", and %zu more", told - POTZENDAI_OPEN_SHOWN);
@@ -426,9 +462,12 @@ static inline const char *potzendai_tell(FILE *out, const char *text, const char
             /* The calls that it misses stand before its own process. */
             const char *missed = potzendai_member(line, "\"misses\":["), *behind = missed ? strstr(missed, "}],") : line;
             potzendai_tell_events(out, text, potzendai_number(line, "\"event\":"), behind ? potzendai_number(behind, "\"process\":") : 0);
-            potzendai_tell_call(out, call);
-            potzendai_tell_answered(out, text, answer, is_left);
-            potzendai_tell_missed(out, missed);
+            const char *event = potzendai_event_at(text, potzendai_number(line, "\"event\":"));
+            potzendai_tell_made(out, event, call);
+            potzendai_tell_found(out, event);
+            if (*answer != '"' || !potzendai_note_of(event))
+                potzendai_tell_answered(out, text, answer, is_left);
+            potzendai_tell_missed(out, text, missed);
             fputs("\n", out);
         }
     }

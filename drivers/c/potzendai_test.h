@@ -45,6 +45,33 @@ static inline void potzendai_tell_calls(FILE *out, const struct potzendai_run *r
     fputc('\n', out);
 }
 
+/* Writes a number with a comma before each three digits. */
+static inline void potzendai_tell_number(FILE *out, uint64_t number)
+{
+    if (number >= 1000) {
+        potzendai_tell_number(out, number / 1000);
+        fprintf(out, ",%03" PRIu64, number % 1000);
+    } else
+        fprintf(out, "%" PRIu64, number);
+}
+
+/* Why a yes of a cache says little, or nothing. */
+static inline void potzendai_tell_misses(FILE *out, const struct potzendai_counts *counts)
+{
+    uint64_t gets = counts->functions_called[POTZENDAI_GET];
+    if (counts->hits == 0)
+        fputs("; no get hit: a yes says nothing", out);
+    else if (20 * counts->hits < gets) {
+        fprintf(out, "; %" PRIu64 " hit%s in ", counts->hits, potzendai_plural(counts->hits));
+        potzendai_tell_number(out, gets);
+        fputs(" gets: a yes says little", out);
+    }
+    if (counts->losses == 0)
+        fputs("; no key was lost: eviction was not tested", out);
+    if (counts->left_out > 0)
+        fprintf(out, "; %" PRIu64 " scan%s without some of the keys left out", counts->left_out, potzendai_plural(counts->left_out));
+}
+
 /* Why a yes of this run says little. */
 static inline void potzendai_tell_cautions(FILE *out, const struct potzendai_tester *tester)
 {
@@ -55,7 +82,9 @@ static inline void potzendai_tell_cautions(FILE *out, const struct potzendai_tes
         said += counts->sayings[i];
     if (2 * counts->sayings[MAP_REFUSED] > said)
         fputs("; most calls were refused: a yes says little", out);
-    if (counts->functions_called[POTZENDAI_GET] > 0 && counts->hits == 0)
+    if (o->cache != POTZENDAI_NO_CACHE)
+        potzendai_tell_misses(out, counts);
+    else if (counts->functions_called[POTZENDAI_GET] > 0 && counts->hits == 0)
         fputs("; no get found a value: a yes says little", out);
     if ((!o->is_stream || tester->has_overlap) && counts->calls > 0 && potzendai_overlap_a_call(tester) < 0.05)
         fputs("; overlap below 0.05: the threads hardly met, and a yes says little: call potzendai_point() in the map, and run with --yield 200", out);
@@ -67,7 +96,8 @@ static inline void potzendai_tell_cautions(FILE *out, const struct potzendai_tes
 static inline void potzendai_tell_all(FILE *out, const struct potzendai_tester *tester, const char *verdict)
 {
     const char *comma = ": ";
-    uint64_t calls = tester->run->counts.calls;
+    const struct potzendai_counts *counts = &tester->run->counts;
+    uint64_t calls = counts->calls;
     fprintf(out, "%s: ", verdict);
     if (!tester->options->is_stream)
         fprintf(out, "%" PRIu64 " round%s, ", tester->rounds, potzendai_plural(tester->rounds));
@@ -75,12 +105,15 @@ static inline void potzendai_tell_all(FILE *out, const struct potzendai_tester *
     if (!tester->options->is_stream || tester->has_overlap)
         fprintf(out, ", overlap %.2f a call", potzendai_overlap_a_call(tester));
     for (int said = 0; said < POTZENDAI_SAYINGS; said++)
-        if (tester->run->counts.sayings[said] > 0) {
-            fprintf(out, "%s%" PRIu64 " %s", comma, tester->run->counts.sayings[said], potzendai_sayings[said]);
+        if (counts->sayings[said] > 0) {
+            fprintf(out, "%s%" PRIu64 " %s", comma, counts->sayings[said], potzendai_sayings[said]);
             comma = ", ";
         }
     if (tester->undecided > 0)
         fprintf(out, "; %" PRIu64 " undecided", tester->undecided);
+    if (tester->options->cache != POTZENDAI_NO_CACHE)
+        fprintf(out, "; %" PRIu64 " hit%s, %" PRIu64 " miss%s, %" PRIu64 " loss%s", counts->hits, potzendai_plural(counts->hits), counts->misses,
+                counts->misses == 1 ? "" : "es", counts->losses, counts->losses == 1 ? "" : "es");
     if (strncmp(verdict, "no", 2) != 0)
         potzendai_tell_cautions(out, tester);
     fputc('\n', out);
@@ -112,6 +145,8 @@ static inline int potzendai_finish(const struct potzendai_tester *tester, int st
         return status;
     }
     potzendai_tell_calls(stderr, run);
+    if (status == POTZENDAI_IS_YES && tester->options->cache != POTZENDAI_NO_CACHE && run->counts.hits == 0 && !potzendai_is_unjudged(tester->options))
+        status = POTZENDAI_IS_UNDECIDED;
     if (potzendai_is_unjudged(tester->options)) {
         potzendai_tell_files(tester);
         potzendai_tell_all(stderr, tester, "not judged");

@@ -23,6 +23,9 @@ enum potzendai_break {
     POTZENDAI_EACH_BREAK, POTZENDAI_UNBROKEN
 };
 
+/* Whether the map is a cache, which may lose any key at any time; late: and a miss says nothing. */
+enum potzendai_cache { POTZENDAI_NO_CACHE, POTZENDAI_CACHE, POTZENDAI_CACHE_LATE };
+
 static const char *const potzendai_voids[] = {"done", "told", "own", "lock", NULL};
 static const char *const potzendai_breaks[] = {"drop", "race", "replay", "stale", "zombie", "torn", "cas", "all", NULL};
 static const char *const potzendai_scans[] = {"snapshot", "steps", NULL};
@@ -42,10 +45,11 @@ struct potzendai_schedule_words {
 };
 
 struct potzendai_options {
-    uint64_t seconds, threads, keys, hot, calls, seed, rounds, yields, budget, fresh;
+    uint64_t seconds, threads, keys, hot, calls, seed, rounds, yields, budget, fresh, span;
     uint64_t shares[POTZENDAI_FUNCTIONS];
     enum potzendai_void void_puts;
     enum potzendai_break broken;
+    enum potzendai_cache cache;
     bool is_steps, is_stream, has_mix, has_void, has_seed, is_reopened;
     struct potzendai_schedule_words schedule;
     const char *out, *bench;
@@ -73,6 +77,8 @@ static const char potzendai_usage[] =
     "  --scan HOW        snapshot: a scan is of one moment; steps: steps of ceiling (snapshot)\n"
     "  --yield N         of a thousand points between and in calls, so many give way to other threads (0)\n"
     "  --break HOW       makes the map wrong now and then: drop, race, replay, stale, zombie, torn or cas; all: in each of these ways\n"
+    "  --cache [late]    the map is a cache, which may lose any key at any time; late: and a miss says nothing, as of a cache whose writes\n"
+    "                    appear later\n"
     "  --fresh N         a new map after each so many rounds (one map)\n"
     "  --reopen          the map is closed and opened again after each round\n"
     "  --stream          one stream that is followed, in the place of rounds\n"
@@ -240,6 +246,12 @@ static inline int potzendai_read_word(struct potzendai_options *o, char **words,
         o->is_reopened = o->is_reopened || word[2] == 'r';
         return 0;
     }
+    if (strcmp(word, "--cache") == 0) {
+        bool is_late = words[*at + 1] && strcmp(words[*at + 1], "late") == 0;
+        o->cache = is_late ? POTZENDAI_CACHE_LATE : POTZENDAI_CACHE;
+        *at += is_late;
+        return 0;
+    }
     const char *text = words[++*at];
     if (strcmp(word, "--mix") == 0)
         return text ? potzendai_read_mix(o, text) : potzendai_complain(word, "shares, as get=50,put=30,del=10,scan=10");
@@ -344,8 +356,18 @@ static inline int potzendai_complain_of_round(const struct potzendai_options *o,
     return potzendai_complain(word, text);
 }
 
+/* The most keys of a range. Of a cache each key that a scan does not have takes a process of its own. */
+static inline uint64_t potzendai_span(const struct potzendai_options *o)
+{
+    uint64_t span = (RECORDING_PROCESSES - 1 - o->threads % RECORDING_PROCESSES) / (o->threads ? o->threads : 1);
+    bool is_less = o->cache != POTZENDAI_NO_CACHE && !o->is_stream && span < POTZENDAI_SPAN;
+    return !is_less ? (uint64_t)POTZENDAI_SPAN : span > 0 ? span : 1;
+}
+
 static inline int potzendai_check_sizes(struct potzendai_options *o)
 {
+    if (o->cache != POTZENDAI_NO_CACHE && o->void_puts == POTZENDAI_VOID_OWN)
+        return potzendai_complain("--cache", "not with --void own, since the writer of a key does not see that the key was lost");
     if (o->hot > o->keys)
         return potzendai_complain("--hot", "more than there are keys");
     if (o->void_puts == POTZENDAI_VOID_OWN && o->keys < o->threads)
@@ -466,6 +488,7 @@ static inline int potzendai_read_words(struct potzendai_options *o, int argc, ch
     status = status ? status : potzendai_check_break(o);
     status = status ? status : potzendai_check_maps(o, map);
     status = status ? status : potzendai_check_sizes(o);
+    o->span = potzendai_span(o);
     return status ? status : potzendai_check_out(o);
 }
 
@@ -503,6 +526,8 @@ static inline void potzendai_write_words(FILE *out, const struct potzendai_optio
     fprintf(out, " --scan %s", potzendai_scans[o->is_steps]);
     if (o->yields)
         fprintf(out, " --yield %" PRIu64, o->yields);
+    if (o->cache != POTZENDAI_NO_CACHE)
+        fprintf(out, " --cache%s", o->cache == POTZENDAI_CACHE_LATE ? " late" : "");
     if (o->fresh)
         fprintf(out, " --fresh %" PRIu64, o->fresh);
     if (o->is_reopened)

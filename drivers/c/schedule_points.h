@@ -83,7 +83,7 @@ static struct potzendai_word *find_word(uintptr_t address)
 {
     uintptr_t word = address / 8;
     size_t at = (size_t)((uint64_t)word * 0x9e3779b97f4a7c15u >> 47);
-    for (unsigned tries = 0; tries < 64; tries++, at = (at + 1) % POTZENDAI_WORDS)
+    for (unsigned tries = 0; tries < 64; tries++, at = (at + 1) % POTZENDAI_LEARNED_WORDS)
         if (asked->words[at].word == word || asked->words[at].word == 0)
             return &asked->words[at];
     return NULL;

@@ -62,6 +62,7 @@ struct streaming_process {
     enum recording_kind call;
     uint64_t stamp_held, stamp_taken, pairs_put;
     bool is_taken;
+    enum recording_note note; /* of the next call */
     struct recording_pair *pairs;
     recording_word pairs_written;
     char apart[128];
@@ -202,7 +203,8 @@ static inline int streaming_invoke(struct streaming *s, unsigned p, enum recordi
     bool is_held = streaming_may(s, p, STREAMING_HELD);
     if (!is_held && !streaming_may(s, p, STREAMING_IDLE))
         return -1;
-    struct recording_event event = {is_held ? s->processes[p].stamp_held : streaming_stamp(s), {a, b, c}, kind, p};
+    struct recording_event event = {is_held ? s->processes[p].stamp_held : streaming_stamp(s), {a, b, c}, kind, p, s->processes[p].note};
+    s->processes[p].note = RECORDING_AS_MADE;
     s->processes[p].state = STREAMING_OPEN;
     s->processes[p].call = kind;
     return streaming_put(s, &event, false);
@@ -252,7 +254,7 @@ static inline int streaming_drop(struct streaming *s, unsigned p)
 {
     if (!streaming_may(s, p, STREAMING_HELD))
         return -1;
-    struct recording_event event = {s->processes[p].stamp_held, {0, 0, 0}, RECORDING_NONE, p};
+    struct recording_event event = {s->processes[p].stamp_held, {0, 0, 0}, RECORDING_NONE, p, RECORDING_AS_MADE};
     s->processes[p].state = STREAMING_IDLE;
     return streaming_put(s, &event, true);
 }
@@ -266,7 +268,7 @@ static inline int streaming_taken(struct streaming *s, unsigned p)
         return 0;
     if (!streaming_may(s, p, STREAMING_OPEN))
         return -1;
-    struct recording_event none = {s->processes[p].stamp_taken, {0, 0, 0}, RECORDING_NONE, p};
+    struct recording_event none = {s->processes[p].stamp_taken, {0, 0, 0}, RECORDING_NONE, p, RECORDING_AS_MADE};
     if (s->processes[p].is_taken && streaming_put(s, &none, true))
         return -1;
     s->processes[p].stamp_taken = streaming_stamp(s);
@@ -279,7 +281,7 @@ static inline int streaming_respond(struct streaming *s, unsigned p, enum record
     if (!streaming_may(s, p, STREAMING_OPEN))
         return -1;
     bool is_taken = s->processes[p].is_taken;
-    struct recording_event event = {is_taken ? s->processes[p].stamp_taken : streaming_stamp(s), {a, b, 0}, kind, p};
+    struct recording_event event = {is_taken ? s->processes[p].stamp_taken : streaming_stamp(s), {a, b, 0}, kind, p, RECORDING_AS_MADE};
     s->processes[p].is_taken = false;
     s->processes[p].state = STREAMING_IDLE;
     return streaming_put(s, &event, false);
