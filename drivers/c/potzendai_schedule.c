@@ -150,6 +150,7 @@ static void in(void)
     if (!t)
         return;
     t->is_in_map = made->at[t->id].is_in_call = true;
+    t->depth = 0;
     has_changed(t);
     point_without_access(t, POTZENDAI_AT_CALL);
 }
@@ -160,6 +161,7 @@ static void out(void)
     if (!t)
         return;
     drain(t);
+    t->depth = 0;
     point_without_access(t, POTZENDAI_AT_RETURN);
     steps_at_end_of_call = made->steps;
     t->is_in_map = made->at[t->id].is_in_call = false;

@@ -26,12 +26,15 @@ enum potzendai_points {
 
 enum { POTZENDAI_SCHEDULED = 64, POTZENDAI_SWITCHES = 1 << 16, POTZENDAI_LEARNED_WORDS = 1 << 17 };
 
+/* How many addresses say where a thread is: of an instruction, and of the calls that lead to it, from within; 0 where there are fewer. */
+enum { POTZENDAI_CODES = 6 };
+
 /* Thread `thread` gives way to thread `to` in its call number `call`, at its point number `step` within that. A switch to DRAIN is none: there
- * the oldest store in the thread's buffer reaches the memory. `code` is the address of the instruction, and the rest says which call it is. */
+ * the oldest store in the thread's buffer reaches the memory. The rest says which call it is, and where in it. */
 struct potzendai_switch {
     uint32_t thread, call, step, to, function;
     uint64_t key;
-    uintptr_t code;
+    uintptr_t codes[POTZENDAI_CODES];
 };
 enum { POTZENDAI_DRAIN = POTZENDAI_SCHEDULED };
 
@@ -61,7 +64,7 @@ struct potzendai_schedule {
 enum potzendai_outcome { POTZENDAI_UNFINISHED, POTZENDAI_FINISHED, POTZENDAI_DEADLOCK, POTZENDAI_ENDLESS, POTZENDAI_STARTS_THREADS };
 
 /* Where a thread is, or was last. */
-struct potzendai_at { uint32_t function; bool is_in_call, is_over; uint64_t key; uintptr_t code; };
+struct potzendai_at { uint32_t function; bool is_in_call, is_over; uint64_t key; uintptr_t codes[POTZENDAI_CODES]; };
 
 /* What a round was. It is in memory that the processes share, since the round's own may not live to its end. */
 struct potzendai_scheduled {
@@ -85,7 +88,7 @@ struct potzendai_scheduler {
     void (*in)(void);               /* around each function of the map */
     void (*out)(void);
     void (*leave)(void);            /* in a thread, last of all: it does not return, since the process ends with the round */
-    void (*locate)(uintptr_t code, char *text, size_t room); /* where an instruction is in the source, as far as is known */
+    void (*locate)(const uintptr_t codes[POTZENDAI_CODES], char *text, size_t room); /* where that is in the source, as far as is known */
 };
 
 #ifdef __cplusplus

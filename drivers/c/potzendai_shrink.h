@@ -130,15 +130,15 @@ static inline bool potzendai_shrink(struct potzendai_shrinking *s)
 
 /* ---- What is shown. */
 
-static inline void potzendai_tell_code(FILE *out, uintptr_t code)
+static inline void potzendai_tell_code(FILE *out, const uintptr_t codes[POTZENDAI_CODES])
 {
     char place[256];
-    if (code == POTZENDAI_AT_CALL)
+    if (codes[0] == POTZENDAI_AT_CALL)
         fputs(", as it begins", out);
-    else if (code == POTZENDAI_AT_RETURN)
+    else if (codes[0] == POTZENDAI_AT_RETURN)
         fputs(", as it ends", out);
-    else if (code != 0) {
-        potzendai_scheduler->locate(code, place, sizeof place);
+    else if (codes[0] != 0) {
+        potzendai_scheduler->locate(codes, place, sizeof place);
         fprintf(out, " at %s", place);
     }
 }
@@ -149,7 +149,7 @@ static inline void potzendai_tell_switch(FILE *out, const struct potzendai_switc
     fprintf(out, is_drain ? "  thread %u: its oldest store reaches the others" : "  thread %u gives way", s->thread);
     if (s->function < POTZENDAI_FUNCTIONS) {
         fprintf(out, " in %s(%" PRIu64 ")", potzendai_functions[s->function], s->key);
-        potzendai_tell_code(out, s->code);
+        potzendai_tell_code(out, s->codes);
     } else
         fputs(" between its calls", out);
     if (!is_drain)
@@ -165,7 +165,7 @@ static inline void potzendai_tell_places(FILE *out, const struct potzendai_share
         if (at->is_over || !at->is_in_call || at->function >= POTZENDAI_FUNCTIONS)
             continue;
         fprintf(out, "  thread %u is in %s(%" PRIu64 ")", i, potzendai_functions[at->function], at->key);
-        potzendai_tell_code(out, at->code);
+        potzendai_tell_code(out, at->codes);
         fputc('\n', out);
     }
 }

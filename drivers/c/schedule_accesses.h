@@ -44,8 +44,22 @@ static void note_change(struct thread *t, bool is_changed)
 }
 
 void __tsan_init(void) {}
-void __tsan_func_entry(void *code) { (void)code; }
-void __tsan_func_exit(void) {}
+
+/* Where functions were called: a point in a library's function is shown as the line of the map that called it. */
+void __tsan_func_entry(void *code)
+{
+    struct thread *t = in_map();
+    if (t)
+        t->frames[t->depth++ % FRAMES] = (uintptr_t)code;
+}
+
+void __tsan_func_exit(void)
+{
+    struct thread *t = in_map();
+    if (t && t->depth > 0)
+        t->depth--;
+}
+
 void __tsan_ignore_thread_begin(void) {}
 void __tsan_ignore_thread_end(void) {}
 

@@ -100,7 +100,8 @@ static void note_switch(const struct thread *t, uint32_t to)
     s->to = to;
     s->function = at->is_in_call ? at->function : (uint32_t)POTZENDAI_IN_NO_CALL;
     s->key = at->key;
-    s->code = at->code;
+    for (int i = 0; i < POTZENDAI_CODES; i++)
+        s->codes[i] = at->codes[i];
 }
 
 /* Hands the turn on, if to another thread, and notes that. */

@@ -129,7 +129,10 @@ static bool is_point(struct thread *t, struct event *e, bool is_atomic)
 
 static void note_place(const struct thread *t, uintptr_t code)
 {
-    made->at[t->id].code = code;
+    uintptr_t *codes = made->at[t->id].codes;
+    codes[0] = code;
+    for (uint32_t i = 1; i < POTZENDAI_CODES; i++)
+        codes[i] = i <= t->depth ? t->frames[(t->depth - i) % FRAMES] : 0;
 }
 
 static void count_step(struct thread *t)
@@ -142,10 +145,20 @@ static void count_step(struct thread *t)
         end_round(POTZENDAI_ENDLESS);
 }
 
+/* The scheduler's own code is not the map's: a compiler may make a memcpy of its loops, which is a function of this file. Answers whether the thread
+ * was in the map. */
+static bool leave_map(struct thread *t)
+{
+    bool was_in_map = t->is_in_map;
+    t->is_in_map = false;
+    return was_in_map;
+}
+
 /* A point: before the event another thread may go on. One that yields, or waits for another thread as far as can be seen, runs after all
  * others. */
 static void point(struct thread *t, struct event e)
 {
+    bool was_in_map = leave_map(t);
     t->next = e;
     note_place(t, e.code);
     count_step(t);
@@ -160,6 +173,7 @@ static void point(struct thread *t, struct event e)
     go_to(t, choose(t, gives_way));
     if (asked->strategy == POTZENDAI_POS)
         draw_racing(t);
+    t->is_in_map = was_in_map;
 }
 
 /* A point of no access: in and out of a call, and where a map says potzendai_point(). */
@@ -185,6 +199,7 @@ static void point_at_lock(struct thread *t, const void *lock, uintptr_t code)
 /* The thread waits until it is woken, or its time comes if there is one. Answers whether it was woken. */
 static bool block(struct thread *t, const void *on, bool is_timed)
 {
+    bool was_in_map = leave_map(t);
     t->waits_for = on;
     t->was_woken = false;
     t->state = is_timed ? THREAD_TIMED : THREAD_BLOCKED;
@@ -197,6 +212,7 @@ static bool block(struct thread *t, const void *on, bool is_timed)
     go_to(t, next);
     t->state = THREAD_READY;
     t->waits_for = NULL;
+    t->is_in_map = was_in_map;
     return t->was_woken;
 }
 

@@ -19,7 +19,7 @@ enum {
     WAYS_GIVEN_UNTIL_TIME = 256, /* where threads spin, those that wait for a time get it after so many spins */
     PARK_STACK = 16384
 };
-enum { LOOKED_AT = 64, STORES = 16, CHANGES = 128 };
+enum { LOOKED_AT = 64, STORES = 16, CHANGES = 128, FRAMES = 64 };
 
 /* What a thread is about to do at a point. `code` is where its code does that. */
 struct event { uintptr_t address, code; bool is_write, yields, looks; };
@@ -41,6 +41,8 @@ struct thread {
     uintptr_t stack_low, stack_high;
     uint32_t call, calls, step;         /* its call that is made, how many it has drawn, and the points in this one */
     uint32_t idle, changes, next_listed; /* steps since it changed something; how often it did; what comes next in the list of switches */
+    uintptr_t frames[FRAMES];           /* a ring: where the functions were called that it is in, the last of them number `depth` - 1 */
+    uint32_t depth;
     struct look looks[LOOKED_AT];
     struct store stores[STORES];        /* a ring: the oldest is that number `oldest` */
     unsigned oldest, stored;
