@@ -139,6 +139,7 @@ static inline void potzendai_fork_rounds(struct potzendai_tester *tester, struct
     prctl(PR_SET_PDEATHSIG, SIGKILL);
     signal(SIGINT, SIG_IGN);
     signal(SIGPIPE, SIG_IGN);
+    signal(SIGCHLD, SIG_DFL); /* else nobody could wait for a round */
     setrlimit(RLIMIT_CORE, &no_core);
     while (read(orders, &byte, 1) == 1) {
         potzendai_fork_round(tester, shared);

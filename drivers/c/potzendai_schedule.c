@@ -4,7 +4,7 @@
  * file, without -fsanitize=thread:
  *
  *     cc -std=c11 -O2 -g -pthread -DPOTZENDAI_NO_LIBRARY -Ic -fsanitize=thread -c mine.c
- *     cc -pthread -o mine mine.o c/potzendai_schedule.c -ldl
+ *     cc -O2 -pthread -o mine mine.o c/potzendai_schedule.c -ldl
  *     ./mine --bench ./bench --schedule mix
  *
  * It is for GNU C, on Linux. SCHEDULES.md says what can be scheduled. Its parts:

@@ -78,28 +78,37 @@ static inline int potzendai_make_one(struct potzendai_plan *plan, const struct p
 
 /* ---- The rounds before the first. */
 
-/* Makes so many rounds by random walks with these points. Answers a quarter more than the steps that they have on average, or 0 where one cannot
- * be made. What goes wrong in them is left to the rounds that count. */
+static inline int potzendai_make_first_one(struct potzendai_plan *plan, enum potzendai_points points, uint64_t number)
+{
+    struct potzendai_schedule asked = potzendai_any_schedule(plan, UINT64_MAX / 2 + number);
+    const struct potzendai_shared *shared = plan->forkers[0].shared;
+    asked.strategy = POTZENDAI_WALK;
+    asked.points = points;
+    asked.has_buffers = false;
+    if (potzendai_make_one(plan, &asked, true))
+        return -1;
+    if (number > 0 || shared->ending != POTZENDAI_ENDED || shared->made.accesses > 0)
+        return 0;
+    return potzendai_fail(plan->tester->run, POTZENDAI_BAD_WORDS,
+                          "--schedule: no scheduling point in the first round: compile the map with -fsanitize=thread -c");
+}
+
+/* Makes so many rounds by random walks with these points. Answers a quarter more than the steps that those have on average which end well, or 0
+ * where one cannot be made. What goes wrong in them is left to the rounds that count. */
 static inline uint64_t potzendai_make_first(struct potzendai_plan *plan, enum potzendai_points points, uint64_t rounds)
 {
-    uint64_t steps = 0;
+    const struct potzendai_shared *shared = plan->forkers[0].shared;
+    uint64_t steps = 0, ended = 0;
     for (uint64_t i = 0; i < rounds; i++) {
-        struct potzendai_schedule asked = potzendai_any_schedule(plan, UINT64_MAX / 2 + i);
-        asked.strategy = POTZENDAI_WALK;
-        asked.points = points;
-        asked.has_buffers = false;
-        if (potzendai_make_one(plan, &asked, true))
+        if (potzendai_make_first_one(plan, points, i))
             return 0;
-        steps += plan->forkers[0].shared->made.steps;
-        if (i == 0 && plan->forkers[0].shared->ending == POTZENDAI_ENDED && plan->forkers[0].shared->made.accesses == 0) {
-            potzendai_fail(plan->tester->run, POTZENDAI_BAD_WORDS,
-                           "--schedule: no scheduling point in the first round: compile the map with -fsanitize=thread -c");
-            return 0;
-        }
-        if (plan->forkers[0].shared->ending == POTZENDAI_OUTSIDE)
+        bool is_whole = shared->ending == POTZENDAI_ENDED && shared->made.outcome == POTZENDAI_FINISHED;
+        steps += is_whole ? shared->made.steps : 0;
+        ended += is_whole;
+        if (shared->ending == POTZENDAI_OUTSIDE)
             break; /* each takes seconds */
     }
-    return steps / rounds * 5 / 4 + 1;
+    return ended > 0 ? steps / ended * 5 / 4 + 1 : 1;
 }
 
 static inline int potzendai_learn(struct potzendai_plan *plan)
@@ -198,6 +207,17 @@ static inline int potzendai_take_ending(struct potzendai_plan *plan, const struc
     return is_outside ? POTZENDAI_IS_UNDECIDED : POTZENDAI_IS_NO;
 }
 
+/* Says each second how far this is, where somebody looks. */
+static inline void potzendai_scheduled_progress(struct potzendai_tester *tester)
+{
+    double now = potzendai_now();
+    if (!tester->has_terminal || now - tester->told < 1)
+        return;
+    fprintf(stderr, "%" PRIu64 " round%s, %.0f a second\n", tester->rounds, potzendai_plural(tester->rounds),
+            (double)tester->rounds / (now - tester->began));
+    tester->told = now;
+}
+
 /* Takes a round that was made: writes it or has it judged with others. */
 static inline int potzendai_take_scheduled(struct potzendai_plan *plan, const struct potzendai_shared *shared)
 {
@@ -215,7 +235,7 @@ static inline int potzendai_take_scheduled(struct potzendai_plan *plan, const st
     int status = potzendai_is_unjudged(tester->options) ? potzendai_write_round(tester, &told) : potzendai_await(tester, &told);
     potzendai_forget(&told);
     tester->refused = tester->run->counts.sayings[MAP_REFUSED];
-    potzendai_progress(tester);
+    potzendai_scheduled_progress(tester);
     return status;
 }
 

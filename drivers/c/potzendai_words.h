@@ -88,7 +88,7 @@ static const char potzendai_usage[] =
     "  --tso             scheduled atomic stores below seq_cst reach other threads later\n"
     "  --replay N        the scheduled round N of --seed, once more\n"
     "  --jobs N          so many scheduled rounds run side by side (1)\n"
-    "  --kernel-threads  scheduled threads are no fibers: for gdb\n"
+    "  --kernel-threads  scheduled threads are no fibers, for debuggers\n"
     "  --budget N        the judge's (100000); a round that it leaves undecided is asked once more at ten times as much\n"
 #ifdef POTZENDAI_NO_LIBRARY
     "  --bench PATH      the program that judges, by a path with a slash or its name on the PATH; without it nobody judges\n"

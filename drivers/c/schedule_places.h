@@ -5,7 +5,8 @@
 /* Whether a line of addr2line is of the map, and not of what the compiler and the driver bring along. */
 static bool is_of_map(const char *line)
 {
-    return line[0] != '?' && strncmp(line, "/usr/", 5) != 0 && !strstr(line, "/potzendai_");
+    return line[0] != '?' && !strstr(line, "/include/c++/") && !strstr(line, "/lib/gcc/") && !strstr(line, "/lib/clang/")
+        && !strstr(line, "/potzendai_") && !strstr(line, "/recording.h");
 }
 
 /* Takes the first line that is of the map, else the last: they are those of functions that are inlined in each other, from within. */

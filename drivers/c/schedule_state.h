@@ -19,7 +19,7 @@ enum {
     WAYS_GIVEN_UNTIL_TIME = 256, /* where threads spin, those that wait for a time get it after so many spins */
     PARK_STACK = 16384
 };
-enum { LOOKED_AT = 64, STORES = 16, CHANGES = 64 };
+enum { LOOKED_AT = 64, STORES = 16, CHANGES = 128 };
 
 /* What a thread is about to do at a point. `code` is where its code does that. */
 struct event { uintptr_t address, code; bool is_write, yields, looks; };
