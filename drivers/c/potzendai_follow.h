@@ -135,16 +135,77 @@ static inline enum potzendai_status potzendai_stream_verdict(struct potzendai_fo
     return status;
 }
 
+/* A line of the stream that is kept, and which event it is of; of the first line, none. */
+struct potzendai_kept { const char *line, *end; uint64_t event; };
+
+/* Writes the line of an event into room for one; nothing where it is not kept. From lines before it this goes on where it was. */
+static inline void potzendai_find_kept(const struct potzendai_following *f, struct potzendai_kept *k, uint64_t event, char room[RECORDING_EVENT_TEXT])
+{
+    if (!k->line || event < k->event) {
+        k->line = f->kept;
+        k->end = f->kept ? f->kept + f->kept_length : NULL;
+        k->event = UINT64_MAX;
+    }
+    while (k->line && k->event != event) {
+        k->line = (const char *)memchr(k->line, '\n', (size_t)(k->end - k->line));
+        k->line = k->line && k->line + 1 < k->end ? k->line + 1 : NULL;
+        k->event++;
+    }
+    size_t length = 0;
+    while (k->line && length + 1 < RECORDING_EVENT_TEXT && k->line[length] != '\n') {
+        room[length] = k->line[length];
+        length++;
+    }
+    room[length] = 0;
+}
+
+static inline size_t potzendai_count_text(const char *text, const char *what)
+{
+    size_t count = 0;
+    for (const char *at = strstr(text, what); at; at = strstr(at + 1, what))
+        count++;
+    return count;
+}
+
+/* The history of the calls left at a key with the notes that the stream has of them; NULL where it has none, or not all of these calls. */
+static inline char *potzendai_note_left(const struct potzendai_following *f, const char *text)
+{
+    const char *invoked = potzendai_member(f->told.report, "\"invoked\":["), *from = text;
+    size_t calls = potzendai_count_text(text, "{\"invoke\":"), numbers = invoked && *invoked != ']';
+    for (const char *at = invoked; at && *at && *at != ']'; at++)
+        numbers += *at == ',';
+    bool is_noted = f->kept && calls == numbers && strstr(text, "\"version\":3}");
+    char *noted = is_noted ? (char *)calloc(1, strlen(text) + calls * RECORDING_EVENT_TEXT + 1) : NULL, *to = noted;
+    struct potzendai_kept kept = {NULL, NULL, 0};
+    for (const char *at = potzendai_event_from(text); noted && at; at = potzendai_event_from(at + 1)) {
+        char line[RECORDING_EVENT_TEXT], *next = NULL;
+        if (strncmp(at, "{\"invoke\":", 10) != 0)
+            continue;
+        potzendai_find_kept(f, &kept, strtoull(invoked, &next, 10), line);
+        invoked = next + (*next == ',');
+        const char *note = potzendai_note_of(line), *member = strstr(at, ",\"process\":");
+        if (!note || !member)
+            continue;
+        memcpy(to, from, (size_t)(member - from));
+        to += member - from;
+        to += snprintf(to, RECORDING_EVENT_TEXT, ",\"note\":\"%.*s\"", (int)strcspn(note, "\""), note);
+        from = member;
+    }
+    if (noted)
+        recording_put(to, from);
+    return noted;
+}
+
 /* The history of the calls left at a key, and few of it that have no order. Where these are not found, the history alone is kept. */
 static inline void potzendai_tell_left(struct potzendai_following *f, const char *text)
 {
     struct potzendai_told left;
     memset(&left, 0, sizeof left);
     left.is_left = true;
-    left.length = strlen(text);
-    left.text = (char *)calloc(1, left.length + 1);
-    if (left.text)
-        memcpy(left.text, text, left.length);
+    left.text = potzendai_note_left(f, text);
+    if (!left.text && (left.text = (char *)calloc(1, strlen(text) + 1)) != NULL)
+        recording_put(left.text, text);
+    left.length = left.text ? strlen(left.text) : 0;
     enum potzendai_status status = left.text ? potzendai_explained(f->tester->options, &left) : POTZENDAI_NO_MEMORY;
     if (status <= POTZENDAI_IS_UNDECIDED && strstr(left.report, "\n{\"answer\":")) {
         fputs("events and processes are numbered anew here and in the files, for the calls \"invoked\" above that had not taken effect, "

@@ -198,13 +198,17 @@ template <class Map> void take_reopen(potzendai_map &, long) {}
 template <class Map> Map *owned(Map *made) { return made; }
 template <class Map> Map *owned(std::unique_ptr<Map> &&made) { return made.release(); }
 
-/* What makes and ends the maps of a factory, which is called for each. */
-template <class Factory> auto take_maker(potzendai_map &functions, int) -> decltype(owned(std::declval<Factory &>()()), void())
+/* Tests the maps of a factory, which is called for each, and copied before. */
+template <class Factory>
+auto test_map(int argc, char **argv, Factory &factory, potzendai_map &functions, int) -> decltype(owned(factory()), int())
 {
-    typedef typename std::remove_pointer<decltype(owned(std::declval<Factory &>()()))>::type Map;
-    functions.begin = [](void *factory) -> void * {
+    typedef typename std::decay<Factory>::type Kept;
+    typedef typename std::remove_pointer<decltype(owned(factory()))>::type Map;
+    Kept kept(factory);
+    functions.map = &kept;
+    functions.begin = [](void *kept_factory) -> void * {
         try {
-            return owned((*static_cast<Factory *>(factory))());
+            return owned((*static_cast<Kept *>(kept_factory))());
         } catch (const std::bad_alloc &) {
             errno = ENOMEM;
             return nullptr;
@@ -215,13 +219,16 @@ template <class Factory> auto take_maker(potzendai_map &functions, int) -> declt
     functions.end = [](void *opened) { delete static_cast<Map *>(opened); };
     take_map<Map>(functions, nullptr);
     take_reopen<Map>(functions, 0);
+    return potzendai_test_main(argc, argv, &functions);
 }
 
-/* One map, that is given. */
-template <class Map> void take_maker(potzendai_map &functions, long)
+/* Tests one map, that is given. */
+template <class Map> int test_map(int argc, char **argv, Map &map, potzendai_map &functions, long)
 {
+    functions.map = &map;
     take_map<Map>(functions, nullptr);
     take_reopen<Map>(functions, 0);
+    return potzendai_test_main(argc, argv, &functions);
 }
 
 /* A whole program: reads the words, tests the map, or those that a factory makes, says the verdict, and answers the status. A factory is called
@@ -230,10 +237,8 @@ template <class Map> int test_main(int argc, char **argv, Map &&map, const char 
 {
     potzendai_map functions = potzendai_map();
     functions.name = name;
-    functions.map = &map;
     functions.value_bits = value_bits;
-    take_maker<typename std::remove_reference<Map>::type>(functions, 0);
-    return potzendai_test_main(argc, argv, &functions);
+    return test_map(argc, argv, map, functions, 0);
 }
 
 }
