@@ -21,9 +21,17 @@ static inline const struct potzendai_row *potzendai_row_of_cache(enum potzendai_
         return row;
     if (is_late && is_read)
         return &potzendai_no_word;
-    *note = said == MAP_OTHER ? RECORDING_REPLACE_OTHER : function == POTZENDAI_GET ? RECORDING_GET_MISSED
-        : function == POTZENDAI_DEL ? RECORDING_REMOVE_MISSED : function == POTZENDAI_REPLACE ? RECORDING_REPLACE_MISSED : RECORDING_PUT_MISSED;
-    return said == MAP_OTHER ? &potzendai_replaced : *note == RECORDING_PUT_MISSED ? &potzendai_put_there : &potzendai_gone;
+    if (said == MAP_OTHER) {
+        *note = RECORDING_REPLACE_OTHER;
+        return &potzendai_replaced;
+    }
+    if (!is_read && function != POTZENDAI_DEL) {
+        *note = is_late ? RECORDING_PUT_LATE : RECORDING_PUT_MISSED;
+        return &potzendai_put_there;
+    }
+    *note = function == POTZENDAI_GET ? RECORDING_GET_MISSED : function == POTZENDAI_REPLACE ? RECORDING_REPLACE_MISSED
+        : is_late ? RECORDING_REMOVE_LATE : RECORDING_REMOVE_MISSED;
+    return &potzendai_gone;
 }
 
 /* The words of a call that is recorded as another one. */

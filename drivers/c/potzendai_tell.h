@@ -39,6 +39,17 @@ static inline const char *potzendai_behind_number(const char *at)
     return at + strspn(at, "0123456789");
 }
 
+/* Whether the calls are those of a cache, of which the driver puts values from 2^63 on into a recording that no call puts. */
+static bool potzendai_has_own_values;
+
+/* Writes a value in words. */
+static inline void potzendai_tell_value(FILE *out, const char *at)
+{
+    int digits = (int)strspn(at, "0123456789");
+    bool is_own = potzendai_has_own_values && digits >= 19 && strtoull(at, NULL, 10) >> 63;
+    fprintf(out, "%.*s", is_own ? (int)strlen("a value that no call puts") : digits, is_own ? "a value that no call puts" : at);
+}
+
 /* Writes pairs in words and answers where their text ends. */
 static inline const char *potzendai_tell_pairs(FILE *out, const char *at)
 {
@@ -47,7 +58,8 @@ static inline const char *potzendai_tell_pairs(FILE *out, const char *at)
         fputs("nothing", out);
     for (at++; *at == '['; at += *at == ',') {
         const char *value = potzendai_behind_number(at + 1) + 1;
-        fprintf(out, "%s%.*s: %.*s", comma, (int)(value - at - 2), at + 1, (int)strspn(value, "0123456789"), value);
+        fprintf(out, "%s%.*s: ", comma, (int)(value - at - 2), at + 1);
+        potzendai_tell_value(out, value);
         comma = ", ";
         at = potzendai_behind_number(value) + 1;
     }
@@ -69,7 +81,7 @@ static inline void potzendai_tell_answer(FILE *out, const char *at)
     if (*at == '[')
         potzendai_tell_pairs(out, at);
     else
-        fprintf(out, "%.*s", (int)strspn(at, "0123456789"), at);
+        potzendai_tell_value(out, at);
 }
 
 /* Writes a call in words, from its text as ["insert",5,7]. */

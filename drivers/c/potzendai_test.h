@@ -303,6 +303,7 @@ static inline int potzendai_test_main(int argc, char **argv, const struct potzen
         return status;
 #endif
     potzendai_await_interrupt();
+    potzendai_has_own_values = options.cache != POTZENDAI_NO_CACHE;
     if (options.broken == POTZENDAI_EACH_BREAK)
         return potzendai_test_each(&options, argv[0], map);
     return potzendai_test(&options, argv[0], map, false);

@@ -63,11 +63,12 @@ enum recording_kind { /* calls, then answers */
     RECORDING_NONE, RECORDING_VALUE, RECORDING_LIST, RECORDING_REFUSED, RECORDING_DONE, RECORDING_FOUND, RECORDING_OTHER
 };
 
-/* How a call of a cache was made that is recorded as another one: a call of one key that found none, a replace that found another value, and a
- * scan which did not have a key, or had it. Such a call's words are the key, and those of the call that was made: of a replace the old value and
+/* How a call of a cache was made that is recorded as another one: a call of one key that found none, or of a cache whose misses say nothing a put or
+ * a remove that did, a replace that found another value, and a scan which did not have a key, or had it. Such a call's words are the key, and those of the call that was made: of a replace the old value and
  * the new one, of a scan its ends. */
 enum recording_note {
-    RECORDING_AS_MADE, RECORDING_GET_MISSED, RECORDING_PUT_MISSED, RECORDING_REMOVE_MISSED, RECORDING_REPLACE_MISSED, RECORDING_REPLACE_OTHER,
+    RECORDING_AS_MADE, RECORDING_GET_MISSED, RECORDING_PUT_MISSED, RECORDING_REMOVE_MISSED, RECORDING_REPLACE_MISSED, RECORDING_PUT_LATE,
+    RECORDING_REMOVE_LATE, RECORDING_REPLACE_OTHER,
     RECORDING_SCAN_MISSED, RECORDING_SCAN_LISTED
 };
 
@@ -318,7 +319,7 @@ static inline char *recording_put_note(char *to, const struct recording_event *e
 {
     const uint64_t *words = e->words;
     bool is_replace = e->note == RECORDING_REPLACE_MISSED || e->note == RECORDING_REPLACE_OTHER;
-    bool is_scan = e->note >= RECORDING_SCAN_MISSED;
+    bool is_scan = e->note >= RECORDING_SCAN_MISSED, is_late = e->note == RECORDING_PUT_LATE || e->note == RECORDING_REMOVE_LATE;
     to = recording_put(to, ",\"note\":\"");
     if (is_replace) {
         to = recording_put_number(recording_put(to, "replace "), words[1]);
@@ -327,7 +328,7 @@ static inline char *recording_put_note(char *to, const struct recording_event *e
     } else if (is_scan) {
         to = recording_put_number(recording_put(to, "scan from "), words[1]);
         to = recording_put_number(recording_put(to, " to "), words[2]);
-    } else if (e->note == RECORDING_PUT_MISSED) {
+    } else if (e->note == RECORDING_PUT_MISSED || e->note == RECORDING_PUT_LATE) {
         to = recording_put_number(recording_put(to, "put "), words[1]);
         to = recording_put_number(recording_put(to, " at "), words[0]);
     } else
@@ -337,7 +338,7 @@ static inline char *recording_put_note(char *to, const struct recording_event *e
     if (e->note == RECORDING_REPLACE_OTHER)
         to = recording_put(to, ", answered another value");
     else if (e->note != RECORDING_SCAN_LISTED)
-        to = recording_put(to, is_scan ? ": the key was gone" : ", answered none: the key was gone");
+        to = recording_put(to, is_scan ? ": the key was gone" : is_late ? ", answered none" : ", answered none: the key was gone");
     return recording_put(to, "\"");
 }
 
