@@ -358,7 +358,7 @@ LOCATIONS = [
 ]
 
 # Seeds, processes, calls, and how many copies with one answer changed: histories on two keys with scans.
-HOT_KEYS = [(1, 4, 4096, 6), (2, 8, 4096, 6)]
+HOT_KEYS = [(2, 8, 4096, 6), (4, 6, 4096, 6)]
 
 # Words, events, and the whole report, or where they go wrong: the number of workers and the place of the options tell nothing.
 OPTIONS = [
