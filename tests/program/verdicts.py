@@ -808,8 +808,10 @@ def located():
     for events, budget, line in LOCATIONS:
         yield history(events), budget, line
     # Each scan is tried as it begins, and while a remove is open: four times. The seventh scan is call 7, and its answer event 1 + 7 + 4 * 3 + 6.
-    yield history(many_ways(7, 3)), 1000, '{"call":7,"event":26,"reason":"scans","verdict":"undecided"}'
-    yield history(many_ways(6, 3)), 1000, WELL
+    # An order of these calls has more than eight configurations, so that a verdict is undecided and the events are followed.
+    yield history(many_ways(7, 3)), 8, '{"call":7,"event":26,"reason":"scans","verdict":"undecided"}'
+    yield history(many_ways(7, 3)), 1000, WELL
+    yield history(many_ways(6, 3)), 8, WELL
     yield history(many_ways(2, 3)), 1000, WELL
     yield history(one_false_get(500, 1000)), 10_000, '{"call":500,"event":1001,"verdict":"no"}'
     yield history(one_false_get(0, 4095)), 10_000, '{"call":0,"event":1,"verdict":"no"}'
