@@ -10,7 +10,7 @@ ghost use Rattle.command_line.specs.Lines.{IsJudge, IsLineOf, IsLocate, IsWithin
 ghost use Rattle.command_line.specs.Trees.{place_of};
 ghost use Rattle.command_line.specs.Numbers.{number_of};
 ghost use Rattle.command_line.specs.Program.{bench_app, bench_table, draw_usage, drive_usage, explain_usage, follow_usage};
-ghost use Rattle.command_line.specs.Program.{generate_usage, judge_usage, locate_usage};
+ghost use Rattle.command_line.specs.Program.{generate_usage, judge_usage, locate_usage, page_usage};
 ghost use Rattle.command_line.specs.Requests.{AreFlagsOf, IsAskable, IsRequestOf, asked_of, flags_of};
 ghost use Rattle.command_line.specs.Tables.{Usage};
 ghost use Rattle.command_line.specs.Words.{Given, Gives, IsUse};
@@ -83,6 +83,7 @@ fn line_of(request: Request<'_>) -> Line
         "locate" => locate_line(&request),
         "explain" => explain_line(&request),
         "draw" => draw_line(&request),
+        "page" => page_line(&request),
         "follow" => follow_line(&request),
         "generate" => generate_line(&request),
         "replay" => Line::Replay,
@@ -136,6 +137,18 @@ fn draw_line(request: &Request<'_>) -> Line
         workers: request.number("workers"),
         around: request.number("around"),
         calls: request.number("calls"),
+    }
+}
+
+// The line of `page`.
+fn page_line(request: &Request<'_>) -> Line
+    requires { IsRequestOf page_usage request.now }
+    ensures same { asked_by result ≡ asked_of request.now }
+    ensures limits { IsWithinLimits result }
+{
+    Line::Page {
+        budget: request.number("budget"),
+        workers: request.number("workers"),
     }
 }
 
