@@ -39,6 +39,17 @@ impl Places {
         }
     }
 
+    /// The same places again.
+    pub(crate) fn copy(&self, alloc: Global) -> Result<Places, Memory>
+        ensures { IfOk result (λ p. p ≡ self.now) }
+    {
+        let words = Vec::from_slice(alloc, &self.words)?;
+        Ok(Places {
+            least: self.least,
+            words,
+        })
+    }
+
     /// Whether the same places are in both sets.
     pub fn is_same(&self, other: &Places) -> bool
         ensures { IsTrue result ↔ (self.now ≡ other.now) }
