@@ -97,7 +97,11 @@ pub(crate) fn value_from(first: Option<u64>, put: Option<u64>, gone: Option<u64>
 }
 
 /// The pairs that are not so in others.
-fn unlike(alloc: Global, pairs: &[(u64, u64)], others: &[(u64, u64)]) -> Result<Vec<(u64, u64)>, Memory>
+fn unlike(
+    alloc: Global,
+    pairs: &[(u64, u64)],
+    others: &[(u64, u64)],
+) -> Result<Vec<(u64, u64)>, Memory>
     requires { IsRising others.now }
     ensures { IfOk result (λ v. v.items ≡ filter (differs others.now) pairs.now) }
 {
@@ -111,7 +115,11 @@ fn unlike(alloc: Global, pairs: &[(u64, u64)], others: &[(u64, u64)]) -> Result<
 }
 
 /// The pairs at whose keys others have no value.
-fn absent(alloc: Global, pairs: &[(u64, u64)], others: &[(u64, u64)]) -> Result<Vec<(u64, u64)>, Memory>
+fn absent(
+    alloc: Global,
+    pairs: &[(u64, u64)],
+    others: &[(u64, u64)],
+) -> Result<Vec<(u64, u64)>, Memory>
     requires { IsRising others.now }
     ensures { IfOk result (λ v. v.items ≡ filter (λ pair. is_none (value_at others.now pair.0)) pairs.now) }
 {

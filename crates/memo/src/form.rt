@@ -6,7 +6,9 @@ ghost use Rattle.memo.specs.Keys.{AgreeBut};
 ghost use Rattle.map_object.specs.MapObject.{value_at};
 
 use crate::base::Base;
-use crate::differences::{Changes, difference, pairs_from, value_at, value_from, value_gone, value_put, with_value};
+use crate::differences::{
+    Changes, difference, pairs_from, value_at, value_from, value_gone, value_put, with_value,
+};
 use crate::digests::{mix, mix_value, sum_of};
 use crate::places::Places;
 use events::Memory;
@@ -120,7 +122,11 @@ impl Form {
         requires { IsKept base.now self.now }
         ensures { result ≡ value_at (configuration_from base.now self.now).pairs key }
     {
-        value_from(base.value(key), value_at(&self.put, key), value_at(&self.gone, key))
+        value_from(
+            base.value(key),
+            value_at(&self.put, key),
+            value_at(&self.gone, key),
+        )
     }
 
     /// The form of the same configuration over other pairs at the start. It costs as much as these and the map.

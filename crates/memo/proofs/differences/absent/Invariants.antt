@@ -1,6 +1,5 @@
 use Rattle.std.proofs.Common.{◌≡◌, ◌++◌, drop, filter, is_none}
 use Rattle.map_object.specs.MapObject.{value_at}
-use Rattle.memo.specs.Differences.{differs}
 use Rattle.memo.proofs.differences.absent.Given as goal
 
 -- those so far, with those to come

@@ -1,5 +1,4 @@
-use Rattle.std.proofs.Common.{◌≡◌, ◌++◌, drop, filter, is_none}
-use Rattle.map_object.specs.MapObject.{value_at}
+use Rattle.std.proofs.Common.{◌≡◌, ◌++◌, drop, filter}
 use Rattle.memo.specs.Differences.{differs}
 use Rattle.memo.proofs.differences.unlike.Given as goal
 

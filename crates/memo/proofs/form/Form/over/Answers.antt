@@ -1,7 +1,7 @@
 use Rattle.std.proofs.Common.{◌≡◌, ◌∙◌, sym, ap, subst}
 use Rattle.map_object.specs.MapObject.{Contents, IsRising}
 use Rattle.memo.specs.Differences.{pairs_from, IsDifference}
-use Rattle.memo.specs.Kept.{Kept, configuration_from, IsKept}
+use Rattle.memo.specs.Kept.{Kept}
 use Rattle.memo.proofs.DifferenceLemmas.{pairs_from-rises}
 use Rattle.memo.proofs.KeptLemmas.{IsKept-over, configuration_from-over}
 use Rattle.memo.specs.contracts.form.Form.{the_view}

@@ -1,4 +1,4 @@
-use Rattle.std.proofs.Common.{◌≡◌, ◌∙◌, ◌+◌, ◌-◌, ◌%◌, ◌^◌, sym, ap, subst}
+use Rattle.std.proofs.Common.{◌≡◌, ◌∙◌, ◌+◌, ◌-◌, ◌%◌, ◌^◌, ap, subst}
 use Rattle.std.specs.List.{sum_by}
 use Rattle.map_object.specs.MapObject.{Contents}
 use Rattle.memo.specs.Differences.{pairs_from, IsDifference}

@@ -2,7 +2,7 @@ use Rattle.std.proofs.Common.{◌≡◌, ◌∙◌, ◌⊎◌, [], List, sym, su
 use Rattle.std.specs.Prelude.{◌↔◌, IsTrue, Contains, All}
 use Rattle.configurations.specs.Configurations.{Configuration}
 use Rattle.memo.specs.Kept.{IsKept}
-use Rattle.memo.proofs.KeptLemmas.{all_kept, new_told, visited_told, each_shared, told_shared}
+use Rattle.memo.proofs.KeptLemmas.{all_kept, new_told, each_shared, told_shared}
 use Rattle.memo.proofs.memo.Memo.visit.Goals as goal
 use Rattle.memo.proofs.memo.Memo.visit.Goals.{in-Ok-insert, in-Err-insert}
 

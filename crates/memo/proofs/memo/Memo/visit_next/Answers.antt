@@ -33,7 +33,7 @@ with_key-requires-clause-others c =
 pub invariant_of-self : goal.invariant_of-self
 invariant_of-self c =
     all_kept c.self.inside.base c.self.inside.visited.keys c.in_ok-form.form c.insert.new.visited.keys c.insert.result
-      c.insert.ensures.visited c.insert.ensures.unchanged c.self.invariant c.in_ok-form.ensures.kept
+    c.insert.ensures.visited c.insert.ensures.unchanged c.self.invariant c.in_ok-form.ensures.kept
 
 pub returns-clause-new : goal.returns-clause-new
 returns-clause-new c = elim c.match-insert.branch [
