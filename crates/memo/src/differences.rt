@@ -156,7 +156,7 @@ pub(crate) fn difference(
     })
 }
 
-/// The pairs that a difference tells: those at the start that are not gone, and those that are put.
+/// The pairs that have a difference: those at the start that are not gone, and those that are put.
 pub(crate) fn pairs_from(
     alloc: Global,
     start: &[(u64, u64)],

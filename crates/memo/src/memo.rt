@@ -49,7 +49,7 @@ impl Memo {
     }
 
     /// Whether the configuration is new; from now on it is not. On `Memory` it is handed back, and nothing has changed.
-    /// Where it has other pairs at the start of its search than those visited, it is told anew from theirs; so it
+    /// Where it has other pairs at the start of its search than those visited, its form is made anew over theirs. So it
     /// costs as much as the maps. It is looked up by its digest, and compared with those visited that have the same.
     pub fn visit(&mut self, config: Config) -> Result<bool, (Config, Memory)>
         ensures new { IfOk result (λ new. IsTrue new ↔ (Contains self.old config → ⊥)) }
