@@ -8,11 +8,7 @@ use std::alloc::Global;
 use std::test::Fail;
 
 /// The configuration after the call at place 0, which leaves the second pairs, where a search begins at the first.
-fn after_one(
-    alloc: Global,
-    first: &[(u64, u64)],
-    second: &[(u64, u64)],
-) -> Result<Config, Fail>
+fn after_one(alloc: Global, first: &[(u64, u64)], second: &[(u64, u64)]) -> Result<Config, Fail>
     requires first { IsRising first.now }
     requires second { IsRising second.now }
     ensures { IfOk result (λ c. c ≡ record { taken = 0 ∷ []; pairs = second.now }) }
@@ -69,9 +65,24 @@ fn is_new(memo: &mut Memo, config: Config) -> Option<bool> {
 fn a_configuration_of_another_start_is_visited_once(rt: HostRuntime) -> Result<(), Fail> {
     let alloc = rt.alloc();
     let mut memo = Memo::new(alloc);
-    assert!(rt; is_new(&mut memo, after_one(alloc, &[(1, 10), (2, 20)], &[(2, 21)])?) == Some(true));
-    assert!(rt; is_new(&mut memo, after_one(alloc, &[(2, 21), (3, 30)], &[(2, 21)])?) == Some(false));
-    assert!(rt; is_new(&mut memo, after_one(alloc, &[(2, 21), (3, 30)], &[(2, 21), (3, 30)])?) == Some(true));
+    assert!(rt;
+        is_new(
+            &mut memo,
+            after_one(alloc, &[(1, 10), (2, 20)], &[(2, 21)])?
+        ) == Some(true)
+    );
+    assert!(rt;
+        is_new(
+            &mut memo,
+            after_one(alloc, &[(2, 21), (3, 30)], &[(2, 21)])?
+        ) == Some(false)
+    );
+    assert!(rt;
+        is_new(
+            &mut memo,
+            after_one(alloc, &[(2, 21), (3, 30)], &[(2, 21), (3, 30)])?
+        ) == Some(true)
+    );
     assert!(rt; memo.len() == 2);
     Ok(())
 }
