@@ -5,8 +5,8 @@ use Rattle.memo.specs.Keys.{AgreeBut}
 use Rattle.memo.specs.Kept.{Kept, configuration_from}
 use Rattle.memo.specs.Taking.{with_place}
 use Rattle.memo.proofs.KeptLemmas.{IsKept-unchanged, IsKept-changed, configuration_from-changed}
-use Rattle.memo.specs.contracts.config.Config.{the_view}
-use Rattle.memo.proofs.config.Config.with.Goals as goal
+use Rattle.memo.specs.contracts.form.Form.{the_view}
+use Rattle.memo.proofs.form.Form.with_key.Goals as goal
 
 -- the call changed nothing
 pub returns-in_default-clause-kept : goal.returns-in_default-clause-kept
@@ -17,7 +17,7 @@ returns-in_default-clause-kept c =
       gone = c.in_ok-gone.gone;
       digest = (c.self.inside.digest + c.mix.result) % 2 ^ 64;
     }) in
-    IsKept-unchanged c.args.start.now c.args.self.now c.requires.kept c.args.place c.requires.new new
+    IsKept-unchanged c.args.base.now c.args.self.now c.requires.kept c.args.place c.requires.new new
     (c.in_ok-places.ensures.is ∙ ap (λ (k : Kept). with_place k.taken c.args.place) c.self.view_is) c.mix.result c.mix.ensures
     (c.in_ok-put.ensures.items ∙ c.deref.ensures.value ∙ ap (λ (k : Kept). k.put) c.self.view_is)
     (c.in_ok-gone.ensures.items ∙ c.deref-in_default.ensures.value ∙ ap (λ (k : Kept). k.gone) c.self.view_is)
@@ -36,8 +36,8 @@ module _ (c : goal.After-mix_value-2) where
   taken_is : new.taken ≡ with_place c.args.self.now.taken c.args.place
   taken_is = c.in_ok-places.ensures.is ∙ ap (λ (k : Kept). with_place k.taken c.args.place) c.self.view_is
 
-  agree : AgreeBut (Some c.in-Some.key) (configuration_from c.args.start.now c.args.self.now).pairs c.args.after.now
-  agree = subst (λ key. AgreeBut key (configuration_from c.args.start.now c.args.self.now).pairs c.args.after.now) c.in-Some.is c.requires.others
+  agree : AgreeBut (Some c.in-Some.key) (configuration_from c.args.base.now c.args.self.now).pairs c.args.after.now
+  agree = subst (λ key. AgreeBut key (configuration_from c.args.base.now c.args.self.now).pairs c.args.after.now) c.in-Some.is c.requires.others
 
   was_is : c.value_from-before.result ≡ value_from c.value-first.result (value_at c.args.self.now.put c.in-Some.key)
       (value_at c.args.self.now.gone c.in-Some.key)
@@ -72,14 +72,14 @@ module _ (c : goal.After-mix_value-2) where
 
 pub returns-clause-kept : goal.returns-clause-kept
 returns-clause-kept c =
-    IsKept-changed c.args.start.now c.args.self.now c.requires.kept c.args.place c.requires.new (new c) (taken_is c) c.mix.result c.mix.ensures
+    IsKept-changed c.args.base.now c.args.self.now c.requires.kept c.args.place c.requires.new (new c) (taken_is c) c.mix.result c.mix.ensures
     c.value-first.ensures.rising c.in-Some.key c.args.after.now c.value-value.ensures.rising (agree c) c.value-first.result
     c.value_from-before.result c.value-value.result c.value-first.ensures.value (was_is c) c.value-value.ensures.value (put_is c) (gone_is c)
     c.mix_value.result c.mix_value-2.result c.mix_value.ensures c.mix_value-2.ensures (small c) (digest_is c)
 
 pub returns-clause-is : goal.returns-clause-is
 returns-clause-is c =
-    configuration_from-changed c.args.start.now c.args.self.now c.requires.kept c.args.place c.requires.new (new c) (taken_is c) c.mix.result
+    configuration_from-changed c.args.base.now c.args.self.now c.requires.kept c.args.place c.requires.new (new c) (taken_is c) c.mix.result
     c.mix.ensures
     c.value-first.ensures.rising c.in-Some.key c.args.after.now c.value-value.ensures.rising (agree c) c.value-first.result
     c.value_from-before.result c.value-value.result c.value-first.ensures.value (was_is c) c.value-value.ensures.value (put_is c) (gone_is c)
