@@ -1,2 +1,11 @@
+mod CacheCallLemmas
+mod CacheListLemmas
+mod CacheMapLemmas
+mod CacheOrderLemmas
+mod CacheRecordingLemmas
+mod CacheRunLemmas
+mod CacheTurnLemmas
+mod CacheValueLemmas
+mod FoundAfterOtherLemmas
 mod TellLemmas
 mod ToldLemmas

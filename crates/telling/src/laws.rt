@@ -1,4 +1,6 @@
-// Laws of answers that tell less, each the contract of a function that does nothing.
+// Laws of answers that tell less and of caches, each the contract of a function that does nothing.
+ghost use Rattle.telling.specs.CacheLaws.{EvictedKeysAreNoLostWrites, HistoriesOfCachesHaveRecordings, LostWritesAreRefuted, RecordedCachesAreLossyMaps};
+ghost use Rattle.telling.specs.FoundAfterOther.{FoundAfterOtherIsMissed};
 ghost use Rattle.telling.specs.Laws.{AnswersDoCalls, AnswersThatTellLess, OrdersAreThoseOfToldCalls};
 
 /// A legal answer that is not `refused` does the call, however little it tells.
@@ -15,4 +17,32 @@ pub fn answers_that_tell_less()
 /// Calls whose answers tell less have an order exactly where they have it with some whole answers in their place.
 pub fn orders_are_those_of_told_calls()
     ensures { OrdersAreThoseOfToldCalls }
+{}
+
+/// A cache that loses keys, and nothing else, is never refuted: if its calls are linearizable over the lossy map, the
+/// recorded calls are linearizable.
+pub fn evicted_keys_are_no_lost_writes()
+    ensures { EvictedKeysAreNoLostWrites }
+{}
+
+/// A cache that loses more than keys is always refuted: if the recorded calls are linearizable, its calls are linearizable
+/// over the lossy map.
+pub fn lost_writes_are_refuted()
+    ensures { LostWritesAreRefuted }
+{}
+
+/// A history of a cache is linearizable over the lossy map exactly if its recording is linearizable.
+pub fn recorded_caches_are_lossy_maps()
+    ensures { RecordedCachesAreLossyMaps }
+{}
+
+/// Each history of a cache has a recording: event by event, with removes next to scans by processes of their own.
+pub fn histories_of_caches_have_recordings()
+    ensures { HistoriesOfCachesHaveRecordings }
+{}
+
+/// If a replace was answered `other` and a call of its key `found`, a recording may be linearizable although the history is
+/// not linearizable over the lossy map.
+pub fn found_after_other_is_missed()
+    ensures { FoundAfterOtherIsMissed }
 {}
