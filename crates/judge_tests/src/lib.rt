@@ -8,8 +8,6 @@
 #[cfg(test)]
 mod calls;
 #[cfg(test)]
-mod configurations;
-#[cfg(test)]
 mod gate_first;
 #[cfg(test)]
 mod gates;
@@ -21,6 +19,8 @@ mod layers;
 mod lines;
 #[cfg(test)]
 mod meetings;
+#[cfg(test)]
+mod memo_rows;
 #[cfg(test)]
 mod past_calls;
 #[cfg(test)]
