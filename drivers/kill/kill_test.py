@@ -25,11 +25,12 @@ import sys
 import tempfile
 import time
 
-YES, NO, UNDECIDED, FAULTY, MEMORY, WORDS, FILE = range(7)  # statuses, as the program's
+YES, NO, UNDECIDED, MEMORY, WORDS, FILE = 0, 1, 2, 4, 5, 6  # statuses, as the program's
 VERDICTS = ("yes", "no", "undecided")
 HERE = os.path.dirname(os.path.abspath(__file__))
 GREATEST = 2 ** 64 - 1
 CALLS, PROCESSES = 4096, 64  # limits of a history
+SHAPES = {"get": 2, "insert": 3, "remove": 2, "scan": 3, "replace": 4}  # how many members a call has
 SHOWN = 12  # the most calls that a no shows
 
 
@@ -117,14 +118,13 @@ class Program:
 
     def ask(self, command, text):
         """The status and the report of the program. One that is no verdict ends the run."""
-        budget = ["--budget", self.budget] if command != "check" else []
         try:
-            done = subprocess.run([self.path, command, *budget], input=text, stdout=subprocess.PIPE, stderr=subprocess.PIPE)
+            done = subprocess.run([self.path, command, "--budget", self.budget], input=text, stdout=subprocess.PIPE, stderr=subprocess.PIPE)
         except OSError as error:
             raise Stop(WORDS, "--bench %s: %s" % (self.path, error.strerror))
         if done.returncode not in (YES, NO, UNDECIDED):
             said = done.stderr.decode(errors="replace").strip() or "no reason given"
-            status = done.returncode if done.returncode in (FAULTY, MEMORY, FILE) else WORDS
+            status = done.returncode if done.returncode in (MEMORY, FILE) else WORDS  # a line that is refused is a child's fault
             raise Stop(status, "bench %s ended with status %d: %s" % (command, done.returncode, said))
         try:
             reports = [json.loads(line) for line in done.stdout.splitlines()]
@@ -166,7 +166,7 @@ class Events:
             if kind == "invoke":
                 if process in self.opened:
                     self.fault(line, "the process has an open call")
-                if not isinstance(said, list) or len(said) < 2 or not all(map(is_number, said[1:])):
+                if not isinstance(said, list) or not said or SHAPES.get(str(said[0])) != len(said) or not all(map(is_number, said[1:])):
                     self.fault(line, "this is no call")
                 if max(said[1:2] + (said[2:] if said[0] == "scan" else [])) >= self.keys:
                     self.fault(line, "its keys are not below --keys %d" % self.keys)
@@ -296,11 +296,9 @@ class Run:
                     events.take(text)
                 if time.monotonic() < (due or opening):
                     continue
-                if due is None:
-                    raise Stop(WORDS, "%s: no call within %g seconds" % (name, options.open))
                 if is_asked and not is_killed:
                     raise Stop(WORDS, "%s did not end within %g seconds of SIGTERM" % (name, options.open))
-                if options.stop:
+                if options.stop and due:
                     child.terminate()
                     is_asked, due = True, time.monotonic() + options.open
                 elif not is_killed:
@@ -322,9 +320,7 @@ class Run:
         self.at_write += is_at_write
         if not self.first_writes:
             self.first_writes = writes
-        if options.stop and status == 0 and is_asked:
-            pass
-        elif status != -signal.SIGKILL or not (is_killed or is_at_write):
+        if not (is_asked and status == 0) and not (status == -signal.SIGKILL and (is_killed or is_at_write)):
             ended = "status %d" % status if status >= 0 else "signal %d" % -status
             raise Stop(WORDS, "%s ended by itself, with %s%s" % (name, ended, "" if events.calls else ", before its first call"))
         return events  # the rest is a line that the kill cut: its call had not begun, or stays open
@@ -386,6 +382,8 @@ class Run:
             if status != YES:
                 self.show(life, status, reports, lines, len(events.lines))
                 return status
+            if not self.calls:
+                break  # the first life is never killed at a write
         if not self.calls:
             print("no life had a call: nothing was tested")
             return UNDECIDED
@@ -410,8 +408,8 @@ class Run:
         when = "in the reading after the %s" % ("stop" if self.options.stop else "kill") if event >= lived else "before the %s" % (
             "stop" if self.options.stop else "kill")
         answer = json.loads(lines[event + 1])
-        call = next(json.loads(line)["invoke"] for line in reversed(lines[1:event + 1]) if b'"invoke"' in line
-                    and json.loads(line)["process"] == answer["process"])
+        call = next(earlier["invoke"] for earlier in map(json.loads, reversed(lines[1:event + 1]))
+                    if "invoke" in earlier and earlier["process"] == answer["process"])
         print("life %d %s: event %d, %s: %s, answered %s" % (life, "has no order" if status == NO else "is undecided", event, when,
                                                              words_of(call), json.dumps(answer["answer"])))
         if status == NO:
@@ -423,12 +421,11 @@ class Run:
 
     def few(self, reports, lines):
         """A few calls that have no order by themselves, where `bench explain` finds them."""
-        made = sum(b'"invoke"' in line for line in lines)
         numbers, head = {}, json.loads(lines[0])
+        events = [json.loads(line) for line in lines[1:]]
         if len(reports) > 1:
             history = reports[1]
-        elif made <= CALLS:
-            events = [json.loads(line) for line in lines[1:]]
+        elif sum("invoke" in event for event in events) <= CALLS:
             for event in events:
                 event["process"] = numbers.setdefault(event["process"], len(numbers))
             history = {"version": 3, "start": head["start"], "events": events}
@@ -487,6 +484,9 @@ def main(words):
         return status
     except Stop as stop:
         print("kill_test.py: %s" % stop.line, file=sys.stderr)
+        if run and run.lives:
+            run.is_kept = True
+            print("kill_test.py: the run's folder is kept: %s" % run.folder, file=sys.stderr)
         return stop.status
     except OSError as error:
         print("kill_test.py: %s" % error, file=sys.stderr)

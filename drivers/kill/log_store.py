@@ -1,8 +1,8 @@
 """A small store, and the child of it that kill_test.py kills: a map in memory, and a log that is read when the store opens. By --plant it is
-wrong in one of four ways, none of which shows without a kill:
+wrong in one of four ways, none of which shows while it stays open:
 
     seen      a put is seen by others before it is logged
-    order     puts are logged outside of the lock, so the log may have another order than the map
+    order     puts are logged outside of the lock, so the log may have another order than the map: opening the store again shows it
     torn      a record is two writes, and opening does not cut off a torn record
     buffered  puts are answered from a buffer that is written each 5 milliseconds
 """
@@ -22,7 +22,7 @@ PUT, REMOVE = 1, 2
 class Store:
     def __init__(self, folder, plant, is_synced, point):
         self.plant, self.is_synced, self.point = plant, is_synced, point
-        self.lock, self.writers, self.pairs = threading.Lock(), threading.Lock(), {}
+        self.lock, self.writers, self.pairs = threading.Lock(), [threading.Lock() for _ in range(64)], {}
         self.buffer, self.buffered = b"", threading.Lock()
         self.log = os.open(os.path.join(folder, "log"), os.O_RDWR | os.O_CREAT | os.O_APPEND, 0o600)
         held = os.pread(self.log, os.fstat(self.log).st_size, 0)
@@ -64,7 +64,7 @@ class Store:
     def change(self, kind, key, value):
         record = RECORD.pack(kind, key, value)
         if self.plant == "seen":
-            with self.writers:  # the log has the order of the map, but readers do not wait for it
+            with self.writers[key % 64]:  # the log has each key's order of the map, but readers do not wait for it
                 before = self.changed(kind, key, value)
                 self.point()
                 self.append(record)
@@ -117,7 +117,7 @@ def main():
     seed, is_over = int(os.environ["POTZENDAI_SEED"]), threading.Event()
 
     def point():
-        if options.delay and random.random() < 0.2:
+        if options.delay and random.random() < 0.5:
             time.sleep(random.random() * options.delay)
 
     signal.signal(signal.SIGTERM, lambda *_: is_over.set())
