@@ -9,6 +9,7 @@
 #include <fcntl.h>
 #include <limits.h>
 #include <signal.h>
+#include <stdatomic.h>
 #include <stdint.h>
 #include <stdio.h>
 #include <stdlib.h>
@@ -22,17 +23,22 @@
 static const char *store;
 static uint64_t kill_at, *counted, uncounted[2];
 
-static void find(void *to, const char *name)
+/* Looks a function of the C library up once. */
+static void find(_Atomic(void *) *found, void *to, const char *name)
 {
-    void *at = dlsym(RTLD_NEXT, name);
+    void *at = atomic_load_explicit(found, memory_order_relaxed);
+    if (!at) {
+        at = dlsym(RTLD_NEXT, name);
+        atomic_store_explicit(found, at, memory_order_relaxed);
+    }
     memcpy(to, &at, sizeof at);
 }
 
-/* The function that the C library has under this name. */
+/* The function `real` that the C library has under this name. */
 #define REAL(result, name, parameters)                                                                                                        \
-    static result(*real) parameters;                                                                                                          \
-    if (!real)                                                                                                                                \
-    find(&real, #name)
+    static _Atomic(void *) found_##name;                                                                                                      \
+    result(*real) parameters;                                                                                                                 \
+    find(&found_##name, &real, #name)
 
 __attribute__((constructor)) static void begin(void)
 {

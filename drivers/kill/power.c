@@ -111,10 +111,8 @@ static uint64_t held_by(int folder, const char *name)
 /* Its copy goes with it, before another file can have its number. */
 static void unlock_names(uint64_t gone)
 {
-    static int (*real)(const char *);
+    REAL(int, unlink, (const char *));
     char to[PATH_MAX];
-    if (!real)
-        find(&real, "unlink");
     if (gone) {
         name_of(gone, "", to);
         real(to);
