@@ -168,24 +168,23 @@ CHANGE(int, posix_fallocate64, 0, (int fd, off64_t at, off64_t length), fd, at, 
 SYNC(fsync)
 SYNC(fdatasync)
 
+/* Syncs of all files at once. */
 int syncfs(int fd)
 {
-    REAL(int, syncfs, (int));
-    if (!counted)
-        begin();
-    count(1);
-    all_synced();
-    return real(fd);
+    if (fcntl(fd, F_GETFD) < 0)
+        return -1;
+    sync();
+    return 0;
 }
 
 void sync(void)
 {
-    REAL(void, sync, (void));
+    int before = errno;
     if (!counted)
         begin();
     count(1);
     all_synced();
-    real();
+    errno = before;
 }
 
 int msync(void *at, size_t length, int flags)
