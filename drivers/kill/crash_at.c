@@ -228,7 +228,8 @@ RENAME(unlinkat, folder, path, (int folder, const char *path, int flags), folder
 RENAME(rename, AT_FDCWD, to, (const char *from, const char *to), from, to)
 RENAME(renameat, other, to, (int folder, const char *from, int other, const char *to), folder, from, other, to)
 /* After an exchange nothing is gone. */
-RENAME(renameat2, other, (flags & RENAME_EXCHANGE ? "" : to), (int folder, const char *from, int other, const char *to, unsigned flags), folder, from, other, to, flags)
+RENAME(renameat2, other, (flags & RENAME_EXCHANGE ? "" : to), (int folder, const char *from, int other, const char *to, unsigned flags), folder,
+       from, other, to, flags)
 
 /* A call that cuts the file of a path. */
 #define TRUNCATE(name, offset)                                                                                                                \

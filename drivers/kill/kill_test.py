@@ -236,11 +236,17 @@ class Run:
 
     @staticmethod
     def kill(child):
-        """Kills a child with all processes that it started. One that has ended keeps its number until it is waited for."""
-        try:
-            os.killpg(child.pid, signal.SIGKILL)
-        except ProcessLookupError:
-            pass
+        """Kills a child with all processes that it started, before it is waited for: until then no other process can have its number."""
+        os.killpg(child.pid, signal.SIGKILL)
+
+    @staticmethod
+    def is_over(child, due):
+        """Whether a child ends until then. It is not waited for yet."""
+        while not os.waitid(os.P_PID, child.pid, os.WEXITED | os.WNOHANG | os.WNOWAIT):
+            if time.monotonic() >= due:
+                return False
+            time.sleep(0.001)
+        return True
 
     def read(self):
         """The events of a reading, or why the store did not open."""
@@ -255,16 +261,14 @@ class Run:
                     break
                 text, _, rest = (rest + text).rpartition(b"\n")
                 events.take(text)
-            try:
-                status = child.wait(max(0.1, due - time.monotonic()))
-            except subprocess.TimeoutExpired:
+            if not self.is_over(child, due):
                 return None, "no end of the reading within %g seconds" % self.options.open
-            if status:
-                return None, "the reading ended with status %d" % status if status > 0 else "the reading died by signal %d" % -status
         finally:
             self.kill(child)
-            child.wait()
+            status = child.wait()
             child.stdout.close()
+        if status:
+            return None, "the reading ended with status %d" % status if status > 0 else "the reading died by signal %d" % -status
         if rest:
             events.fault(rest, "the line has no end")
         if sorted(call[1] for call, _ in events.answers) != list(range(self.options.keys)) or events.opened:
@@ -306,13 +310,11 @@ class Run:
                     is_killed, due = True, time.monotonic() + options.open
                 else:
                     raise Stop(WORDS, "%s left a process that holds its output after the kill" % name)
-            try:
-                status = child.wait(options.open)
-            except subprocess.TimeoutExpired:
+            if not self.is_over(child, time.monotonic() + options.open):
                 raise Stop(WORDS, "%s closed its output and did not end" % name)
         finally:
             self.kill(child)
-            child.wait()
+            status = child.wait()
             child.stdout.close()
         writes, syncs = self.counted()
         self.seen, self.syncs = self.seen + writes, self.syncs + syncs
@@ -364,7 +366,8 @@ class Run:
             self.empty += not events.calls
             self.full += bool(events.calls) and not events.opened
             if (options.kill_at_write or options.power) and not self.seen:
-                raise Stop(WORDS, "no write of the store was seen: the child writes by direct system calls, through mmap or stdio, or not below POTZENDAI_STORE")
+                raise Stop(WORDS, "no write of the store was seen: the child writes by direct system calls, through mmap or stdio, or not below "
+                                  "POTZENDAI_STORE")
             reading, why = self.read()
             head = b'{"start":%s,"version":3}' % json.dumps(start, separators=(",", ":")).encode()
             if reading is None:
@@ -373,7 +376,8 @@ class Run:
                 return NO
             busy = {json.loads(line)["process"] for line in reading.lines} & set(events.opened)
             if busy:
-                raise Stop(WORDS, "`read` uses process %d, which has a call that is open since the kill: take a number that `run` never uses" % min(busy))
+                raise Stop(WORDS, "`read` uses process %d, which has a call that is open since the kill: take a number that `run` never uses"
+                           % min(busy))
             lines = [head, *events.lines, *reading.lines]
             status, reports = self.program.ask("follow", b"\n".join(lines) + b"\n")
             made = events.calls + reading.calls
