@@ -92,6 +92,10 @@ class Store:
         with self.lock:
             return self.pairs.get(key)
 
+    def scan(self, low, high):
+        with self.lock:
+            return [[key, self.pairs[key]] for key in sorted(self.pairs) if low <= key <= high]
+
     def close(self):
         self.flush()
         os.close(self.log)
@@ -101,8 +105,8 @@ def note(process, member):
     os.write(1, b'{"process":%d,%s}\n' % (process, member.encode()))
 
 
-def text(value):
-    return "null" if value is None else str(value)
+def text(answer):
+    return "null" if answer is None else str(answer).replace(" ", "")
 
 
 def main():
@@ -127,7 +131,11 @@ def main():
         draws, n = random.Random((seed * 100003 + options.number) * 64 + process), 0
         while not is_over.is_set():
             key, draw, n = draws.randrange(16), draws.random(), n + 1
-            if draw < .5:
+            if draw < .05:
+                high = draws.randrange(key, 16)
+                note(process, '"invoke":["scan",%d,%d]' % (key, high))
+                answer = store.scan(key, high)
+            elif draw < .5:
                 note(process, '"invoke":["get",%d]' % key)
                 answer = store.get(key)
             elif draw < .9:
