@@ -32,7 +32,10 @@ import (
 // Map is a map of numbers. It may also have any of these methods, and those that it lacks are not called:
 //
 //	Connection() Map                     what one thread calls in the place of the map
-//	Close()                              of a connection, at the end of a run
+//	Close()                              of a connection, at the end of a run; and of a map, once it is used no more
+//	Reopen() Map                         for --reopen: closes the map at rest, and returns it opened again, with what it held
+//	Snapshots(taken func())              of a connection of one thread: its reads call taken once their snapshot is taken; the read counts as
+//	                                     answered at this moment, and its pairs may be read later
 //	Del(key uint64) Said                 the value before
 //	Scan(low, high uint64) Said          the pairs of one moment, both ends included, by rising keys
 //	Replace(key, old, value uint64) Said the value found; or Done where it was replaced, Other where it was not
@@ -97,6 +100,11 @@ const (
 	running, over, failed                     = 0, 1, 2
 	reportShown                               = 1000    // bytes of the report of a stream without order
 	mostKept                                  = 1 << 26 // bytes of a stream that are kept for a file
+	ownValues                                 = 1 << 63 // under --cache, values from here on are the driver's own
+	mostBeside                                = 32      // calls that a stream has on behalf of one
+	keptNotes                                 = 1000000 // of so many events of a stream the notes are kept for the words of a no
+	openShown                                 = 6       // of the other calls that were open
+	batchRounds, batchCalls                   = 64, 256 // so many rounds are judged together, of so many calls
 )
 
 var (
@@ -129,6 +137,8 @@ func isOneOf(word string, words ...string) bool {
 	}
 	return false
 }
+
+func writesKey(kind string) bool { return isOneOf(kind, "put", "del", "replace", "put_if_absent") }
 
 func writes(kind string) bool {
 	return isOneOf(kind, "put", "del", "replace", "put_if_absent", "pop_first")
@@ -165,10 +175,18 @@ func (d *draws) pause() {
 	}
 }
 
-var yields, points uint64
+var (
+	yields, points uint64
+	hasPoints      atomic.Bool
+)
 
 // Point is to be called by a map's methods where another thread should get in between: under --yield it sometimes does.
 func Point() {
+	hasPoints.Store(true)
+	giveWay()
+}
+
+func giveWay() {
 	if often := atomic.LoadUint64(&yields); often > 0 {
 		drawn := draws{atomic.AddUint64(&points, 0x9e3779b97f4a7c15)}
 		if drawn.below(1000) < often {
@@ -193,8 +211,6 @@ func (c *call) text() string {
 	return text + "]"
 }
 
-func (c *call) writes() bool { return isOneOf(c.name, "insert", "remove", "replace") }
-
 func pairsText(pairs [][2]uint64) string {
 	texts := make([]string, len(pairs))
 	for i, pair := range pairs {
@@ -204,8 +220,8 @@ func pairsText(pairs [][2]uint64) string {
 }
 
 // Whether the answer tells which call of a history it was.
-func isHeld(kind string) bool {
-	return isOneOf(kind, "put_if_absent", "floor", "ceiling", "pop_first")
+func (o *options) isHeld(kind string) bool {
+	return isOneOf(kind, "put_if_absent", "floor", "ceiling", "pop_first") || o.cache != "" && isOneOf(kind, "get", "replace", "scan")
 }
 
 // The words that a function may answer beside what it tells.
@@ -275,6 +291,83 @@ func noted(kind string, words []uint64, said Said) (*call, string) {
 	return &call{histories[kind], words}, answerText(said)
 }
 
+// What a history has of a call: its invocation, its answer, or none where the call stays open; a note of the call as it was made, where that is
+// another one; and further calls of the same interval, each by a process of its own.
+type made struct {
+	call         *call
+	answer, note string
+	beside       []made
+}
+
+// What a history has of a call; nothing where it is left out.
+func (o *options) recorded(kind string, words []uint64, said Said, fresh func() uint64) *made {
+	call, answer := noted(kind, words, said)
+	if call == nil {
+		return nil
+	}
+	plain := &made{call: call, answer: answer}
+	if o.cache == "" {
+		return plain
+	}
+	return o.recordedOfCache(kind, words, said, plain, fresh)
+}
+
+// The same for a cache, which may lose any key at any time: of a miss, that the key is gone from then on. So this history has an order if and
+// only if the cache's own has one in which keys may be lost. Late: a miss says nothing.
+func (o *options) recordedOfCache(kind string, words []uint64, said Said, plain *made, fresh func() uint64) *made {
+	isLate, isWritten := o.cache == "late", isOneOf(kind, "put", "del", "put_if_absent")
+	if isLate && (said.word == "other" || said.word == "none" && !isWritten) {
+		return nil
+	}
+	before, none := plain.call.said(), ", answered none: the key was gone"
+	if isLate {
+		none = ", answered none"
+	}
+	switch {
+	case said.word == "none" && isOneOf(kind, "put", "put_if_absent"):
+		return &made{call: &call{"insert", words}, answer: `"done"`, note: before + none}
+	case said.word == "none" && isOneOf(kind, "get", "del", "replace"):
+		return &made{call: &call{"remove", words[:1]}, answer: `"done"`, note: before + none}
+	case said.word == "other":
+		return &made{call: &call{"replace", []uint64{words[0], words[1], fresh()}}, answer: `"done"`, note: before + ", answered another value"}
+	case plain.call.name != "scan":
+		return plain
+	}
+	pairs := said.pairs
+	if kind != "scan" && said.word == "told" {
+		pairs = [][2]uint64{{said.key, said.value}}
+	}
+	return o.scanOfCache(plain, pairs, isLate, before)
+}
+
+// A scan with a remove of each key that it did not have; or, where a miss says nothing, gets of those that it had.
+func (o *options) scanOfCache(plain *made, pairs [][2]uint64, isLate bool, before string) *made {
+	var all []made
+	if isLate {
+		for _, pair := range pairs {
+			note := fmt.Sprintf("%s, answered %d: %d", before, pair[0], pair[1])
+			all = append(all, made{call: &call{"get", []uint64{pair[0]}}, answer: strconv.FormatUint(pair[1], 10), note: note})
+		}
+		if len(all) == 0 {
+			return nil
+		}
+		all[0].beside = all[1:]
+		return &all[0]
+	}
+	held := map[uint64]bool{}
+	for _, pair := range pairs {
+		held[pair[0]] = true
+	}
+	for key := plain.call.words[0]; key <= plain.call.words[1] && key < o.keys; key++ {
+		if !held[key] {
+			note := fmt.Sprintf("%s, which did not have %d: the key was gone", before, key)
+			all = append(all, made{call: &call{"remove", []uint64{key}}, answer: `"done"`, note: note})
+		}
+	}
+	plain.beside = all
+	return plain
+}
+
 // The functions of a connection: of those that it lacks there is none.
 type functions map[string]func(words ...uint64) Said
 
@@ -322,8 +415,20 @@ func connectionOf(m Map) (Map, func()) {
 	return connection, func() {}
 }
 
-func (f functions) ask(kind string, words ...uint64) Said {
+// A map that is used no more.
+func forget(m Map) {
+	if it, is := m.(interface{ Close() }); is {
+		it.Close()
+	}
+}
+
+func (f functions) ask(o *options, kind string, words ...uint64) Said {
 	said := f[kind](words...)
+	for _, pair := range append([][2]uint64{{said.key, said.value}}, said.pairs...) {
+		if o.cache != "" && said.word == "told" && pair[1] >= ownValues {
+			fail(badWords, "%s said a value from 2^63 on, and --cache needs these for its own use", kind)
+		}
+	}
 	if !isOneOf(said.word, fits[kind]...) {
 		fail(badWords, "%s said %s, which does not fit it", kind, map[bool]string{true: "nothing", false: said.word}[said.word == ""])
 	}
@@ -340,6 +445,7 @@ type wrong struct {
 	once  map[uint64]Said
 	late  []uint64
 	style string
+	times uint64 // how often it went wrong
 }
 
 func (w *wrong) goes(how string) bool { return w.how == how && w.draws.below(seldom) == 0 }
@@ -358,6 +464,7 @@ func (w *wrong) inStyle(got Said) Said {
 func (w *wrong) get(words ...uint64) Said {
 	once, is := w.once[words[0]]
 	if is && w.goes("stale") {
+		w.times++
 		return once
 	}
 	said := w.truly["get"](words...)
@@ -388,10 +495,12 @@ func (w *wrong) race(key, value uint64) Said {
 
 func (w *wrong) put(words ...uint64) Said {
 	if w.style != "" && w.goes("race") {
+		w.times++
 		return w.race(words[0], words[1])
 	}
 	if w.style != "" && w.goes("drop") {
 		if got := w.truly["get"](words[0]); got.tells() {
+			w.times++
 			return w.inStyle(got)
 		}
 	}
@@ -425,6 +534,7 @@ func (w *wrong) scan(words ...uint64) Said {
 	if first.word != "told" || second.word != "told" {
 		return w.truly["scan"](low, high)
 	}
+	w.times++
 	return ToldPairs(append(append([][2]uint64{}, first.pairs...), second.pairs...))
 }
 
@@ -435,6 +545,7 @@ func (w *wrong) replace(words ...uint64) Said {
 	if said := w.truly["put"](words[0], words[2]); isOneOf(said.word, "refused", "unknown") {
 		return said
 	}
+	w.times++
 	return Done
 }
 
@@ -451,6 +562,7 @@ func (w *wrong) functions() functions {
 			if w.late != nil && w.draws.below(2) == 1 {
 				late := w.late
 				w.late = nil
+				w.times++
 				w.truly["put"](late...)
 			}
 			return function(words...)
@@ -461,13 +573,26 @@ func (w *wrong) functions() functions {
 
 // Threads and what they record
 
-// An event: the invocation of a call, or an answer where there is none. Once it is in a round, its process is told.
+// An event: the invocation of a call, or an answer where there is none; of which function it is, unless no thread called one, and what that
+// said, once it is over. Once it is in a round, its process is told.
 type event struct {
 	stamp        uint64
 	thread, life int
 	process      int
 	call         *call
-	answer       string
+	answer, note string
+	kind, said   string
+	beside       []made
+	isAnswered   bool
+}
+
+// The two events of a call, of which the second is none where the call stays open.
+func eventsOf(begin, end uint64, thread, life int, kind, said string, m *made) []event {
+	events := []event{{stamp: begin, thread: thread, life: life, kind: kind, call: m.call, note: m.note, beside: m.beside}}
+	if m.answer != "" {
+		events = append(events, event{stamp: end, thread: thread, life: life, kind: kind, answer: m.answer, said: said, beside: m.beside})
+	}
+	return events
 }
 
 // A task is the number of a round, as how many processes a thread may go on, what the map holds, and keys at which calls have no answer.
@@ -476,6 +601,7 @@ type task struct {
 	lives    int
 	start    map[uint64]uint64
 	doubtful map[uint64]bool
+	from     uint64
 }
 
 // The lock of a key; and whether a call that writes it has no answer, and so may still come between a get and the put behind it.
@@ -499,37 +625,57 @@ type worker struct {
 	draws   *draws
 	log     []event
 	puts    uint64
-	from    uint64 // each put has a value of its own, which was not in the map before
+	from    uint64
 	made    uint64
 	life    int
 	lives   int
 	stream  *stream
 	process int
+	helpers []int
+	marks   uint64
+	broken  *wrong
+	// How often the broken maps of before went wrong.
+	wrongTimes uint64
+	reads      bool   // whether the call that goes on only reads
+	taken      uint64 // the stamp at which its snapshot was taken
 }
 
 func (w *worker) open(m Map) {
 	connection, closing := connectionOf(m)
 	w.has, w.close = functionsOf(connection), closing
-	if w.options.broken != "" {
-		all := &wrong{truly: w.has, how: w.options.broken, draws: newDraws(w.options.seed, 0, w.number), keys: w.options.keys, once: map[uint64]Said{}}
-		w.has = all.functions()
+	if it, is := connection.(interface{ Snapshots(taken func()) }); is && connection != m {
+		it.Snapshots(w.take)
 	}
+	if w.options.broken != "" {
+		w.broken = &wrong{truly: w.has, how: w.options.broken, draws: newDraws(w.options.seed, 0, w.number), keys: w.options.keys, once: map[uint64]Said{}}
+		w.has = w.broken.functions()
+	}
+}
+
+// The call that goes on is answered now, if it only reads. Of several such moments the last one counts.
+func (w *worker) take() {
+	if !w.reads {
+		return
+	}
+	if w.stream != nil && w.taken != 0 {
+		w.stream.put(w.taken, happening{})
+	}
+	w.taken = w.stamps.Add(1)
+}
+
+// A value that no call puts.
+func (w *worker) fresh() uint64 {
+	w.marks++
+	return ownValues + (w.marks-1)*w.options.threads + w.number
 }
 
 // The calls of a round. A process whose answer is unknown makes no further call.
 func (w *worker) run(t task) {
+	w.from = t.from
 	w.log, w.made, w.life, w.seen, w.memory = nil, 0, 0, map[uint64]uint64{}, map[uint64]Said{}
 	for key := uint64(0); key < w.options.keys && w.options.void == "own"; key++ {
 		if value, is := t.start[key]; !t.doubtful[key] {
 			w.memory[key] = ToldIf(value, is)
-		}
-	}
-	if w.from == 0 {
-		w.from = 1
-		for _, value := range t.start {
-			if value >= w.from {
-				w.from = value + 1
-			}
 		}
 	}
 	w.draws, w.lives = newDraws(w.options.seed, t.round, w.number), t.lives
@@ -556,15 +702,15 @@ func (w *worker) draw() {
 	}
 	key, value, high := w.drawKey(writes(kind)), uint64(0), uint64(0)
 	if writes(kind) {
-		value = w.from + w.puts*w.options.threads + w.number
+		value = w.from + w.puts*(w.options.threads+1) + w.number
 		w.puts++
 	}
 	if kind == "scan" {
-		if high = key + w.draws.below(span); high >= w.options.keys {
+		if high = key + w.draws.below(w.options.span); high >= w.options.keys {
 			high = w.options.keys - 1
 		}
 	}
-	Point()
+	giveWay()
 	switch {
 	case kind == "scan" && w.options.scan == "steps":
 		w.steps(key, high)
@@ -620,14 +766,22 @@ func (w *worker) write(kind string, words ...uint64) {
 func (w *worker) make(kind string, words ...uint64) Said {
 	isVoid, got := kind == "put" || kind == "del", Done
 	begin := w.stamps.Add(1)
-	if w.stream != nil && !isHeld(kind) {
-		w.stream.put(begin, happening{call: &call{histories[kind], words}, process: w.process})
+	if w.stream != nil && !w.options.isHeld(kind) {
+		w.stream.put(begin, happening{parts: []part{{process: w.process, call: &call{histories[kind], words}}}, kind: kind})
 	}
 	if w.locks != nil && isVoid {
-		got = w.has.ask("get", words[0])
+		got = w.has.ask(w.options, "get", words[0])
 	}
-	said := w.has.ask(kind, words...)
-	end := w.stamps.Add(1)
+	if w.options.cache != "" {
+		got = Done // the key may be lost between that get and the call
+	}
+	w.reads, w.taken = isOneOf(kind, "get", "scan", "floor", "ceiling"), 0
+	said := w.has.ask(w.options, kind, words...)
+	w.reads = false
+	end := w.taken
+	if end == 0 {
+		end = w.stamps.Add(1)
+	}
 	w.made++
 	w.called[kind]++
 	w.sayings[said.word]++
@@ -649,10 +803,14 @@ func (w *worker) make(kind string, words ...uint64) Said {
 	} else if said.word == "told" && isOneOf(kind, "get", "del", "replace", "put_if_absent") {
 		w.seen[words[0]] = said.value
 	}
+	m := w.options.recorded(kind, words, known, w.fresh)
 	if w.stream != nil {
-		w.handOver(begin, end, kind, words, said, known)
-	} else {
-		w.note(begin, end, kind, words, known)
+		w.handOver(begin, end, kind, said.word, m)
+	} else if m != nil {
+		w.log = append(w.log, eventsOf(begin, end, int(w.number), w.life, kind, said.word, m)...)
+		if m.answer == "" {
+			w.life++
+		}
 	}
 	return said
 }
@@ -684,40 +842,62 @@ func (w *worker) known(kind string, words []uint64, said, got Said) Said {
 	return said
 }
 
-func (w *worker) note(begin, end uint64, kind string, words []uint64, said Said) {
-	call, answer := noted(kind, words, said)
-	if call == nil {
-		return
-	}
-	w.log = append(w.log, event{stamp: begin, thread: int(w.number), life: w.life, call: call})
-	if answer == "" {
-		w.life++
-	} else {
-		w.log = append(w.log, event{stamp: end, thread: int(w.number), life: w.life, answer: answer})
-	}
-}
-
 // The events of a call that is over, for the stream. One that tells nothing is left out; or refused, where it stands there already. One whose
 // answer is unknown stays open, and its thread goes on as another process.
-func (w *worker) handOver(begin, end uint64, kind string, words []uint64, said, known Said) {
-	call, answer := noted(kind, words, known)
-	if call == nil && !isHeld(kind) {
-		answer = `"refused"`
+func (w *worker) handOver(begin, end uint64, kind, said string, m *made) {
+	isHeld := w.options.isHeld(kind)
+	ending := happening{kind: kind, said: said}
+	switch {
+	case m != nil && len(m.beside) > mostBeside:
+		m, ending.kind = nil, ""
+		ending.isLeftOut = true
+	case m == nil && !isHeld:
+		ending.parts = []part{{process: w.process, answer: `"refused"`}}
 	}
-	if isHeld(kind) {
-		w.stream.put(begin, happening{call: call, process: w.process})
+	if m == nil {
+		if isHeld {
+			w.stream.put(begin, happening{})
+		}
+		w.stream.put(end, ending)
+		return
 	}
-	w.stream.put(end, happening{process: w.process, answer: answer, said: said.word})
-	if call != nil && answer == "" {
+	for len(w.helpers) < len(m.beside) {
+		w.helpers = append(w.helpers, w.stream.nextProcess())
+	}
+	first := happening{parts: []part{{process: w.process, call: m.call, note: m.note}}, kind: kind}
+	ending.parts = []part{{process: w.process, answer: m.answer}}
+	for i, one := range m.beside {
+		first.parts = append(first.parts, part{process: w.helpers[i], call: one.call, note: one.note})
+		ending.parts = append(ending.parts, part{process: w.helpers[i], answer: one.answer})
+	}
+	if isHeld {
+		w.stream.put(begin, first)
+	}
+	w.stream.put(end, ending)
+	if m.answer == "" {
 		w.process = w.stream.nextProcess()
 	}
 }
 
-// What stands at a stamp of a stream: a call, an answer, or nothing; and what the map said, where that ends a call.
-type happening struct {
-	call         *call
+// A part of what stands at a stamp of a stream: a call of a process with its note, or its answer, or none where it stays open.
+type part struct {
 	process      int
-	answer, said string
+	call         *call
+	answer, note string
+}
+
+// What stands at a stamp of a stream: first the event of a thread, then those on behalf of it; of which function they are; and what the map said,
+// where that ends a call.
+type happening struct {
+	parts      []part
+	kind, said string
+	isLeftOut  bool
+}
+
+// A call of a stream that is open, and when it began.
+type openCall struct {
+	call   *call
+	stored uint64
 }
 
 // A stream of events, which a goroutine of its own hands on while others record. Stamps are numbers without a gap, and each has its slot;
@@ -731,8 +911,10 @@ type stream struct {
 	state         atomic.Int32
 	isEnded       atomic.Bool
 	done          chan bool
-	open          map[int]*call
+	open          map[int]openCall
 	writers       map[uint64]int
+	number        uint64
+	notes         map[uint64]string
 	text, kept    []byte // what is to be handed over; and the stream so far, while it is no longer than is kept
 	isLong        bool
 	out           io.Writer
@@ -761,7 +943,7 @@ func rest(times int) {
 }
 
 func newStream(r *run, stamps *atomic.Uint64, start map[uint64]uint64) *stream {
-	s := &stream{run: r, stamps: stamps, done: make(chan bool), open: map[int]*call{}, writers: map[uint64]int{}}
+	s := &stream{run: r, stamps: stamps, done: make(chan bool), open: map[int]openCall{}, writers: map[uint64]int{}, notes: map[uint64]string{}}
 	s.taken.Store(stamps.Load() + 1)
 	s.text = []byte(fmt.Sprintf("{\"start\":%s,\"version\":3}\n", pairsText(sorted(start))))
 	go s.write()
@@ -857,33 +1039,73 @@ func (s *stream) keep() {
 	s.kept = append(s.kept, s.text...)
 }
 
-// The line of an event, and what is counted: as of a round, but that nothing is kept of calls that are over.
+// The lines of events, and what is counted: as of a round, but that nothing is kept of calls that are over. A call without an answer is over too:
+// nobody waits for it.
 func (s *stream) take(what *happening) {
-	if what.call != nil {
+	for i, one := range what.parts {
+		if one.call != nil {
+			if i > 0 {
+				s.run.helped++
+			}
+			s.text = append(append(append(s.text, `{"invoke":`...), one.call.text()...), ',')
+			if one.note != "" {
+				s.notes[s.number] = one.note
+				s.text = append(append(append(s.text, `"note":"`...), one.note...), `",`...)
+			}
+		} else if one.answer != "" {
+			s.text = append(append(append(s.text, `{"answer":`...), one.answer...), ',')
+		} else {
+			continue
+		}
+		s.number++
+		s.text = append(strconv.AppendInt(append(s.text, `"process":`...), int64(one.process), 10), "}\n"...)
+	}
+	s.forgetNotes()
+	if len(what.parts) > 0 {
+		s.count(what, what.parts[0])
+	}
+	if what.isLeftOut {
+		s.run.leftOut++
+	}
+	if what.said != "" {
+		s.run.sayings[what.said]++
+	}
+}
+
+// Keeps the notes of the last events alone.
+func (s *stream) forgetNotes() {
+	if len(s.notes) > 2*keptNotes {
+		for number := range s.notes {
+			if number+keptNotes < s.number {
+				delete(s.notes, number)
+			}
+		}
+	}
+}
+
+// Counts the event of a thread.
+func (s *stream) count(what *happening, one part) {
+	if one.call != nil {
+		key := one.call.words[0]
 		s.run.calls++
 		s.run.overlap += uint64(len(s.open))
-		s.open[what.process] = what.call
-		if key := what.call.words[0]; what.call.writes() {
+		s.open[one.process] = openCall{one.call, s.run.tally.begin(what.kind, key)}
+		if writesKey(what.kind) {
 			if s.writers[key] > 0 {
 				s.run.met[key] = true
 			}
 			s.writers[key]++
 		}
-		s.text = append(append(append(s.text, `{"invoke":`...), what.call.text()...), `,"process":`...)
-	} else if what.answer != "" {
-		if one := s.open[what.process]; one.writes() {
-			if s.writers[one.words[0]]--; s.writers[one.words[0]] == 0 {
-				delete(s.writers, one.words[0])
-			}
+		return
+	}
+	it := s.open[one.process]
+	delete(s.open, one.process)
+	key := it.call.words[0]
+	s.run.tally.end(what.kind, key, what.said, it.stored)
+	if writesKey(what.kind) && one.answer != "" {
+		if s.writers[key]--; s.writers[key] == 0 {
+			delete(s.writers, key)
 		}
-		delete(s.open, what.process)
-		s.text = append(append(append(s.text, `{"answer":`...), what.answer...), `,"process":`...)
-	}
-	if what.call != nil || what.answer != "" {
-		s.text = append(strconv.AppendInt(s.text, int64(what.process), 10), "}\n"...)
-	}
-	if what.said != "" {
-		s.run.sayings[what.said]++
 	}
 }
 
@@ -900,11 +1122,14 @@ type crew struct {
 	workers    []*worker
 	connection functions
 	close      func()
+	made       Map
 	contents   map[uint64]uint64
+	from       uint64 // each put has a value of its own, which was not in the map before
+	puts       uint64 // of the driver's own
 }
 
-func newCrew(o *options, m Map) *crew {
-	c := &crew{options: o}
+func newCrew(o *options) *crew {
+	c := &crew{options: o, from: 1}
 	var locks []keyLock
 	if o.void == "lock" {
 		locks = make([]keyLock, o.keys)
@@ -913,10 +1138,20 @@ func newCrew(o *options, m Map) *crew {
 		c.workers = append(c.workers, &worker{number: number, options: o, stamps: &c.stamps, locks: locks, sayings: map[string]uint64{},
 			called: map[string]uint64{}})
 	}
-	c.each(func(w *worker) { w.open(m) })
+	return c
+}
+
+// Each thread opens a connection to a map.
+func (c *crew) open(m Map) {
+	c.made = m
+	c.each(func(w *worker) {
+		if w.broken != nil {
+			w.wrongTimes += w.broken.times
+		}
+		w.open(m)
+	})
 	connection, closing := connectionOf(m)
 	c.connection, c.close = functionsOf(connection), closing
-	return c
 }
 
 // Has each worker do its part, all at once. Where one goes wrong, the run ends.
@@ -958,97 +1193,237 @@ func (c *crew) each(part func(*worker)) {
 // A round: its events, with gets of all keys behind those of the threads.
 func (c *crew) round(t task) []event {
 	c.each(func(w *worker) { w.run(t) })
+	if c.options.isReopened {
+		c.reopen()
+	}
 	var events []event
 	for _, one := range c.workers {
 		events = append(events, one.log...)
 	}
-	return append(events, c.rest()...)
+	return append(events, c.rest(t.round)...)
 }
 
-func (c *crew) rest() []event {
+// Gets of all keys, the last calls of a round, and what the map then holds. A key of which a get does not tell it is written.
+func (c *crew) rest(number uint64) []event {
 	var events []event
 	c.contents = map[uint64]uint64{}
-	thread := int(c.options.threads)
 	for key := uint64(0); key < c.options.keys; key++ {
-		said, begin, end := Done, uint64(0), uint64(0)
-		for i := 0; i < 1000 && !said.tells(); i++ {
-			begin = c.stamps.Add(1)
-			said = c.connection.ask("get", key)
-			end = c.stamps.Add(1)
+		said, m := c.askAtRest(&events, "get", key)
+		isKnown, isThere, holds, kind := m != nil && said.tells(), said.word == "told", said.value, "get"
+		if !isKnown && !isOneOf(said.word, "refused", "unknown") {
+			if kind, holds = c.writeOf(key, number); kind == "del" {
+				said, _ = c.askAtRest(&events, kind, key)
+			} else if kind == "put" {
+				said, _ = c.askAtRest(&events, kind, key, holds)
+			}
+			isKnown, isThere = kind != "get" && !isOneOf(said.word, "refused", "unknown"), kind == "put"
 		}
-		if !said.tells() {
-			fail(badWords, "%s: get of %d said %s at rest, where it has to tell", c.options.name, key, said.word)
+		if !isKnown {
+			fail(badWords, "%s: %s of %d said %s at rest, where it has to tell", c.options.name, kind, key, said.word)
 		}
-		events = append(events, event{stamp: begin, thread: thread, call: &call{"get", []uint64{key}}},
-			event{stamp: end, thread: thread, answer: answerText(said)})
-		if said.word == "told" {
-			c.contents[key] = said.value
+		if isThere {
+			c.contents[key] = holds
 		}
 	}
 	return events
 }
 
+// The function by which is known what a key holds: a put of a new value or, at each second key, a del. Of a cache, a del. Or get, where the map has
+// neither.
+func (c *crew) writeOf(key, number uint64) (string, uint64) {
+	isPut, isDel := c.connection["put"] != nil, c.connection["del"] != nil
+	if isDel && (!isPut || c.options.cache != "" || (key+number)%2 == 1) {
+		return "del", 0
+	}
+	if !isPut {
+		return "get", 0
+	}
+	c.puts++
+	return "put", c.from + c.puts*(c.options.threads+1) + c.options.threads
+}
+
+// What a function says at rest: again where it is refused, and a get also where nobody knows. It is noted unless it tells nothing.
+func (c *crew) askAtRest(events *[]event, kind string, words ...uint64) (said Said, m *made) {
+	said = Refused
+	var begin, end uint64
+	for i := 0; i < 1000 && (said.word == "refused" || said.word == "unknown" && kind == "get"); i++ {
+		begin = c.stamps.Add(1)
+		said = c.connection.ask(c.options, kind, words...)
+		end = c.stamps.Add(1)
+	}
+	m = c.options.recorded(kind, words, said, nil)
+	if m != nil && m.answer != "" {
+		called := map[bool]string{true: "rest", false: kind}[kind == "get"]
+		*events = append(*events, eventsOf(begin, end, int(c.options.threads), 0, called, said.word, m)...)
+	}
+	return said, m
+}
+
+// Closes all connections.
 func (c *crew) closeAll() {
 	for _, one := range c.workers {
 		if one.close != nil {
 			one.close()
+			one.close = nil
 		}
 	}
-	c.close()
+	if c.close != nil {
+		c.close()
+		c.close = nil
+	}
+}
+
+// Closes the map, which is used no more.
+func (c *crew) end() {
+	c.closeAll()
+	if c.made != nil {
+		forget(c.made)
+	}
+	c.made = nil
+}
+
+// Closes the map, at rest, and opens it again.
+func (c *crew) reopen() {
+	c.closeAll()
+	defer func() {
+		if met := recover(); met != nil {
+			if it, is := met.(stop); is {
+				panic(it)
+			}
+			fail(badWords, "%s: reopen: %v", c.options.name, met)
+		}
+	}()
+	closed := c.made
+	c.made = nil
+	made := closed.(interface{ Reopen() Map }).Reopen()
+	if made == nil {
+		fail(badWords, "%s: Reopen said nothing, where it has to return the map", c.options.name)
+	}
+	c.open(made)
 }
 
 // Histories
 
 // A round as a history, and what its threads met.
 type round struct {
-	start           map[uint64]uint64
-	events          []event
-	pending         []*call
-	met             map[uint64]bool
-	calls, overlap  uint64
-	atStart, nobody string
+	start                    map[uint64]uint64
+	events                   []event
+	pending                  []*call
+	met                      map[uint64]bool
+	numbers                  map[[2]int]int // each thread, and each of its lives, and who makes calls on behalf of one, is a process
+	before                   int
+	calls, overlap, leftOuts uint64
+	atStart, nobody          string
 }
 
-// Each thread, and each of its lives, becomes a process; calls that have no answer from before are the first.
-func newRound(events []event, start map[uint64]uint64, before []*call) *round {
-	r := &round{start: start, met: map[uint64]bool{}, atStart: "at the start", nobody: "nobody"}
+// Calls that have no answer from before are the first.
+func newRound(events []event, start map[uint64]uint64, before []*call, t *tally) *round {
+	r := &round{start: start, met: map[uint64]bool{}, numbers: map[[2]int]int{}, before: len(before), atStart: "at the start", nobody: "nobody"}
 	for i, one := range before {
 		r.events = append(r.events, event{call: one, process: i})
 	}
-	sort.Slice(events, func(i, j int) bool { return events[i].stamp < events[j].stamp })
-	numbers := map[[2]int]int{}
-	for _, one := range events {
-		own := [2]int{one.thread, one.life}
-		if _, is := numbers[own]; !is {
-			numbers[own] = len(before) + len(numbers)
-		}
-		one.process = numbers[own]
-		r.events = append(r.events, one)
-	}
-	r.measure()
+	sort.SliceStable(events, func(i, j int) bool { return events[i].stamp < events[j].stamp })
+	r.order(events)
+	r.measure(t)
 	return r
 }
 
-// How many calls were open where another began, at which keys two writers met, and which changes may still come.
-func (r *round) measure() {
-	open := map[int]*call{}
+func (r *round) number(who [2]int) int {
+	number, is := r.numbers[who]
+	if !is {
+		number = r.before + len(r.numbers)
+		r.numbers[who] = number
+	}
+	return number
+}
+
+// The events of the threads. Further calls of one are made by processes that are free; where there are none, or too many calls, it is left out
+// with them.
+func (r *round) order(events []event) {
+	own, calls := map[[2]int]bool{}, mostCalls-r.before
+	for _, one := range events {
+		own[[2]int{one.thread, one.life}] = true
+		if one.call != nil {
+			calls--
+		}
+	}
+	room, madeUp := processes-r.before-len(own), 0
+	var free [][2]int
+	helping, isLeftOut := map[[2]int][][2]int{}, map[[2]int]bool{}
+	for _, one := range events {
+		who := [2]int{one.thread, one.life}
+		if one.call == nil && isLeftOut[who] {
+			delete(isLeftOut, who)
+			continue
+		}
+		if one.call != nil {
+			for len(free) < len(one.beside) && madeUp < room {
+				free = append(free, [2]int{-1, madeUp})
+				madeUp++
+			}
+			if len(one.beside) > len(free) || len(one.beside) > calls {
+				isLeftOut[who] = true
+				r.leftOuts++
+				continue
+			}
+			calls -= len(one.beside)
+			rest := len(free) - len(one.beside)
+			helping[who] = append([][2]int{}, free[rest:]...)
+			free = free[:rest]
+		}
+		one.process = r.number(who)
+		r.events = append(r.events, one)
+		for i, helper := range helping[who] {
+			each := event{process: r.number(helper), call: one.beside[i].call, note: one.beside[i].note}
+			if one.call == nil {
+				each = event{process: r.number(helper), answer: one.beside[i].answer}
+			}
+			r.events = append(r.events, each)
+		}
+		if one.call == nil {
+			free = append(free, helping[who]...)
+			delete(helping, who)
+		}
+	}
+}
+
+// How many calls were open where another began, at which keys two writers met, and which changes may still come. A call without an answer is none
+// that others overlap.
+func (r *round) measure(t *tally) {
+	last := map[int]int{}
+	for i, one := range r.events {
+		if one.call != nil {
+			last[one.process] = i
+		} else {
+			r.events[last[one.process]].isAnswered = true
+		}
+	}
+	open, stored := map[int]event{}, map[int]uint64{}
 	for _, one := range r.events {
 		if one.call == nil {
+			if one.kind != "" {
+				t.end(one.kind, open[one.process].call.words[0], one.said, stored[one.process])
+			}
 			delete(open, one.process)
 			continue
 		}
-		r.calls++
-		r.overlap += uint64(len(open))
 		for _, other := range open {
-			if one.call.writes() && other.writes() && one.call.words[0] == other.words[0] {
+			if one.kind != "" && other.kind != "" && other.isAnswered {
+				r.overlap++
+			}
+			if writesKey(one.kind) && writesKey(other.kind) && one.call.words[0] == other.call.words[0] {
 				r.met[one.call.words[0]] = true
 			}
 		}
-		open[one.process] = one.call
+		if one.kind != "" {
+			r.calls++
+			stored[one.process] = t.begin(one.kind, one.call.words[0])
+		}
+		open[one.process] = one
 	}
 	for _, one := range open {
-		if !r.tells(one) {
-			r.pending = append(r.pending, one)
+		if !r.tells(one.call) {
+			r.pending = append(r.pending, one.call)
 		}
 	}
 }
@@ -1111,7 +1486,10 @@ func (r *round) text() string {
 		version = 2
 	}
 	for i, one := range r.events {
-		if one.call != nil {
+		if one.note != "" {
+			texts[i] = fmt.Sprintf(`{"invoke":%s,"note":"%s","process":%d}`, one.call.text(), one.note, one.process)
+			version = 3
+		} else if one.call != nil {
 			texts[i] = fmt.Sprintf(`{"invoke":%s,"process":%d}`, one.call.text(), one.process)
 		} else {
 			texts[i] = fmt.Sprintf(`{"answer":%s,"process":%d}`, one.answer, one.process)
@@ -1127,6 +1505,125 @@ func (r *round) text() string {
 		begin += `,"start":` + pairsText(sorted(r.start))
 	}
 	return fmt.Sprintf("%s,\"version\":%d}\n", begin, version)
+}
+
+// The pairs that an answer has, or none where it is no list of them.
+func pairsOf(answer string) (pairs [][2]uint64) {
+	numbers := strings.FieldsFunc(answer, func(one rune) bool { return one < '0' || one > '9' })
+	for i := 1; i < len(numbers) && answer[0] == '['; i += 2 {
+		key, _ := strconv.ParseUint(numbers[i-1], 10, 64)
+		value, _ := strconv.ParseUint(numbers[i], 10, 64)
+		pairs = append(pairs, [2]uint64{key, value})
+	}
+	return pairs
+}
+
+// Whether it is a history of so many keys alone, in which all calls have answers: then it may be judged with others.
+func (r *round) isApart(keys uint64) bool {
+	calls := 0
+	for key := range r.start {
+		if key >= keys {
+			return false
+		}
+	}
+	for _, one := range r.events {
+		if one.call != nil {
+			calls++
+		}
+		if one.call != nil && one.call.words[0] >= keys {
+			return false
+		}
+		for _, pair := range pairsOf(one.answer) {
+			if pair[0] >= keys {
+				return false
+			}
+		}
+	}
+	return 2*calls == len(r.events)
+}
+
+// Rounds as one history, in which the keys of each are moved up. It has an order if and only if each round has one, since linearizability is
+// local: a call says nothing of keys that it does not touch (Herlihy and Wing, 1990).
+func together(rounds []waiting, keys uint64) string {
+	var start [][2]uint64
+	var texts []string
+	for i, each := range rounds {
+		by := uint64(i) * keys
+		for _, pair := range sorted(each.one.start) {
+			start = append(start, [2]uint64{pair[0] + by, pair[1]})
+		}
+		for _, one := range each.one.events {
+			if one.call == nil {
+				answer := one.answer
+				if answer[0] == '[' {
+					pairs := pairsOf(answer)
+					for j := range pairs {
+						pairs[j][0] += by
+					}
+					answer = pairsText(pairs)
+				}
+				texts = append(texts, fmt.Sprintf(`{"answer":%s,"process":%d}`, answer, one.process))
+				continue
+			}
+			moved := &call{one.call.name, append([]uint64{}, one.call.words...)}
+			moved.words[0] += by
+			if one.call.name == "scan" && one.call.words[1] >= keys {
+				moved.words[1] = keys - 1
+			}
+			if one.call.name == "scan" {
+				moved.words[1] += by
+			}
+			texts = append(texts, fmt.Sprintf(`{"invoke":%s,"process":%d}`, moved.text(), one.process))
+		}
+	}
+	return fmt.Sprintf("{\"events\":[%s],\"start\":%s,\"version\":3}\n", strings.Join(texts, ","), pairsText(start))
+}
+
+// A tally is how often gets found a value; and how often a key was lost, so that nothing was found where a put was answered and no delete begun
+// since.
+type tally struct {
+	hits, misses, losses, clock uint64
+	stored, deletes, deleted    map[uint64]uint64 // when a put ended; open deletes; when a delete began or ended last
+}
+
+// Begins with a new map.
+func (t *tally) forget() {
+	t.stored, t.deletes, t.deleted = map[uint64]uint64{}, map[uint64]uint64{}, map[uint64]uint64{}
+}
+
+// When the call begins.
+func (t *tally) begin(kind string, key uint64) uint64 {
+	t.clock++
+	if isOneOf(kind, "del", "pop_first") {
+		delete(t.stored, key)
+		t.deletes[key]++
+		t.deleted[key] = t.clock
+	}
+	return t.clock
+}
+
+func (t *tally) end(kind string, key uint64, said string, begun uint64) {
+	t.clock++
+	switch {
+	case kind == "get" && said == "none":
+		t.misses++
+	case kind == "get" && isOneOf(said, "told", "found"):
+		t.hits++
+	}
+	stored, is := t.stored[key]
+	if said == "none" && isOneOf(kind, "get", "put", "replace", "rest") && is && stored < begun {
+		t.losses++
+		delete(t.stored, key)
+	}
+	isDone := kind == "put" && !isOneOf(said, "refused", "unknown") || kind == "put_if_absent" && said == "none" || kind == "replace" && said == "done"
+	if isOneOf(kind, "del", "pop_first") {
+		t.deleted[key] = t.clock
+		if said != "unknown" {
+			t.deletes[key]--
+		}
+	} else if isDone && t.deletes[key] == 0 && t.deleted[key] < begun {
+		t.stored[key] = t.clock
+	}
 }
 
 // The program bench.
@@ -1244,26 +1741,53 @@ func (p *program) checked(command string, err error, asked *exec.Cmd, answer str
 // A run is of rounds at a new map, each of which begins with what the one before has left: the pairs, and calls without an answer that may
 // still come.
 type run struct {
-	options                            *options
-	make                               func() Map
-	program                            *program
-	sayings, called                    map[string]uint64
-	met                                map[uint64]bool
-	began                              time.Time
-	rounds, calls, overlap, undecideds uint64
-	failed                             *round
-	cut                                []string
-	report                             string
-	kept                               []byte // of a stream
+	counts
+	options                        *options
+	make                           func() Map
+	program                        *program
+	met                            map[uint64]bool
+	began                          time.Time
+	undecideds, helped, wrongTimes uint64 // the last two: further calls on behalf of others; how often a broken map went wrong
+	waiting                        []waiting
+	waitingCalls                   uint64
+	waitsSince                     time.Time
+	failed                         *round
+	cut                            []string
+	report                         string
+	notes                          map[uint64]string
+	kept                           []byte // of a stream
+}
+
+// What is counted, up to the end of a round.
+type counts struct {
+	rounds, calls, overlap, leftOut uint64
+	sayings, called                 map[string]uint64
+	tally                           tally
+}
+
+// A round that is not judged yet.
+type waiting struct {
+	one    *round
+	counts counts
 }
 
 // Rounds from this number on, until one has no order, or the time is over; or one stream.
 func newRun(o *options, make func() Map, p *program, number uint64) *run {
-	r := &run{options: o, make: make, program: p, met: map[uint64]bool{}, began: time.Now(), sayings: map[string]uint64{}}
+	r := &run{options: o, make: make, program: p, met: map[uint64]bool{}, began: time.Now()}
+	r.sayings = map[string]uint64{}
 	atomic.StoreUint64(&yields, o.yields)
-	c := newCrew(o, make())
-	defer c.closeAll()
-	c.rest()
+	hasPoints.Store(false)
+	c := newCrew(o)
+	defer c.end()
+	r.open(c)
+	defer func() {
+		for _, one := range c.workers {
+			r.wrongTimes += one.wrongTimes
+			if one.broken != nil {
+				r.wrongTimes += one.broken.times
+			}
+		}
+	}()
 	if o.isStream {
 		r.follow(c)
 		r.called = calledBy(c.workers)
@@ -1271,6 +1795,11 @@ func newRun(o *options, make func() Map, p *program, number uint64) *run {
 	}
 	var pending []*call
 	for r.failed == nil && !r.isOver() {
+		if r.rounds > 0 && o.fresh > 0 && r.rounds%o.fresh == 0 {
+			c.end()
+			r.open(c)
+			pending = nil
+		}
 		lives := (processes - 1 - len(pending)) / int(o.threads)
 		if lives == 0 {
 			r.cut = append(r.cut, fmt.Sprintf("%s: calls without an answer leave no room for others: %d", o.name, len(pending)))
@@ -1281,12 +1810,24 @@ func newRun(o *options, make func() Map, p *program, number uint64) *run {
 			doubtful[one.words[0]] = true
 		}
 		start := c.contents
-		one := newRound(c.round(task{number + r.rounds, lives, start, doubtful}), start, pending)
+		one := newRound(c.round(task{number + r.rounds, lives, start, doubtful, c.from}), start, pending, &r.tally)
 		r.take(one, c.workers)
 		pending = one.pending
 	}
-	r.called = calledBy(c.workers)
+	r.judgeWaiting()
 	return r
+}
+
+// Begins with a new map.
+func (r *run) open(c *crew) {
+	c.open(r.make())
+	c.rest(0)
+	for _, value := range c.contents {
+		if value >= c.from {
+			c.from = value + 1
+		}
+	}
+	r.tally.forget()
 }
 
 // How often workers called each function.
@@ -1315,7 +1856,7 @@ func (r *run) follow(c *crew) {
 				}
 			}()
 			w.stream, w.process = s, int(w.number)
-			w.run(task{0, streamProcesses, c.contents, nil})
+			w.run(task{0, streamProcesses, c.contents, nil, c.from})
 		})
 	}()
 	if s.wrong != nil {
@@ -1326,10 +1867,10 @@ func (r *run) follow(c *crew) {
 
 // What the verdict on a stream says. One that was cut off has no yes.
 func (r *run) conclude(s *stream) {
-	r.report, r.kept = s.answer.String(), s.kept
+	r.report, r.kept, r.notes = s.answer.String(), s.kept, s.notes
 	isCut := s.state.Load() == failed
 	if s.status == yes && r.program != nil {
-		isCut = isCut || !strings.HasPrefix(r.report, fmt.Sprintf(`{"calls":%d,`, r.calls))
+		isCut = isCut || !strings.HasPrefix(r.report, fmt.Sprintf(`{"calls":%d,`, r.calls+r.helped))
 	}
 	switch {
 	case s.status == yes && isCut:
@@ -1348,10 +1889,11 @@ func (r *run) take(one *round, workers []*worker) {
 	r.rounds++
 	r.calls += one.calls
 	r.overlap += one.overlap
+	r.leftOut += one.leftOuts
 	for key := range one.met {
 		r.met[key] = true
 	}
-	r.sayings = map[string]uint64{}
+	r.sayings, r.called = map[string]uint64{}, calledBy(workers)
 	for _, each := range workers {
 		for word, count := range each.sayings {
 			r.sayings[word] += count
@@ -1363,11 +1905,41 @@ func (r *run) take(one *round, workers []*worker) {
 		}
 		return
 	}
-	switch r.program.judge(one.text()) {
-	case no:
-		r.failed = one
-	case undecided:
-		r.undecideds++
+	calls := uint64(len(one.events) / 2)
+	isApart := calls <= batchCalls && one.isApart(r.options.keys)
+	if len(r.waiting) > 0 && (!isApart || calls+r.waitingCalls > mostCalls) {
+		r.judgeWaiting()
+	}
+	if r.failed != nil {
+		return
+	}
+	if len(r.waiting) == 0 {
+		r.waitingCalls, r.waitsSince = 0, time.Now()
+	}
+	r.waitingCalls += calls
+	r.waiting = append(r.waiting, waiting{one, r.counts})
+	if len(r.waiting) == batchRounds || time.Since(r.waitsSince) > time.Second || r.rounds == 1 || !isApart {
+		r.judgeWaiting()
+	}
+}
+
+// Judges the rounds that wait: all at once, and each on its own where that is not a yes. Of a no, what was counted is that up to its end.
+func (r *run) judgeWaiting() {
+	all := r.waiting
+	r.waiting = nil
+	if len(all) > 1 {
+		if status, _ := r.program.ask("judge", together(all, r.options.keys), r.program.budget); status == yes {
+			return
+		}
+	}
+	for _, each := range all {
+		switch r.program.judge(each.one.text()) {
+		case no:
+			r.failed, r.counts = each.one, each.counts
+			return
+		case undecided:
+			r.undecideds++
+		}
 	}
 }
 
@@ -1398,6 +1970,9 @@ func counted(count uint64, noun string) string {
 	if count == 1 {
 		return "1 " + noun
 	}
+	if strings.HasSuffix(noun, "s") {
+		noun += "e"
+	}
 	return fmt.Sprintf("%d %ss", count, noun)
 }
 
@@ -1416,8 +1991,60 @@ func (r *run) summary(verdict string) string {
 	if r.undecideds > 0 {
 		undecideds = fmt.Sprintf("; %d undecided", r.undecideds)
 	}
-	return fmt.Sprintf("%s: %s%s in %.1f seconds, overlap %.2f a call: %s%s", verdict, rounds, counted(r.calls, "call"),
+	text := fmt.Sprintf("%s: %s%s in %.1f seconds, overlap %.2f a call: %s%s", verdict, rounds, counted(r.calls, "call"),
 		time.Since(r.began).Seconds(), float64(r.overlap)/math.Max(float64(r.calls), 1), strings.Join(said, ", "), undecideds)
+	if t := &r.tally; r.options.cache != "" {
+		misses := t.misses
+		if r.options.cache == "late" {
+			misses = r.called["get"] - t.hits
+		}
+		text += fmt.Sprintf("; %s, %s, %s", counted(t.hits, "hit"), counted(misses, "miss"), counted(t.losses, "loss"))
+	}
+	if strings.HasPrefix(verdict, "no") && verdict != "not judged" {
+		return text
+	}
+	return strings.Join(append([]string{text}, r.cautions()...), "; ")
+}
+
+// Why a yes of this run says little.
+func (r *run) cautions() (said []string) {
+	all, t, gets, isCache := uint64(0), &r.tally, r.called["get"], r.options.cache != ""
+	for _, count := range r.sayings {
+		all += count
+	}
+	if 2*r.sayings["refused"] > all {
+		said = append(said, "most calls were refused: a yes says little")
+	}
+	switch {
+	case t.hits == 0 && isCache:
+		said = append(said, "no get hit: a yes says nothing")
+	case t.hits == 0 && gets > 0:
+		said = append(said, "no get found a value: a yes says little")
+	case isCache && 20*t.hits < gets:
+		said = append(said, fmt.Sprintf("%s in %s gets: a yes says little", counted(t.hits, "hit"), grouped(gets)))
+	}
+	if isCache && t.losses == 0 {
+		said = append(said, "no key was lost: eviction was not tested")
+	}
+	if r.leftOut > 0 {
+		said = append(said, counted(r.leftOut, "scan")+" without some of the keys left out")
+	}
+	if float64(r.overlap) < 0.05*float64(r.calls) {
+		said = append(said, "overlap below 0.05: the threads hardly met, and a yes says little: call point() in the map, and run with --yield 200")
+	}
+	if r.options.yields > 0 && !hasPoints.Load() {
+		said = append(said, "--yield acted only between calls, since the map called no point()")
+	}
+	return said
+}
+
+// A number with commas.
+func grouped(number uint64) string {
+	text := strconv.FormatUint(number, 10)
+	for i := len(text) - 3; i > 0; i -= 3 {
+		text = text[:i] + "," + text[i:]
+	}
+	return text
 }
 
 // The smallest run that failed, of some tries with half of the calls or keys, or a thread less. Threads interleave as they will. Where calls
@@ -1494,6 +2121,81 @@ func saidCall(call interface{}) string {
 	return fmt.Sprintf("%v %v", words[0], words[1])
 }
 
+// A call as a report has it, and in words.
+func (c *call) list() []interface{} {
+	words := []interface{}{c.name}
+	for _, word := range c.words {
+		words = append(words, word)
+	}
+	return words
+}
+
+func (c *call) said() string { return saidCall(c.list()) }
+
+// The call of an event as it was made, where a history has another one.
+func (r *round) noteOf(number int64) string {
+	if int(number) < len(r.events) {
+		return r.events[number].note
+	}
+	return ""
+}
+
+// A call as it was made.
+func saidMade(r *round, number int64, call interface{}) string {
+	if note := r.noteOf(number); note != "" {
+		made, _, _ := strings.Cut(note, ":")
+		return strings.Replace(made, "answered none", "which found none", 1) + ","
+	}
+	return saidCall(call)
+}
+
+// The event of a call's answer, or the end where it has none.
+func (r *round) lastEvent(invoked int) int {
+	for i := invoked + 1; i < len(r.events); i++ {
+		if r.events[i].process == r.events[invoked].process {
+			return i
+		}
+	}
+	return len(r.events)
+}
+
+// Whether two calls have a key in common.
+func (c *call) meets(other *call) bool {
+	ends := func(c *call) (uint64, uint64) {
+		if c.name == "scan" {
+			return c.words[0], c.words[1]
+		}
+		return c.words[0], c.words[0]
+	}
+	low, high := ends(c)
+	from, to := ends(other)
+	return low <= to && from <= high
+}
+
+// The other calls that were open on the keys of these.
+func saidOpen(r *round, shown map[int]bool, numbers []int) []string {
+	var said []string
+	for i, one := range r.events {
+		if one.call == nil || shown[i] {
+			continue
+		}
+		for _, of := range numbers {
+			if of < len(r.events) && r.events[of].call != nil && one.call.meets(r.events[of].call) && i < r.lastEvent(of) && of < r.lastEvent(i) {
+				made, events := saidMade(r, int64(i), one.call.list()), saidEvents(r, int64(i), int64(one.process))
+				said = append(said, fmt.Sprintf("%s of process %d (%s)", made, one.process, events))
+				break
+			}
+		}
+	}
+	if len(said) == 0 {
+		return nil
+	}
+	if more := len(said) - openShown; more > 0 {
+		said = append(said[:openShown], fmt.Sprintf("and %d more", more))
+	}
+	return []string{"  also open on the same keys meanwhile: " + strings.Join(said, ", ")}
+}
+
 // The events of a call: that of its invocation by a process, and that of its answer, where it has one.
 func saidEvents(r *round, invoked, process int64) string {
 	for i := int(invoked) + 1; i < len(r.events); i++ {
@@ -1562,10 +2264,11 @@ func saidFrom(line reported) string {
 }
 
 // Which calls one misses.
-func saidMissed(line reported) string {
+func saidMissed(r *round, line reported) string {
 	said := ""
 	for _, call := range line.Misses {
-		said += fmt.Sprintf("; it misses %s of process %v (event %v)", saidCall(call.Call), call.Process, call.Event)
+		event, _ := call.Event.Int64()
+		said += fmt.Sprintf("; it misses %s of process %v (event %v)", saidMade(r, event, call.Call), call.Process, call.Event)
 	}
 	return said
 }
@@ -1575,6 +2278,7 @@ func saidMissed(line reported) string {
 func saidReport(report string, r *round) (said []string, few string) {
 	lines := strings.Split(strings.TrimSpace(report), "\n")
 	said = append(said, saidVerdict(lines[0]))
+	shown, last, next := map[int]bool{}, []int{}, []int{}
 	for _, text := range lines[1:] {
 		var line reported
 		decoder := json.NewDecoder(strings.NewReader(text))
@@ -1594,22 +2298,44 @@ func saidReport(report string, r *round) (said []string, few string) {
 		case strings.HasPrefix(text, `{"events"`):
 			few = text + "\n"
 		case strings.HasPrefix(text, `{"answer"`):
-			said = append(said, fmt.Sprintf("  %-19s process %-3d %s", saidEvents(r, event, process), process,
-				saidCall(line.Call)+saidAnswered(r, line.Answer)+saidMissed(line)))
+			shown[int(event)], last = true, []int{int(event)}
+			made := r.noteOf(event)
+			if made == "" {
+				made = saidCall(line.Call) + saidAnswered(r, line.Answer)
+			}
+			said = append(said, fmt.Sprintf("  %-19s process %-3d %s", saidEvents(r, event, process), process, made+saidMissed(r, line)))
 		case strings.HasPrefix(text, `{"from"`):
 			said = append(said, saidFrom(line))
 		case line.Puts != nil:
 			said = append(said, saidOrigin(r, line))
+		case line.Front != nil && len(line.Front) == 0:
+			said = append(said, "  no call of them can come first; the map holds "+saidPairs(line.Holds))
 		case line.Front != nil:
 			front := strings.ReplaceAll(fmt.Sprint(line.Front), " ", ",")
 			said = append(said, "  an order of them gets as far as the events "+front+"; the map then holds "+saidPairs(line.Holds))
 		}
-		for _, next := range line.Next {
-			said = append(said, fmt.Sprintf("  the call of event %v was answered %s, and would be answered %s%s", next.Event,
-				saidAnswer(next.Answer), saidAnswer(next.Would), saidWriter(r, next.Answer)))
+		for _, one := range line.Next {
+			event, _ := one.Event.Int64()
+			next = append(next, int(event))
+			said = append(said, fmt.Sprintf("  the call of event %v was answered %s, and would be answered %s%s", one.Event,
+				saidAnswer(one.Answer), saidAnswer(one.Would), saidWriter(r, one.Answer)))
 		}
 	}
-	return said, few
+	if len(next) == 0 {
+		next = last
+	}
+	return append(said, saidOpen(r, shown, next)...), few
+}
+
+// A line of a report, without the values that replaces of a cache put which said that they changed nothing.
+func unmarked(line string) string {
+	return regexp.MustCompile(`[0-9]{19,20}`).ReplaceAllStringFunc(line, func(found string) string {
+		value, err := strconv.ParseUint(found, 10, 64)
+		if err != nil || value < ownValues || value == math.MaxUint64 {
+			return found
+		}
+		return "a value that no call puts"
+	})
 }
 
 // Writes a file of a round, or of a stream, and says how it is called.
@@ -1678,7 +2404,30 @@ func (r *run) shownLeft(left string) []string {
 	if !strings.Contains(explained, "\n{\"answer\":") {
 		return []string{fmt.Sprintf("few calls are not shown: they are not found within a budget of %d", r.program.more()), r.keep(".json", left)}
 	}
-	return append([]string{saidAnew}, r.shown(left, explained, roundOf(left))...)
+	return append([]string{saidAnew}, r.shown(left, explained, r.noted(roundOf(left)))...)
+}
+
+// The calls that a follower still had, with their notes.
+func (r *run) noted(left *round) *round {
+	var told struct {
+		Keys []struct{ Invoked []uint64 }
+	}
+	report, _, _ := strings.Cut(r.report, "\n")
+	if json.Unmarshal([]byte(report), &told) != nil || len(told.Keys) == 0 {
+		return left
+	}
+	var calls []*event
+	for i := range left.events {
+		if left.events[i].call != nil {
+			calls = append(calls, &left.events[i])
+		}
+	}
+	for i, number := range told.Keys[0].Invoked {
+		if len(calls) == len(told.Keys[0].Invoked) {
+			calls[i].note = r.notes[number]
+		}
+	}
+	return left
 }
 
 // Why a no of a stream has no history of few calls behind it.
@@ -1706,6 +2455,11 @@ func whyNotFew(report string) string {
 // file.
 func (r *run) shown(text, report string, one *round) []string {
 	lines, few := saidReport(report, one)
+	for i := range lines {
+		if r.options.cache != "" {
+			lines[i] = unmarked(lines[i])
+		}
+	}
 	said := append(lines, r.keep(".json", text))
 	if few != "" {
 		said = append(said, r.keep("-few.json", few))
@@ -1749,16 +2503,20 @@ const usage = `  --seconds N       how long (10, or as long as --rounds take)
   --scan HOW        snapshot: a scan is of one moment; steps: steps of ceiling (snapshot)
   --yield N         of a thousand points between and in calls, so many give way to other threads (0)
   --break HOW       makes the map wrong now and then: drop, race, replay, stale, zombie, torn or cas; all: in each of these ways
+  --cache [late]    the map is a cache: it may lose any key at any time; late: and a miss says nothing, as of one whose writes appear later
+  --fresh N         a new map after each so many rounds (one map)
+  --reopen          the map is closed and opened again after each round
   --stream          one stream that is followed while it is recorded, in the place of rounds
   --out FOLDER      where files are put (.), or - for standard output: all histories or the stream, which nobody judges then
   --budget N        the judge's (100000)
   --bench PATH      the program (./bench, or on the PATH)`
 
 type options struct {
-	name, void, scan, broken, out, bench                             string
+	name, void, scan, broken, out, bench, cache                      string
 	seconds, rounds, threads, keys, hot, calls, seed, yields, budget uint64
+	fresh, span                                                      uint64
 	shares                                                           map[string]uint64
-	shows, isStream, hasVoid                                         bool
+	shows, isStream, hasVoid, isReopened                             bool
 	shown                                                            time.Time
 }
 
@@ -1814,6 +2572,15 @@ func (o *options) again(rounds uint64) string {
 	if o.yields > 0 {
 		text += fmt.Sprintf(" --yield %d", o.yields)
 	}
+	if o.cache != "" {
+		text += strings.TrimSuffix(" --cache "+o.cache, " now")
+	}
+	if o.fresh > 0 {
+		text += fmt.Sprintf(" --fresh %d", o.fresh)
+	}
+	if o.isReopened {
+		text += " --reopen"
+	}
 	if o.broken != "" {
 		text += " --break " + o.broken
 	}
@@ -1828,12 +2595,22 @@ func readWords(name string, words []string) *options {
 		seed: uint64(time.Now().UnixNano()) % 1000000007}
 	info, err := os.Stderr.Stat()
 	o.shows = err == nil && info.Mode()&os.ModeCharDevice != 0
-	for i := 0; i < len(words); i += 2 {
-		if words[i] == "--stream" {
+	for i := 0; i < len(words); i++ {
+		switch next := append(words, "")[i+1]; words[i] {
+		case "--stream":
 			o.isStream = true
-			i--
-		} else {
-			o.read(words[i], append(words, "")[i+1])
+		case "--reopen":
+			o.isReopened = true
+		case "--cache":
+			if o.cache = "now"; next == "late" {
+				o.cache = next
+				i++
+			} else if next != "" && !strings.HasPrefix(next, "--") {
+				fail(badWords, "--cache: late, or nothing")
+			}
+		default:
+			o.read(words[i], next)
+			i++
 		}
 	}
 	return o
@@ -1848,6 +2625,7 @@ func (o *options) read(word, text string) {
 		{"--seconds", 1, 1000000000, &o.seconds}, {"--rounds", 1, math.MaxUint64, &o.rounds}, {"--threads", 1, 1024, &o.threads},
 		{"--keys", 1, streamKeys, &o.keys}, {"--hot", 1, streamKeys, &o.hot}, {"--calls", 1, math.MaxUint64, &o.calls},
 		{"--seed", 0, math.MaxUint64, &o.seed}, {"--yield", 0, 1000, &o.yields}, {"--budget", 1, 1000000, &o.budget},
+		{"--fresh", 1, math.MaxUint64, &o.fresh},
 	} {
 		if one.name == word {
 			number, err := strconv.ParseUint(text, 10, 64)
@@ -1900,7 +2678,7 @@ func (o *options) isCalled(how string) bool {
 }
 
 // The words together, and with what the map has.
-func (o *options) fit(has functions) {
+func (o *options) fit(has functions, canReopen bool) {
 	isApart, isUsual := o.void == "own" || o.void == "lock", o.shares == nil
 	if isUsual {
 		o.shares = map[string]uint64{}
@@ -1947,6 +2725,14 @@ func (o *options) fit(has functions) {
 		fail(badWords, "--hot: more than there are keys")
 	case o.void == "own" && o.keys < o.threads:
 		fail(badWords, "--void: own: each thread needs a key")
+	case o.cache != "" && o.void == "own":
+		fail(badWords, "--cache: not with --void own, since the writer of a key does not see that the key was lost")
+	case o.isStream && o.fresh > 0:
+		fail(badWords, "--fresh: not with --stream, which is of one map")
+	case o.isStream && o.isReopened:
+		fail(badWords, "--reopen: not with --stream, which is of one map")
+	case o.isReopened && !canReopen:
+		fail(badWords, "--reopen: the map has no function Reopen")
 	case o.isStream && o.rounds > 0:
 		fail(badWords, "--rounds: a stream has none; --seconds, or --calls of each thread")
 	case !o.isStream && o.threads > processes-2:
@@ -1955,6 +2741,10 @@ func (o *options) fit(has functions) {
 		fail(badWords, "--keys: %s, behind which all keys are got; --stream has no such end", size)
 	case !o.isStream && o.calls > most:
 		fail(badWords, "--calls: %s; --stream has no such end", size)
+	}
+	o.span = span
+	if room := (processes - 1 - o.threads) / o.threads; o.cache != "" && !o.isStream && room < o.span { // each missing key needs a process
+		o.span = uint64(math.Max(float64(room), 1))
 	}
 	o.checkOut()
 }
@@ -2008,10 +2798,13 @@ func tested(name string, make func() Map, words []string) (status int, said []st
 		}
 	}()
 	o := readWords(name, words)
-	connection, closing := connectionOf(make())
+	m := make()
+	connection, closing := connectionOf(m)
 	has := functionsOf(connection)
-	o.fit(has)
+	_, canReopen := m.(interface{ Reopen() Map })
 	closing()
+	forget(m)
+	o.fit(has, canReopen)
 	var p *program
 	if o.out != "-" {
 		p = newProgram(o)
@@ -2027,7 +2820,7 @@ func tested(name string, make func() Map, words []string) (status int, said []st
 	if r.failed != nil {
 		return no, append(r.refuted(), calls), r.summary("no"), nil
 	}
-	if r.undecideds > 0 || len(r.cut) > 0 {
+	if r.undecideds > 0 || len(r.cut) > 0 || p != nil && o.cache != "" && r.tally.hits == 0 {
 		status = undecided
 	}
 	if p == nil {
@@ -2051,13 +2844,17 @@ func allBroken(o *options, make func() Map, p *program, has functions) (int, []s
 		if r.failed == nil {
 			verdict = "yes"
 			missed++
+		} else if r.wrongTimes == 0 {
+			verdict = "no of the map as it is"
+			missed++
 		}
 		said = append(said, how+": "+r.summary(verdict))
 		for kind, count := range r.called {
 			called[kind] += count
 		}
 	}
-	said = append(said, saidCalls(has, called))
+	said = append(said, saidCalls(has, called),
+		"this shows that calls and answers reach the judge; it does not show that threads meet: see the overlap")
 	if missed > 0 {
 		return yes, said, fmt.Sprintf("yes: %d of the broken maps were not refuted", missed)
 	}

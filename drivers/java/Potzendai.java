@@ -38,6 +38,7 @@ import java.util.concurrent.atomic.AtomicReferenceArray;
 import java.util.concurrent.locks.LockSupport;
 import java.util.concurrent.locks.ReentrantLock;
 import java.util.function.Supplier;
+import java.util.regex.Pattern;
 import java.util.stream.Collectors;
 
 /**
@@ -61,7 +62,10 @@ public final class Potzendai {
     public interface Index {
         /** What one thread calls in the place of the map. It is closed at the end of a run. */
         default Index connection() { return this; }
+        /** Of a connection at the end of a run, and of a map once it is used no more. */
         default void close() { }
+        /** For {@code --reopen}: closes the map at rest, and answers it opened again, with what it held. */
+        default Index reopen() throws Exception { throw new UnsupportedOperationException(); }
         /** The value. */
         Said get(long key) throws Exception;
         /** The value before. */
@@ -144,8 +148,12 @@ public final class Potzendai {
         final long share;
         Kind(String name, long share, String call) { this.name = name; this.share = share; this.call = call; }
         boolean writes() { return this == PUT || this == DEL || this == REPLACE || this == PUT_IF_ABSENT || this == POP_FIRST; }
+        boolean isRead() { return this == GET || this == SCAN || this == FLOOR || this == CEILING; }
         /** Whether the answer tells which call of a history it was. */
-        boolean isHeld() { return this == PUT_IF_ABSENT || this == FLOOR || this == CEILING || this == POP_FIRST; }
+        boolean isHeld(boolean isCache) {
+            return isCache && (this == GET || this == REPLACE || this == SCAN) || isHeld();
+        }
+        private boolean isHeld() { return this == PUT_IF_ABSENT || this == FLOOR || this == CEILING || this == POP_FIRST; }
         static Kind named(String name) {
             return Arrays.stream(values()).filter(kind -> kind.name.equals(name)).findFirst().orElse(null);
         }
@@ -158,6 +166,10 @@ public final class Potzendai {
     private static final int STREAM_PROCESSES = 65536, STREAM_KEYS = 16384, AHEAD = 8192, BATCH = 65536;
     private static final int RUNNING = 0, OVER = 1, FAILED = 2;
     private static final int REPORT_SHOWN = 1000, KEPT = 1 << 26; // of a report the characters shown, of a stream the bytes kept for a file
+    private static final long OWN_VALUES = Long.MIN_VALUE; // under --cache, values from here on are the driver's own
+    /** How many calls a stream has on behalf of one; of how many of its events the notes are kept; how many other open calls are shown. */
+    private static final int BESIDE = 32, NOTES = 1000000, OPEN_SHOWN = 6;
+    private static final int BATCH_ROUNDS = 64, BATCH_CALLS = 256; // so many rounds are judged together, of so many calls
     private static final String ANEW =
         "events and processes are numbered anew here and in the files, for the calls \"invoked\" above that had not taken effect, in that order:";
     private static final String AGAIN = "  again (draws the same calls; threads may interleave otherwise): ";
@@ -199,10 +211,25 @@ public final class Potzendai {
     }
 
     private static final ThreadLocal<Draws> DRAWS = new ThreadLocal<>();
+    private static final ThreadLocal<Worker> WORKER = new ThreadLocal<>();
     private static volatile long yields;
+    private static volatile boolean hasPoints;
 
     /** To be called by a map's functions where another thread should get in between: under {@code --yield} it sometimes does. */
     public static void point() {
+        if (!hasPoints)
+            hasPoints = true;
+        giveWay();
+    }
+
+    /** To be called by a map's read once its snapshot is taken: the read counts as answered at this moment, and its pairs may be read later. */
+    public static void taken() {
+        Worker worker = WORKER.get();
+        if (worker != null)
+            worker.take();
+    }
+
+    private static void giveWay() {
         Draws draws = yields > 0 ? DRAWS.get() : null;
         if (draws != null && draws.below(1000) < yields)
             pause(draws);
@@ -225,7 +252,22 @@ public final class Potzendai {
                 text.append(',').append(Long.toUnsignedString(word));
             return text.append(']').toString();
         }
-        boolean writes() { return name.equals("insert") || name.equals("remove") || name.equals("replace"); }
+        /** The call at keys that are moved up. A range ends at the last of so many keys. */
+        Call moved(long by, long keys) {
+            long[] moved = words.clone();
+            moved[0] += by;
+            if (name.equals("scan"))
+                moved[1] = by + (Long.compareUnsigned(words[1], keys) < 0 ? words[1] : keys - 1);
+            return new Call(name, moved);
+        }
+
+        /** The call as a report has it. */
+        List<?> list() {
+            List<Object> list = new ArrayList<>(List.of(name));
+            for (long word : words)
+                list.add(word);
+            return list;
+        }
 
         /** Whether an answer tells what this call puts: then it was done. */
         boolean isToldBy(String answer) {
@@ -234,8 +276,11 @@ public final class Potzendai {
         }
     }
 
-    /** A call with its answer as a text; null where it has none. */
-    private record Noted(Call call, String answer) { }
+    /** A call with its answer as a text, null where it has none; a note of the call as it was made, where that is another one; and further calls of
+     * the same interval, each by a process of its own. */
+    private record Noted(Call call, String answer, String note, List<Noted> beside) {
+        Noted(Call call, String answer) { this(call, answer, null, List.of()); }
+    }
 
     private static String pairText(long key, long value) { return "[" + Long.toUnsignedString(key) + "," + Long.toUnsignedString(value) + "]"; }
 
@@ -308,6 +353,50 @@ public final class Potzendai {
         return new Noted(new Call(kind.call, words), answerText(said));
     }
 
+    /** The same for a cache, which may lose any key at any time: of a miss, that the key is gone from then on. So this history has an order if and
+     * only if the cache's own has one in which keys may be lost. Late: a miss says nothing. */
+    private static Noted recorded(Options options, Kind kind, long[] words, Said said, Supplier<Long> fresh) {
+        Noted plain = noted(kind, words, said);
+        boolean isNone = said.word == Word.NONE, isLate = "late".equals(options.cache), isPut = kind == Kind.PUT || kind == Kind.PUT_IF_ABSENT;
+        if (plain == null || options.cache == null)
+            return plain;
+        if (isLate && (said.word == Word.OTHER || isNone && !isPut && kind != Kind.DEL))
+            return null;
+        String before = saidCall(plain.call), none = ", answered none" + (isLate ? "" : ": the key was gone");
+        if (isNone && isPut)
+            return new Noted(new Call("insert", words), "\"done\"", before + none, List.of());
+        if (isNone && (kind == Kind.GET || kind == Kind.DEL || kind == Kind.REPLACE))
+            return new Noted(new Call("remove", words[0]), "\"done\"", before + none, List.of());
+        if (said.word == Word.OTHER)
+            return new Noted(new Call("replace", words[0], words[1], fresh.get()), "\"done\"", before + ", answered another value", List.of());
+        if (!plain.call.name.equals("scan"))
+            return plain;
+        List<long[]> pairs = kind == Kind.SCAN && !isNone ? said.pairs : isNone ? List.of() : List.of(new long[] {said.key, said.value});
+        if (isLate) {
+            List<Noted> gets = pairs.stream().map(pair -> new Noted(new Call("get", pair[0]), Long.toUnsignedString(pair[1]), before + ", answered "
+                + Long.toUnsignedString(pair[0]) + ": " + Long.toUnsignedString(pair[1]), List.of())).toList();
+            return gets.isEmpty() ? null : new Noted(gets.get(0).call, gets.get(0).answer, gets.get(0).note, gets.subList(1, gets.size()));
+        }
+        Set<Long> held = pairs.stream().map(pair -> pair[0]).collect(Collectors.toSet());
+        List<Noted> missing = new ArrayList<>();
+        for (long key = plain.call.words[0]; key < options.keys && Long.compareUnsigned(key, plain.call.words[1]) <= 0; key++)
+            if (!held.contains(key))
+                missing.add(new Noted(new Call("remove", key), "\"done\"", before + ", which did not have " + key + ": the key was gone", List.of()));
+        return new Noted(plain.call, plain.answer, null, missing);
+    }
+
+    /** Whether an answer has a value that --cache needs for its own use. */
+    private static boolean hasOwnValue(Said said) {
+        return said.word == Word.TOLD && (said.pairs == null ? said.value < 0 : said.pairs.stream().anyMatch(pair -> pair[1] < 0));
+    }
+
+    private static Said ask(Options options, Index connection, Kind kind, long... words) {
+        Said said = ask(connection, kind, words);
+        if (options.cache != null && hasOwnValue(said))
+            throw new Stop(WORDS, kind.name + " said a value from 2^63 on, and --cache needs these for its own use");
+        return said;
+    }
+
     private static Said ask(Index connection, Kind kind, long... words) {
         try {
             Said said = switch (kind) {
@@ -343,6 +432,7 @@ public final class Potzendai {
         private final Map<Long, Said> once = new HashMap<>();
         private long[] late;
         private Word style;
+        long times; // how often it went wrong
 
         Broken(Index truly, String how, Draws draws, long keys) { this.truly = truly; this.how = how; this.draws = draws; this.keys = keys; }
 
@@ -353,6 +443,7 @@ public final class Potzendai {
             if (late != null && draws.below(2) == 1) {
                 long[] now = late;
                 late = null;
+                times++;
                 truly.put(now[0], now[1]);
             }
             return truly;
@@ -367,8 +458,10 @@ public final class Potzendai {
 
         @Override public Said get(long key) throws Exception {
             caughtUp();
-            if (once.containsKey(key) && goesWrong("stale"))
+            if (once.containsKey(key) && goesWrong("stale")) {
+                times++;
                 return once.get(key);
+            }
             Said said = truly.get(key);
             if (said.tells() && (!once.containsKey(key) || draws.below(4) == 0))
                 once.put(key, said);
@@ -389,12 +482,16 @@ public final class Potzendai {
 
         @Override public Said put(long key, long value) throws Exception {
             caughtUp();
-            if (style != null && goesWrong("race"))
+            if (style != null && goesWrong("race")) {
+                times++;
                 return race(key, value);
+            }
             if (style != null && goesWrong("drop")) {
                 Said got = truly.get(key);
-                if (got.tells())
+                if (got.tells()) {
+                    times++;
                     return inStyle(got);
+                }
             }
             if (goesWrong("replay"))
                 late = new long[] {key, value};
@@ -421,6 +518,7 @@ public final class Potzendai {
             Said second = truly.scan((low + high) / 2 + 1, high);
             if (first.pairs == null || second.pairs == null)
                 return first.pairs == null ? first : second;
+            times++;
             List<long[]> pairs = new ArrayList<>(first.pairs);
             pairs.addAll(second.pairs);
             return new Said(Word.TOLD, 0, 0, pairs);
@@ -431,7 +529,10 @@ public final class Potzendai {
             if (!goesWrong("cas"))
                 return truly.replace(key, old, value);
             Said said = truly.put(key, value);
-            return said.word == Word.REFUSED || said.word == Word.UNKNOWN ? said : Said.DONE;
+            if (said.word == Word.REFUSED || said.word == Word.UNKNOWN)
+                return said;
+            times++;
+            return Said.DONE;
         }
 
         @Override public Said putIfAbsent(long key, long value) throws Exception { return caughtUp().putIfAbsent(key, value); }
@@ -442,11 +543,28 @@ public final class Potzendai {
 
     // Threads and what they record
 
-    /** An event: the invocation of a call, or an answer where that is null. */
-    private record Event(long stamp, int thread, int life, Call call, String answer) { }
+    /** An event: the invocation of a call, with the note of that, or an answer where that is null; of which function it is, unless no thread called
+     * one, and what that said, once it is over. */
+    private record Event(long stamp, int thread, int life, Call call, String answer, String note, String kind, Word said, List<Noted> beside) {
+        Event(int process, Call call, String answer, String note) { this(0, process, 0, call, answer, note, null, null, List.of()); }
+
+        /** The two of a call, of which the second is none where the call stays open. */
+        static List<Event> of(long begin, long end, int thread, int life, String kind, Word said, Noted noted) {
+            Event first = new Event(begin, thread, life, noted.call, null, noted.note, kind, null, noted.beside);
+            return noted.answer == null ? List.of(first)
+                : List.of(first, new Event(end, thread, life, null, noted.answer, null, kind, said, noted.beside));
+        }
+
+        List<Integer> who() { return List.of(thread, life); }
+    }
+
+    /** Whether a function changes the key that it is called with. */
+    private static boolean writesKey(String kind) {
+        return kind != null && (kind.equals("put") || kind.equals("del") || kind.equals("replace") || kind.equals("put_if_absent"));
+    }
 
     /** The number of the round, as how many processes a thread may go on, what the map holds, and keys at which calls have no answer. */
-    private record Task(long round, int lives, Map<Long, Long> start, Set<Long> doubtful) { }
+    private record Task(long round, int lives, Map<Long, Long> start, Set<Long> doubtful, long valuesFrom) { }
 
     /** The lock of a key; and whether a call that writes it has no answer, and so may still come between a get and the put behind it. */
     private static final class KeyLock extends ReentrantLock {
@@ -468,10 +586,14 @@ public final class Potzendai {
         Index connection;
         Draws draws;
         long puts, made;
-        Long valuesFrom; // each put has a value of its own, which was not in the map before
+        long valuesFrom; // each put has a value of its own, which was not in the map before
         int life, lives, process;
-        boolean closes;
+        boolean closes, isReading; // the last: whether the call that goes on only reads
         Stream stream;
+        Broken broken;
+        long wrongTimes, marks; // how often the broken maps of before went wrong; how many values no call puts
+        Long end; // the stamp at which the snapshot of the call that goes on was taken
+        final List<Integer> helpers = new ArrayList<>();
 
         Worker(int number, Options options, AtomicLong stamps, KeyLock[] locks) {
             this.number = process = number;
@@ -483,16 +605,31 @@ public final class Potzendai {
         void open(Index map) {
             connection = map.connection();
             closes = connection != map;
+            wrongTimes += broken == null ? 0 : broken.times;
             if (options.broken != null)
-                connection = new Broken(connection, options.broken, new Draws(options.seed, 0, number), options.keys);
+                connection = broken = new Broken(connection, options.broken, new Draws(options.seed, 0, number), options.keys);
         }
+
+        long wrongTimes() { return wrongTimes + (broken == null ? 0 : broken.times); }
+
+        /** The call that goes on is answered now, if it only reads. Of several such moments the last one counts. */
+        void take() {
+            if (!isReading)
+                return;
+            if (stream != null && end != null)
+                stream.put(end, new Happening(List.of(), null, null, false));
+            end = stamps.getAndIncrement();
+        }
+
+        /** A value that no call puts. */
+        private long fresh() { return OWN_VALUES + marks++ * options.threads + number; }
 
         /** The calls of a round. A process whose answer is unknown makes no further call. */
         List<Event> run(Task task) {
             log = new ArrayList<>();
             made = life = 0;
-            if (valuesFrom == null)
-                valuesFrom = 1 + task.start.values().stream().max(Long::compareUnsigned).orElse(0L);
+            valuesFrom = task.valuesFrom;
+            WORKER.set(this);
             seen.clear();
             memory.clear();
             for (long key = 0; key < options.keys && options.isVoid("own"); key++)
@@ -521,9 +658,9 @@ public final class Potzendai {
                     break;
                 place -= options.shares.get(each);
             }
-            long key = drawKey(kind.writes()), value = kind.writes() ? valuesFrom + puts++ * options.threads + number : 0;
-            long high = kind == Kind.SCAN ? Math.min(key + draws.below(SPAN), options.keys - 1) : 0;
-            point();
+            long key = drawKey(kind.writes()), value = kind.writes() ? valuesFrom + puts++ * (options.threads + 1) + number : 0;
+            long high = kind == Kind.SCAN ? Math.min(key + draws.below(options.span), options.keys - 1) : 0;
+            giveWay();
             switch (kind) {
                 case SCAN -> { if (options.isSteps) steps(key, high); else make(kind, key, high); }
                 case PUT, PUT_IF_ABSENT -> write(kind, key, value);
@@ -567,11 +704,15 @@ public final class Potzendai {
         private Said make(Kind kind, long... words) {
             boolean isVoid = kind == Kind.PUT || kind == Kind.DEL;
             long begin = stamps.getAndIncrement();
-            if (stream != null && !kind.isHeld())
-                stream.put(begin, new Happening(new Call(kind.call, words), process, null, null));
-            Said got = locks != null && isVoid ? ask(connection, Kind.GET, words[0]) : Said.DONE;
-            Said said = ask(connection, kind, words);
-            long end = stamps.getAndIncrement();
+            if (stream != null && !kind.isHeld(options.cache != null))
+                stream.put(begin, new Happening(List.of(new Part(process, new Call(kind.call, words), null, null)), kind.name, null, false));
+            Said got = locks != null && isVoid ? ask(options, connection, Kind.GET, words[0]) : Said.DONE;
+            got = options.cache == null ? got : Said.DONE; // the key may be lost between that get and the call
+            isReading = kind.isRead();
+            end = null;
+            Said said = ask(options, connection, kind, words);
+            isReading = false;
+            long end = this.end == null ? stamps.getAndIncrement() : this.end;
             made++;
             called.merge(kind, 1L, Long::sum);
             sayings.merge(said.word, 1L, Long::sum);
@@ -586,10 +727,12 @@ public final class Potzendai {
                 seen.put(words[0], words[words.length - 1]);
             else if (said.word == Word.TOLD && (kind == Kind.GET || kind == Kind.DEL || kind == Kind.REPLACE || kind == Kind.PUT_IF_ABSENT))
                 seen.put(words[0], said.value);
+            Noted noted = recorded(options, kind, words, known, this::fresh);
             if (stream != null)
-                handOver(begin, end, kind, said, noted(kind, words, known));
-            else
-                note(begin, end, noted(kind, words, known));
+                handOver(begin, end, kind, said, noted);
+            else if (noted != null)
+                log.addAll(Event.of(begin, end, number, life, kind.name, said.word, noted));
+            life += stream == null && noted != null && noted.answer == null ? 1 : 0;
             return said;
         }
 
@@ -613,27 +756,40 @@ public final class Potzendai {
         /** The events of a call that is over, for the stream. One that tells nothing is left out; or refused, where it stands there already.
          * One whose answer is unknown stays open, and its thread goes on as another process. */
         private void handOver(long begin, long end, Kind kind, Said said, Noted noted) {
-            String answer = noted != null ? noted.answer : kind.isHeld() ? null : "\"refused\"";
-            if (kind.isHeld())
-                stream.put(begin, new Happening(noted == null ? null : noted.call, process, null, null));
-            stream.put(end, new Happening(null, process, answer, said.word));
-            if (noted != null && answer == null)
-                process = stream.processes.getAndIncrement();
-        }
-
-        private void note(long begin, long end, Noted noted) {
-            if (noted == null)
+            boolean isHeld = kind.isHeld(options.cache != null), isLeftOut = noted != null && noted.beside.size() > BESIDE;
+            if (noted == null || isLeftOut) {
+                if (isHeld)
+                    stream.put(begin, new Happening(List.of(), null, null, false));
+                List<Part> refused = isHeld ? List.of() : List.of(new Part(process, null, "\"refused\"", null));
+                stream.put(end, new Happening(refused, kind.name, said.word, isLeftOut));
                 return;
-            log.add(new Event(begin, number, life, noted.call, null));
+            }
+            while (helpers.size() < noted.beside.size())
+                helpers.add(stream.processes.getAndIncrement());
+            List<Part> calls = new ArrayList<>(List.of(new Part(process, noted.call, null, noted.note)));
+            List<Part> answers = new ArrayList<>(List.of(new Part(process, null, noted.answer, null)));
+            for (int i = 0; i < noted.beside.size(); i++) {
+                Noted one = noted.beside.get(i);
+                calls.add(new Part(helpers.get(i), one.call, null, one.note));
+                answers.add(new Part(helpers.get(i), null, one.answer, null));
+            }
+            if (isHeld)
+                stream.put(begin, new Happening(calls, kind.name, null, false));
+            stream.put(end, new Happening(answers, kind.name, said.word, false));
             if (noted.answer == null)
-                life++;
-            else
-                log.add(new Event(end, number, life, null, noted.answer));
+                process = stream.processes.getAndIncrement();
         }
     }
 
-    /** What stands at a stamp of a stream: a call, an answer, or nothing; and what the map said, where that ends a call. */
-    private record Happening(Call call, int process, String answer, Word said) { }
+    /** A part of what stands at a stamp of a stream: a call of a process with its note, or its answer, or null where it stays open. */
+    private record Part(int process, Call call, String answer, String note) { }
+
+    /** What stands at a stamp of a stream: first the event of a thread, then those on behalf of it; of which function they are; and what the map
+     * said, where that ends a call. */
+    private record Happening(List<Part> parts, String kind, Word said, boolean isLeftOut) { }
+
+    /** A call that is open, and when it began. */
+    private record Opened(Call call, long stored) { }
 
     /**
      * A stream of events, which a thread of its own hands on while others record. Stamps are numbers without a gap, and each has its slot; who
@@ -645,7 +801,9 @@ public final class Potzendai {
         final AtomicInteger processes, state = new AtomicInteger(RUNNING);
         final AtomicLong stamps, taken;
         private final Run run;
-        private final Map<Integer, Call> open = new HashMap<>();
+        private final Map<Integer, Opened> open = new HashMap<>();
+        final Map<Long, String> notes = new HashMap<>();
+        private long number;
         private final Map<Long, Integer> writers = new HashMap<>();
         private final StringBuilder text = new StringBuilder();
         private final Thread writer = new Thread(this), reader = new Thread(this::read);
@@ -762,25 +920,42 @@ public final class Potzendai {
             run.progress();
         }
 
-        /** The line of an event, and what is counted: as of a round, but that nothing is kept of calls that are over. */
+        /** The lines of events, and what is counted: as of a round, but that nothing is kept of calls that are over. A call without an answer is over
+         * too: nobody waits for it. */
         private void take(Happening what) {
-            if (what.call != null) {
-                run.calls++;
-                run.overlap += open.size();
-                if (what.call.writes() && writers.merge(what.call.words[0], 1, Integer::sum) > 1)
-                    run.met.add(what.call.words[0]);
-                open.put(what.process, what.call);
-                text.append("{\"invoke\":").append(what.call.text());
-            } else if (what.answer != null) {
-                Call call = open.remove(what.process);
-                if (call.writes())
-                    writers.computeIfPresent(call.words[0], (key, count) -> count > 1 ? count - 1 : null);
-                text.append("{\"answer\":").append(what.answer);
+            for (Part part : what.parts) {
+                if (part.call == null && part.answer == null)
+                    continue;
+                if (part.call != null && part.note != null)
+                    notes.put(number, part.note);
+                number++;
+                run.helped += part.call != null && part != what.parts.get(0) ? 1 : 0;
+                text.append(eventText(part.call, part.answer, part.note, part.process)).append('\n');
             }
-            if (what.call != null || what.answer != null)
-                text.append(",\"process\":").append(what.process).append("}\n");
+            if (notes.size() > 2 * NOTES)
+                notes.keySet().removeIf(old -> old + NOTES < number);
+            if (!what.parts.isEmpty())
+                count(what, what.parts.get(0));
+            run.leftOut += what.isLeftOut ? 1 : 0;
             if (what.said != null)
                 run.sayings.merge(what.said, 1L, Long::sum);
+        }
+
+        /** Counts the event of a thread. */
+        private void count(Happening what, Part part) {
+            if (part.call != null) {
+                run.calls++;
+                run.overlap += open.size();
+                if (writesKey(what.kind) && writers.merge(part.call.words[0], 1, Integer::sum) > 1)
+                    run.met.add(part.call.words[0]);
+                open.put(part.process, new Opened(part.call, run.tally.begin(what.kind, part.call.words[0])));
+                return;
+            }
+            Opened opened = open.remove(part.process);
+            long key = opened.call.words[0];
+            run.tally.end(what.kind, key, what.said, opened.stored);
+            if (writesKey(what.kind) && part.answer != null)
+                writers.computeIfPresent(key, (of, count) -> count > 1 ? count - 1 : null);
         }
 
         /** No more is put. What comes of it is the status and the report, or what went wrong. */
@@ -801,10 +976,11 @@ public final class Potzendai {
         final AtomicLong stamps = new AtomicLong();
         final List<Worker> workers = new ArrayList<>();
         final List<ExecutorService> threads = new ArrayList<>();
-        final Index connection;
+        Index map, connection;
         Map<Long, Long> contents;
+        long from = 1, puts; // from where on values are of puts; how many puts are the driver's own
 
-        Crew(Options options, Index map) {
+        Crew(Options options) {
             this.options = options;
             KeyLock[] locks = options.isVoid("lock") ? new KeyLock[(int) options.keys] : null;
             for (int key = 0; locks != null && key < locks.length; key++)
@@ -817,8 +993,54 @@ public final class Potzendai {
                     return thread;
                 }));
             }
+        }
+
+        /** Each thread opens a connection to a map. */
+        void open(Index map) {
+            this.map = map;
             each(worker -> { worker.open(map); return List.of(); });
             connection = map.connection();
+        }
+
+        /** Closes all connections. */
+        private void closeConnections() {
+            List<Future<?>> closing = new ArrayList<>();
+            for (Worker worker : workers)
+                if (worker.closes)
+                    closing.add(threads.get(worker.number).submit(worker.connection::close));
+            if (connection != null && connection != map)
+                connection.close();
+            for (Future<?> future : closing)
+                try {
+                    future.get();
+                } catch (ExecutionException | InterruptedException wrong) {
+                    // The run goes on without it.
+                }
+            workers.forEach(worker -> worker.closes = false);
+            connection = null;
+        }
+
+        /** Closes the map, which is used no more. */
+        void end() {
+            closeConnections();
+            if (map != null)
+                map.close();
+            map = null;
+        }
+
+        /** Closes the map, at rest, and opens it again. */
+        private void reopen() {
+            closeConnections();
+            Index opened, closed = map;
+            map = null;
+            try {
+                opened = closed.reopen();
+            } catch (Exception wrong) {
+                throw new Stop(WORDS, options.name + ": reopen: " + wrong);
+            }
+            if (opened == null)
+                throw new Stop(WORDS, options.name + ": reopen said nothing, where it has to return the map");
+            open(opened);
         }
 
         private interface Part { List<Event> of(Worker worker) throws Exception; }
@@ -863,40 +1085,64 @@ public final class Potzendai {
                         Thread.onSpinWait();
                 return worker.run(task);
             });
-            events.addAll(rest());
+            if (options.isReopened)
+                reopen();
+            events.addAll(rest(task.round));
             return events;
         }
 
-        List<Event> rest() {
+        /** Gets of all keys, the last calls of a round, and what the map then holds. A key of which a get does not tell it is written. */
+        List<Event> rest(long round) {
             List<Event> events = new ArrayList<>();
             contents = new TreeMap<>();
             for (long key = 0; key < options.keys; key++) {
-                Said said = Said.DONE;
-                long begin = 0, end = 0;
-                for (int i = 0; i < 1000 && !said.tells(); i++) {
-                    begin = stamps.getAndIncrement();
-                    said = ask(connection, Kind.GET, key);
-                    end = stamps.getAndIncrement();
+                Kind kind = Kind.GET;
+                long value = 0;
+                Said said = askAtRest(events, kind, key);
+                boolean isKnown = said.word == Word.TOLD || said.word == Word.NONE && !"late".equals(options.cache);
+                if (isKnown) {
+                    value = said.value;
+                } else if (said.word != Word.REFUSED && said.word != Word.UNKNOWN) {
+                    kind = writer(key, round);
+                    value = kind == Kind.PUT ? from + ++puts * (options.threads + 1) + options.threads : 0;
+                    said = kind == Kind.PUT ? askAtRest(events, kind, key, value) : askAtRest(events, kind, key);
+                    isKnown = kind != Kind.GET && said.word != Word.REFUSED && said.word != Word.UNKNOWN;
                 }
-                if (!said.tells())
-                    throw new Stop(WORDS, options.name + ": get of " + key + " said " + said.word.name().toLowerCase()
+                if (!isKnown)
+                    throw new Stop(WORDS, options.name + ": " + kind.name + " of " + key + " said " + said.word.name().toLowerCase()
                         + " at rest, where it has to tell");
-                events.add(new Event(begin, (int) options.threads, 0, new Call("get", key), null));
-                events.add(new Event(end, (int) options.threads, 0, null, answerText(said)));
-                if (said.word == Word.TOLD)
-                    contents.put(key, said.value);
+                if (kind == Kind.PUT || kind == Kind.GET && said.word == Word.TOLD)
+                    contents.put(key, value);
             }
             return events;
         }
 
-        @Override public void close() {
-            for (Worker worker : workers) {
-                if (worker.closes)
-                    threads.get(worker.number).submit(worker.connection::close);
-                threads.get(worker.number).shutdown();
+        /** The function by which is known what a key holds: a put of a new value or, at each second key, a del. Of a cache, a del. */
+        private Kind writer(long key, long round) {
+            return options.hasDel && (options.cache != null || (key + round) % 2 == 1) ? Kind.DEL : Kind.PUT;
+        }
+
+        /** What a function says at rest: again where it is refused, and a get also where nobody knows. It is noted unless it tells nothing. */
+        private Said askAtRest(List<Event> events, Kind kind, long... words) {
+            Said said = Said.REFUSED;
+            long begin = 0, end = 0;
+            for (int i = 0; i < 1000 && (said.word == Word.REFUSED || said.word == Word.UNKNOWN && kind == Kind.GET); i++) {
+                begin = stamps.getAndIncrement();
+                said = ask(options, connection, kind, words);
+                end = stamps.getAndIncrement();
             }
-            if (workers.get(0).closes)
-                connection.close();
+            Noted noted = recorded(options, kind, words, said, null);
+            if (noted != null && noted.answer != null)
+                events.addAll(Event.of(begin, end, (int) options.threads, 0, kind == Kind.GET ? "rest" : kind.name, said.word, noted));
+            return said;
+        }
+
+        @Override public void close() {
+            try {
+                end();
+            } finally {
+                threads.forEach(ExecutorService::shutdown);
+            }
         }
     }
 
@@ -908,8 +1154,10 @@ public final class Potzendai {
         final List<Call> pending;
         final List<Event> events = new ArrayList<>();
         final Set<Long> met = new HashSet<>();
+        private final Map<List<Integer>, Integer> numbers = new HashMap<>();
+        private int before;
         String atStart = "at the start", nobody = "nobody";
-        long calls, overlap;
+        long calls, overlap, leftOut;
 
         /** A history of what a follower still had, as far as what is said of it needs that. */
         Round(String history) {
@@ -924,49 +1172,205 @@ public final class Potzendai {
                 Map<?, ?> event = (Map<?, ?>) each;
                 List<?> call = (List<?>) event.get("invoke");
                 Call read = call == null ? null : new Call((String) call.get(0), call.stream().skip(1).mapToLong(word -> (Long) word).toArray());
-                events.add(new Event(0, ((Long) event.get("process")).intValue(), 0, read, null));
+                events.add(new Event(((Long) event.get("process")).intValue(), read, null, null));
             }
         }
 
-        /** Each thread, and each of its lives, becomes a process; calls that have no answer from before are the first. */
-        Round(List<Event> noted, Map<Long, Long> start, List<Call> before) {
+        /** The same calls, with the notes that a stream had of them: those of the calls "invoked" of its report, in that order. */
+        void note(List<?> invoked, Map<Long, String> notes) {
+            List<Integer> calls = new ArrayList<>();
+            for (int i = 0; i < events.size(); i++)
+                if (events.get(i).call != null)
+                    calls.add(i);
+            for (int i = 0; i < invoked.size() && calls.size() == invoked.size(); i++)
+                events.set(calls.get(i), new Event(events.get(calls.get(i)).thread, events.get(calls.get(i)).call, null, notes.get(invoked.get(i))));
+        }
+
+        /** Each thread, and each of its lives, becomes a process, and so does who makes further calls on behalf of one; calls that have no answer from
+         * before are the first. */
+        Round(List<Event> noted, Map<Long, Long> start, List<Call> before, Tally tally) {
             this.start = start;
+            this.before = before.size();
             for (Call call : before)
-                events.add(new Event(0, events.size(), 0, call, null));
-            Map<List<Integer>, Integer> numbers = new HashMap<>();
+                events.add(new Event(events.size(), call, null, null));
             noted.sort(Comparator.comparingLong(Event::stamp));
-            for (Event event : noted) {
-                List<Integer> own = List.of(event.thread, event.life);
-                numbers.putIfAbsent(own, before.size() + numbers.size());
-                events.add(new Event(event.stamp, numbers.get(own), 0, event.call, event.answer));
-            }
-            pending = measure();
+            order(noted);
+            pending = measure(tally);
         }
 
-        private List<Call> measure() {
-            Map<Integer, Call> open = new LinkedHashMap<>();
+        private int number(List<Integer> who) {
+            return numbers.computeIfAbsent(who, is -> before + numbers.size());
+        }
+
+        /** The events of the threads. Further calls of one are made by processes that are free; where there are none, or too many calls, it is left
+         * out with them. */
+        private void order(List<Event> noted) {
+            Set<List<Integer>> own = new HashSet<>(), left = new HashSet<>();
+            noted.forEach(event -> own.add(event.who()));
+            int room = PROCESSES - before - own.size(), madeUp = 0;
+            long most = CALLS - before - noted.stream().filter(event -> event.call != null).count();
+            List<List<Integer>> free = new ArrayList<>();
+            Map<List<Integer>, List<List<Integer>>> helping = new HashMap<>();
+            for (Event event : noted) {
+                List<Integer> who = event.who();
+                if (event.call == null && left.remove(who))
+                    continue;
+                if (event.call != null) {
+                    for (; free.size() < event.beside.size() && madeUp < room; madeUp++)
+                        free.add(List.of(-1, madeUp));
+                    if (event.beside.size() > Math.min(free.size(), most)) {
+                        left.add(who);
+                        leftOut++;
+                        continue;
+                    }
+                    most -= event.beside.size();
+                    List<List<Integer>> rest = free.subList(free.size() - event.beside.size(), free.size());
+                    helping.put(who, List.copyOf(rest));
+                    rest.clear();
+                }
+                events.add(new Event(event.stamp, number(who), 0, event.call, event.answer, event.note, event.kind, event.said, List.of()));
+                List<List<Integer>> helpers = helping.get(who);
+                for (int i = 0; i < helpers.size(); i++) {
+                    Noted one = event.beside.get(i);
+                    events.add(event.call == null ? new Event(number(helpers.get(i)), null, one.answer, null)
+                        : new Event(number(helpers.get(i)), one.call, null, one.note));
+                }
+                if (event.call == null)
+                    free.addAll(helping.remove(who));
+            }
+        }
+
+        /** How many calls were open where another began, at which keys two writers met, and which changes may still come. A call without an answer
+         * is none that others overlap. */
+        private List<Call> measure(Tally tally) {
+            Set<Event> answered = java.util.Collections.newSetFromMap(new java.util.IdentityHashMap<>());
+            Map<Integer, Event> open = new LinkedHashMap<>();
+            for (Event event : events)
+                if (event.call != null)
+                    open.put(event.thread, event);
+                else
+                    answered.add(open.remove(event.thread));
+            open.clear();
+            Map<Integer, Long> stored = new HashMap<>();
             for (Event event : events) {
                 if (event.call == null) {
-                    open.remove(event.thread);
+                    Event begun = open.remove(event.thread);
+                    if (event.kind != null)
+                        tally.end(event.kind, begun.call.words[0], event.said, stored.get(event.thread));
                     continue;
                 }
-                calls++;
-                overlap += open.size();
-                if (event.call.writes() && open.values().stream().anyMatch(call -> call.writes() && call.words[0] == event.call.words[0]))
+                if (event.kind != null) {
+                    calls++;
+                    overlap += open.values().stream().filter(other -> other.kind != null && answered.contains(other)).count();
+                    stored.put(event.thread, tally.begin(event.kind, event.call.words[0]));
+                }
+                if (writesKey(event.kind) && open.values().stream().anyMatch(other -> writesKey(other.kind) && other.call.words[0] == event.call.words[0]))
                     met.add(event.call.words[0]);
-                open.put(event.thread, event.call);
+                open.put(event.thread, event);
             }
-            return open.values().stream().filter(call -> events.stream().noneMatch(event -> call.isToldBy(event.answer))).toList();
+            return open.values().stream().map(Event::call).filter(call -> events.stream().noneMatch(event -> call.isToldBy(event.answer))).toList();
+        }
+
+        /** The pairs that an answer has, or none where it is no list of them. */
+        private static List<long[]> pairs(String answer) {
+            List<long[]> pairs = new ArrayList<>();
+            if (answer != null && answer.startsWith("[["))
+                for (String pair : answer.substring(2, answer.length() - 2).split("\\],\\["))
+                    pairs.add(Arrays.stream(pair.split(",")).mapToLong(Long::parseUnsignedLong).toArray());
+            return pairs;
+        }
+
+        /** Whether it is a history of so many keys alone, in which all calls have answers: then it may be judged with others. */
+        boolean isApart(long keys) {
+            long count = 0;
+            for (Event event : events) {
+                count += event.call != null ? 1 : 0;
+                if (event.call != null && Long.compareUnsigned(event.call.words[0], keys) >= 0)
+                    return false;
+                if (pairs(event.answer).stream().anyMatch(pair -> Long.compareUnsigned(pair[0], keys) >= 0))
+                    return false;
+            }
+            return 2 * count == events.size() && start.keySet().stream().allMatch(key -> key < keys);
+        }
+
+        /** Rounds as one history, in which the keys of each are moved up. It has an order if and only if each round has one, since linearizability is
+         * local: a call says nothing of keys that it does not touch (Herlihy and Wing, 1990). */
+        static String together(List<Round> rounds, long keys) {
+            List<String> texts = new ArrayList<>(), start = new ArrayList<>();
+            for (int i = 0; i < rounds.size(); i++) {
+                long by = i * keys;
+                rounds.get(i).start.forEach((key, value) -> start.add(pairText(key + by, value)));
+                for (Event event : rounds.get(i).events)
+                    texts.add(eventText(event.call == null ? null : event.call.moved(by, keys), moved(event.answer, by), null, event.thread));
+            }
+            return "{\"events\":[" + String.join(",", texts) + "],\"start\":[" + String.join(",", start) + "],\"version\":3}\n";
+        }
+
+        private static String moved(String answer, long by) {
+            return answer == null || !answer.startsWith("[") ? answer
+                : pairs(answer).stream().map(pair -> pairText(pair[0] + by, pair[1])).collect(Collectors.joining(",", "[", "]"));
         }
 
         String text() {
-            boolean tellsLess = events.stream().anyMatch(event -> LESS.contains("" + event.answer));
+            boolean tellsLess = events.stream().anyMatch(event -> LESS.contains("" + event.answer) || event.note != null);
             boolean replaces = events.stream().anyMatch(event -> event.call != null && event.call.name.equals("replace"));
             int version = tellsLess ? 3 : replaces || !start.isEmpty() ? 2 : 1;
             String pairs = start.entrySet().stream().map(pair -> pairText(pair.getKey(), pair.getValue())).collect(Collectors.joining(","));
-            return events.stream().map(event -> (event.call == null ? "{\"answer\":" + event.answer : "{\"invoke\":" + event.call.text())
-                + ",\"process\":" + event.thread + "}").collect(Collectors.joining(",", "{\"events\":[", "]"))
+            return events.stream().map(event -> eventText(event.call, event.answer, event.note, event.thread))
+                .collect(Collectors.joining(",", "{\"events\":[", "]"))
                 + (version > 1 ? ",\"start\":[" + pairs + "]" : "") + ",\"version\":" + version + "}\n";
+        }
+    }
+
+    private static String eventText(Call call, String answer, String note, int process) {
+        return (call == null ? "{\"answer\":" + answer : "{\"invoke\":" + call.text()) + (note != null ? ",\"note\":\"" + note + "\"" : "")
+            + ",\"process\":" + process + "}";
+    }
+
+    /** How often gets found a value; and how often a key was lost, so that nothing was found where a put was answered and no delete begun since. */
+    private static final class Tally {
+        long hits, misses, losses, clock;
+        /** When a put ended; open deletes; when a delete began or ended last. */
+        private final Map<Long, Long> stored = new HashMap<>(), deletes = new HashMap<>(), deleted = new HashMap<>();
+
+        private static boolean deletes(String kind) { return kind.equals("del") || kind.equals("pop_first"); }
+
+        /** Begins with a new map. */
+        void forget() {
+            stored.clear();
+            deletes.clear();
+            deleted.clear();
+        }
+
+        /** When the call begins. */
+        long begin(String kind, long key) {
+            clock++;
+            if (deletes(kind)) {
+                stored.remove(key);
+                deletes.merge(key, 1L, Long::sum);
+                deleted.put(key, clock);
+            }
+            return clock;
+        }
+
+        void end(String kind, long key, Word said, long begun) {
+            clock++;
+            boolean isGet = kind.equals("get"), isNone = said == Word.NONE;
+            hits += isGet && (said == Word.TOLD || said == Word.FOUND) ? 1 : 0;
+            misses += isGet && isNone ? 1 : 0;
+            boolean looks = isGet || kind.equals("put") || kind.equals("replace") || kind.equals("rest");
+            if (isNone && looks && stored.getOrDefault(key, begun) < begun) {
+                losses++;
+                stored.remove(key);
+            }
+            boolean isDone = kind.equals("put") && said != Word.REFUSED && said != Word.UNKNOWN || kind.equals("put_if_absent") && isNone
+                || kind.equals("replace") && said == Word.DONE;
+            if (deletes(kind)) {
+                deletes.merge(key, said == Word.UNKNOWN ? 0L : -1L, Long::sum);
+                deleted.put(key, clock);
+            } else if (isDone && deletes.getOrDefault(key, 0L) == 0 && deleted.getOrDefault(key, 0L) < begun) {
+                stored.put(key, clock);
+            }
         }
     }
 
@@ -1041,7 +1445,11 @@ public final class Potzendai {
         final Set<Long> met = new HashSet<>();
         final long began = System.nanoTime();
         final List<String> cut = new ArrayList<>();
-        long rounds, calls, overlap, undecided;
+        final Tally tally = new Tally();
+        private final List<Waiting> waiting = new ArrayList<>();
+        private long waitingCalls, waitsSince;
+        Map<Long, String> notes = Map.of();
+        long rounds, calls, overlap, undecided, helped, leftOut, wrongTimes; // calls on behalf of others; calls left out; how often a map went wrong
         Round failed;
         String report;
         ByteArrayOutputStream kept; // of a stream
@@ -1055,37 +1463,62 @@ public final class Potzendai {
         /** Rounds from this number on, until one has no order, or the time is over; or one stream. */
         Run go(long number) {
             yields = options.yields;
-            try (Crew crew = new Crew(options, make.get())) {
-                crew.rest();
-                if (options.isStream) {
+            hasPoints = false;
+            try (Crew crew = new Crew(options)) {
+                open(crew);
+                if (options.isStream)
                     follow(crew);
+                else
+                    goRounds(crew, number);
+                if (options.isStream)
                     count(crew);
-                    return this;
-                }
-                List<Call> pending = List.of();
-                while (!isOver() && failed == null) {
-                    int lives = (PROCESSES - 1 - pending.size()) / (int) options.threads;
-                    if (lives == 0) {
-                        cut.add(options.name + ": calls without an answer leave no room for others: " + pending.size());
-                        break;
-                    }
-                    Map<Long, Long> start = crew.contents;
-                    Set<Long> doubtful = pending.stream().map(call -> call.words[0]).collect(Collectors.toSet());
-                    Round round = new Round(crew.round(new Task(number + rounds, lives, start, doubtful)), start, pending);
-                    take(round);
-                    pending = round.pending;
-                    sayings.clear();
-                    for (Worker worker : crew.workers)
-                        worker.sayings.forEach((word, count) -> sayings.merge(word, count, Long::sum));
-                }
-                count(crew);
+                wrongTimes = crew.workers.stream().mapToLong(Worker::wrongTimes).sum();
             }
             return this;
         }
 
+        /** How often the threads called each function, and in rounds what the map said. */
         private void count(Crew crew) {
+            called.clear();
             for (Worker worker : crew.workers)
                 worker.called.forEach((kind, count) -> called.merge(kind, count, Long::sum));
+            if (options.isStream)
+                return;
+            sayings.clear();
+            for (Worker worker : crew.workers)
+                worker.sayings.forEach((word, count) -> sayings.merge(word, count, Long::sum));
+        }
+
+        /** Begins with a new map. */
+        private void open(Crew crew) {
+            crew.open(make.get());
+            crew.rest(0);
+            for (long value : crew.contents.values())
+                crew.from = Long.compareUnsigned(value, crew.from) < 0 ? crew.from : value + 1;
+            tally.forget();
+        }
+
+        private void goRounds(Crew crew, long number) {
+            List<Call> pending = List.of();
+            while (!isOver() && failed == null) {
+                if (rounds > 0 && options.fresh > 0 && rounds % options.fresh == 0) {
+                    crew.end();
+                    open(crew);
+                    pending = List.of();
+                }
+                int lives = (PROCESSES - 1 - pending.size()) / (int) options.threads;
+                if (lives == 0) {
+                    cut.add(options.name + ": calls without an answer leave no room for others: " + pending.size());
+                    break;
+                }
+                Map<Long, Long> start = crew.contents;
+                Set<Long> doubtful = pending.stream().map(call -> call.words[0]).collect(Collectors.toSet());
+                Round round = new Round(crew.round(new Task(number + rounds, lives, start, doubtful, crew.from)), start, pending, tally);
+                count(crew);
+                take(round);
+                pending = round.pending;
+            }
+            judgeWaiting();
         }
 
         /** One stream, until it has no order, or the time is over. */
@@ -1095,7 +1528,7 @@ public final class Potzendai {
                 crew.each(worker -> {
                     worker.stream = stream;
                     try {
-                        return worker.run(new Task(0, STREAM_PROCESSES, crew.contents, Set.of()));
+                        return worker.run(new Task(0, STREAM_PROCESSES, crew.contents, Set.of(), crew.from));
                     } catch (RuntimeException | Error error) {
                         stream.state.set(FAILED);
                         throw error;
@@ -1111,13 +1544,14 @@ public final class Potzendai {
 
         /** What the verdict on a stream says. One that was cut off has no yes. */
         private void conclude(Stream stream) {
-            boolean isCut = stream.state.get() == FAILED || program != null && !stream.answer.startsWith("{\"calls\":" + calls + ",");
+            boolean isCut = stream.state.get() == FAILED || program != null && !stream.answer.startsWith("{\"calls\":" + (calls + helped) + ",");
             if (stream.status == YES && isCut)
                 throw new Stop(FILE, options.name + ": the stream was cut off");
             undecided += stream.status == UNDECIDED ? 1 : 0;
             failed = stream.status == NO ? new Round("{\"events\":[]}") : null;
             report = stream.answer;
             kept = stream.kept;
+            notes = stream.notes;
             if (stream.processes.get() >= STREAM_PROCESSES)
                 cut.add(options.name + ": calls without an answer leave no room for others");
         }
@@ -1126,22 +1560,66 @@ public final class Potzendai {
             rounds++;
             calls += round.calls;
             overlap += round.overlap;
+            leftOut += round.leftOut;
             met.addAll(round.met);
-            int status = YES;
             if (program == null)
                 System.out.print(round.text());
             if (program == null && System.out.checkError())
                 throw new Stop(FILE, "standard output: a history was not written");
             if (program != null)
-                status = program.askTwice("judge", round.text()).status;
-            undecided += status == UNDECIDED ? 1 : 0;
-            failed = status == NO ? round : null;
+                judgeSoon(round);
+        }
+
+        /** What is counted, up to the end of a round that is not judged yet. */
+        private record Waiting(Round round, long rounds, long calls, long overlap, long leftOut, EnumMap<Word, Long> sayings,
+                EnumMap<Kind, Long> called, long hits, long misses, long losses) { }
+
+        private void judgeSoon(Round round) {
+            int count = round.events.size() / 2;
+            boolean isApart = count <= BATCH_CALLS && round.isApart(options.keys);
+            if (!waiting.isEmpty() && (!isApart || count + waitingCalls > CALLS))
+                judgeWaiting();
+            if (failed != null)
+                return;
+            waitsSince = waiting.isEmpty() ? System.nanoTime() : waitsSince;
+            waitingCalls = waiting.isEmpty() ? count : waitingCalls + count;
+            waiting.add(new Waiting(round, rounds, calls, overlap, leftOut, sayings.clone(), called.clone(), tally.hits, tally.misses, tally.losses));
+            if (waiting.size() == BATCH_ROUNDS || System.nanoTime() - waitsSince > 1000000000L || rounds == 1 || !isApart)
+                judgeWaiting();
+        }
+
+        /** Judges the rounds that wait: all at once, and each on its own where that is not a yes. Of a no, what was counted is that up to its end. */
+        private void judgeWaiting() {
+            List<Waiting> all = List.copyOf(waiting);
+            waiting.clear();
+            String text = all.size() > 1 ? Round.together(all.stream().map(Waiting::round).toList(), options.keys) : null;
+            if (text != null && program.ask("judge", text, program.budget).status == YES)
+                return;
+            for (Waiting one : all) {
+                int status = program.askTwice("judge", one.round.text()).status;
+                undecided += status == UNDECIDED ? 1 : 0;
+                if (status != NO)
+                    continue;
+                failed = one.round;
+                rounds = one.rounds;
+                calls = one.calls;
+                overlap = one.overlap;
+                leftOut = one.leftOut;
+                sayings.clear();
+                sayings.putAll(one.sayings);
+                called.clear();
+                called.putAll(one.called);
+                tally.hits = one.hits;
+                tally.misses = one.misses;
+                tally.losses = one.losses;
+                return;
+            }
         }
 
         double seconds() { return (System.nanoTime() - began) / 1e9; }
 
         /** So many of a noun. */
-        private static String counted(long count, String noun) { return count + " " + noun + (count == 1 ? "" : "s"); }
+        private static String counted(long count, String noun) { return count + " " + noun + (count == 1 ? "" : noun.endsWith("s") ? "es" : "s"); }
 
         /** At least one round is made. */
         private boolean isOver() {
@@ -1164,9 +1642,40 @@ public final class Potzendai {
         String summary(String verdict) {
             String said = sayings.entrySet().stream().map(one -> one.getValue() + " " + one.getKey().name().toLowerCase())
                 .collect(Collectors.joining(", "));
-            return String.format("%s: %s%s in %.1f seconds, overlap %.2f a call: %s%s", verdict,
+            List<String> parts = new ArrayList<>(List.of(String.format("%s: %s%s in %.1f seconds, overlap %.2f a call: %s%s", verdict,
                 options.isStream ? "" : counted(rounds, "round") + ", ", counted(calls, "call"), seconds(),
-                (double) overlap / Math.max(calls, 1), said, undecided > 0 ? "; " + undecided + " undecided" : "");
+                (double) overlap / Math.max(calls, 1), said, undecided > 0 ? "; " + undecided + " undecided" : "")));
+            if (options.cache != null)
+                parts.add(counted(tally.hits, "hit") + ", " + counted(options.cache.equals("late") ? gets() - tally.hits : tally.misses, "miss") + ", "
+                    + counted(tally.losses, "loss"));
+            if (!verdict.startsWith("no") || verdict.equals("not judged"))
+                parts.addAll(cautions());
+            return String.join("; ", parts);
+        }
+
+        private long gets() { return called.getOrDefault(Kind.GET, 0L); }
+
+        /** Why a yes of this run says little. */
+        private List<String> cautions() {
+            List<String> said = new ArrayList<>();
+            boolean isCache = options.cache != null;
+            if (2 * sayings.getOrDefault(Word.REFUSED, 0L) > sayings.values().stream().mapToLong(Long::longValue).sum())
+                said.add("most calls were refused: a yes says little");
+            if (tally.hits == 0 && isCache)
+                said.add("no get hit: a yes says nothing");
+            else if (tally.hits == 0 && gets() > 0)
+                said.add("no get found a value: a yes says little");
+            else if (isCache && 20 * tally.hits < gets())
+                said.add(counted(tally.hits, "hit") + String.format(java.util.Locale.ROOT, " in %,d gets: a yes says little", gets()));
+            if (isCache && tally.losses == 0)
+                said.add("no key was lost: eviction was not tested");
+            if (leftOut > 0)
+                said.add(counted(leftOut, "scan") + " without some of the keys left out");
+            if (overlap < 0.05 * calls)
+                said.add("overlap below 0.05: the threads hardly met, and a yes says little: call point() in the map, and run with --yield 200");
+            if (options.yields > 0 && !hasPoints)
+                said.add("--yield acted only between calls, since the map called no point()");
+            return said;
         }
 
         /** The smallest run that failed, of some tries with half of the calls or keys, or a thread less. Threads interleave as they will. Where
@@ -1281,6 +1790,50 @@ public final class Potzendai {
         };
     }
 
+    private static String saidCall(Call call) { return saidCall(call.list()); }
+
+    /** The call of an event as it was made, where a history has another one; else null. */
+    private static String noteOf(Round round, long number) {
+        return number < round.events.size() ? round.events.get((int) number).note : null;
+    }
+
+    /** A call as it was made. */
+    private static String saidMade(Round round, long number, List<?> call) {
+        String note = noteOf(round, number);
+        return note != null ? note.split(":")[0].replace("answered none", "which found none") + "," : saidCall(call);
+    }
+
+    /** The event of a call's answer, or the end where it has none. */
+    private static int lastEvent(Round round, int invoked) {
+        for (int i = invoked + 1; i < round.events.size(); i++)
+            if (round.events.get(i).thread == round.events.get(invoked).thread)
+                return i;
+        return round.events.size();
+    }
+
+    /** Whether two calls have a key in common. */
+    private static boolean meets(Call call, Call other) {
+        long high = call.words[call.name.equals("scan") ? 1 : 0], to = other.words[other.name.equals("scan") ? 1 : 0];
+        return Long.compareUnsigned(call.words[0], to) <= 0 && Long.compareUnsigned(other.words[0], high) <= 0;
+    }
+
+    /** The other calls that were open on the keys of these. */
+    private static List<String> saidOpen(Round round, List<Long> shown, List<Long> numbers) {
+        List<String> said = new ArrayList<>();
+        for (int i = 0; i < round.events.size(); i++) {
+            Event one = round.events.get(i);
+            int at = i;
+            if (one.call != null && !shown.contains((long) i) && numbers.stream().filter(of -> of < round.events.size()).mapToInt(Long::intValue)
+                    .anyMatch(of -> round.events.get(of).call != null && meets(one.call, round.events.get(of).call)
+                        && at < lastEvent(round, of) && of < lastEvent(round, at)))
+                said.add(saidMade(round, i, one.call.list()) + " of process " + one.thread + " (" + saidEvents(round, i, one.thread) + ")");
+        }
+        List<String> first = new ArrayList<>(said.subList(0, Math.min(said.size(), OPEN_SHOWN)));
+        if (said.size() > OPEN_SHOWN)
+            first.add("and " + (said.size() - OPEN_SHOWN) + " more");
+        return said.isEmpty() ? List.of() : List.of("  also open on the same keys meanwhile: " + String.join(", ", first));
+    }
+
     /** The events of a call: that of its invocation by a process, and that of its answer, where it has one. */
     private static String saidEvents(Round round, long invoked, long process) {
         for (int i = (int) invoked + 1; i < round.events.size(); i++)
@@ -1322,11 +1875,11 @@ public final class Potzendai {
     }
 
     /** Which calls one misses. */
-    private static String saidMissed(Map<?, ?> line) {
+    private static String saidMissed(Round round, Map<?, ?> line) {
         StringBuilder said = new StringBuilder();
         for (Object missed : line.get("misses") instanceof List<?> all ? all : List.of()) {
             Map<?, ?> call = (Map<?, ?>) missed;
-            said.append("; it misses ").append(saidCall((List<?>) call.get("call"))).append(" of process ").append(call.get("process"))
+            said.append("; it misses ").append(saidMade(round, (Long) call.get("event"), (List<?>) call.get("call"))).append(" of process ").append(call.get("process"))
                 .append(" (event ").append(call.get("event")).append(")");
         }
         return said.toString();
@@ -1341,26 +1894,40 @@ public final class Potzendai {
         lines.removeIf(line -> line.containsKey("verdict"));
         if (!lines.isEmpty())
             said.add("these calls have no order, and no other could mend that:");
+        List<Long> shown = new ArrayList<>(), next = new ArrayList<>();
         for (Map<?, ?> line : lines) {
-            if (line.containsKey("answer"))
-                said.add(String.format("  %-19s process %-3d %s%s%s",
-                    saidEvents(round, (Long) line.get("event"), (Long) line.get("process")), line.get("process"),
-                    saidCall((List<?>) line.get("call")), saidAnswered(round, line.get("answer")), saidMissed(line)));
+            if (line.containsKey("answer")) {
+                Long event = (Long) line.get("event");
+                String note = noteOf(round, event);
+                shown.add(event);
+                said.add(String.format("  %-19s process %-3d %s%s", saidEvents(round, event, (Long) line.get("process")), line.get("process"),
+                    note != null ? note : saidCall((List<?>) line.get("call")) + saidAnswered(round, line.get("answer")), saidMissed(round, line)));
+            }
             if (line.containsKey("from"))
                 said.add(saidFrom(line));
             if (line.containsKey("puts"))
                 said.add(saidOrigin(round, line));
             if (!line.containsKey("front"))
                 continue;
-            said.add("  an order of them gets as far as the events " + line.get("front").toString().replace(" ", "") + "; the map then holds "
-                + saidPairs((List<?>) line.get("holds")));
-            for (Object next : (List<?>) line.get("next")) {
-                Map<?, ?> call = (Map<?, ?>) next;
+            said.add((((List<?>) line.get("front")).isEmpty() ? "  no call of them can come first; the map holds " : "  an order of them gets as far as the "
+                + "events " + line.get("front").toString().replace(" ", "") + "; the map then holds ") + saidPairs((List<?>) line.get("holds")));
+            for (Object each : (List<?>) line.get("next")) {
+                Map<?, ?> call = (Map<?, ?>) each;
+                next.add((Long) call.get("event"));
                 said.add("  the call of event " + call.get("event") + " was answered " + saidAnswer(call.get("answer")) + ", and would be answered "
                     + saidAnswer(call.get("would")) + saidWriter(round, call.get("answer")));
             }
         }
+        said.addAll(saidOpen(round, shown, next.isEmpty() ? shown.subList(Math.max(shown.size() - 1, 0), shown.size()) : next));
         return said;
+    }
+
+    /** A line of a report, without the values that replaces of a cache put which said that they changed nothing. */
+    private static String unmarked(String line) {
+        return Pattern.compile("[0-9]{19,20}").matcher(line).replaceAll(found -> {
+            long value = Long.parseUnsignedLong(found.group());
+            return value < 0 && value != GREATEST ? "a value that no call puts" : found.group();
+        });
     }
 
     /** Writes a file of a round, or of a stream, and says how it is called. */
@@ -1425,7 +1992,10 @@ public final class Potzendai {
         if (!explained.contains("\n{\"answer\":"))
             return List.of("few calls are not shown: they are not found within a budget of " + run.program.more(), keep(run, ".json", left));
         List<String> said = new ArrayList<>(List.of(ANEW));
-        said.addAll(shown(run, left, explained, new Round(left)));
+        Round round = new Round(left);
+        List<?> keys = (List<?>) ((Map<?, ?>) Json.of(run.report.lines().findFirst().orElse(""))).get("keys");
+        round.note((List<?>) ((Map<?, ?>) keys.get(0)).get("invoked"), run.notes);
+        said.addAll(shown(run, left, explained, round));
         return said;
     }
 
@@ -1447,6 +2017,8 @@ public final class Potzendai {
      * first file. */
     private static List<String> shown(Run run, String text, String explained, Round round) {
         List<String> report = explained.lines().toList(), said = saidReport(report, round);
+        if (run.options.cache != null)
+            said.replaceAll(Potzendai::unmarked);
         String few = report.stream().filter(line -> line.startsWith("{\"events\"")).findFirst().map(line -> line + "\n").orElse(null);
         said.add(keep(run, ".json", text));
         if (few != null)
@@ -1491,6 +2063,9 @@ public final class Potzendai {
         --scan HOW        snapshot: a scan is of one moment; steps: steps of ceiling (snapshot)
         --yield N         of a thousand points between and in calls, so many give way to other threads (0)
         --break HOW       makes the map wrong now and then: drop, race, replay, stale, zombie, torn or cas; all: in each of these ways
+        --cache [late]    the map is a cache: it may lose any key at any time; late: and a miss says nothing, as of one whose writes appear later
+        --fresh N         a new map after each so many rounds (one map)
+        --reopen          the map is closed and opened again after each round
         --stream          one stream that is followed while it is recorded, in the place of rounds
         --out FOLDER      where files are put (.), or - for standard output: all histories or the stream, which nobody judges then
         --budget N        the judge's (100000)
@@ -1498,10 +2073,11 @@ public final class Potzendai {
         """;
 
     private static final class Options implements Cloneable {
-        String name, voids = "done", broken, out = ".", bench;
+        String name, voids = "done", broken, out = ".", bench, cache;
         long seconds, rounds, threads = 4, keys, hot, calls, yields, budget = 100000, shown = System.nanoTime();
         long seed = Math.floorMod(System.nanoTime() * 31 + System.currentTimeMillis(), 1000000007L);
-        boolean isSteps, isStream, hasVoid, shows = System.console() != null;
+        long fresh, span = SPAN;
+        boolean hasDel, isSteps, isStream, isReopened, hasVoid, shows = System.console() != null;
         EnumMap<Kind, Long> shares;
 
         boolean isVoid(String how) { return voids.equals(how); }
@@ -1530,16 +2106,25 @@ public final class Potzendai {
             return name + " --seed " + Long.toUnsignedString(seed) + " --threads " + threads + " --keys " + keys + (hot > 0 ? " --hot " + hot : "")
                 + (calls > 0 ? " --calls " + calls : "") + " --mix " + mix + (hasVoid || !isStream ? " --void " + voids : "")
                 + " --scan " + (isSteps ? "steps" : "snapshot") + (yields > 0 ? " --yield " + yields : "")
-                + (broken != null ? " --break " + broken : "") + (isStream ? " --stream --seconds " + seconds : " --rounds " + rounds);
+                + (cache == null ? "" : cache.equals("late") ? " --cache late" : " --cache") + (fresh > 0 ? " --fresh " + fresh : "")
+                + (isReopened ? " --reopen" : "") + (broken != null ? " --break " + broken : "") + (isStream ? " --stream --seconds " + seconds : " --rounds " + rounds);
         }
 
         Options(String name, String[] words) {
             this.name = name;
-            for (int i = 0; i < words.length; i++)
-                if (words[i].equals("--stream"))
-                    isStream = true;
-                else
-                    read(words[i], ++i < words.length ? words[i] : "");
+            for (int i = 0; i < words.length; i++) {
+                String next = i + 1 < words.length ? words[i + 1] : "";
+                switch (words[i]) {
+                    case "--stream" -> isStream = true;
+                    case "--reopen" -> isReopened = true;
+                    case "--cache" -> {
+                        wrong(!next.isEmpty() && !next.startsWith("--") && !next.equals("late"), "--cache: late, or nothing");
+                        cache = next.equals("late") ? next : "now";
+                        i += next.equals("late") ? 1 : 0;
+                    }
+                    default -> read(words[i++], next);
+                }
+            }
         }
 
         private void read(String word, String text) {
@@ -1552,6 +2137,7 @@ public final class Potzendai {
                 case "--calls" -> calls = number(word, text, 1, Long.MAX_VALUE);
                 case "--seed" -> seed = number(word, text, 0, GREATEST);
                 case "--yield" -> yields = number(word, text, 0, 1000);
+                case "--fresh" -> fresh = number(word, text, 1, Long.MAX_VALUE);
                 case "--budget" -> budget = number(word, text, 1, 1000000);
                 case "--void" -> {
                     voids = named(word, text, List.of("done", "told", "own", "lock"));
@@ -1609,7 +2195,7 @@ public final class Potzendai {
         }
 
         /** The words together, and with what the map has. */
-        void fit(Set<Kind> has) {
+        void fit(Set<Kind> has, boolean canReopen) {
             boolean isApart = isVoid("own") || isVoid("lock"), isUsual = shares == null;
             keys = keys > 0 ? keys : isStream ? 1000 : 16;
             shares = isUsual ? new EnumMap<>(Kind.class) : shares;
@@ -1625,6 +2211,10 @@ public final class Potzendai {
             wrong(broken != null && !isCalled(broken), "--break: what it makes wrong is not called");
             wrong(hot > keys, "--hot: more than there are keys");
             wrong(isVoid("own") && keys < threads, "--void: own: each thread needs a key");
+            wrong(cache != null && isVoid("own"), "--cache: not with --void own, since the writer of a key does not see that the key was lost");
+            wrong(isStream && fresh > 0, "--fresh: not with --stream, which is of one map");
+            wrong(isStream && isReopened, "--reopen: not with --stream, which is of one map");
+            wrong(isReopened && !canReopen, "--reopen: the map has no function reopen");
             calls = calls > 0 || isStream ? calls : Math.min(CALLS / (threads + 2), 200);
             seconds = seconds > 0 ? seconds : rounds > 0 ? 1000000000 : 10;
             wrong(isStream && rounds > 0, "--rounds: a stream has none; --seconds, or --calls of each thread");
@@ -1633,6 +2223,9 @@ public final class Potzendai {
             wrong(!isStream && threads > PROCESSES - 2, "--threads: at most 62 in rounds; --stream has no such end");
             wrong(!isStream && keys > most, "--keys: " + size + ", behind which all keys are got; --stream has no such end");
             wrong(!isStream && calls > most, "--calls: " + size + "; --stream has no such end");
+            hasDel = has.contains(Kind.DEL);
+            if (cache != null && !isStream)
+                span = Math.max(1, Math.min(SPAN, (PROCESSES - 1 - threads) / threads)); // each missing key needs a process
             checkOut();
         }
 
@@ -1669,7 +2262,13 @@ public final class Potzendai {
                 has.add(names.get(method.getName()));
         if (connection != map)
             connection.close();
+        map.close();
         return has;
+    }
+
+    private static boolean canReopen(Index map) {
+        return Arrays.stream(map.getClass().getMethods()).anyMatch(method -> method.getName().equals("reopen") && method.getParameterCount() == 0
+            && method.getDeclaringClass() != Index.class);
     }
 
     /** How often the threads called each function of the map, and which functions it does not have. */
@@ -1688,8 +2287,10 @@ public final class Potzendai {
 
     private static Outcome tested(String name, Supplier<? extends Index> make, String... words) {
         Options options = new Options(name, words);
-        Set<Kind> has = functions(make.get());
-        options.fit(has);
+        Index map = make.get();
+        boolean canReopen = canReopen(map);
+        Set<Kind> has = functions(map);
+        options.fit(has, canReopen);
         Program program = options.out.equals("-") ? null : Program.of(options);
         if ("all".equals(options.broken))
             return allBroken(options, make, program, has);
@@ -1700,7 +2301,8 @@ public final class Potzendai {
             said.add(calls);
             return new Outcome(NO, said, run.summary("no"));
         }
-        int status = run.undecided > 0 || !run.cut.isEmpty() ? UNDECIDED : YES;
+        boolean isEmpty = program != null && options.cache != null && run.tally.hits == 0;
+        int status = run.undecided > 0 || !run.cut.isEmpty() || isEmpty ? UNDECIDED : YES;
         if (program != null && options.broken != null && status == YES)
             run.cut.add("--break " + options.broken + ": the map was wrong now and then, and these calls did not show it");
         run.cut.add(calls);
@@ -1720,10 +2322,12 @@ public final class Potzendai {
             Run run = options.isCalled(how) ? new Run(options, make, program).go(0) : null;
             if (run != null)
                 run.called.forEach((kind, count) -> called.merge(kind, count, Long::sum));
-            missed += run != null && run.failed == null ? 1 : 0;
-            said.add(how + ": " + (run == null ? "what it makes wrong is not called" : run.summary(run.failed != null ? "no" : "yes")));
+            missed += run != null && (run.failed == null || run.wrongTimes == 0) ? 1 : 0;
+            String verdict = run == null || run.failed == null ? "yes" : run.wrongTimes > 0 ? "no" : "no of the map as it is";
+            said.add(how + ": " + (run == null ? "what it makes wrong is not called" : run.summary(verdict)));
         }
         said.add(saidCalls(has, called));
+        said.add("this shows that calls and answers reach the judge; it does not show that threads meet: see the overlap");
         return missed > 0 ? new Outcome(YES, said, "yes: " + missed + " of the broken maps were not refuted")
             : new Outcome(NO, said, "no: each broken map was refuted");
     }

@@ -19,12 +19,15 @@ A function answers a value, a pair or pairs where it tells them, or one of the w
     put_if_absent(self, key, value)  the value found [NONE: it was put, FOUND: it was not, REFUSED, UNKNOWN]
     floor, ceiling(self, key)        the greatest pair up to the key, the least one from it on [NONE or None, DONE, REFUSED, UNKNOWN]
     pop_first(self)                  the least pair, which is taken [NONE or None, REFUSED]
+    reopen(self)                     for --reopen: closes the map at rest, and returns it opened again, with what it held
+    close(self)                      called once the map is used no more
 
 NONE: there was no value. DONE: it was done, and nothing is told. FOUND: there was a value, which is not told; of a pair the value may be
 FOUND. OTHER: the old value was not there. REFUSED: nothing has changed. UNKNOWN, or an OSError that is raised, as of a timeout or a lost
 connection: nobody knows whether it was done. `told(value)` is NONE for None. Keys and values are numbers, and nothing else changes the map.
 """
 import argparse
+import collections
 import copy
 import ctypes
 import itertools
@@ -44,6 +47,8 @@ import types
 
 NONE, DONE, FOUND, OTHER, REFUSED, UNKNOWN = SAYINGS = ("none", "done", "found", "other", "refused", "unknown")
 GREATEST = 2 ** 64 - 1
+OWN = 2 ** 63  # under --cache, values from here on are the driver's own
+BATCH_ROUNDS, BATCH_CALLS = 64, 256  # so many rounds are judged together, of so many calls
 PROCESSES, CALLS, SPAN = 64, 4096, 16  # limits of a history; the most keys of a scan
 STREAM_PROCESSES, STREAM_KEYS = 65536, 16384  # limits of a stream, and of its keys
 AHEAD, BATCH = 8192, 4096  # how many stamps a thread may be in front of what is handed over; how many lines are handed over at once
@@ -100,9 +105,21 @@ _of_thread = threading.local()
 
 def point():
     """To be called by a map's functions where another thread should get in between: under `--yield` it sometimes does."""
+    _of_thread.has_points = True
+    give_way()
+
+
+def give_way():
     often = getattr(_of_thread, "often", 0)
     if often and _of_thread.draws.below(1000) < often:
         time.sleep(0 if _of_thread.draws.below(4) else (1 + _of_thread.draws.below(50)) / 1e6)
+
+
+def taken():
+    """To be called by a map's read once its snapshot is taken: the read counts as answered at this moment, and its pairs may be read later."""
+    worker = getattr(_of_thread, "worker", None)
+    if worker:
+        worker.take()
 
 
 # What a history has of a call
@@ -115,11 +132,16 @@ def is_pair(answer):
     return isinstance(answer, (tuple, list)) and len(answer) == 2 and is_value(answer[0]) and (is_value(answer[1]) or answer[1] == FOUND)
 
 
+def values_of(answer):
+    """The values that an answer has."""
+    return [answer] if is_value(answer) else [answer[1]] if is_pair(answer) else [pair[1] for pair in answer]
+
+
 def is_pairs(answer):
     return isinstance(answer, (tuple, list)) and all(is_pair(pair) and is_value(pair[1]) for pair in answer)
 
 
-OPEN = object()
+OPEN = "open"
 EVENTS = {NONE: None, FOUND: "found", DONE: "done", OTHER: "other", REFUSED: "refused", UNKNOWN: OPEN}
 # Of each function its call in a history, what it tells, and the words that it may answer beside.
 ANSWERS = {
@@ -135,12 +157,16 @@ ANSWERS = {
 }
 
 
-def checked(kind, answer):
+def checked(kind, answer, cache=None):
     """The answer, where the function may answer so."""
     if answer is None and kind in ("get", "floor", "ceiling", "pop_first"):
         return NONE
     _, tells, words = ANSWERS[kind]
-    if tells(answer) or isinstance(answer, str) and answer in words:
+    if tells(answer):
+        if cache and any(is_value(value) and value >= OWN for value in values_of(answer)):
+            raise Stop(WORDS, "%s said a value from 2^63 on, and --cache needs these for its own use" % word(kind))
+        return answer
+    if isinstance(answer, str) and answer in words:
         return answer
     hint = "nothing: NONE where the key held none, DONE where that is not told" if answer is None else "%s, which does not fit it" % (answer,)
     raise Stop(WORDS, "%s said %s" % (word(kind), hint))
@@ -161,8 +187,40 @@ def edge(kind, key, pair):
 HELD = ("put_if_absent", "floor", "ceiling", "pop_first")  # the answer tells which call of a history it was
 
 
+# What a history has of a call: its invocation, its answer, a note of the call as it was made where that is another one, and further calls of
+# the same interval, each by a process of its own.
+Noted = collections.namedtuple("Noted", "call answer note beside", defaults=(None, ()))
+
+
 def noted(kind, words, answer):
-    """The invocation and the answer that a history has of a call; None where it is left out, since it tells nothing."""
+    """What a history has of a call; None where it is left out, since it tells nothing."""
+    told_of = noted_call(kind, words, answer)
+    return told_of and Noted(*told_of)
+
+
+def noted_by_cache(kind, words, answer, options, fresh):
+    """The same for a cache, which may lose any key at any time: of a miss, that the key is gone from then on. So this history has an order if
+    and only if the cache's own has one in which keys may be lost. Late: a miss says nothing."""
+    plain, is_late = noted(kind, words, answer), options.cache == "late"
+    if plain is None or is_late and (answer == OTHER or answer == NONE and kind not in ("put", "delete", "put_if_absent")):
+        return None
+    if answer == NONE and kind in ("get", "put", "delete", "replace", "put_if_absent"):
+        call = ["insert", *words] if kind in ("put", "put_if_absent") else ["remove", words[0]]
+        return Noted(call, "done", said_call(plain.call) + ", answered none" + ("" if is_late else ": the key was gone"))
+    if answer == OTHER:
+        return Noted(["replace", *words[:2], next(fresh)], "done", said_call(plain.call) + ", answered another value")
+    if plain.call[0] != "scan":
+        return plain
+    if is_late:
+        gets = [Noted(["get", key], value, "%s, answered %d: %d" % (said_call(plain.call), key, value)) for key, value in plain.answer]
+        return gets[0]._replace(beside=gets[1:]) if gets else None
+    held = {pair[0] for pair in plain.answer}
+    missing = [key for key in range(plain.call[1], min(plain.call[2], options.keys - 1) + 1) if key not in held]
+    return plain._replace(beside=[Noted(["remove", key], "done", "%s, which did not have %d: the key was gone" % (said_call(plain.call), key))
+                                  for key in missing])
+
+
+def noted_call(kind, words, answer):
     changes = kind in ("put", "delete", "replace")
     if answer == REFUSED and not changes or answer in (DONE, UNKNOWN) and kind in ("get", "scan", "floor", "ceiling"):
         return None
@@ -186,6 +244,7 @@ class Broken:
 
     def __init__(self, connection, how, draws, keys):
         self.connection, self.how, self.draws, self.keys, self.late, self.once, self.style = connection, how, draws, keys, None, {}, None
+        self.times = 0  # how often it went wrong
         for kind in ANSWERS:
             if callable(getattr(connection, kind, None)):
                 setattr(self, kind, self.around(kind))
@@ -199,7 +258,9 @@ class Broken:
             if self.late and self.draws.below(2):
                 late, self.late = self.late, None
                 self.connection.put(*late)
+                self.times += 1
             answer = wrong(*words) if wrong and self.draws.below(SELDOM) == 0 else None
+            self.times += answer is not None
             if answer is None:
                 answer = function(*words)
                 self.see(kind, words, answer)
@@ -262,15 +323,19 @@ class Broken:
 # Threads and what they record
 
 WRITING = ("put", "delete", "replace", "put_if_absent")
+READS = ("get", "scan", "floor", "ceiling")
 
 
 class Worker:
     """One thread or process: draws calls, makes them, and notes them with the stamps of their beginning and their end."""
 
-    def __init__(self, number, options, stamp, locks, doubts, stream):
+    def __init__(self, number, options, stamp, locks, doubts, stream, values_from):
         self.number, self.options, self.stamp, self.locks, self.doubts, self.stream = number, options, stamp, locks, doubts, stream
-        self.puts, self.values_from, self.process = 0, None, number
-        self.total = sum(options.shares.values())
+        self.puts, self.values_from, self.process, self.helpers = 0, values_from, number, []
+        self.total, self.is_reading, self.end = sum(options.shares.values()), False, None
+        self.held = HELD + (("get", "replace", "scan") if options.cache else ())
+        self.fresh = itertools.count(OWN + number, options.threads)  # values that no call puts
+        self.span = options.span
 
     def open(self, made):
         self.connection = made.connection() if hasattr(made, "connection") else made
@@ -284,12 +349,13 @@ class Worker:
             self.values_from = 1 + max(start.values(), default=0)  # each put has a value of its own, which was not in the map before
         self.draws, self.log, self.life, self.made, self.seen = Draws(options.seed, number, self.number), [], 0, 0, {}
         self.sayings, self.called = dict.fromkeys(("told",) + SAYINGS, 0), dict.fromkeys(ANSWERS, 0)
+        _of_thread.worker, _of_thread.has_points = self, False
         self.memory = {key: start.get(key, NONE) for key in range(options.keys) if key not in doubtful} if options.void == "own" else {}
         _of_thread.often, _of_thread.draws = options.yields, copy.copy(self.draws)
-        self.lives = lives
+        self.lives, times = lives, getattr(self.connection, "times", 0)
         while self.goes_on():
             self.draw()
-        return self.log, self.sayings, self.called
+        return self.log, self.sayings, self.called, _of_thread.has_points, getattr(self.connection, "times", 0) - times
 
     def goes_on(self):
         """Whether it may make one call more."""
@@ -306,11 +372,11 @@ class Worker:
         is_write = kind in WRITING or kind == "pop_first"
         key = self.key(is_write)
         if is_write:
-            value = (self.values_from + self.puts * options.threads + self.number) & GREATEST
+            value = (self.values_from + self.puts * (options.threads + 1) + self.number) & GREATEST
             self.puts += 1
         if kind == "scan":
-            high = min(key + self.draws.below(SPAN), options.keys - 1)
-        point()
+            high = min(key + self.draws.below(self.span), options.keys - 1)
+        give_way()
         if kind == "scan" and options.scan == "steps":
             return self.steps(key, high)
         words = {"scan": lambda: (key, high), "put": lambda: (key, value), "put_if_absent": lambda: (key, value), "pop_first": tuple,
@@ -339,19 +405,30 @@ class Worker:
 
     def ask(self, kind, *words):
         try:
-            return checked(kind, getattr(self.connection, kind)(*words))
+            return checked(kind, getattr(self.connection, kind)(*words), self.options.cache)
         except OSError:
             return UNKNOWN
+
+    def take(self):
+        """The call that goes on is answered now, if it only reads. Of several such moments the last one counts."""
+        if self.is_reading:
+            if self.stream and self.end is not None:
+                self.stream.put(self.end, ())
+            self.end = self.stamp()
 
     def make(self, kind, *words):
         """Makes a call between two stamps, and notes it."""
         begin, got = self.stamp(), DONE
-        if self.stream and kind not in HELD:
-            self.stream.put(begin, self.process, [ANSWERS[kind][0], *words])
+        if self.stream and kind not in self.held:
+            self.stream.put(begin, [(self.process, [ANSWERS[kind][0], *words], None, None)], kind)
         if self.locks and kind in ("put", "delete"):
             got = self.ask("get", words[0])
+        if self.options.cache:
+            got = DONE  # the key may be lost between that get and the call
+        self.is_reading, self.end = kind in READS, None
         answer = self.ask(kind, *words)
-        end = self.stamp()
+        self.is_reading = False
+        end = self.stamp() if self.end is None else self.end
         self.made += 1
         self.called[kind] += 1
         self.sayings[answer if isinstance(answer, str) else "told"] += 1
@@ -364,10 +441,11 @@ class Worker:
             self.seen[words[0]] = words[-1]
         elif kind in ("get", "delete", "replace", "put_if_absent") and is_value(answer):
             self.seen[words[0]] = answer
+        made = noted_by_cache(kind, words, says, self.options, self.fresh) if self.options.cache else noted(kind, words, says)
         if self.stream:
-            self.hand_over(begin, end, kind, answer, noted(kind, words, says))
+            self.hand_over(begin, end, kind, answer, made)
         else:
-            self.note(begin, end, noted(kind, words, says))
+            self.note(begin, end, kind, answer, made)
         return answer
 
     def known(self, kind, words, answer, got):
@@ -385,25 +463,41 @@ class Worker:
             return answer
         return before if before is not None else got if got == NONE or is_value(got) else DONE
 
-    def note(self, begin, end, events):
-        if events is None:
+    def note(self, begin, end, kind, answer, made):
+        if made is None:
             return
-        self.log.append((begin, self.number, self.life, "invoke", events[0]))
-        if events[1] is OPEN:
+        self.log.append(Line(begin, self.number, self.life, kind, None, made))
+        if made.answer == OPEN:
             self.life += 1
         else:
-            self.log.append((end, self.number, self.life, "answer", events[1]))
+            self.log.append(Line(end, self.number, self.life, kind, answer if isinstance(answer, str) else "told", made))
 
-    def hand_over(self, begin, end, kind, answer, events):
+    def hand_over(self, begin, end, kind, answer, made):
         """Puts the events of a call that is over into the stream. One that tells nothing is left out; or refused, where it stands there
         already. One whose answer is unknown stays open, and its thread goes on as another process."""
-        call, told_of = events or (None, OPEN if kind in HELD else REFUSED)
-        if kind in HELD:
-            self.stream.put(begin, self.process, call)
-        text = None if told_of is OPEN else json.dumps(told_of, separators=(",", ":"))
-        self.stream.put(end, self.process, None, text, answer if isinstance(answer, str) else "told")
-        if events and told_of is OPEN:
+        saying = answer if isinstance(answer, str) else "told"
+        if made and len(made.beside) > BESIDE:
+            made, kind = None, LEFT_OUT
+        if made is None:
+            if kind not in self.held and kind != LEFT_OUT:
+                return self.stream.put(end, [(self.process, None, REFUSED, None)], kind, saying)
+            self.stream.put(begin, ())
+            return self.stream.put(end, (), kind, saying)
+        while len(self.helpers) < len(made.beside):
+            self.helpers.append(self.stream.next_process())
+        calls = list(zip([self.process] + self.helpers, (made,) + tuple(made.beside)))
+        if kind in self.held:
+            self.stream.put(begin, [(process, one.call, None, one.note) for process, one in calls], kind)
+        self.stream.put(end, [(process, None, one.answer, None) for process, one in calls], kind, saying)
+        if made.answer == OPEN:
             self.process = self.stream.next_process()
+
+
+LEFT_OUT, BESIDE = "left out", 32  # the most calls that a stream has on behalf of one
+
+
+# What a thread noted at a stamp: which thread it was, as which of its processes; the function and, at its end, what it said; and the call.
+Line = collections.namedtuple("Line", "stamp thread life kind saying made")
 
 
 def serve(worker, made, inbox, outbox, barrier):
@@ -448,7 +542,9 @@ RUNNING, OVER, FAILED = range(3)
 ANEW = ("events and processes are numbered anew here and in the files, for the calls \"invoked\" above that had not taken effect, in that "
         "order:")
 AGAIN = "  again (draws the same calls; threads may interleave otherwise): "
+OPEN_SHOWN = 6  # of the other calls that were open
 REPORT_SHOWN = 1000  # characters of the report of a stream without order
+NOTES = 10 ** 6  # of so many events of a stream the notes are kept for the words of a no
 
 
 class Stream:
@@ -465,16 +561,17 @@ class Stream:
     def next_process(self):
         return self.threads + self.others()
 
-    def put(self, stamp, process, call, text=None, saying=None):
-        """What stands at a stamp: a call, an answer as a text, or nothing; and what the map said, where that ends a call."""
+    def put(self, stamp, events, kind=None, saying=None):
+        """What stands at a stamp: events, each of a process with its call and the note of that, or with its answer; of which function they are,
+        the first one itself, and those that follow on behalf of it; and what the map said, where that ends a call."""
         while stamp >= self.taken.value + AHEAD and self.state.value != FAILED:
             time.sleep(0.0005)
-        self.inbox.put((stamp, process, call, text, saying))
+        self.inbox.put((stamp, events, kind, saying))
 
     def begin(self, run, start, follower):
         self.run, self.follower, self.wrong, self.outcome = run, follower, None, None
         run.kept = None if isinstance(follower, Out) else []
-        self.opened, self.writers = {}, {}
+        self.opened, self.writers, self.number, self.notes = {}, {}, 0, {}
         self.lines = ['{"start":%s,"version":3}\n' % json.dumps(sorted(map(list, start.items())), separators=(",", ":"))]
         self.taken.value = self.stamp() + 1
         self.writer = threading.Thread(target=self.write, daemon=True)
@@ -514,21 +611,37 @@ class Stream:
         for _ in events:
             pass
 
-    def take(self, process, call, text, saying):
-        """The line of an event, and what is counted: as of a round, but that nothing is kept of calls that are over."""
+    def take(self, events, kind, saying):
+        """The lines of events, and what is counted: as of a round, but that nothing is kept of calls that are over. A call without an answer is
+        over too: nobody waits for it."""
         run, opened, writers = self.run, self.opened, self.writers
-        if call:
+        run.left_out += kind == LEFT_OUT
+        for i, (process, call, answer, note) in enumerate(events):
+            if call:
+                self.number += 1
+                if note:
+                    self.notes[self.number - 1] = note
+                run.helped += i > 0
+                self.lines.append('{"invoke":["%s",%s],%s"process":%d}\n' % (
+                    call[0], ",".join(map(str, call[1:])), '"note":"%s",' % note if note else "", process))
+            elif answer != OPEN:
+                self.number += 1
+                self.lines.append('{"answer":%s,"process":%d}\n' % (json.dumps(answer, separators=(",", ":")), process))
+        if len(self.notes) > 2 * NOTES:
+            self.notes = {number: note for number, note in self.notes.items() if number >= self.number - NOTES}
+        if events and events[0][1]:
+            process, call = events[0][:2]
             run.calls += 1
             run.overlap += len(opened)
-            opened[process] = call
-            if call[0] in WRITES:
-                run.met.update([call[1]] if call[1] in writers else [])
+            if kind in WRITING:
+                run.met.update([call[1]] if writers.get(call[1]) else [])
                 writers[call[1]] = writers.get(call[1], 0) + 1
-            self.lines.append('{"invoke":["%s",%s],"process":%d}\n' % (call[0], ",".join(map(str, call[1:])), process))
-        if text:
-            self.lines.append('{"answer":%s,"process":%d}\n' % (text, process))
-            call = opened.pop(process)
-            if call[0] in WRITES:
+            opened[process] = call, run.tally.begin(kind, call[1])
+        elif events:
+            process, _, answer, _ = events[0]
+            call, stored = opened.pop(process)
+            run.tally.end(kind, call[1], saying, stored)
+            if kind in WRITING and answer != OPEN:
                 writers[call[1]] -= 1
                 if not writers[call[1]]:
                     del writers[call[1]]
@@ -551,8 +664,8 @@ class Stream:
 class Crew:
     """The threads or processes of a run, and a connection of the driver's own."""
 
-    def __init__(self, options, made):
-        self.options, self.stamp = options, stamps(options.processes)
+    def __init__(self, options, made, stamp=None, values_from=None):
+        self.options, self.stamp = options, stamp or stamps(options.processes)
         kit = multiprocessing.get_context("fork") if options.processes else threading
         pipe, member = (kit.SimpleQueue, kit.Process) if options.processes else (queue.SimpleQueue, threading.Thread)
         locks = [kit.Lock() for _ in range(options.keys)] if options.void == "lock" else []
@@ -561,12 +674,14 @@ class Crew:
         self.stream = Stream(options, pipe, self.stamp) if options.stream else None
         self.pipes = [(pipe(), pipe()) for _ in range(options.threads)]
         self.members = [
-            member(target=serve, args=(Worker(number, options, self.stamp, locks, doubts, self.stream), made, *pipes, barrier), daemon=True)
+            member(target=serve, args=(Worker(number, options, self.stamp, locks, doubts, self.stream, values_from), made, *pipes, barrier),
+                   daemon=True)
             for number, pipes in enumerate(self.pipes)]
         for one in self.members:
             one.start()
         self.taken()
-        self.made, self.connection = made, made.connection() if hasattr(made, "connection") else made
+        self.made, self.puts, self.values_from = made, 0, values_from or 1
+        self.connection = made.connection() if hasattr(made, "connection") else made
 
     def taken(self):
         """What each member puts out. Where one has met an error, the run ends."""
@@ -594,35 +709,65 @@ class Crew:
         """Whether all have put out what they had to, or one has ended."""
         return all(not outbox.empty() for _, outbox in self.pipes) or not all(one.is_alive() for one in self.members)
 
-    def contents(self):
-        """Gets of all keys, and what they told: the last calls of a round."""
+    def contents(self, number=0):
+        """Gets of all keys, the last calls of a round, and what the map then holds. A key of which a get does not tell it is written."""
         log, pairs = [], {}
         for key in range(self.options.keys):
-            for _ in range(1000):
-                begin = self.stamp()
-                try:
-                    answer = checked("get", self.connection.get(key))
-                except OSError:
-                    answer = UNKNOWN
-                end = self.stamp()
-                if answer == NONE or is_value(answer):
-                    break
-                time.sleep(0.001)
-            else:
-                raise Stop(WORDS, "%s: get of %d said %s at rest, where it has to tell" % (self.options.name, key, answer))
-            log.append((begin, self.options.threads, 0, "invoke", ["get", key]))
-            log.append((end, self.options.threads, 0, "answer", None if answer == NONE else answer))
-            if answer != NONE:
-                pairs[key] = answer
+            said, made = self.ask_at_rest(log, "get", key)
+            holds, is_known = said, made is not None and (said == NONE or is_value(said))
+            write = None if is_known or said in (REFUSED, UNKNOWN) else self.write_of(key, number)
+            if write:
+                said, holds = self.ask_at_rest(log, *write)[0], write[2] if write[2:] else NONE
+                is_known = said not in (REFUSED, UNKNOWN)
+            if not is_known:
+                name = word(write[0]) if write else "get"
+                raise Stop(WORDS, "%s: %s of %d said %s at rest, where it has to tell" % (self.options.name, name, key, said))
+            if holds != NONE:
+                pairs[key] = holds
         return log, pairs
 
+    def write_of(self, key, number):
+        """The call by which is known what a key holds: a put of a new value or, at each second key, a delete. Of a cache, a delete."""
+        is_put = callable(getattr(self.connection, "put", None))
+        is_delete = callable(getattr(self.connection, "delete", None)) and (self.options.cache or not is_put or (key + number) % 2)
+        if is_delete or not is_put:
+            return ("delete", key) if is_delete else None
+        self.puts += 1
+        return "put", key, self.values_from + self.puts * (self.options.threads + 1) + self.options.threads
+
+    def ask_at_rest(self, log, kind, *words):
+        """What a function says at rest: again where it is refused, and a get also where nobody knows. It is noted unless it tells nothing."""
+        for _ in range(1000):
+            begin = self.stamp()
+            try:
+                answer = checked(kind, getattr(self.connection, kind)(*words), self.options.cache)
+            except OSError:
+                answer = UNKNOWN
+            end = self.stamp()
+            if answer != REFUSED and (answer != UNKNOWN or kind != "get"):
+                break
+            time.sleep(0.001)
+        made = noted_by_cache(kind, words, answer, self.options, None) if self.options.cache else noted(kind, words, answer)
+        if made and made.answer != OPEN:
+            saying, kind = answer if isinstance(answer, str) else "told", "rest" if kind == "get" else kind
+            log.append(Line(begin, self.options.threads, 0, kind, None, made))
+            log.append(Line(end, self.options.threads, 0, kind, saying, made))
+        return answer, made
+
     def close(self):
+        """Ends the threads or processes, and closes all connections."""
         for inbox, _ in self.pipes:
             inbox.put(None)
         for one in self.members:
             one.join(1)
         if hasattr(self.made, "connection") and hasattr(self.connection, "close"):
             self.connection.close()
+
+
+def forget(made):
+    """Closes a map that is used no more."""
+    if callable(getattr(made, "close", None)):
+        made.close()
 
 
 # Histories
@@ -632,35 +777,89 @@ class Round:
 
     at_start, nobody = "at the start", "nobody"
 
-    def __init__(self, logs, start, pending):
-        lines = sorted((line for log in logs for line in log), key=lambda line: line[0])
-        numbers = {}
-        self.start, self.events = start, [{"invoke": call, "process": process} for process, call in enumerate(pending)]
-        for _, thread, life, member, what in lines:
-            process = numbers.setdefault((thread, life), len(pending) + len(numbers))
-            self.events.append({member: what, "process": process})
-        self.measure()
+    def __init__(self, logs, start, pending, tally):
+        lines = sorted((line for log in logs for line in log), key=lambda line: line.stamp)
+        self.start, self.events, self.kinds, self.left_out = start, [], [], 0
+        self.numbers, self.before = {}, len(pending)
+        for process, call in enumerate(pending):
+            self.add(process, "invoke", call)
+        self.order(lines)
+        self.measure(tally)
 
-    def measure(self):
+    def add(self, process, member, what, note=None, kind=None, saying=None):
+        """An event. Calls that no thread made have no kind."""
+        self.events.append({member: what, "note": note, "process": process} if note else {member: what, "process": process})
+        self.kinds.append((kind, saying))
+
+    def number(self, who):
+        """Each thread, and each of its lives, becomes a process, and so does who makes further calls on behalf of one."""
+        return self.numbers.setdefault(who, self.before + len(self.numbers))
+
+    def order(self, lines):
+        """The events of the threads. Further calls of one are made by processes that are free; where there are none, or too many calls, it is
+        left out with them."""
+        room = PROCESSES - self.before - len({(line.thread, line.life) for line in lines})
+        calls = CALLS - self.before - sum(line.saying is None for line in lines)
+        free, helping, left_out, made_up = [], {}, set(), itertools.count()
+        for line in lines:
+            who, beside = (line.thread, line.life), line.made.beside
+            if line.saying is not None and who in left_out:
+                left_out.remove(who)
+                continue
+            if line.saying is None:
+                while len(free) < len(beside) and room:
+                    room -= 1
+                    free.append(("beside", next(made_up)))
+                if len(beside) > min(len(free), calls):
+                    left_out.add(who)
+                    self.left_out += 1
+                    continue
+                calls -= len(beside)
+                helping[who] = [free.pop() for _ in beside]
+            helpers = helping[who]
+            for maker, one, kind in zip([who] + helpers, (line.made, *beside), itertools.chain([line.kind], itertools.repeat(None))):
+                if line.saying is None:
+                    self.add(self.number(maker), "invoke", one.call, one.note, kind)
+                else:
+                    self.add(self.number(maker), "answer", one.answer, None, kind, line.saying)
+            free += helpers if line.saying is not None else []
+
+    def measure(self, tally):
         """How many calls were open where another began, at which keys two writers met, and which changes may still come: those that have no
-        answer, and of which no answer tells what they put."""
-        opened, told_of, self.calls, self.overlap, self.met = {}, set(), 0, 0, set()
-        for event in self.events:
+        answer, and of which no answer tells what they put. A call without an answer is none that others overlap."""
+        answered, opened, told_of, self.calls, self.overlap, self.met = set(), {}, set(), 0, 0, set()
+        last = {}
+        for number, event in enumerate(self.events):
+            if "invoke" in event:
+                last[event["process"]] = number
+            else:
+                answered.add(last[event["process"]])
+        for number, (event, (kind, saying)) in enumerate(zip(self.events, self.kinds)):
             process, call = event["process"], event.get("invoke")
             if call is None:
                 told_of.update(pair[1] for pair in event["answer"]) if type(event["answer"]) is list else told_of.add(event["answer"])
-                del opened[process]
+                _, call, _, stored = opened.pop(process)
+                if kind:
+                    tally.end(kind, call[1], saying, stored)
                 continue
-            self.calls += 1
-            self.overlap += len(opened)
-            if call[0] in WRITES and any(other[0] in WRITES and other[1] == call[1] for other in opened.values()):
+            if kind:
+                self.calls += 1
+                self.overlap += sum(1 for other, _, is_one, _ in opened.values() if other and is_one)
+            if kind in WRITING and any(other in WRITING and met[1] == call[1] for other, met, _, _ in opened.values()):
                 self.met.add(call[1])
-            opened[process] = call
-        self.pending = [call for call in opened.values() if call[0] == "remove" or call[-1] not in told_of]
+            opened[process] = kind, call, number in answered, tally.begin(kind, call[1]) if kind else None
+        self.pending = [call for _, call, _, _ in opened.values() if call[0] == "remove" or call[-1] not in told_of]
+
+    def is_apart(self, keys):
+        """Whether it is a history of so many keys alone, in which all calls have answers: then it may be judged with others."""
+        answers = [event["answer"] for event in self.events if type(event.get("answer")) is list]
+        calls = [event["invoke"] for event in self.events if "invoke" in event]
+        held = list(self.start) + [pair[0] for pairs in answers for pair in pairs] + [call[1] for call in calls]
+        return 2 * len(calls) == len(self.events) and max(held, default=0) < keys
 
     def text(self):
         answers = [event["answer"] for event in self.events if isinstance(event.get("answer"), str)]
-        if any(answer != "refused" for answer in answers):
+        if any(answer != "refused" for answer in answers) or any("note" in event for event in self.events):
             version = 3
         else:
             version = 2 if self.start or any("replace" in event.get("invoke", "") for event in self.events) else 1
@@ -671,6 +870,59 @@ class Round:
 
 
 WRITES = ("insert", "remove", "replace")
+
+
+def together(rounds, keys):
+    """Rounds as one history, in which the keys of each are moved up. It has an order if and only if each round has one, since linearizability is
+    local: a call says nothing of keys that it does not touch (Herlihy and Wing, 1990)."""
+    start, events = [], []
+    for by, one in zip(itertools.count(0, keys), rounds):
+        start += [[key + by, value] for key, value in sorted(one.start.items())]
+        for event in one.events:
+            call, answer = event.get("invoke"), event.get("answer")
+            if call:
+                high = [min(call[2], keys - 1) + by] if call[0] == "scan" else call[2:]
+                events.append({"invoke": [call[0], call[1] + by, *high], "process": event["process"]})
+            else:
+                moved = [[key + by, value] for key, value in answer] if type(answer) is list else answer
+                events.append({"answer": moved, "process": event["process"]})
+    return json.dumps({"events": events, "start": start, "version": 3}, separators=(",", ":"), sort_keys=True) + "\n"
+
+
+class Tally:
+    """How often gets found a value; and how often a key was lost, so that nothing was found where a put was answered and no delete begun since."""
+
+    def __init__(self):
+        self.hits = self.misses = self.losses = self.clock = 0
+        self.forget()
+
+    def forget(self):
+        """Begins with a new map."""
+        self.stored, self.deletes, self.deleted = {}, {}, {}  # when a put ended; open deletes; when a delete began or ended last
+
+    def begin(self, kind, key):
+        """When the call begins."""
+        self.clock += 1
+        if kind in ("delete", "pop_first"):
+            self.stored.pop(key, None)
+            self.deletes[key] = self.deletes.get(key, 0) + 1
+            self.deleted[key] = self.clock
+        return self.clock
+
+    def end(self, kind, key, saying, begun):
+        self.clock += 1
+        if kind == "get":
+            self.hits += saying in ("told", FOUND)
+            self.misses += saying == NONE
+        if saying == NONE and kind in ("get", "put", "replace", "rest") and self.stored.get(key, begun) < begun:
+            self.losses += 1
+            del self.stored[key]
+        if kind in ("delete", "pop_first"):
+            self.deletes[key] -= saying != UNKNOWN
+            self.deleted[key] = self.clock
+        elif kind == "put" and saying in ("told", NONE, DONE, FOUND) or (kind, saying) in (("put_if_absent", NONE), ("replace", DONE)):
+            if not self.deletes.get(key) and self.deleted.get(key, 0) < begun:
+                self.stored[key] = self.clock
 
 
 class Judge:
@@ -839,14 +1091,18 @@ class Out:
 
 # A run
 
+COUNTED = ("rounds", "calls", "overlap", "left_out", "sayings", "called", "wrong_times", "tally", "met")
+
+
 class Run:
     """Rounds at a new map, each of which begins with what the one before has left: the pairs, and calls without an answer that may still
     come."""
 
     def __init__(self, options, make, program):
         self.options, self.make, self.program = options, make, program
-        self.rounds = self.calls = self.overlap = self.undecided = 0
-        self.cut, self.called = [], dict.fromkeys(ANSWERS, 0)
+        self.rounds = self.calls = self.overlap = self.undecided = self.helped = self.left_out = self.wrong_times = 0
+        self.cut, self.called, self.tally, self.has_points = [], dict.fromkeys(ANSWERS, 0), Tally(), False
+        self.waiting, self.waiting_calls = [], 0  # rounds that are not judged yet
         self.kept, self.length = None, 0  # the stream so far, while it is no longer than is kept
         self.sayings, self.met, self.failed, self.began = dict.fromkeys(("told",) + SAYINGS, 0), set(), None, time.monotonic()
 
@@ -854,29 +1110,67 @@ class Run:
         """Rounds from this number on, until one has no order, or the time is over; or one stream."""
         if self.options.stream:
             return self.follow()
-        crew = Crew(self.options, self.make())
+        self.crew = self.made = None
         try:
-            start, pending = crew.contents()[1], []
-            while not self.is_over():
-                lives = (PROCESSES - 1 - len(pending)) // self.options.threads
+            self.open(self.make())
+            while not self.is_over() and not self.failed:
+                if self.rounds and self.options.fresh and self.rounds % self.options.fresh == 0:
+                    self.close()
+                    forget(self.made)
+                    self.open(self.make())
+                lives = (PROCESSES - 1 - len(self.pending)) // self.options.threads
                 if lives == 0:
-                    self.cut = ["%s: calls without an answer leave no room for others: %d" % (self.options.name, len(pending))]
+                    self.cut = ["%s: calls without an answer leave no room for others: %d" % (self.options.name, len(self.pending))]
                     break
-                taken = crew.run(number + self.rounds, lives, start, {call[1] for call in pending})
-                gets, left = crew.contents()
-                one = Round([log for log, _, _ in taken] + [gets], start, pending)
-                self.count(taken)
-                self.take(one, [sayings for _, sayings, _ in taken])
-                if self.failed:
-                    break
-                start, pending = left, one.pending
+                self.round(number + self.rounds, lives)
+            self.judge_waiting()
         finally:
-            crew.close()
+            self.close()
+            forget(self.made)
         return self
+
+    def open(self, made):
+        """Begins with a new map."""
+        self.made, self.crew = made, Crew(self.options, made)
+        self.start, self.pending, self.top = self.crew.contents()[1], [], 0
+        self.crew.values_from = 1 + max(self.start.values(), default=0)
+        self.tally.forget()
+
+    def close(self):
+        crew, self.crew = self.crew, None
+        if crew:
+            crew.close()
+
+    def reopen(self):
+        """Closes the map, at rest, and opens it again."""
+        stamp = self.crew.stamp
+        self.close()
+        closed, self.made = self.made, None
+        try:
+            made = closed.reopen()
+        except Exception:
+            raise Stop(WORDS, "%s: reopen: %s" % (self.options.name, traceback.format_exc().rstrip()))
+        if made is None:
+            raise Stop(WORDS, "%s: reopen said nothing, where it has to return the map" % self.options.name)
+        self.made, self.crew = made, Crew(self.options, made, stamp, self.top + 1)
+
+    def round(self, number, lives):
+        """The calls of all threads, and gets of all keys: these are the last ones of the round, and the start of the next."""
+        taken = self.crew.run(number, lives, self.start, {call[1] for call in self.pending})
+        if self.options.reopen:
+            puts = (line.made.call[-1] for each in taken for line in each[0] if line.made.call[0] in ("insert", "replace"))
+            self.top = max([self.top, *self.start.values(), *(value for value in puts if value < OWN)])
+            self.reopen()
+        gets, left = self.crew.contents(number)
+        one = Round([each[0] for each in taken] + [gets], self.start, self.pending, self.tally)
+        self.count(taken)
+        self.take(one, [each[1] for each in taken])
+        self.start, self.pending = left, one.pending
 
     def follow(self):
         """One stream, until it has no order, or the time is over."""
-        crew, options = Crew(self.options, self.make()), self.options
+        made, options = self.make(), self.options
+        crew = Crew(self.options, made)
         stream = crew.stream
         try:
             start = crew.contents()[1]
@@ -894,6 +1188,7 @@ class Run:
                 stream.end()
         finally:
             crew.close()
+            forget(made)
         if stream.wrong:
             raise stream.wrong
         self.conclude(stream, *stream.outcome)
@@ -903,11 +1198,11 @@ class Run:
         """What the verdict on a stream says. One that was cut off has no yes."""
         is_cut = stream.state.value == FAILED
         if report and status == YES:
-            is_cut = is_cut or json.loads(report)["calls"] != self.calls
+            is_cut = is_cut or json.loads(report)["calls"] != self.calls + self.helped
         if is_cut and status == YES:
             raise Stop(FILE, "%s: the stream was cut off" % self.options.name)
         self.undecided += status == UNDECIDED
-        self.failed = report if status == NO else None
+        self.failed, self.notes = report if status == NO else None, stream.notes
         if stream.next_process() >= STREAM_PROCESSES:
             self.cut = ["%s: calls without an answer leave no room for others" % self.options.name]
 
@@ -919,7 +1214,9 @@ class Run:
             self.kept = self.kept if self.length <= KEPT else None
 
     def count(self, taken):
-        for _, _, called in taken:
+        for _, _, called, has_points, wrong_times in taken:
+            self.has_points |= has_points
+            self.wrong_times += wrong_times
             for kind, count in called.items():
                 self.called[kind] += count
 
@@ -927,6 +1224,7 @@ class Run:
         self.rounds += 1
         self.calls += one.calls
         self.overlap += one.overlap
+        self.left_out += one.left_out
         self.met |= one.met
         for said in self.sayings:
             self.sayings[said] += sum(each[said] for each in sayings)
@@ -936,9 +1234,33 @@ class Run:
             except OSError:
                 raise Stop(FILE, "standard output: a history was not written")
             return
-        status = self.program.judge(one.text())
-        self.undecided += status == UNDECIDED
-        self.failed = one if status == NO else None
+        calls = len(one.events) // 2
+        is_apart = calls <= BATCH_CALLS and one.is_apart(self.options.keys)
+        if self.waiting and (not is_apart or calls + self.waiting_calls > CALLS):
+            self.judge_waiting()
+        if self.failed:
+            return
+        if not self.waiting:
+            self.waiting_calls, self.waits_since = 0, time.monotonic()
+        self.waiting_calls += calls
+        self.waiting.append((one, {name: copy.copy(getattr(self, name)) for name in COUNTED}))
+        is_full = len(self.waiting) == BATCH_ROUNDS or time.monotonic() - self.waits_since > 1
+        if is_full or self.rounds == 1 or not is_apart:
+            self.judge_waiting()
+
+    def judge_waiting(self):
+        """Judges the rounds that wait: all at once, and each on its own where that is not a yes. Of a no, what was counted is that up to its end."""
+        waiting, self.waiting = self.waiting, []
+        all_rounds = together([one for one, _ in waiting], self.options.keys) if len(waiting) > 1 else None
+        if all_rounds and self.program.ask("judge", all_rounds, self.program.budget)[0] == YES:
+            return
+        for one, counts in waiting:
+            status = self.program.judge(one.text())
+            self.undecided += status == UNDECIDED
+            if status == NO:
+                self.failed = one
+                self.__dict__.update(counts)
+                return
 
     def is_over(self):
         """At least one round is made."""
@@ -960,14 +1282,40 @@ class Run:
         """The verdict, and what it rests on."""
         said = ", ".join("%d %s" % (count, said) for said, count in self.sayings.items() if count)
         rounds = "" if self.options.stream else counted(self.rounds, "round") + ", "
-        return "%s: %s%s in %.1f seconds, overlap %.2f a call: %s%s" % (
+        return "%s: %s%s in %.1f seconds, overlap %.2f a call: %s%s%s" % (
             verdict, rounds, counted(self.calls, "call"), time.monotonic() - self.began, self.overlap / max(self.calls, 1), said,
-            "; %d undecided" % self.undecided if self.undecided else "")
+            "; %d undecided" % self.undecided if self.undecided else "",
+            "".join("; " + each for each in self.said_cache() + ([] if verdict.startswith("no") else self.cautions())))
+
+    def said_cache(self):
+        tally, misses = self.tally, self.called["get"] - self.tally.hits if self.options.cache == "late" else self.tally.misses
+        return [", ".join((counted(tally.hits, "hit"), counted(misses, "miss"), counted(tally.losses, "loss")))] if self.options.cache else []
+
+    def cautions(self):
+        """Why a yes of this run says little."""
+        tally, options, gets, said = self.tally, self.options, self.called["get"], []
+        if 2 * self.sayings[REFUSED] > sum(self.sayings.values()):
+            said.append("most calls were refused: a yes says little")
+        if tally.hits == 0 and options.cache:
+            said.append("no get hit: a yes says nothing")
+        elif tally.hits == 0 and gets:
+            said.append("no get found a value: a yes says little")
+        elif options.cache and 20 * tally.hits < gets:
+            said.append("%s in {:,} gets: a yes says little".format(gets) % counted(tally.hits, "hit"))
+        if options.cache and tally.losses == 0:
+            said.append("no key was lost: eviction was not tested")
+        if self.left_out:
+            said.append("%s without some of the keys left out" % counted(self.left_out, "scan"))
+        if self.overlap < 0.05 * self.calls:
+            said.append("overlap below 0.05: the threads hardly met, and a yes says little: call point() in the map, and run with --yield 200")
+        if options.yields and not self.has_points:
+            said.append("--yield acted only between calls, since the map called no point()")
+        return said
 
 
 def counted(count, noun):
     """So many of a noun."""
-    return "%d %s%s" % (count, noun, "s" * (count != 1))
+    return "%d %s%s" % (count, noun, "" if count == 1 else "es" if noun.endswith("s") else "s")
 
 
 def said_calls(has, runs):
@@ -1062,10 +1410,46 @@ def said_from(line):
                                                    "process %d put (event %d)" % (put["process"], put["event"]))
 
 
-def said_missed(line):
+def said_missed(one, line):
     """Which calls one misses."""
-    return "".join("; it misses %s of process %d (event %d)" % (said_call(call["call"]), call["process"], call["event"])
+    return "".join("; it misses %s of process %d (event %d)" % (said_made(one, call["event"], call["call"]), call["process"], call["event"])
                    for call in line.get("misses", []))
+
+
+def note_of(one, number):
+    """The call of an event as it was made, where a history has another one."""
+    return one.events[number].get("note") if number < len(one.events) else None
+
+
+def said_made(one, number, call):
+    """A call as it was made."""
+    note = note_of(one, number)
+    return note.partition(":")[0].replace("answered none", "which found none") + "," if note else said_call(call)
+
+
+def last_event(one, invoked):
+    """The event of a call's answer, or the end where it has none."""
+    process = one.events[invoked]["process"]
+    return next((number for number in range(invoked + 1, len(one.events)) if one.events[number]["process"] == process), len(one.events))
+
+
+def meets(call, other):
+    """Whether two calls have a key in common."""
+    low, high = (call[1], call[2]) if call[0] == "scan" else (call[1], call[1])
+    return low <= (other[2] if other[0] == "scan" else other[1]) and other[1] <= high
+
+
+def said_open(one, shown, numbers):
+    """The other calls that were open on the keys of these."""
+    said = []
+    for number, event in enumerate(one.events):
+        call = event.get("invoke")
+        if call and number not in shown and any(
+                meets(call, one.events[of]["invoke"]) and number < last_event(one, of) and of < last_event(one, number)
+                for of in numbers if of < len(one.events) and "invoke" in one.events[of]):
+            said.append("%s of process %d (%s)" % (said_made(one, number, call), event["process"], said_events(one, number, event["process"])))
+    more = ["and %d more" % (len(said) - OPEN_SHOWN)] if len(said) > OPEN_SHOWN else []
+    return ["  also open on the same keys meanwhile: " + ", ".join(said[:OPEN_SHOWN] + more)] if said else []
 
 
 def said_report(report, one):
@@ -1073,26 +1457,34 @@ def said_report(report, one):
     passed over."""
     texts = report.splitlines()
     texts[1:] = [text for text in texts[1:] if "verdict" not in json.loads(text)]
-    lines, few = [json.loads(text) for text in texts], None
+    lines, few, events, late = [json.loads(text) for text in texts], None, [], []
     said = [said_verdict(text) for text in texts[:1]] + ["these calls have no order, and no other could mend that:"][:len(texts) - 1]
     for line, text in zip(lines[1:], texts[1:]):
         if "events" in line:
             few = text
         elif "answer" in line:
-            said.append("  %-19s process %-3d %s%s%s" % (
-                said_events(one, line["event"], line["process"]), line["process"], said_call(line["call"]),
-                said_answered(one, line["answer"]), said_missed(line)))
+            events.append(line["event"])
+            said.append("  %-19s process %-3d %s%s" % (
+                said_events(one, line["event"], line["process"]), line["process"],
+                note_of(one, line["event"]) or said_call(line["call"]) + said_answered(one, line["answer"]), said_missed(one, line)))
         elif "from" in line:
             said.append(said_from(line))
         elif "puts" in line:
             said.append(said_origin(one, line))
         elif "front" in line:
+            late += [call["event"] for call in line["next"]]
             said.append("  an order of them gets as far as the events %s; the map then holds %s" % (
-                json.dumps(line["front"], separators=(",", ":")), said_pairs(line["holds"])))
+                json.dumps(line["front"], separators=(",", ":")), said_pairs(line["holds"])) if line["front"] else
+                "  no call of them can come first; the map holds %s" % said_pairs(line["holds"]))
             said += ["  the call of event %d was answered %s, and would be answered %s%s" % (
                 call["event"], said_answer(call["answer"]), said_answer(call["would"]), said_writer(one, call["answer"]))
                 for call in line["next"]]
-    return said, few
+    return said + said_open(one, events, late or events[-1:]), few
+
+
+def unmarked(line):
+    """A line of a report, without the values that replaces of a cache put which said that they changed nothing."""
+    return re.sub("[0-9]{19,20}", lambda found: "a value that no call puts" if OWN <= int(found[0]) < GREATEST else found[0], line)
 
 
 def keep(options, ending, text):
@@ -1127,6 +1519,12 @@ def number(least, most):
     return read
 
 
+def late(text):
+    if text != "late":
+        raise argparse.ArgumentTypeError("late, or nothing")
+    return text
+
+
 def mix(text):
     shares = {}
     for part in text.split(","):
@@ -1152,6 +1550,7 @@ def words_of(argv):
             ("--yield", number(0, 1000), 0, "of a thousand points between and in calls, so many give way to other threads (0)"),
             ("--out", str, ".", "the folder where files are put (.), or - for standard output: all histories or the stream, which nobody judges "
              "then"),
+            ("--fresh", number(1, GREATEST), 0, "a new map after each so many rounds (one map)"),
             ("--budget", number(1, 10 ** 6), 100000, "the judge's (100000)"),
             ("--bench", str, None, "the program (./bench, or on the PATH)"),
             ("--library", str, None, "the library as a shared object, in the place of the program")):
@@ -1160,13 +1559,16 @@ def words_of(argv):
     words.add_argument("--void", choices=("done", "told", "own", "lock"), help="a put that tells nothing is recorded as "
                        "done; has to be told; own: one writer a key remembers what it put; lock: a lock a key around a get and the put (done)")
     words.add_argument("--scan", choices=("snapshot", "steps"), default="snapshot", help="a scan is of one moment; or steps of ceiling")
+    words.add_argument("--cache", nargs="?", const=True, type=late, metavar="late", help="the map is a cache: it may lose any key at any time; late: and a "
+                       "miss says nothing, as of a cache whose writes appear later")
+    words.add_argument("--reopen", action="store_true", help="the map is closed and opened again after each round")
     words.add_argument("--break", dest="broken", choices=tuple(BREAKS) + ("all",), help="makes the map wrong now and then; all: in each way")
     words.add_argument("--processes", action="store_true", help="processes in the place of threads, as for clients of servers")
     words.add_argument("--stream", action="store_true", help="one stream that is followed while it is recorded, in the place of rounds")
     return words.parse_args(argv)
 
 
-def fit(options, has):
+def fit(options, has, can_reopen):
     """The words together, and with what the map has."""
     def wrong(name, what):
         raise Stop(WORDS, "%s: %s" % (name, what))
@@ -1188,6 +1590,13 @@ def fit(options, has):
         wrong("--mix", "no share")
     if options.shares["pop_first"] and apart:
         wrong("pop_first", "takes keys of others, so not with --void own or lock")
+    if options.cache and options.void == "own":
+        wrong("--cache", "not with --void own, since the writer of a key does not see that the key was lost")
+    for name, is_asked in (("--fresh", options.fresh), ("--reopen", options.reopen)):
+        if is_asked and options.stream:
+            wrong(name, "not with --stream, which is of one map")
+    if options.reopen and not can_reopen:
+        wrong("--reopen", "the map has no function reopen")
     options.shown_by = {how: options.shares[kind] > 0 and not (how == "torn" and options.scan == "steps") for how, kind in BREAKS.items()}
     if not options.shown_by.get(options.broken, not options.broken or any(options.shown_by.values())):
         wrong("--break", "what it makes wrong is not called")
@@ -1207,6 +1616,9 @@ def fit(options, has):
         wrong("--keys", size + ", behind which all keys are got; --stream has no such end")
     if not options.stream and options.calls > most:
         wrong("--calls", size + "; --stream has no such end")
+    options.span = SPAN
+    if options.cache and not options.stream:
+        options.span = max(1, min(SPAN, (PROCESSES - 1 - options.threads) // options.threads))  # each missing key needs a process
     options.shows, options.shown = sys.stderr.isatty(), time.monotonic()
     try:
         if options.out != "-":
@@ -1225,24 +1637,28 @@ def words_again(options, rounds):
     said += ["--mix", ",".join("%s=%d" % (word(kind), share) for kind, share in options.shares.items() if share)]
     said += ["--void", options.void] if options.has_void or not options.stream else []
     said += ["--scan", options.scan] + (["--yield", options.yields] if options.yields else [])
+    said += (["--cache"] + ["late"] * (options.cache == "late")) * bool(options.cache)
+    said += (["--fresh", options.fresh] if options.fresh else []) + ["--reopen"] * options.reopen
     said += (["--break", options.broken] if options.broken else []) + (["--processes"] if options.processes else [])
     return " ".join(map(str, said + (["--stream", "--seconds", options.seconds] if options.stream else ["--rounds", rounds])))
 
 
 def functions(make):
-    """Those of a map."""
+    """Those of a map, and whether it can be opened again."""
     made = make()
     connection = made.connection() if hasattr(made, "connection") else made
     has = {kind for kind in ANSWERS if callable(getattr(connection, kind, None))}
     if connection is not made and hasattr(connection, "close"):
         connection.close()
-    return has
+    can_reopen = callable(getattr(made, "reopen", None))
+    forget(made)
+    return has, can_reopen
 
 
 def tested(make, options):
     """A run by these words: its status, what is to be told before the last line, and the last line."""
-    has = functions(make)
-    fit(options, has)
+    has, can_reopen = functions(make)
+    fit(options, has, can_reopen)
     options.name = getattr(make, "__name__", "map")
     program = None if options.out == "-" else Library(options) if options.library else Program(options)
     interval = sys.getswitchinterval()
@@ -1256,7 +1672,7 @@ def tested(make, options):
             return NO, refuted(run) + calls, run.summary("no")
     finally:
         sys.setswitchinterval(interval)
-    status = UNDECIDED if run.undecided or run.cut else YES
+    status = UNDECIDED if run.undecided or run.cut or program and options.cache and not run.tally.hits else YES
     if program and options.broken and status == YES:
         run.cut = ["--break %s: the map was wrong now and then, and these calls did not show it" % options.broken]
     said = run.cut + calls
@@ -1297,6 +1713,10 @@ def shown_left(run, left):
     if "\n{\"answer\":" not in told_of:
         return ["few calls are not shown: they are not found within a budget of %d" % run.program.more(), keep(run.options, ".json", left)]
     whole = json.loads(left)
+    invoked, calls = json.loads(run.failed.partition("\n")[0])["keys"][0]["invoked"], [each for each in whole["events"] if "invoke" in each]
+    for number, event in zip(invoked, calls if len(calls) == len(invoked) else []):
+        if number in run.notes:
+            event["note"] = run.notes[number]
     return [ANEW] + shown(run, left, told_of, types.SimpleNamespace(
         events=whole["events"], start=dict(whole.get("start", [])), at_start="before these calls", nobody="none of these calls"))
 
@@ -1318,6 +1738,7 @@ def shown(run, text, report, one):
     """What a report of `explain` says of a history, and the files that show it. The words and the picture have the processes and events of the
     first file."""
     said, few = said_report(report, one)
+    said = [unmarked(line) for line in said] if run.options.cache else said
     said += [keep(run.options, ".json", text)] + ([keep(run.options, "-few.json", few + "\n")] if few else [])
     return said + [keep(run.options, ".svg", run.program.asked("draw", text)[1])]
 
@@ -1347,9 +1768,10 @@ def all_broken(make, options, program, has):
         options.broken = how
         run = Run(options, make, program).go() if is_called else None
         runs += [run] if run else []
-        missed += run is not None and not run.failed
-        said.append("%s: %s" % (how, run.summary("no" if run.failed else "yes") if run else "what it makes wrong is not called"))
-    said.append(said_calls(has, runs))
+        missed += run is not None and not (run.failed and run.wrong_times)
+        verdict = "no" if run and run.failed and run.wrong_times else "no of the map as it is" if run and run.failed else "yes"
+        said.append("%s: %s" % (how, run.summary(verdict) if run else "what it makes wrong is not called"))
+    said += [said_calls(has, runs), "this shows that calls and answers reach the judge; it does not show that threads meet: see the overlap"]
     return (YES, said, "yes: %d of the broken maps were not refuted" % missed) if missed else (NO, said, "no: each broken map was refuted")
 
 

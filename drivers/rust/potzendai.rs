@@ -16,7 +16,7 @@ use std::fmt::Write as _;
 use std::io::{IsTerminal, Read, Write};
 use std::panic::{catch_unwind, AssertUnwindSafe};
 use std::process::{Command, ExitStatus, Stdio};
-use std::sync::atomic::{AtomicBool, AtomicU64, AtomicUsize, Ordering::SeqCst};
+use std::sync::atomic::{AtomicBool, AtomicU64, AtomicUsize, Ordering::{Relaxed, SeqCst}};
 use std::sync::mpsc::{channel, Receiver, Sender, TryRecvError};
 use std::sync::{Arc, Mutex};
 use std::time::{Duration, Instant, SystemTime};
@@ -108,6 +108,13 @@ pub trait Connection {
 /// A map, on which each thread opens a handle of its own.
 pub trait Map: Sync {
     fn open(&self) -> Box<dyn Connection + '_>;
+    /// For `--reopen`: closes the map at rest, and returns it opened again, with what it held.
+    fn reopen(self) -> Option<Self>
+    where
+        Self: Sized,
+    {
+        None
+    }
 }
 
 const SAYINGS: [&str; 8] = ["told", "none", "done", "found", "other", "refused", "unknown", "that it is missing"];
@@ -128,6 +135,15 @@ const STREAM_KEYS: u64 = 16384;
 /// Bytes of the report of a stream without order that are shown, and of a stream that are kept for a file.
 const REPORT_SHOWN: usize = 1000;
 const KEPT: usize = 1 << 26;
+/// Under `--cache`, values from here on are the driver's own.
+const OWN_VALUES: u64 = 1 << 63;
+/// How many calls a stream has on behalf of one; of how many of its events the notes are kept; how many other open calls are shown.
+const BESIDE: usize = 32;
+const NOTES: u64 = 1_000_000;
+const OPEN_SHOWN: usize = 6;
+/// So many rounds are judged together, of so many calls.
+const BATCH_ROUNDS: usize = 64;
+const BATCH_CALLS: usize = 256;
 const AGAIN: &str = "  again (draws the same calls; threads may interleave otherwise): ";
 const ANEW: &str = "events and processes are numbered anew here and in the files, for the calls \"invoked\" above that had not taken effect, in \
                     that order:";
@@ -169,8 +185,8 @@ impl Kind {
     }
 
     /// Whether the answer tells which call of a history it was.
-    fn is_held(self) -> bool {
-        matches!(self, PutIfAbsent | Floor | Ceiling | PopFirst)
+    fn is_held(self, options: &Options) -> bool {
+        matches!(self, PutIfAbsent | Floor | Ceiling | PopFirst) || options.cache.is_some() && matches!(self, Get | Replace | Scan)
     }
 
     /// Its call in a history, as far as that is known before the answer.
@@ -241,8 +257,28 @@ thread_local! {
     static POINTS: RefCell<(u64, Draws)> = const { RefCell::new((0, Draws(0))) };
 }
 
+static HAS_POINTS: AtomicBool = AtomicBool::new(false);
+
 /// To be called by a map's functions where another thread should get in between: under `--yield` it sometimes does.
 pub fn point() {
+    HAS_POINTS.store(true, Relaxed);
+    give_way();
+}
+
+thread_local! {
+    static TAKEN: RefCell<Option<(Arc<AtomicU64>, Vec<u64>)>> = const { RefCell::new(None) };
+}
+
+/// To be called by a map's read once its snapshot is taken: the read counts as answered at this moment, and its pairs may be read later.
+pub fn taken() {
+    TAKEN.with(|taken| {
+        if let Some((stamps, drawn)) = &mut *taken.borrow_mut() {
+            drawn.push(stamps.fetch_add(1, SeqCst));
+        }
+    });
+}
+
+fn give_way() {
     POINTS.with(|points| {
         let (often, draws) = &mut *points.borrow_mut();
         if *often > 0 && draws.below(1000) < *often {
@@ -263,8 +299,26 @@ impl Call {
         format!("[\"{}\"{words}]", self.0)
     }
 
-    fn writes(&self) -> bool {
-        matches!(self.0, "insert" | "remove" | "replace")
+    /// The value that it puts.
+    fn put(&self) -> Option<u64> {
+        if matches!(self.0, "insert" | "replace") { self.1.last().copied() } else { None }
+    }
+
+    fn said(&self) -> String {
+        let words = &self.1;
+        match self.0 {
+            "insert" => format!("put {} at {}", words[1], words[0]),
+            "replace" => format!("replace {} at {} by {}", words[1], words[0], words[2]),
+            "scan" => format!("scan from {} to {}", words[0], words[1]),
+            name => format!("{name} {}", words[0]),
+        }
+    }
+
+    /// Whether two calls have a key in common.
+    fn meets(&self, other: &Call) -> bool {
+        let ends = |call: &Call| (call.1[0], if call.0 == "scan" { call.1[1] } else { call.1[0] });
+        let ((low, high), (from, to)) = (ends(self), ends(other));
+        low <= to && from <= high
     }
 }
 
@@ -315,6 +369,64 @@ fn noted(kind: Kind, words: &[u64], said: &Said) -> Option<(Call, Option<String>
     })
 }
 
+/// What a history has of a call: its invocation, its answer, or none where the call stays open; a note of the call as it was made, where that is
+/// another one; and further calls of the same interval, each by a process of its own.
+#[derive(Clone, Debug)]
+struct Noted {
+    call: Call,
+    answer: Option<String>,
+    note: Option<String>,
+    beside: Vec<Noted>,
+}
+
+impl Noted {
+    fn done(call: Call, note: String) -> Noted {
+        Noted { call, answer: Some("\"done\"".to_string()), note: Some(note), beside: vec![] }
+    }
+}
+
+/// What a history has of a call. Of a cache, which may lose any key at any time: of a miss, that the key is gone from then on. So this history has an
+/// order if and only if the cache's own has one in which keys may be lost. Late: a miss says nothing.
+fn recorded(options: &Options, kind: Kind, words: &[u64], said: &Said, fresh: &mut dyn FnMut() -> u64) -> Option<Noted> {
+    let (call, answer) = noted(kind, words, said)?;
+    let plain = Noted { call, answer, note: None, beside: vec![] };
+    let Some(cache) = &options.cache else { return Some(plain) };
+    let (is_late, is_none, before) = (cache == "late", *said == Said::None, plain.call.said());
+    if is_late && (*said == Said::Other || is_none && !matches!(kind, Put | Del | PutIfAbsent)) {
+        return None;
+    }
+    let none = if is_late { ", answered none" } else { ", answered none: the key was gone" };
+    match (kind, said) {
+        (Put | PutIfAbsent, Said::None) => Some(Noted::done(Call("insert", words.to_vec()), before + none)),
+        (Get | Del | Replace, Said::None) => Some(Noted::done(Call("remove", vec![words[0]]), before + none)),
+        (_, Said::Other) => Some(Noted::done(Call("replace", vec![words[0], words[1], fresh()]), before + ", answered another value")),
+        _ if plain.call.0 == "scan" => recorded_scan(options, plain, said, is_late, &before),
+        _ => Some(plain),
+    }
+}
+
+fn recorded_scan(options: &Options, plain: Noted, said: &Said, is_late: bool, before: &str) -> Option<Noted> {
+    let pairs = match said {
+        Said::Pairs(pairs) => pairs.clone(),
+        Said::Pair(key, value) => vec![(*key, *value)],
+        _ => vec![],
+    };
+    if is_late {
+        let mut gets = pairs.iter().map(|(key, value)| {
+            let (call, note) = (Call("get", vec![*key]), Some(format!("{before}, answered {key}: {value}")));
+            Noted { call, answer: Some(value.to_string()), note, beside: vec![] }
+        });
+        let mut first = gets.next()?;
+        first.beside = gets.collect();
+        return Some(first);
+    }
+    let keys = (plain.call.1[0]..options.keys).take_while(|key| *key <= plain.call.1[1]);
+    let missing = keys.filter(|key| pairs.iter().all(|(held, _)| held != key));
+    let note = |key| format!("{before}, which did not have {key}: the key was gone");
+    let beside = missing.map(|key| Noted::done(Call("remove", vec![key]), note(key))).collect();
+    Some(Noted { beside, ..plain })
+}
+
 fn ask_any(connection: &mut dyn Connection, kind: Kind, words: &[u64]) -> Said {
     match kind {
         Get => connection.get(words[0]),
@@ -329,8 +441,16 @@ fn ask_any(connection: &mut dyn Connection, kind: Kind, words: &[u64]) -> Said {
     }
 }
 
-fn ask(connection: &mut dyn Connection, kind: Kind, words: &[u64]) -> Result<Said, Stop> {
+fn ask(options: &Options, connection: &mut dyn Connection, kind: Kind, words: &[u64]) -> Result<Said, Stop> {
     let said = ask_any(connection, kind, words);
+    let values = match &said {
+        Said::Told(value) | Said::Pair(_, value) => vec![*value],
+        Said::Pairs(pairs) => pairs.iter().map(|(_, value)| *value).collect(),
+        _ => vec![],
+    };
+    if options.cache.is_some() && values.iter().any(|value| *value >= OWN_VALUES) {
+        return fail(BAD_WORDS, format!("{} said a value from 2^63 on, and --cache needs these for its own use", kind.name()));
+    }
     if kind.fits(&said) {
         return Ok(said);
     }
@@ -338,7 +458,7 @@ fn ask(connection: &mut dyn Connection, kind: Kind, words: &[u64]) -> Result<Sai
 }
 
 /// Which functions a map has: they are called once each, of a map that is not used any more.
-fn functions<M: Map>(map: M) -> [bool; 9] {
+fn functions<M: Map>(map: &M) -> [bool; 9] {
     let mut connection = map.open();
     KINDS.map(|kind| matches!(kind, Get | Put) || ask_any(&mut *connection, kind, &[0, 1, 2]) != Said::Missing)
 }
@@ -353,6 +473,7 @@ struct Broken<'a> {
     once: HashMap<u64, Said>,
     late: Option<(u64, u64)>,
     style: Option<Said>,
+    times: Arc<AtomicU64>, // how often it went wrong
 }
 
 impl<'a> Broken<'a> {
@@ -360,11 +481,16 @@ impl<'a> Broken<'a> {
         self.how == how && self.draws.below(SELDOM) == 0
     }
 
+    fn count(&self) {
+        self.times.fetch_add(1, SeqCst);
+    }
+
     /// Does the put that still comes, soon.
     fn caught_up(&mut self) -> &mut Box<dyn Connection + 'a> {
         if let Some((key, value)) = self.late {
             if self.draws.below(2) == 1 {
                 self.late = None;
+                self.count();
                 self.truly.put(key, value);
             }
         }
@@ -403,6 +529,7 @@ impl Connection for Broken<'_> {
         self.caught_up();
         let once = self.once.get(&key).cloned();
         if once.is_some() && self.goes("stale") {
+            self.count();
             return once.unwrap_or(Said::None);
         }
         let said = self.truly.get(key);
@@ -415,11 +542,13 @@ impl Connection for Broken<'_> {
     fn put(&mut self, key: u64, value: u64) -> Said {
         self.caught_up();
         if self.style.is_some() && self.goes("race") {
+            self.count();
             return self.race(key, value);
         }
         if self.style.is_some() && self.goes("drop") {
             let got = self.truly.get(key);
             if got.tells() {
+                self.count();
                 return self.in_style(got);
             }
         }
@@ -452,7 +581,10 @@ impl Connection for Broken<'_> {
         let first = self.truly.scan(low, middle);
         self.draws.pause();
         match (first, self.truly.scan(middle + 1, high)) {
-            (Said::Pairs(first), Said::Pairs(second)) => Said::Pairs([first, second].concat()),
+            (Said::Pairs(first), Said::Pairs(second)) => {
+                self.count();
+                Said::Pairs([first, second].concat())
+            }
             _ => self.truly.scan(low, high),
         }
     }
@@ -464,7 +596,10 @@ impl Connection for Broken<'_> {
         }
         match self.truly.put(key, value) {
             said @ (Said::Refused | Said::Unknown) => said,
-            _ => Said::Done,
+            _ => {
+                self.count();
+                Said::Done
+            }
         }
     }
 
@@ -501,6 +636,27 @@ struct Event {
     thread: usize,
     life: usize,
     what: What,
+    note: Option<String>,
+    /// The function, unless no thread called one, and what that said, once it is over.
+    kind: &'static str,
+    said: usize,
+    beside: Arc<Vec<Noted>>,
+}
+
+/// The two events of a call, of which the second is none where the call stays open.
+fn events_of(stamps: [u64; 2], who: (usize, usize), kind: &'static str, said: usize, noted: Noted) -> Vec<Event> {
+    let (beside, (thread, life)) = (Arc::new(noted.beside), who);
+    let (what, note) = (What::Invoke(noted.call), noted.note);
+    let mut events = vec![Event { stamp: stamps[0], thread, life, what, note, kind, said, beside: beside.clone() }];
+    if let Some(answer) = noted.answer {
+        events.push(Event { stamp: stamps[1], thread, life, what: What::Answer(answer), note: None, kind, said, beside });
+    }
+    events
+}
+
+/// Whether a function changes the key that it is called with.
+fn writes_key(kind: &str) -> bool {
+    matches!(kind, "put" | "del" | "replace" | "put_if_absent")
 }
 
 /// The number of a round, as how many processes a thread may go on, what the map holds, and keys at which calls have no answer.
@@ -511,22 +667,33 @@ struct Task {
     start: Arc<BTreeMap<u64, u64>>,
     doubtful: Arc<HashSet<u64>>,
     missing: Arc<AtomicUsize>,
+    values_from: u64,
 }
 
 /// What all threads share: the word of stamps; the locks of keys, with whether a call that writes the key has no answer, and so may still
 /// come between a get and the put behind it; and the stream, if it is one.
 struct Shared {
-    stamps: AtomicU64,
+    stamps: Arc<AtomicU64>,
     locks: Vec<Mutex<bool>>,
     stream: Option<Stream>,
 }
 
-/// What stands at a stamp of a stream: a call, an answer, or nothing; and what the map said, where that ends a call.
-struct Happening {
+/// A part of what stands at a stamp of a stream: a call of a process with its note, or its answer, or none where it stays open.
+struct Part {
     process: usize,
     call: Option<Call>,
     answer: Option<String>,
+    note: Option<String>,
+}
+
+/// What stands at a stamp of a stream: first the event of a thread, then those on behalf of it; of which function they are; and what the map said,
+/// where that ends a call.
+#[derive(Default)]
+struct Happening {
+    parts: Vec<Part>,
+    kind: &'static str,
     said: Option<usize>,
+    is_left_out: bool,
 }
 
 /// Of a stream whether it goes on, is over, or has failed.
@@ -596,12 +763,22 @@ impl Shared {
 struct Counts {
     sayings: [u64; 8],
     called: [u64; 9],
+    wrong: u64, // how often the broken map went wrong
+}
+
+/// What a thread keeps from one map to the next.
+#[derive(Clone, Default)]
+struct Kept {
+    counts: Counts,
+    puts: u64,
+    marks: u64,
 }
 
 impl Counts {
     fn add(&mut self, more: &Counts) {
         (0..8).for_each(|word| self.sayings[word] += more.sayings[word]);
         (0..9).for_each(|kind| self.called[kind] += more.called[kind]);
+        self.wrong += more.wrong;
     }
 }
 
@@ -612,37 +789,38 @@ struct Worker<'a> {
     shared: &'a Shared,
     connection: Box<dyn Connection + 'a>,
     draws: Draws,
-    counts: Counts,
     seen: HashMap<u64, u64>,
     memory: HashMap<u64, Said>,
     log: Vec<Event>,
-    puts: u64,
-    /// Each put has a value of its own, which was not in the map before.
-    values_from: Option<u64>,
     made: u64,
     life: usize,
     lives: usize,
     process: usize,
+    helpers: Vec<usize>,
+    kept: Kept,
+    values_from: u64,
+    wrong_before: u64,
+    times: Arc<AtomicU64>,
 }
 
 impl<'a> Worker<'a> {
-    fn new(number: u64, options: &'a Options, shared: &'a Shared, map: &'a dyn Map) -> Worker<'a> {
-        let mut connection = map.open();
+    fn new(number: u64, options: &'a Options, shared: &'a Shared, map: &'a dyn Opens, kept: Kept) -> Worker<'a> {
+        let (mut connection, times) = (map.open_one(), Arc::new(AtomicU64::new(0)));
         if let Some(how) = options.broken.clone() {
-            let draws = Draws::new(options.seed, 0, number);
-            connection = Box::new(Broken { truly: connection, how, draws, keys: options.keys, once: HashMap::new(), late: None, style: None });
+            let (draws, keys, times) = (Draws::new(options.seed, 0, number), options.keys, times.clone());
+            connection = Box::new(Broken { truly: connection, how, draws, keys, once: HashMap::new(), late: None, style: None, times });
         }
-        let (seen, memory) = (HashMap::new(), HashMap::new());
-        let (draws, values_from, log, counts, process) = (Draws(0), None, vec![], Counts::default(), number as usize);
+        let (seen, memory, wrong_before) = (HashMap::new(), HashMap::new(), kept.counts.wrong);
         Worker {
-            number, options, shared, connection, draws, counts, seen, memory, log, puts: 0, values_from, made: 0, life: 0, lives: 0, process,
+            number, options, shared, connection, draws: Draws(0), seen, memory, log: vec![], made: 0, life: 0, lives: 0, process: number as usize,
+            helpers: vec![], kept, values_from: 1, wrong_before, times,
         }
     }
 
     /// The calls of a round. A process whose answer is unknown makes no further call.
     fn run(&mut self, task: &Task) -> Result<(Vec<Event>, Counts), Stop> {
         (self.made, self.life) = (0, 0);
-        self.values_from.get_or_insert(task.start.values().max().map_or(1, |value| value.wrapping_add(1)));
+        self.values_from = task.values_from;
         self.seen.clear();
         self.memory.clear();
         for key in (0..self.options.keys).filter(|key| self.options.void == "own" && !task.doubtful.contains(key)) {
@@ -664,7 +842,8 @@ impl<'a> Worker<'a> {
         while self.goes_on() {
             self.draw()?;
         }
-        Ok((std::mem::take(&mut self.log), self.counts))
+        self.kept.counts.wrong = self.wrong_before + self.times.load(SeqCst);
+        Ok((std::mem::take(&mut self.log), self.kept.counts))
     }
 
     /// Whether it may make one call more.
@@ -685,10 +864,10 @@ impl<'a> Worker<'a> {
             place -= self.options.shares[each as usize];
         }
         let key = self.draw_key(kind.writes());
-        let value = self.values_from.unwrap_or(1).wrapping_add(self.puts * self.options.threads + self.number);
-        self.puts += u64::from(kind.writes());
-        let high = if kind == Scan { (key + self.draws.below(SPAN)).min(self.options.keys - 1) } else { 0 };
-        point();
+        let value = self.values_from.wrapping_add(self.kept.puts * (self.options.threads + 1) + self.number);
+        self.kept.puts += u64::from(kind.writes());
+        let high = if kind == Scan { (key + self.draws.below(self.options.span)).min(self.options.keys - 1) } else { 0 };
+        give_way();
         match kind {
             Scan if self.options.scan == "steps" => self.steps(key, high),
             Scan => self.make(kind, &[key, high]).map(|_| ()),
@@ -729,30 +908,39 @@ impl<'a> Worker<'a> {
         }
     }
 
-    /// A get and a call that writes its key, as one.
+    /// A get and a call that writes its key, as one. Of a cache, the key may be lost between the two.
     fn make_locked(&mut self, kind: Kind, words: &[u64], is_doubtful: &mut bool) -> Result<(), Stop> {
         let begin = self.begin(kind, words);
-        let got = if matches!(kind, Put | Del) { ask(&mut *self.connection, Get, &words[..1])? } else { Said::Done };
-        let said = ask(&mut *self.connection, kind, words)?;
+        let is_void = matches!(kind, Put | Del);
+        let got = if is_void { ask(self.options, &mut *self.connection, Get, &words[..1])? } else { Said::Done };
+        let got = if self.options.cache.is_some() { Said::Done } else { got };
+        let said = ask(self.options, &mut *self.connection, kind, words)?;
         let end = self.shared.stamp();
         *is_doubtful |= said == Said::Unknown;
         self.made_one(kind, words, said, if *is_doubtful { Said::Done } else { got }, begin, end).map(|_| ())
     }
 
-    /// Makes a call between two stamps, and notes it.
+    /// Makes a call between two stamps, and notes it. A read may have said when its snapshot was taken: of several such moments the last one counts.
     fn make(&mut self, kind: Kind, words: &[u64]) -> Result<Said, Stop> {
         let begin = self.begin(kind, words);
-        let said = ask(&mut *self.connection, kind, words)?;
-        let end = self.shared.stamp();
-        self.made_one(kind, words, said, Said::Done, begin, end)
+        let stamps = kind.reads().then(|| (self.shared.stamps.clone(), vec![]));
+        TAKEN.with(|taken| *taken.borrow_mut() = stamps);
+        let said = ask(self.options, &mut *self.connection, kind, words);
+        let mut drawn = TAKEN.with(|taken| taken.borrow_mut().take()).map_or(vec![], |(_, drawn)| drawn);
+        let end = drawn.pop().unwrap_or_else(|| self.shared.stamp());
+        for (stamp, stream) in drawn.into_iter().zip(self.shared.stream.iter().cycle()) {
+            stream.put(stamp, Happening::default());
+        }
+        self.made_one(kind, words, said?, Said::Done, begin, end)
     }
 
     /// The stamp in front of a call, which stands in a stream from here on, where it is known.
     fn begin(&self, kind: Kind, words: &[u64]) -> u64 {
         let begin = self.shared.stamp();
-        if let (Some(stream), false) = (&self.shared.stream, kind.is_held()) {
+        if let (Some(stream), false) = (&self.shared.stream, kind.is_held(self.options)) {
             let call = Some(Call(kind.call(), words.to_vec()));
-            stream.put(begin, Happening { process: self.process, call, answer: None, said: None });
+            let parts = vec![Part { process: self.process, call, answer: None, note: None }];
+            stream.put(begin, Happening { parts, kind: kind.name(), said: None, is_left_out: false });
         }
         begin
     }
@@ -760,8 +948,8 @@ impl<'a> Worker<'a> {
     fn made_one(&mut self, kind: Kind, words: &[u64], said: Said, got: Said, begin: u64, end: u64) -> Result<Said, Stop> {
         let is_void = matches!(kind, Put | Del);
         self.made += 1;
-        self.counts.sayings[said.word()] += 1;
-        self.counts.called[kind as usize] += 1;
+        self.kept.counts.sayings[said.word()] += 1;
+        self.kept.counts.called[kind as usize] += 1;
         let known = if words.is_empty() || !kind.writes() { said.clone() } else { self.known(kind, words, &said, got) };
         if self.options.void == "told" && is_void && matches!(known, Said::Done | Said::Found) {
             let line = format!("{} said {}, and --void told wants the value before", kind.name(), SAYINGS[known.word()]);
@@ -773,15 +961,18 @@ impl<'a> Worker<'a> {
             Said::Told(value) => self.seen.insert(words[0], value),
             _ => None,
         };
-        let recorded = noted(kind, words, &known);
+        let (number, threads, marks) = (self.number, self.options.threads, &mut self.kept.marks);
+        let mut fresh = || {
+            *marks += 1;
+            OWN_VALUES + (*marks - 1) * threads + number
+        };
+        let noted = recorded(self.options, kind, words, &known, &mut fresh);
         if let Some(stream) = &self.shared.stream {
-            self.hand_over(stream, kind, said.word(), recorded, [begin, end]);
-        } else if let Some((call, answer)) = recorded {
-            self.note(begin, What::Invoke(call));
-            match answer {
-                Some(answer) => self.note(end, What::Answer(answer)),
-                None => self.life += 1,
-            }
+            self.hand_over(stream, kind, said.word(), noted, [begin, end]);
+        } else if let Some(noted) = noted {
+            let is_open = noted.answer.is_none();
+            self.log.extend(events_of([begin, end], (self.number as usize, self.life), kind.name(), said.word(), noted));
+            self.life += usize::from(is_open);
         }
         Ok(said)
     }
@@ -812,34 +1003,56 @@ impl<'a> Worker<'a> {
 
     /// The events of a call that is over, for the stream. One that tells nothing is left out; or refused, where it stands there already.
     /// One whose answer is unknown stays open, and its thread goes on as another process.
-    fn hand_over(&mut self, stream: &Stream, kind: Kind, word: usize, recorded: Option<(Call, Option<String>)>, stamps: [u64; 2]) {
-        let is_recorded = recorded.is_some();
-        let (call, answer) = match recorded {
-            Some((call, answer)) => (Some(call), answer),
-            None => (None, (!kind.is_held()).then(|| "\"refused\"".to_string())),
+    fn hand_over(&mut self, stream: &Stream, kind: Kind, word: usize, noted: Option<Noted>, stamps: [u64; 2]) {
+        let is_held = kind.is_held(self.options);
+        let is_left_out = noted.as_ref().is_some_and(|noted| noted.beside.len() > BESIDE);
+        let mut ending = Happening { parts: vec![], kind: kind.name(), said: Some(word), is_left_out };
+        let Some(noted) = noted.filter(|_| !is_left_out) else {
+            if is_held {
+                stream.put(stamps[0], Happening::default());
+            } else {
+                ending.parts.push(Part { process: self.process, call: None, answer: Some("\"refused\"".to_string()), note: None });
+            }
+            return stream.put(stamps[1], ending);
         };
-        if kind.is_held() {
-            stream.put(stamps[0], Happening { process: self.process, call, answer: None, said: None });
+        while self.helpers.len() < noted.beside.len() {
+            self.helpers.push(stream.next_process());
         }
-        let is_open = is_recorded && answer.is_none();
-        stream.put(stamps[1], Happening { process: self.process, call: None, answer, said: Some(word) });
+        let (is_open, mut calls) = (noted.answer.is_none(), vec![]);
+        let processes = std::iter::once(self.process).chain(self.helpers.iter().copied());
+        let first = Noted { beside: vec![], ..noted };
+        for (process, one) in processes.zip(std::iter::once(first).chain(noted.beside)) {
+            calls.push(Part { process, call: Some(one.call), answer: None, note: one.note });
+            ending.parts.push(Part { process, call: None, answer: one.answer, note: None });
+        }
+        if is_held {
+            stream.put(stamps[0], Happening { parts: calls, kind: kind.name(), said: None, is_left_out: false });
+        }
+        stream.put(stamps[1], ending);
         if is_open {
             self.process = stream.next_process();
         }
-    }
-
-    fn note(&mut self, stamp: u64, what: What) {
-        self.log.push(Event { stamp, thread: self.number as usize, life: self.life, what });
     }
 }
 
 type Outcome = Result<(Vec<Event>, Counts), Stop>;
 
+/// A map of any kind, as a thread sees it.
+trait Opens: Sync {
+    fn open_one(&self) -> Box<dyn Connection + '_>;
+}
+
+impl<M: Map> Opens for M {
+    fn open_one(&self) -> Box<dyn Connection + '_> {
+        self.open()
+    }
+}
+
 /// What a thread does: it opens a connection and puts out nothing, and then one task after another, each of which puts out what it has
-/// recorded, or why the run ends.
-fn serve(number: u64, options: &Options, shared: &Shared, map: &dyn Map, tasks: &Receiver<Task>, out: &Sender<Outcome>) {
+/// recorded, or why the run ends. At the end it answers what it keeps for the next map.
+fn serve(number: u64, options: &Options, shared: &Shared, map: &dyn Opens, kept: Kept, tasks: &Receiver<Task>, out: &Sender<Outcome>) -> Kept {
     let done = catch_unwind(AssertUnwindSafe(|| {
-        let mut worker = Worker::new(number, options, shared, map);
+        let mut worker = Worker::new(number, options, shared, map, kept);
         let _ = out.send(Ok((vec![], Counts::default())));
         for task in tasks {
             let made = worker.run(&task);
@@ -850,88 +1063,220 @@ fn serve(number: u64, options: &Options, shared: &Shared, map: &dyn Map, tasks: 
                 break;
             }
         }
+        worker.kept
     }));
-    if done.is_err() {
+    done.unwrap_or_else(|_| {
         if let Some(stream) = &shared.stream {
             stream.state.store(FAILED, SeqCst);
         }
         let _ = out.send(fail(BAD_WORDS, "a thread has panicked"));
+        Kept::default()
+    })
+}
+
+/// What gets of all keys at rest told: the last calls of a round, and what the map holds.
+#[derive(Default)]
+struct Rest {
+    events: Vec<Event>,
+    contents: BTreeMap<u64, u64>,
+}
+
+impl Values {
+    /// Begins with a map that holds these.
+    fn begin(&mut self, held: &BTreeMap<u64, u64>) {
+        self.from = self.from.max(held.values().max().map_or(1, |value| value.wrapping_add(1)));
+    }
+
+    /// One of the driver's own.
+    fn own(&mut self, options: &Options) -> u64 {
+        self.puts += 1;
+        self.from.max(1) + self.puts * (options.threads + 1) + options.threads
     }
 }
 
-/// Gets of all keys at rest, and what they told: the last calls of a round.
-fn rest(connection: &mut dyn Connection, options: &Options, shared: &Shared) -> Result<(Vec<Event>, BTreeMap<u64, u64>), Stop> {
-    let (mut events, mut contents) = (vec![], BTreeMap::new());
-    let thread = options.threads as usize;
-    for key in 0..options.keys {
-        let (mut said, mut begin, mut end) = (Said::Done, 0, 0);
+impl Rest {
+    /// Gets of all keys. One of which a get does not tell it is written.
+    fn of(connection: &mut dyn Connection, options: &Options, shared: &Shared, round: u64, values: &mut Values) -> Result<Rest, Stop> {
+        let mut rest = Rest::default();
+        let is_late = options.cache.as_ref().is_some_and(|how| how == "late");
+        for key in 0..options.keys {
+            let (mut kind, mut said) = (Get, rest.ask(connection, options, shared, Get, &[key])?);
+            let mut holds = match said {
+                Said::Told(value) => Some(value),
+                _ => None,
+            };
+            let mut is_known = holds.is_some() || said == Said::None && !is_late;
+            if !is_known && !matches!(said, Said::Refused | Said::Unknown) {
+                let is_del = options.has_del && (options.cache.is_some() || (key + round) % 2 == 1);
+                (kind, holds) = if is_del { (Del, None) } else { (Put, Some(values.own(options))) };
+                let words = [key, holds.unwrap_or(0)];
+                said = rest.ask(connection, options, shared, kind, if is_del { &words[..1] } else { &words })?;
+                is_known = !matches!(said, Said::Refused | Said::Unknown);
+            }
+            if !is_known {
+                let said = SAYINGS[said.word()];
+                return fail(BAD_WORDS, format!("{} of {key} said {said} at rest, where it has to tell", kind.name()));
+            }
+            rest.contents.extend(holds.map(|value| (key, value)));
+        }
+        Ok(rest)
+    }
+
+    /// What a function says at rest: again where it is refused, and a get also where nobody knows. It is noted unless it tells nothing.
+    fn ask(
+        &mut self, connection: &mut dyn Connection, options: &Options, shared: &Shared, kind: Kind, words: &[u64],
+    ) -> Result<Said, Stop> {
+        let (mut said, mut stamps) = (Said::Refused, [0, 0]);
         for _ in 0..1000 {
-            begin = shared.stamp();
-            said = ask(connection, Get, &[key])?;
-            end = shared.stamp();
-            if said.tells() {
+            stamps[0] = shared.stamp();
+            said = ask(options, connection, kind, words)?;
+            stamps[1] = shared.stamp();
+            if said != Said::Refused && (said != Said::Unknown || kind != Get) {
                 break;
             }
         }
-        let Some(answer) = answer_text(&said).filter(|_| said.tells()) else {
-            return fail(BAD_WORDS, format!("get of {key} said {} at rest, where it has to tell", SAYINGS[said.word()]));
-        };
-        events.push(Event { stamp: begin, thread, life: 0, what: What::Invoke(Call("get", vec![key])) });
-        events.push(Event { stamp: end, thread, life: 0, what: What::Answer(answer) });
-        if let Said::Told(value) = said {
-            contents.insert(key, value);
+        let called = if kind == Get { "rest" } else { kind.name() };
+        if let Some(noted) = recorded(options, kind, words, &said, &mut || 0).filter(|noted| noted.answer.is_some()) {
+            self.events.extend(events_of(stamps, (options.threads as usize, 0), called, said.word(), noted));
         }
+        Ok(said)
     }
-    Ok((events, contents))
 }
 
 // Histories
 
+/// An event of a history.
+#[derive(Debug)]
+struct One {
+    process: usize,
+    what: What,
+    note: Option<String>,
+    kind: &'static str,
+    said: usize,
+    is_answered: bool,
+}
+
+impl One {
+    fn new(process: usize, what: What, note: Option<String>) -> One {
+        One { process, what, note, kind: "", said: 0, is_answered: false }
+    }
+
+    fn call(&self) -> Option<&Call> {
+        if let What::Invoke(call) = &self.what { Some(call) } else { None }
+    }
+}
+
+/// Who is a process: each thread, and each of its lives, and who makes calls on behalf of one.
+type Who = (usize, usize);
+const HELPS: usize = usize::MAX;
+
 /// What one round recorded, as a history: its events with their processes; and what its threads met.
+#[derive(Default)]
 struct Round {
     start: Arc<BTreeMap<u64, u64>>,
-    events: Vec<(usize, What)>,
+    events: Vec<One>,
     pending: Vec<Call>,
     met: HashSet<u64>,
+    numbers: HashMap<Who, usize>,
+    before: usize,
     calls: u64,
     overlap: u64,
+    left_out: u64,
     at_start: &'static str,
     nobody: &'static str,
 }
 
 impl Round {
-    /// Each thread, and each of its lives, becomes a process; calls that have no answer from before are the first.
-    fn new(mut noted: Vec<Event>, start: Arc<BTreeMap<u64, u64>>, before: &[Call]) -> Round {
-        let mut events: Vec<(usize, What)> = before.iter().cloned().map(What::Invoke).enumerate().collect();
-        let mut numbers = HashMap::new();
-        noted.sort_by_key(|event| event.stamp);
-        for event in noted {
-            let next = before.len() + numbers.len();
-            let process = *numbers.entry((event.thread, event.life)).or_insert(next);
-            events.push((process, event.what));
-        }
+    /// Calls that have no answer from before are the first.
+    fn new(mut noted: Vec<Event>, start: Arc<BTreeMap<u64, u64>>, before: &[Call], tally: &mut Tally) -> Round {
+        let events = before.iter().cloned().enumerate().map(|(process, call)| One::new(process, What::Invoke(call), None)).collect();
         let (at_start, nobody) = ("at the start", "nobody");
-        let mut round = Round { start, events, pending: vec![], met: HashSet::new(), calls: 0, overlap: 0, at_start, nobody };
-        round.measure();
+        let mut round = Round { start, events, before: before.len(), at_start, nobody, ..Round::default() };
+        noted.sort_by_key(|event| event.stamp);
+        round.order(noted);
+        round.measure(tally);
         round
     }
 
-    /// How many calls were open where another began, at which keys two writers met, and which changes may still come.
-    fn measure(&mut self) {
-        let mut open: BTreeMap<usize, &Call> = BTreeMap::new();
-        for (process, what) in &self.events {
-            let What::Invoke(call) = what else {
-                open.remove(process);
+    fn number(&mut self, who: Who) -> usize {
+        let next = self.before + self.numbers.len();
+        *self.numbers.entry(who).or_insert(next)
+    }
+
+    /// The events of the threads. Further calls of one are made by processes that are free; where there are none, or too many calls, it is left out
+    /// with them.
+    fn order(&mut self, noted: Vec<Event>) {
+        let is_call = |event: &Event| matches!(event.what, What::Invoke(_));
+        let own: HashSet<Who> = noted.iter().map(|event| (event.thread, event.life)).collect();
+        let made = noted.iter().filter(|event| is_call(event)).count() + self.before;
+        let (room, mut calls, mut made_up) = (PROCESSES.saturating_sub(self.before + own.len()), CALLS as usize - made, 0);
+        let (mut free, mut helping, mut left_out) = (vec![], HashMap::new(), HashSet::new());
+        for event in noted {
+            let (who, is_call, count) = ((event.thread, event.life), is_call(&event), event.beside.len());
+            if !is_call && left_out.remove(&who) {
+                continue;
+            }
+            if is_call {
+                while free.len() < count && made_up < room {
+                    free.push((HELPS, made_up));
+                    made_up += 1;
+                }
+                if count > free.len().min(calls) {
+                    left_out.insert(who);
+                    self.left_out += 1;
+                    continue;
+                }
+                calls -= count;
+                helping.insert(who, free.split_off(free.len() - count));
+            }
+            let process = self.number(who);
+            let (kind, said) = (event.kind, event.said);
+            self.events.push(One { process, what: event.what, note: event.note, kind, said, is_answered: false });
+            let helpers = if is_call { helping[&who].clone() } else { helping.remove(&who).unwrap_or_default() };
+            for (helper, one) in helpers.iter().zip(&*event.beside) {
+                let process = self.number(*helper);
+                self.events.push(match is_call {
+                    true => One::new(process, What::Invoke(one.call.clone()), one.note.clone()),
+                    false => One::new(process, What::Answer(one.answer.clone().unwrap_or_default()), None),
+                });
+            }
+            if !is_call {
+                free.extend(helpers);
+            }
+        }
+    }
+
+    /// How many calls were open where another began, at which keys two writers met, and which changes may still come. A call without an answer is
+    /// none that others overlap.
+    fn measure(&mut self, tally: &mut Tally) {
+        let mut last = HashMap::new();
+        for number in 0..self.events.len() {
+            let process = self.events[number].process;
+            match self.events[number].what {
+                What::Invoke(_) => drop(last.insert(process, number)),
+                What::Answer(_) => self.events[last[&process]].is_answered = true,
+            }
+        }
+        let mut open: BTreeMap<usize, (&One, &Call, u64)> = BTreeMap::new();
+        for one in &self.events {
+            let Some(call) = one.call() else {
+                if let (Some((_, call, stored)), true) = (open.remove(&one.process), !one.kind.is_empty()) {
+                    tally.end(one.kind, call.1[0], one.said, stored);
+                }
                 continue;
             };
-            self.calls += 1;
-            self.overlap += open.len() as u64;
-            if call.writes() && open.values().any(|other| other.writes() && other.1[0] == call.1[0]) {
+            let mut stored = 0;
+            if !one.kind.is_empty() {
+                self.calls += 1;
+                self.overlap += open.values().filter(|(other, ..)| !other.kind.is_empty() && other.is_answered).count() as u64;
+                stored = tally.begin(one.kind, call.1[0]);
+            }
+            if writes_key(one.kind) && open.values().any(|(other, met, _)| writes_key(other.kind) && met.1[0] == call.1[0]) {
                 self.met.insert(call.1[0]);
             }
-            open.insert(*process, call);
+            open.insert(one.process, (one, call, stored));
         }
-        self.pending = open.into_values().filter(|call| !self.tells(call)).cloned().collect();
+        self.pending = open.into_values().map(|(_, call, _)| call).filter(|call| !self.tells(call)).cloned().collect();
     }
 
     /// Whether an answer tells what a call puts: then it was done.
@@ -939,7 +1284,7 @@ impl Round {
         let value = call.1.last().map_or(String::new(), u64::to_string);
         let in_pair = format!(",{value}]");
         call.0 != "remove"
-            && self.events.iter().any(|(_, what)| matches!(what, What::Answer(answer) if *answer == value || answer.contains(&in_pair)))
+            && self.events.iter().any(|one| matches!(&one.what, What::Answer(answer) if *answer == value || answer.contains(&in_pair)))
     }
 
     /// A history as a round, as far as what is said of it needs that.
@@ -948,26 +1293,74 @@ impl Round {
         let mut events = vec![];
         for event in whole.member("events").items() {
             let words: Vec<u64> = event.member("invoke").items().iter().skip(1).map(Json::number).collect();
-            let what = match event.member("invoke").items().first() {
-                Some(Json::Text(name)) if name == "replace" => What::Invoke(Call("replace", words)),
-                Some(Json::Text(name)) if name == "insert" => What::Invoke(Call("insert", words)),
-                _ => What::Answer(String::new()),
+            let name = if let Some(Json::Text(name)) = event.member("invoke").items().first() { name } else { "" };
+            let what = match ["get", "insert", "remove", "replace", "scan"].into_iter().find(|own| *own == name) {
+                Some(name) => What::Invoke(Call(name, words)),
+                None => What::Answer(String::new()),
             };
-            events.push((event.member("process").number() as usize, what));
+            events.push(One::new(event.member("process").number() as usize, what, None));
         }
         let start = whole.member("start").items().iter().map(|pair| (pair.word(0), pair.word(1))).collect();
         let (at_start, nobody) = ("before these calls", "none of these calls");
-        Round { start: Arc::new(start), events, pending: vec![], met: HashSet::new(), calls: 0, overlap: 0, at_start, nobody }
+        Round { start: Arc::new(start), events, at_start, nobody, ..Round::default() }
+    }
+
+    /// The calls that a follower still had, with the notes that the stream had of them: those of the calls "invoked" of its report, in that order.
+    fn note(&mut self, report: &str, notes: &HashMap<u64, String>) {
+        let report = Json::read(&mut &*report);
+        let invoked = report.member("keys").items().first().map_or(&[] as &[Json], |key| key.member("invoked").items());
+        let mut calls: Vec<&mut One> = self.events.iter_mut().filter(|one| one.call().is_some()).collect();
+        if calls.len() == invoked.len() {
+            calls.iter_mut().zip(invoked).for_each(|(one, number)| one.note = notes.get(&number.number()).cloned());
+        }
+    }
+
+    /// Whether it is a history of so many keys alone, in which all calls have answers: then it may be judged with others.
+    fn is_apart(&self, keys: u64) -> bool {
+        let calls = self.events.iter().filter_map(One::call);
+        let is_own = self.events.iter().all(|one| match &one.what {
+            What::Invoke(call) => call.1[0] < keys,
+            What::Answer(answer) => pairs_of(answer).iter().flatten().all(|(key, _)| *key < keys),
+        });
+        is_own && 2 * calls.count() == self.events.len() && self.start.keys().all(|key| *key < keys)
+    }
+
+    /// Rounds as one history, in which the keys of each are moved up. It has an order if and only if each round has one, since linearizability is
+    /// local: a call says nothing of keys that it does not touch (Herlihy and Wing, 1990).
+    fn together(rounds: &[Waiting], keys: u64) -> String {
+        let (mut start, mut texts) = (vec![], vec![]);
+        for (number, each) in rounds.iter().enumerate() {
+            let by = number as u64 * keys;
+            let moved = |pairs: &[(u64, u64)]| pairs.iter().map(|(key, value)| (key + by, *value)).collect::<Vec<_>>();
+            start.extend(each.round.start.iter().map(|(key, value)| (key + by, *value)));
+            texts.extend(each.round.events.iter().map(|one| match &one.what {
+                What::Invoke(call) => {
+                    let mut words = call.1.clone();
+                    words[0] += by;
+                    if call.0 == "scan" {
+                        words[1] = words[1].min(keys - 1) + by;
+                    }
+                    format!("{{\"invoke\":{},\"process\":{}}}", Call(call.0, words).text(), one.process)
+                }
+                What::Answer(answer) => {
+                    let answer = pairs_of(answer).map_or(answer.clone(), |pairs| pairs_text(&moved(&pairs)));
+                    format!("{{\"answer\":{answer},\"process\":{}}}", one.process)
+                }
+            }));
+        }
+        format!("{{\"events\":[{}],\"start\":{},\"version\":3}}\n", texts.join(","), pairs_text(&start))
     }
 
     fn text(&self) -> String {
         let mut version = if self.start.is_empty() { 1 } else { 2 };
         let mut texts = vec![];
-        for (process, what) in &self.events {
-            texts.push(match what {
+        for one in &self.events {
+            let (process, note) = (one.process, note_text(&one.note));
+            version = if one.note.is_some() { 3 } else { version };
+            texts.push(match &one.what {
                 What::Invoke(call) => {
                     version = version.max(if call.0 == "replace" { 2 } else { 1 });
-                    format!("{{\"invoke\":{},\"process\":{process}}}", call.text())
+                    format!("{{\"invoke\":{},{note}\"process\":{process}}}", call.text())
                 }
                 What::Answer(answer) => {
                     let tells_less = matches!(answer.as_str(), "\"done\"" | "\"found\"" | "\"other\"");
@@ -979,6 +1372,77 @@ impl Round {
         let pairs: Vec<(u64, u64)> = self.start.iter().map(|(key, value)| (*key, *value)).collect();
         let start = if version > 1 { format!(",\"start\":{}", pairs_text(&pairs)) } else { String::new() };
         format!("{{\"events\":[{}]{start},\"version\":{version}}}\n", texts.join(","))
+    }
+}
+
+/// The pairs that an answer has, or none where it is no list of them.
+fn pairs_of(answer: &str) -> Option<Vec<(u64, u64)>> {
+    match Json::read(&mut &*answer) {
+        Json::List(pairs) => Some(pairs.iter().map(|pair| (pair.word(0), pair.word(1))).collect()),
+        _ => None,
+    }
+}
+
+fn note_text(note: &Option<String>) -> String {
+    note.as_ref().map_or(String::new(), |note| format!("\"note\":\"{note}\","))
+}
+
+/// How often gets found a value; and how often a key was lost, so that nothing was found where a put was answered and no delete begun since.
+#[derive(Default)]
+struct Tally {
+    hits: u64,
+    misses: u64,
+    losses: u64,
+    clock: u64,
+    /// When a put ended; open deletes; when a delete began or ended last.
+    stored: HashMap<u64, u64>,
+    deletes: HashMap<u64, u64>,
+    deleted: HashMap<u64, u64>,
+}
+
+impl Tally {
+    /// Begins with a new map.
+    fn forget(&mut self) {
+        self.stored.clear();
+        self.deletes.clear();
+        self.deleted.clear();
+    }
+
+    /// When the call begins.
+    fn begin(&mut self, kind: &str, key: u64) -> u64 {
+        self.clock += 1;
+        if matches!(kind, "del" | "pop_first") {
+            self.stored.remove(&key);
+            *self.deletes.entry(key).or_insert(0) += 1;
+            self.deleted.insert(key, self.clock);
+        }
+        self.clock
+    }
+
+    fn end(&mut self, kind: &str, key: u64, said: usize, begun: u64) {
+        let said = SAYINGS[said];
+        self.clock += 1;
+        self.hits += u64::from(kind == "get" && matches!(said, "told" | "found"));
+        self.misses += u64::from(kind == "get" && said == "none");
+        let looks = matches!(kind, "get" | "put" | "replace" | "rest");
+        if said == "none" && looks && self.stored.get(&key).is_some_and(|stored| *stored < begun) {
+            self.losses += 1;
+            self.stored.remove(&key);
+        }
+        let is_done = match kind {
+            "put" => !matches!(said, "refused" | "unknown"),
+            "put_if_absent" => said == "none",
+            _ => kind == "replace" && said == "done",
+        };
+        let is_kept = self.deletes.get(&key).map_or(true, |count| *count == 0) && self.deleted.get(&key).map_or(true, |last| *last < begun);
+        if matches!(kind, "del" | "pop_first") {
+            self.deleted.insert(key, self.clock);
+            if said != "unknown" {
+                self.deletes.entry(key).and_modify(|count| *count -= 1);
+            }
+        } else if is_done && is_kept {
+            self.stored.insert(key, self.clock);
+        }
     }
 }
 
@@ -1185,61 +1649,138 @@ impl Program {
 
 // A run
 
-/// Rounds at a new map, each of which begins with what the one before has left: the pairs, and calls without an answer that may still come.
-struct Run {
-    options: Options,
+/// What is counted, up to the end of a round.
+#[derive(Clone, Default)]
+struct Counted {
     sayings: [u64; 8],
     called: [u64; 9],
-    met: HashSet<u64>,
-    began: Instant,
     rounds: u64,
     calls: u64,
     overlap: u64,
+    left_out: u64,
+    hits: u64,
+    misses: u64,
+    losses: u64,
+}
+
+/// A round that is not judged yet.
+struct Waiting {
+    round: Round,
+    counted: Counted,
+}
+
+/// Rounds at a new map, each of which begins with what the one before has left: the pairs, and calls without an answer that may still come.
+struct Run {
+    options: Options,
+    counted: Counted,
+    met: HashSet<u64>,
+    began: Instant,
     undecided: u64,
+    helped: u64, // calls on behalf of others
+    wrong_times: u64, // how often a broken map went wrong
+    tally: Tally,
+    waiting: Vec<Waiting>,
+    waits_since: Instant,
+    notes: HashMap<u64, String>,
+    events: u64, // of a stream
     cut: Vec<String>,
     failed: Option<Round>,
     report: String,
     kept: Option<String>, // the stream so far, while it is no longer than is kept
 }
 
+/// Where a run is between two rounds: what the map holds, and calls that may still come; and the events of a round which ends with reads of the map
+/// that is opened again.
+#[derive(Default)]
+struct At {
+    start: Arc<BTreeMap<u64, u64>>,
+    pending: Vec<Call>,
+    is_begun: bool,
+    rounds: u64,
+    events: Option<Vec<Event>>,
+    values: Values,
+}
+
+/// Each put has a value of its own, which was not in the map before: from which on they are, and how many puts are the driver's own.
+#[derive(Clone, Copy, Default)]
+struct Values {
+    from: u64,
+    puts: u64,
+}
+
+/// Why the threads of a map end.
+enum Next {
+    End,
+    NewMap,
+    Reopened,
+}
+
+/// By which a thread gets what it has to do, and what it has done.
+type Ends = (Sender<Task>, Receiver<Outcome>);
+
 impl Run {
     /// Rounds from this number on, until one has no order, or the time is over; or one stream.
     fn new<M: Map>(options: &Options, make: &dyn Fn() -> M, program: Option<&Program>, number: u64) -> Result<Run, Stop> {
-        let (map, options) = (make(), options.clone());
+        HAS_POINTS.store(false, SeqCst);
         let locks = if options.void == "lock" { (0..options.keys).map(|_| Mutex::new(false)).collect() } else { vec![] };
-        let shared = Shared { stamps: AtomicU64::new(0), locks, stream: options.is_stream.then(|| Stream::new(options.threads)) };
+        let stream = options.is_stream.then(|| Stream::new(options.threads));
+        let shared = Shared { stamps: Arc::new(AtomicU64::new(0)), locks, stream };
         let mut run = Run {
-            options: options.clone(), sayings: [0; 8], called: [0; 9], met: HashSet::new(), began: Instant::now(), rounds: 0, calls: 0,
-            overlap: 0, undecided: 0, cut: vec![], failed: None, report: String::new(), kept: program.map(|_| String::new()),
+            options: options.clone(), counted: Counted::default(), met: HashSet::new(), began: Instant::now(), undecided: 0, helped: 0,
+            wrong_times: 0, tally: Tally::default(), waiting: vec![], waits_since: Instant::now(), notes: HashMap::new(), events: 0,
+            cut: vec![], failed: None, report: String::new(), kept: program.map(|_| String::new()),
         };
+        let (mut map, mut kept, mut at) = (make(), vec![Kept::default(); options.threads as usize], At::default());
+        loop {
+            match run.use_map(&map, &shared, program, number, &mut kept, &mut at)? {
+                Next::End => return Ok(run),
+                Next::NewMap => (map, at) = (make(), At { values: at.values, ..At::default() }),
+                Next::Reopened => match catch_unwind(AssertUnwindSafe(|| map.reopen())) {
+                    Ok(Some(opened)) => map = opened,
+                    Ok(None) => return fail(BAD_WORDS, format!("{}: reopen said nothing, where it has to return the map", run.options.name)),
+                    Err(_) => return fail(BAD_WORDS, format!("{}: reopen has panicked", run.options.name)),
+                },
+            }
+        }
+    }
+
+    /// The threads of one map.
+    fn use_map(
+        &mut self, map: &dyn Opens, shared: &Shared, program: Option<&Program>, number: u64, kept: &mut Vec<Kept>, at: &mut At,
+    ) -> Result<Next, Stop> {
+        let options = self.options.clone();
         std::thread::scope(|scope| {
-            let mut threads = vec![];
-            for number in 0..options.threads {
+            let (mut threads, mut handles) = (vec![], vec![]);
+            for (number, own) in kept.drain(..).enumerate() {
                 let ((tasks, inbox), (out, outbox)) = (channel(), channel());
-                let (map, options, shared) = (&map, &options, &shared);
-                scope.spawn(move || serve(number, options, shared, map, &inbox, &out));
+                let options = &options;
+                handles.push(scope.spawn(move || serve(number as u64, options, shared, map, own, &inbox, &out)));
                 threads.push((tasks, outbox));
             }
-            match &shared.stream {
-                Some(stream) => run.follow(&map, &shared, stream, &threads, program),
-                None => run.rounds_of(&map, &shared, &threads, program, number),
-            }
-        })?;
-        Ok(run)
+            let next = match &shared.stream {
+                Some(stream) => self.follow(map, shared, stream, &threads, program).map(|()| Next::End),
+                None => self.rounds_of(map, shared, &threads, program, number, at),
+            };
+            drop(threads);
+            kept.extend(handles.into_iter().map(|handle| handle.join().unwrap_or_default()));
+            next
+        })
     }
 
     /// One stream, until it has no order, or the time is over.
     fn follow(
-        &mut self, map: &dyn Map, shared: &Shared, stream: &Stream, threads: &[(Sender<Task>, Receiver<Outcome>)], program: Option<&Program>,
+        &mut self, map: &dyn Opens, shared: &Shared, stream: &Stream, threads: &[Ends], program: Option<&Program>,
     ) -> Result<(), Stop> {
         let (options, began) = (self.options.clone(), self.began);
         let named = |stop: Stop| Stop(stop.0, format!("{}: {}", options.name, stop.1));
         for (_, outbox) in threads {
             outbox.recv().unwrap_or_else(|_| fail(BAD_WORDS, "a thread has ended")).map_err(named)?;
         }
-        let (_, contents) = rest(&mut *map.open(), &options, shared).map_err(named)?;
-        let (start, missing) = (Arc::new(contents), Arc::new(AtomicUsize::new(threads.len())));
-        let task = Task { round: 0, lives: STREAM_PROCESSES, start: start.clone(), doubtful: Arc::new(HashSet::new()), missing };
+        let mut values = Values::default();
+        let left = Rest::of(&mut *map.open_one(), &options, shared, 0, &mut values).map_err(named)?;
+        values.begin(&left.contents);
+        let (start, missing) = (Arc::new(left.contents), Arc::new(AtomicUsize::new(threads.len())));
+        let task = Task { round: 0, lives: STREAM_PROCESSES, start: start.clone(), doubtful: Arc::new(HashSet::new()), missing, values_from: values.from };
         stream.taken.store(shared.stamps.load(SeqCst), SeqCst);
         let (ended, written) = std::thread::scope(|scope| {
             let run = &mut *self;
@@ -1274,14 +1815,14 @@ impl Run {
         for one in ended.into_iter().flatten() {
             counts.add(&one.map_err(named)?.1);
         }
-        self.called = counts.called;
+        (self.counted.called, self.wrong_times) = (counts.called, counts.wrong);
         let (status, report) = written?;
         self.conclude(stream, status, report)
     }
 
     /// What the verdict on a stream says. One that was cut off has no yes.
     fn conclude(&mut self, stream: &Stream, status: i32, report: String) -> Result<(), Stop> {
-        let counts_all = self.options.out == "-" || report.starts_with(&format!("{{\"calls\":{},", self.calls));
+        let counts_all = self.options.out == "-" || report.starts_with(&format!("{{\"calls\":{},", self.counted.calls + self.helped));
         match status {
             YES if stream.state.load(SeqCst) == FAILED || !counts_all => {
                 return fail(BAD_FILE, format!("{}: the stream was cut off", self.options.name));
@@ -1351,60 +1892,92 @@ impl Run {
         }
     }
 
-    /// The line of an event, and what is counted: as of a round, but that nothing is kept of calls that are over.
+    /// The lines of events, and what is counted: as of a round, but that nothing is kept of calls that are over. A call without an answer is over too:
+    /// nobody waits for it.
     fn take_happening(
-        &mut self, what: Happening, open: &mut HashMap<usize, Call>, writers: &mut HashMap<u64, u64>, text: &mut String,
+        &mut self, what: Happening, open: &mut HashMap<usize, (Call, u64)>, writers: &mut HashMap<u64, u64>, text: &mut String,
     ) {
-        let process = what.process;
-        if let Some(call) = what.call {
-            self.calls += 1;
-            self.overlap += open.len() as u64;
-            let _ = writeln!(text, "{{\"invoke\":{},\"process\":{process}}}", call.text());
-            if call.writes() {
-                let count = writers.entry(call.1[0]).or_insert(0);
-                *count += 1;
-                self.met.extend((*count > 1).then_some(call.1[0]));
+        for (i, part) in what.parts.into_iter().enumerate() {
+            let (process, is_first) = (part.process, i == 0);
+            if let Some(call) = &part.call {
+                let _ = writeln!(text, "{{\"invoke\":{},{}\"process\":{process}}}", call.text(), note_text(&part.note));
+                self.helped += u64::from(!is_first);
+                self.notes.extend(part.note.map(|note| (self.events, note)));
+            } else if let Some(answer) = &part.answer {
+                let _ = writeln!(text, "{{\"answer\":{answer},\"process\":{process}}}");
             }
-            open.insert(process, call);
-        } else if let Some(answer) = what.answer {
-            let _ = writeln!(text, "{{\"answer\":{answer},\"process\":{process}}}");
-            if let Some(call) = open.remove(&process).filter(Call::writes) {
-                let count = writers.entry(call.1[0]).or_insert(1);
-                *count -= 1;
-                if *count == 0 {
-                    writers.remove(&call.1[0]);
+            self.events += u64::from(part.call.is_some() || part.answer.is_some());
+            match part.call {
+                Some(call) if is_first => {
+                    self.counted.calls += 1;
+                    self.counted.overlap += open.len() as u64;
+                    if writes_key(what.kind) {
+                        let count = writers.entry(call.1[0]).or_insert(0);
+                        *count += 1;
+                        self.met.extend((*count > 1).then_some(call.1[0]));
+                    }
+                    let stored = self.tally.begin(what.kind, call.1[0]);
+                    open.insert(process, (call, stored));
                 }
+                None if is_first => {
+                    let Some((call, stored)) = open.remove(&process) else { continue };
+                    self.tally.end(what.kind, call.1[0], what.said.unwrap_or(0), stored);
+                    if writes_key(what.kind) && part.answer.is_some() {
+                        let count = writers.entry(call.1[0]).or_insert(1);
+                        *count -= 1;
+                        if *count == 0 {
+                            writers.remove(&call.1[0]);
+                        }
+                    }
+                }
+                _ => (),
             }
         }
+        if self.notes.len() as u64 > 2 * NOTES {
+            let events = self.events;
+            self.notes.retain(|number, _| number + NOTES >= events);
+        }
+        self.counted.left_out += u64::from(what.is_left_out);
         if let Some(word) = what.said {
-            self.sayings[word] += 1;
+            self.counted.sayings[word] += 1;
         }
     }
 
+    /// Rounds of one map. Where it is to be opened again, one.
     fn rounds_of(
-        &mut self, map: &dyn Map, shared: &Shared, threads: &[(Sender<Task>, Receiver<Outcome>)], program: Option<&Program>, number: u64,
-    ) -> Result<(), Stop> {
-        let named = |stop: Stop| Stop(stop.0, format!("{}: {}", self.options.name, stop.1));
+        &mut self, map: &dyn Opens, shared: &Shared, threads: &[Ends], program: Option<&Program>, number: u64, at: &mut At,
+    ) -> Result<Next, Stop> {
+        let options = self.options.clone();
+        let named = |stop: Stop| Stop(stop.0, format!("{}: {}", options.name, stop.1));
         let taken = || -> Vec<Outcome> {
             threads.iter().map(|(_, outbox)| outbox.recv().unwrap_or_else(|_| fail(BAD_WORDS, "a thread has ended"))).collect()
         };
         for one in taken() {
             one.map_err(named)?;
         }
-        let (mut connection, options) = (map.open(), self.options.clone());
-        let (_, contents) = rest(&mut *connection, &options, shared).map_err(named)?;
-        let (mut start, mut pending) = (Arc::new(contents), vec![]);
+        let mut connection = map.open_one();
+        if let Some(events) = at.events.take() {
+            self.end_round(&mut *connection, shared, events, program, at).map_err(named)?;
+        } else if !at.is_begun {
+            at.start = Arc::new(Rest::of(&mut *connection, &options, shared, 0, &mut at.values).map_err(named)?.contents);
+            at.values.begin(&at.start);
+            at.is_begun = true;
+            self.tally.forget();
+        }
         while self.failed.is_none() && !self.is_over() {
-            let named = |stop: Stop| Stop(stop.0, format!("{}: {}", options.name, stop.1));
-            let lives = (PROCESSES - 1 - pending.len()) / threads.len();
+            if options.fresh > 0 && at.rounds == options.fresh {
+                return Ok(Next::NewMap);
+            }
+            let lives = (PROCESSES - 1 - at.pending.len()) / threads.len();
             if lives == 0 {
-                let (name, count) = (&options.name, pending.len());
+                let (name, count) = (&options.name, at.pending.len());
                 self.cut.push(format!("{name}: calls without an answer leave no room for others: {count}"));
                 break;
             }
-            let doubtful = Arc::new(pending.iter().map(|call: &Call| call.1[0]).collect());
+            at.rounds += 1;
+            let doubtful = Arc::new(at.pending.iter().map(|call: &Call| call.1[0]).collect());
             let missing = Arc::new(AtomicUsize::new(threads.len()));
-            let task = Task { round: number + self.rounds, lives, start: start.clone(), doubtful, missing };
+            let task = Task { round: number + self.counted.rounds, lives, start: at.start.clone(), doubtful, missing, values_from: at.values.from };
             for (tasks, _) in threads {
                 let _ = tasks.send(task.clone());
             }
@@ -1414,28 +1987,76 @@ impl Run {
                 events.extend(log);
                 counts.add(&more);
             }
-            let (gets, left) = rest(&mut *connection, &options, shared).map_err(named)?;
-            events.extend(gets);
-            let round = Round::new(events, start, &pending);
-            (start, pending, self.sayings, self.called) = (Arc::new(left), round.pending.clone(), counts.sayings, counts.called);
-            self.take(round, program)?;
+            (self.counted.sayings, self.counted.called, self.wrong_times) = (counts.sayings, counts.called, counts.wrong);
+            if options.is_reopened {
+                at.events = Some(events);
+                return Ok(Next::Reopened);
+            }
+            self.end_round(&mut *connection, shared, events, program, at).map_err(named)?;
         }
-        Ok(())
+        program.map_or(Ok(()), |program| self.judge_waiting(program))?;
+        Ok(Next::End)
+    }
+
+    /// Gets of all keys are the last calls of a round, and the start of the next.
+    fn end_round(
+        &mut self, connection: &mut dyn Connection, shared: &Shared, mut events: Vec<Event>, program: Option<&Program>, at: &mut At,
+    ) -> Result<(), Stop> {
+        let left = Rest::of(connection, &self.options, shared, self.counted.rounds, &mut at.values)?;
+        events.extend(left.events);
+        let round = Round::new(events, at.start.clone(), &at.pending, &mut self.tally);
+        (at.start, at.pending) = (Arc::new(left.contents), round.pending.clone());
+        self.take(round, program)
     }
 
     fn take(&mut self, round: Round, program: Option<&Program>) -> Result<(), Stop> {
-        self.rounds += 1;
-        self.calls += round.calls;
-        self.overlap += round.overlap;
+        self.counted.rounds += 1;
+        self.counted.calls += round.calls;
+        self.counted.overlap += round.overlap;
+        self.counted.left_out += round.left_out;
         self.met.extend(&round.met);
         let Some(program) = program else {
             let written = std::io::stdout().write_all(round.text().as_bytes());
             return written.or_else(|_| fail(BAD_FILE, "standard output: a history was not written"));
         };
-        match program.ask_twice("judge", &round.text())?.0 {
-            NO => self.failed = Some(round),
-            UNDECIDED => self.undecided += 1,
-            _ => (),
+        let (calls, keys) = (round.events.len() / 2, self.options.keys);
+        let is_apart = calls <= BATCH_CALLS && round.is_apart(keys);
+        let waiting_calls: usize = self.waiting.iter().map(|waiting| waiting.round.events.len() / 2).sum();
+        if !is_apart || calls + waiting_calls > CALLS as usize {
+            self.judge_waiting(program)?;
+        }
+        if self.failed.is_some() {
+            return Ok(());
+        }
+        if self.waiting.is_empty() {
+            self.waits_since = Instant::now();
+        }
+        let (hits, misses, losses) = (self.tally.hits, self.tally.misses, self.tally.losses);
+        self.waiting.push(Waiting { round, counted: Counted { hits, misses, losses, ..self.counted.clone() } });
+        let is_late = self.waits_since.elapsed() > Duration::from_secs(1);
+        if self.waiting.len() == BATCH_ROUNDS || is_late || self.counted.rounds == 1 || !is_apart {
+            self.judge_waiting(program)?;
+        }
+        Ok(())
+    }
+
+    /// Judges the rounds that wait: all at once, and each on its own where that is not a yes. Of a no, what was counted is that up to its end.
+    fn judge_waiting(&mut self, program: &Program) -> Result<(), Stop> {
+        let all = std::mem::take(&mut self.waiting);
+        let is_batch = all.len() > 1;
+        if is_batch && program.ask("judge", &Round::together(&all, self.options.keys), program.budget)?.0 == YES {
+            return Ok(());
+        }
+        for Waiting { round, counted } in all {
+            match program.ask_twice("judge", &round.text())?.0 {
+                NO => {
+                    (self.tally.hits, self.tally.misses, self.tally.losses) = (counted.hits, counted.misses, counted.losses);
+                    (self.failed, self.counted) = (Some(round), counted);
+                    break;
+                }
+                UNDECIDED => self.undecided += 1,
+                _ => (),
+            }
         }
         Ok(())
     }
@@ -1444,18 +2065,18 @@ impl Run {
     fn is_over(&mut self) -> bool {
         self.progress();
         let is_late = self.began.elapsed().as_secs_f64() >= self.options.seconds as f64;
-        self.rounds > 0 && (self.options.rounds > 0 && self.rounds >= self.options.rounds || is_late)
+        self.counted.rounds > 0 && (self.options.rounds > 0 && self.counted.rounds >= self.options.rounds || is_late)
     }
 
     /// Each second a line on a terminal says how far this is.
     fn progress(&mut self) {
         let seconds = self.began.elapsed().as_secs_f64();
-        if self.options.shows && self.options.shown.elapsed() > Duration::from_secs(1) && self.calls > 0 {
+        if self.options.shows && self.options.shown.elapsed() > Duration::from_secs(1) && self.counted.calls > 0 {
             self.options.shown = Instant::now();
-            let (calls, all) = (self.calls as f64, self.sayings.iter().sum::<u64>().max(1) as f64);
+            let (calls, all) = (self.counted.calls as f64, self.counted.sayings.iter().sum::<u64>().max(1) as f64);
             eprintln!(
                 "{}, {:.0} a second, overlap {:.1} a call, {:.1}% refused, two writers met on {} of {}",
-                counted(self.calls, "call"), calls / seconds, self.overlap as f64 / calls, 100.0 * self.sayings[5] as f64 / all,
+                counted(self.counted.calls, "call"), calls / seconds, self.counted.overlap as f64 / calls, 100.0 * self.counted.sayings[5] as f64 / all,
                 self.met.len(), counted(self.options.keys, "key")
             );
         }
@@ -1464,19 +2085,63 @@ impl Run {
     /// The verdict, and what it rests on.
     fn summary(&self, verdict: &str) -> String {
         let said: Vec<String> =
-            self.sayings.iter().zip(SAYINGS).filter(|(count, _)| **count > 0).map(|(count, word)| format!("{count} {word}")).collect();
+            self.counted.sayings.iter().zip(SAYINGS).filter(|(count, _)| **count > 0).map(|(count, word)| format!("{count} {word}")).collect();
         let undecided = if self.undecided > 0 { format!("; {} undecided", self.undecided) } else { String::new() };
-        let rounds = if self.options.is_stream { String::new() } else { counted(self.rounds, "round") + ", " };
-        format!(
+        let rounds = if self.options.is_stream { String::new() } else { counted(self.counted.rounds, "round") + ", " };
+        let mut parts = vec![format!(
             "{verdict}: {rounds}{} in {:.1} seconds, overlap {:.2} a call: {}{undecided}",
-            counted(self.calls, "call"), self.began.elapsed().as_secs_f64(), self.overlap as f64 / self.calls.max(1) as f64, said.join(", ")
-        )
+            counted(self.counted.calls, "call"), self.began.elapsed().as_secs_f64(), self.counted.overlap as f64 / self.counted.calls.max(1) as f64, said.join(", ")
+        )];
+        if self.options.cache.is_some() {
+            let tally = &self.tally;
+            let is_late = self.options.cache.as_ref().is_some_and(|how| how == "late");
+            let misses = if is_late { self.counted.called[Get as usize] - tally.hits } else { tally.misses };
+            parts.push([counted(tally.hits, "hit"), counted(misses, "miss"), counted(tally.losses, "loss")].join(", "));
+        }
+        if !verdict.starts_with("no") || verdict == "not judged" {
+            parts.extend(self.cautions());
+        }
+        parts.join("; ")
+    }
+
+    /// Why a yes of this run says little.
+    fn cautions(&self) -> Vec<String> {
+        let (mut said, tally, is_cache, gets) = (vec![], &self.tally, self.options.cache.is_some(), self.counted.called[Get as usize]);
+        if 2 * self.counted.sayings[Said::Refused.word()] > self.counted.sayings.iter().sum() {
+            said.push("most calls were refused: a yes says little".to_string());
+        }
+        if tally.hits == 0 && is_cache {
+            said.push("no get hit: a yes says nothing".to_string());
+        } else if tally.hits == 0 && gets > 0 {
+            said.push("no get found a value: a yes says little".to_string());
+        } else if is_cache && 20 * tally.hits < gets {
+            said.push(format!("{} in {} gets: a yes says little", counted(tally.hits, "hit"), grouped(gets)));
+        }
+        if is_cache && tally.losses == 0 {
+            said.push("no key was lost: eviction was not tested".to_string());
+        }
+        if self.counted.left_out > 0 {
+            said.push(format!("{} without some of the keys left out", counted(self.counted.left_out, "scan")));
+        }
+        if (self.counted.overlap as f64) < 0.05 * self.counted.calls as f64 {
+            let rest = "the threads hardly met, and a yes says little: call point() in the map, and run with --yield 200";
+            said.push(format!("overlap below 0.05: {rest}"));
+        }
+        if self.options.yields > 0 && !HAS_POINTS.load(SeqCst) {
+            said.push("--yield acted only between calls, since the map called no point()".to_string());
+        }
+        said
     }
 }
 
 /// So many of a noun.
 fn counted(count: u64, noun: &str) -> String {
-    format!("{count} {noun}{}", if count == 1 { "" } else { "s" })
+    format!("{count} {noun}{}", if count == 1 { "" } else if noun.ends_with('s') { "es" } else { "s" })
+}
+
+/// A number with commas.
+fn grouped(number: u64) -> String {
+    if number < 1000 { number.to_string() } else { format!("{},{:03}", grouped(number / 1000), number % 1000) }
 }
 
 /// The smallest run that failed, of some tries with half of the calls or keys, or a thread less. Threads interleave as they will. Where calls
@@ -1484,7 +2149,7 @@ fn counted(count: u64, noun: &str) -> String {
 fn smaller<M: Map>(run: &Run, make: &dyn Fn() -> M, program: &Program) -> Result<Option<Run>, Stop> {
     let (mut best, began, mut tries, mut how) = (None, Instant::now(), 0, 0);
     let mut options = run.options.clone();
-    while how < 3 && run.sayings[Said::Unknown.word()] == 0 {
+    while how < 3 && run.counted.sayings[Said::Unknown.word()] == 0 {
         let less = options.less(how);
         how += 1;
         for _ in 0..if less.is_some() { 6 } else { 0 } {
@@ -1492,7 +2157,7 @@ fn smaller<M: Map>(run: &Run, make: &dyn Fn() -> M, program: &Program) -> Result
             if tries > 60 || began.elapsed() > Duration::from_secs(5) {
                 break;
             }
-            let again = Run::new(less.as_ref().unwrap_or(&options), make, Some(program), run.rounds - 1)?;
+            let again = Run::new(less.as_ref().unwrap_or(&options), make, Some(program), run.counted.rounds - 1)?;
             if again.failed.is_some() {
                 options = again.options.clone();
                 (best, how) = (Some(again), 0);
@@ -1636,21 +2301,54 @@ fn said_call(call: &Json) -> String {
 /// The events of a call: that of its invocation by a process, and that of its answer, where it has one.
 fn said_events(round: &Round, invoked: u64, process: u64) -> String {
     let mut behind = round.events.iter().enumerate().skip(invoked as usize + 1);
-    match behind.find(|(_, (own, _))| *own as u64 == process) {
+    match behind.find(|(_, one)| one.process as u64 == process) {
         Some((answer, _)) => format!("events {invoked} to {answer}"),
         None => format!("event {invoked} on"),
     }
 }
 
+/// The call of an event as it was made, where a history has another one.
+fn note_of(round: &Round, number: u64) -> Option<&String> {
+    round.events.get(number as usize)?.note.as_ref()
+}
+
+/// A call as it was made.
+fn said_made(round: &Round, number: u64, call: String) -> String {
+    let said = |note: &String| note.split(':').next().unwrap_or("").replace("answered none", "which found none") + ",";
+    note_of(round, number).map_or(call, said)
+}
+
+/// The event of a call's answer, or the end where it has none.
+fn last_event(round: &Round, invoked: usize) -> usize {
+    let process = round.events[invoked].process;
+    (invoked + 1..round.events.len()).find(|number| round.events[*number].process == process).unwrap_or(round.events.len())
+}
+
+/// The other calls that were open on the keys of these.
+fn said_open(round: &Round, shown: &[u64], numbers: &[u64]) -> Option<String> {
+    let mut said = vec![];
+    for (number, one) in round.events.iter().enumerate() {
+        let Some(call) = one.call().filter(|_| !shown.contains(&(number as u64))) else { continue };
+        let is_met = |of: usize, other: &Call| call.meets(other) && number < last_event(round, of) && of < last_event(round, number);
+        if numbers.iter().any(|of| round.events.get(*of as usize).and_then(One::call).is_some_and(|other| is_met(*of as usize, other))) {
+            let (made, events) = (said_made(round, number as u64, call.said()), said_events(round, number as u64, one.process as u64));
+            said.push(format!("{made} of process {} ({events})", one.process));
+        }
+    }
+    let more = said.len().saturating_sub(OPEN_SHOWN);
+    said.truncate(OPEN_SHOWN);
+    if more > 0 {
+        said.push(format!("and {more} more"));
+    }
+    (!said.is_empty()).then(|| format!("  also open on the same keys meanwhile: {}", said.join(", ")))
+}
+
 /// Who put a value.
 fn said_writer(round: &Round, answer: &Json) -> String {
     let Json::Number(value) = answer else { return String::new() };
-    for (number, (process, what)) in round.events.iter().enumerate() {
-        match what {
-            What::Invoke(call) if matches!(call.0, "insert" | "replace") && call.1.last() == Some(value) => {
-                return format!("; {value} is what process {process} put (event {number})");
-            }
-            _ => (),
+    for (number, one) in round.events.iter().enumerate() {
+        if one.call().and_then(Call::put) == Some(*value) {
+            return format!("; {value} is what process {} put (event {number})", one.process);
         }
     }
     let was_there = round.start.values().any(|held| held == value);
@@ -1682,11 +2380,11 @@ fn said_from(line: &Json) -> String {
 }
 
 /// Which calls one misses.
-fn said_missed(line: &Json) -> String {
+fn said_missed(round: &Round, line: &Json) -> String {
     let missed = line.member("misses").items().iter();
     missed.map(|call| {
         let (process, event) = (call.member("process").number(), call.member("event").number());
-        format!("; it misses {} of process {process} (event {event})", said_call(call.member("call")))
+        format!("; it misses {} of process {process} (event {event})", said_made(round, event, said_call(call.member("call"))))
     }).collect()
 }
 
@@ -1695,6 +2393,7 @@ fn said_missed(line: &Json) -> String {
 fn said_report(report: &str, round: &Round) -> (Vec<String>, Option<String>) {
     let mut lines = report.lines();
     let (mut said, mut few) = (vec![said_verdict(lines.next().unwrap_or(""))], None);
+    let (mut shown, mut next) = (vec![], vec![]);
     for text in lines {
         let line = Json::read(&mut &*text);
         if line.has("verdict") {
@@ -1707,10 +2406,12 @@ fn said_report(report: &str, round: &Round) -> (Vec<String>, Option<String>) {
             few = Some(format!("{text}\n"));
         } else if line.has("answer") {
             let (event, process) = (line.member("event").number(), line.member("process").number());
-            let (call, answered) = (said_call(line.member("call")), said_answered(round, line.member("answer")));
-            let missed = said_missed(&line);
+            let made = || said_call(line.member("call")) + &said_answered(round, line.member("answer"));
+            let made = note_of(round, event).cloned().unwrap_or_else(made);
+            let missed = said_missed(round, &line);
             let events = said_events(round, event, process);
-            said.push(format!("  {events:<19} process {process:<3} {call}{answered}{missed}"));
+            shown.push(event);
+            said.push(format!("  {events:<19} process {process:<3} {made}{missed}"));
         } else if line.has("from") {
             said.push(said_from(&line));
         } else if line.has("puts") {
@@ -1718,21 +2419,39 @@ fn said_report(report: &str, round: &Round) -> (Vec<String>, Option<String>) {
         } else if line.has("front") {
             let front: Vec<String> = line.member("front").items().iter().map(|event| event.number().to_string()).collect();
             let holds = said_answer(line.member("holds"));
-            said.push(format!("  an order of them gets as far as the events [{}]; the map then holds {holds}", front.join(",")));
+            said.push(match front.is_empty() {
+                true => format!("  no call of them can come first; the map holds {holds}"),
+                false => format!("  an order of them gets as far as the events [{}]; the map then holds {holds}", front.join(",")),
+            });
             for call in line.member("next").items() {
                 let (event, answer, would) = (call.member("event").number(), call.member("answer"), call.member("would"));
+                next.push(event);
                 let writer = said_writer(round, answer);
                 let (answer, would) = (said_answer(answer), said_answer(would));
                 said.push(format!("  the call of event {event} was answered {answer}, and would be answered {would}{writer}"));
             }
         }
     }
+    let last: Vec<u64> = shown.last().copied().into_iter().collect();
+    said.extend(said_open(round, &shown, if next.is_empty() { &last } else { &next }));
     (said, few)
+}
+
+/// A line of a report, without the values that replaces of a cache put which said that they changed nothing.
+fn unmarked(line: &str) -> String {
+    let texts = line.split_inclusive(|one: char| !one.is_ascii_digit());
+    texts.map(|text| {
+        let digits = text.trim_end_matches(|one: char| !one.is_ascii_digit());
+        match digits.parse::<u64>() {
+            Ok(value) if (OWN_VALUES..u64::MAX).contains(&value) => text.replace(digits, "a value that no call puts"),
+            _ => text.to_string(),
+        }
+    }).collect()
 }
 
 /// Writes a file of a round, or of a stream, and says how it is called.
 fn keep(run: &Run, ending: &str, text: &str) -> String {
-    let name = format!("{}-{}-{}{ending}", run.options.name, run.options.seed, run.rounds.saturating_sub(1));
+    let name = format!("{}-{}-{}{ending}", run.options.name, run.options.seed, run.counted.rounds.saturating_sub(1));
     let path = std::path::Path::new(&run.options.out).join(name);
     match std::fs::write(&path, text) {
         Ok(()) => format!("  file: {}", path.display()),
@@ -1794,7 +2513,9 @@ fn shown_left(run: &Run, left: &str, program: &Program) -> Result<Vec<String>, S
         return Ok(vec![line, keep(run, ".json", left)]);
     }
     let mut said = vec![ANEW.to_string()];
-    said.extend(shown(run, left, &explained, &Round::read(left), program)?);
+    let mut round = Round::read(left);
+    round.note(run.report.lines().next().unwrap_or(""), &run.notes);
+    said.extend(shown(run, left, &explained, &round, program)?);
     Ok(said)
 }
 
@@ -1816,6 +2537,9 @@ fn why_not_few(report: &str) -> &'static str {
 /// first file.
 fn shown(run: &Run, text: &str, report: &str, round: &Round, program: &Program) -> Result<Vec<String>, Stop> {
     let (mut said, few) = said_report(report, round);
+    if run.options.cache.is_some() {
+        said.iter_mut().for_each(|line| *line = unmarked(line));
+    }
     said.push(keep(run, ".json", text));
     said.extend(few.as_ref().map(|few| keep(run, "-few.json", few)));
     said.push(keep(run, ".svg", &program.ask_twice("draw", text)?.1));
@@ -1831,7 +2555,7 @@ fn refuted<M: Map>(run: &Run, make: &dyn Fn() -> M, program: &Program) -> Result
     let least = less.as_ref().unwrap_or(run);
     let Some(round) = &least.failed else { return Ok(vec![]) };
     let (threads, keys, calls) = (least.options.threads, least.options.keys, least.options.calls);
-    let mut said = vec![format!("round {} has no order", run.rounds - 1)];
+    let mut said = vec![format!("round {} has no order", run.counted.rounds - 1)];
     said.push(format!("the smallest of some tries that failed: threads {threads}, keys {keys}, calls {calls}"));
     let text = round.text();
     let kept = keep(run, ".json", &text); // before: the part that explains may be built first
@@ -1839,7 +2563,7 @@ fn refuted<M: Map>(run: &Run, make: &dyn Fn() -> M, program: &Program) -> Result
         Ok((_, explained)) => said.extend(shown(run, &text, &explained, round, program)?),
         Err(Stop(_, line)) => said.extend([kept, format!("few calls are not shown: {line}")]),
     }
-    said.push(format!("{AGAIN}{}", run.options.again(run.rounds)));
+    said.push(format!("{AGAIN}{}", run.options.again(run.counted.rounds)));
     Ok(said)
 }
 
@@ -1858,6 +2582,9 @@ const USAGE: &str = "  --seconds N       how long (10, or as long as --rounds ta
   --scan HOW        snapshot: a scan is of one moment; steps: steps of ceiling (snapshot)
   --yield N         of a thousand points between and in calls, so many give way to other threads (0)
   --break HOW       makes the map wrong now and then: drop, race, replay, stale, zombie, torn or cas; all: in each of these ways
+  --cache [late]    the map is a cache: it may lose any key at any time; late: and a miss says nothing, as of one whose writes appear later
+  --fresh N         a new map after each so many rounds (one map)
+  --reopen          the map is closed and opened again after each round
   --stream          one stream that is followed while it is recorded, in the place of rounds
   --out FOLDER      where files are put (.), or - for standard output: all histories or the stream, which nobody judges then
   --budget N        the judge's (100000)
@@ -1880,6 +2607,11 @@ struct Options {
     seed: u64,
     yields: u64,
     budget: u64,
+    cache: Option<String>,
+    fresh: u64,
+    span: u64,
+    has_del: bool,
+    is_reopened: bool,
     is_stream: bool,
     has_void: bool,
     has_mix: bool,
@@ -1894,15 +2626,24 @@ impl Options {
         let mut options = Options {
             name: name.to_string(), void: "done".to_string(), scan: "snapshot".to_string(), out: ".".to_string(), broken: None, bench: None,
             seconds: 0, rounds: 0, threads: 4, keys: 0, hot: 0, calls: 0, seed, yields: 0, budget: 100_000,
-            is_stream: false, has_void: false, has_mix: false, shares: [0; 9], shows: std::io::stderr().is_terminal(), shown: Instant::now(),
+            cache: None, fresh: 0, span: SPAN, has_del: false, is_reopened: false, is_stream: false, has_void: false, has_mix: false, shares: [0; 9], shows: std::io::stderr().is_terminal(), shown: Instant::now(),
         };
-        let mut words = words.iter();
+        let mut words = words.iter().peekable();
         while let Some(word) = words.next() {
-            if word == "--stream" {
-                options.is_stream = true;
-            } else {
-                options.read(word, words.next().map_or("", |text| text))?;
+            match word.as_str() {
+                "--stream" => options.is_stream = true,
+                "--reopen" => options.is_reopened = true,
+                "--cache" => {
+                    options.cache = Some("now".to_string());
+                    if let Some(next) = words.next_if(|next| !next.starts_with("--")) {
+                        options.cache = Some(next.clone());
+                    }
+                }
+                _ => options.read(word, words.next().map_or("", |text| text))?,
             }
+        }
+        if options.cache.as_ref().is_some_and(|how| how != "now" && how != "late") {
+            return fail(BAD_WORDS, "--cache: late, or nothing");
         }
         Ok(options)
     }
@@ -1918,6 +2659,7 @@ impl Options {
             "--seed" => (0, u64::MAX, &mut self.seed),
             "--yield" => (0, 1000, &mut self.yields),
             "--budget" => (1, 1_000_000, &mut self.budget),
+            "--fresh" => (1, u64::MAX, &mut self.fresh),
             _ => return self.read_named(word, text),
         };
         match text.parse() {
@@ -1968,7 +2710,7 @@ impl Options {
     }
 
     /// The words together, and with what the map has.
-    fn fit(&mut self, has: [bool; 9]) -> Result<(), Stop> {
+    fn fit(&mut self, has: [bool; 9], can_reopen: bool) -> Result<(), Stop> {
         let is_apart = self.void == "own" || self.void == "lock";
         for kind in KINDS {
             let is_steps = kind == Scan && self.scan == "steps";
@@ -1997,12 +2739,20 @@ impl Options {
             (!is_unbroken, "--break: what it makes wrong is not called"),
             (self.hot > self.keys, "--hot: more than there are keys"),
             (self.void == "own" && self.keys < self.threads, "--void: own: each thread needs a key"),
+            (self.cache.is_some() && self.void == "own", "--cache: not with --void own, since the writer of a key does not see that the key was lost"),
+            (self.is_stream && self.fresh > 0, "--fresh: not with --stream, which is of one map"),
+            (self.is_stream && self.is_reopened, "--reopen: not with --stream, which is of one map"),
+            (self.is_reopened && !can_reopen, "--reopen: the map has no function reopen"),
             (self.is_stream && self.rounds > 0, "--rounds: a stream has none; --seconds, or --calls of each thread"),
             (!self.is_stream && threads > PROCESSES as u64 - 2, "--threads: at most 62 in rounds; --stream has no such end"),
             (!self.is_stream && self.keys > most, &many_keys),
             (!self.is_stream && self.calls > most, &many_calls),
         ];
         rows.iter().find(|(is_wrong, _)| *is_wrong).map_or(Ok(()), |(_, line)| fail(BAD_WORDS, *line))?;
+        self.has_del = has[Del as usize];
+        if !self.is_stream && self.cache.is_some() {
+            self.span = SPAN.min((PROCESSES as u64 - 1 - threads) / threads).max(1); // each missing key needs a process
+        }
         self.check_out()
     }
 
@@ -2057,6 +2807,13 @@ impl Options {
         if self.yields > 0 {
             let _ = write!(text, " --yield {}", self.yields);
         }
+        if let Some(how) = &self.cache {
+            text.push_str(if how == "late" { " --cache late" } else { " --cache" });
+        }
+        if self.fresh > 0 {
+            let _ = write!(text, " --fresh {}", self.fresh);
+        }
+        text.push_str(if self.is_reopened { " --reopen" } else { "" });
         if let Some(how) = &self.broken {
             let _ = write!(text, " --break {how}");
         }
@@ -2076,16 +2833,19 @@ fn said_calls(has: [bool; 9], called: [u64; 9]) -> String {
 /// How a run went: its status, what is to be told before the last line, and that.
 fn tested<M: Map>(name: &str, make: &dyn Fn() -> M, words: &[String]) -> Result<(i32, Vec<String>, String), Stop> {
     let mut options = Options::new(name, words)?;
-    let has = functions(make());
-    options.fit(has)?;
+    let map = make();
+    let has = functions(&map);
+    let can_reopen = options.is_reopened && map.reopen().is_some();
+    options.fit(has, can_reopen)?;
     let program = if options.out == "-" { None } else { Some(Program::new(&options)?) };
     if let (Some("all"), Some(program)) = (options.broken.as_deref(), &program) {
         return all_broken(options, make, program, has);
     }
     let run = Run::new(&options, make, program.as_ref(), 0)?;
-    let is_undecided = run.undecided > 0 || !run.cut.is_empty();
+    let is_empty = program.is_some() && options.cache.is_some() && run.tally.hits == 0;
+    let is_undecided = run.undecided > 0 || !run.cut.is_empty() || is_empty;
     let status = if run.failed.is_some() { NO } else if is_undecided { UNDECIDED } else { YES };
-    let (mut said, calls) = (run.cut.clone(), said_calls(has, run.called));
+    let (mut said, calls) = (run.cut.clone(), said_calls(has, run.counted.called));
     let Some(program) = program else {
         said.extend([calls, run.summary("not judged")]);
         return Ok((status, said, String::new()));
@@ -2112,11 +2872,14 @@ fn all_broken<M: Map>(
         }
         options.broken = Some(how.to_string());
         let run = Run::new(&options, make, Some(program), 0)?;
-        missed += usize::from(run.failed.is_none());
-        (0..9).for_each(|kind| called[kind] += run.called[kind]);
-        said.push(format!("{how}: {}", run.summary(if run.failed.is_some() { "no" } else { "yes" })));
+        let is_refuted = run.failed.is_some() && run.wrong_times > 0;
+        missed += usize::from(!is_refuted);
+        (0..9).for_each(|kind| called[kind] += run.counted.called[kind]);
+        let verdict = if is_refuted { "no" } else if run.failed.is_some() { "no of the map as it is" } else { "yes" };
+        said.push(format!("{how}: {}", run.summary(verdict)));
     }
     said.push(said_calls(has, called));
+    said.push("this shows that calls and answers reach the judge; it does not show that threads meet: see the overlap".to_string());
     Ok(match missed {
         0 => (NO, said, "no: each broken map was refuted".to_string()),
         _ => (YES, said, format!("yes: {missed} of the broken maps were not refuted")),

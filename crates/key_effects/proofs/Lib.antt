@@ -17,3 +17,4 @@ pub mod GrowLemmas
 pub mod WiderLemmas
 pub mod NoneLemmas
 pub mod AlikeLemmas
+pub mod DisturbedLemmas

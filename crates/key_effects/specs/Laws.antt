@@ -11,7 +11,7 @@ use Rattle.key_effects.specs.Growth.{HaveGrown}
 use Rattle.key_effects.specs.Choices.{Choice, at_first, among, GoesOn, SomeGoesOn, StandAbove, StandBelow}
 use Rattle.key_effects.specs.Cuts.{Keys, ArePartedAt, CoverCut, AreReachedAt}
 use Rattle.key_effects.specs.Apart.{only, other_keys, Parts, AreAlike}
-use Rattle.key_effects.specs.Wider.{AliveStaysAlive, YesFromAbove, NoFromBelow}
+use Rattle.key_effects.specs.Wider.{AliveStaysAlive, YesFromAbove, NoFromBelow, CompletedCallsSuffice}
 
 -- a history has an order exactly where its scans may be answered so by some map, and its calls have an order as the keys see them
 abbrev pub OrdersAreKeyedOrders : Type 0
@@ -110,3 +110,7 @@ abbrev pub AlikeCallsDecide : Type 0
 AlikeCallsDecide =
     (keys : Keys) (held other : ℕ → Option ℕ) (calls alike : List KeyedCall) → AreAlike keys held other calls alike
     → HasKeyedOrder held calls ↔ HasKeyedOrder other alike
+
+-- and a pending call disturbs a scan too
+abbrev pub PendingCallsDisturb : Type 0
+PendingCallsDisturb = CompletedCallsSuffice → ⊥

@@ -1,5 +1,5 @@
 // Laws of calls as the keys see them, each the contract of a function that does nothing.
-ghost use Rattle.key_effects.specs.Laws.{AboveIsNoYes, AlikeCallsDecide, AliveMayDie, BelowIsNoNo, CallsGrow, ChoicesBegin, ChoicesJudge, ChoicesStay, CutsStandAbove, CutsStandBelow, DeadChoicesGo, DeadChoicesStayDead, EffectsDecide, GrowthGoesOn, OrdersAreKeyedOrders, SetsOfKeysJudge, SomeKeysRefute};
+ghost use Rattle.key_effects.specs.Laws.{AboveIsNoYes, AlikeCallsDecide, AliveMayDie, BelowIsNoNo, CallsGrow, ChoicesBegin, ChoicesJudge, ChoicesStay, CutsStandAbove, CutsStandBelow, DeadChoicesGo, DeadChoicesStayDead, EffectsDecide, GrowthGoesOn, OrdersAreKeyedOrders, PendingCallsDisturb, SetsOfKeysJudge, SomeKeysRefute};
 
 /// The calls of events have an order exactly where the scans are answered as scans may be, and the calls have an order as the keys see them.
 pub fn orders_are_keyed_orders()
@@ -85,4 +85,9 @@ pub fn effects_decide()
 /// Calls that are alike at some keys have orders where the others do, if the other keys hold nothing.
 pub fn alike_calls_decide()
     ensures { AlikeCallsDecide }
+{}
+
+/// A scan may be judged apart only where no call disturbs it, be it pending: completed calls alone do not tell.
+pub fn pending_calls_disturb()
+    ensures { PendingCallsDisturb }
 {}
