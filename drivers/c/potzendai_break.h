@@ -7,13 +7,14 @@
 /* One call in so many goes wrong. */
 enum { POTZENDAI_SELDOM = 20 };
 
-/* What is broken, and how. `round` is that of the run: a thread's wrong calls are others in each. */
+/* What is broken, and how. `round` is that of the run: a thread's wrong calls are others in each. `wrongs` counts what was made wrong. */
 struct potzendai_broken {
     struct potzendai_map map;
     const struct potzendai_map *truly;
     enum potzendai_break how;
     uint64_t keys, seed;
     const uint64_t *round;
+    recording_word *wrongs;
 };
 
 /* What was once got at a key. */
@@ -32,6 +33,12 @@ struct potzendai_wrong {
 static inline bool potzendai_goes_wrong(struct potzendai_wrong *w, enum potzendai_break how)
 {
     return w->broken->how == how && potzendai_draw_below(&w->state, POTZENDAI_SELDOM) == 0;
+}
+
+/* Counts that the map was made wrong. */
+static inline void potzendai_count_wrong(struct potzendai_wrong *w)
+{
+    atomic_fetch_add(w->broken->wrongs, (uint64_t)1);
 }
 
 static inline void potzendai_wrong_close(void *connection)
@@ -82,6 +89,7 @@ static inline struct potzendai_wrong *potzendai_catch_up(void *connection)
     uint64_t found;
     if (w->is_late && potzendai_draw_below(&w->state, 2)) {
         w->is_late = false;
+        potzendai_count_wrong(w);
         w->broken->truly->put(w->connection, w->late_key, w->late_value, &found);
     }
     return w;
@@ -100,6 +108,7 @@ static inline enum map_said potzendai_wrong_get(void *connection, uint64_t key, 
     struct potzendai_once *once = &w->once[key];
     if (once->is_there && potzendai_goes_wrong(w, POTZENDAI_STALE)) {
         *found = once->found;
+        potzendai_count_wrong(w);
         return once->said;
     }
     enum map_said said = w->broken->truly->get(w->connection, key, found);
@@ -124,6 +133,7 @@ static inline enum map_said potzendai_race(struct potzendai_wrong *w, uint64_t k
     const struct potzendai_map *truly = w->broken->truly;
     uint64_t beside = w->style == MAP_TOLD || (key ^ 1) >= w->broken->keys ? key : key ^ 1, got, unused;
     enum map_said said = truly->get(w->connection, beside, &got);
+    potzendai_count_wrong(w);
     potzendai_pause();
     if (beside != key && said == MAP_TOLD)
         truly->put(w->connection, beside, got, &unused);
@@ -141,8 +151,10 @@ static inline enum map_said potzendai_wrong_put(void *connection, uint64_t key, 
         return potzendai_race(w, key, value, found);
     if (w->is_known && potzendai_goes_wrong(w, POTZENDAI_DROP)) {
         enum map_said got = w->broken->truly->get(w->connection, key, found);
-        if (got == MAP_TOLD || got == MAP_NONE)
+        if (got == MAP_TOLD || got == MAP_NONE) {
+            potzendai_count_wrong(w);
             return potzendai_in_style(w, got);
+        }
     }
     if (potzendai_goes_wrong(w, POTZENDAI_REPLAY))
         potzendai_be_late(w, key, value);
@@ -171,6 +183,7 @@ static inline enum map_said potzendai_wrong_scan(void *connection, uint64_t low,
     enum map_said said = truly->scan(w->connection, low, middle, pairs, room, &first);
     if ((said != MAP_TOLD && said != MAP_NONE) || first > room)
         return truly->scan(w->connection, low, high, pairs, room, count);
+    potzendai_count_wrong(w);
     potzendai_pause();
     said = truly->scan(w->connection, middle + 1, high, pairs + first, room - first, &second);
     *count = first + second;
@@ -183,6 +196,7 @@ static inline enum map_said potzendai_wrong_replace(void *connection, uint64_t k
     const struct potzendai_map *truly = w->broken->truly;
     if (potzendai_goes_wrong(w, POTZENDAI_CAS)) {
         enum map_said said = truly->put(w->connection, key, value, found);
+        potzendai_count_wrong(w);
         return said == MAP_REFUSED || said == MAP_UNKNOWN ? said : MAP_DONE;
     }
     return truly->replace(w->connection, key, old, value, found);
@@ -214,7 +228,8 @@ static inline enum map_said potzendai_wrong_pop_first(void *connection, struct r
 
 /* The map to call: the broken one has the functions that the true one has. */
 static inline const struct potzendai_map *potzendai_break_map(struct potzendai_broken *broken, const struct potzendai_map *truly,
-                                                              const struct potzendai_options *options, const uint64_t *round)
+                                                              const struct potzendai_options *options, const uint64_t *round,
+                                                              recording_word *wrongs)
 {
     if (options->broken == POTZENDAI_UNBROKEN)
         return truly;
@@ -223,6 +238,7 @@ static inline const struct potzendai_map *potzendai_break_map(struct potzendai_b
     broken->keys = options->keys;
     broken->seed = options->seed;
     broken->round = round;
+    broken->wrongs = wrongs;
     broken->map = *truly;
     broken->map.map = broken;
     broken->map.open = potzendai_wrong_open;

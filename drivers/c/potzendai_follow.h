@@ -8,6 +8,10 @@
  * that are kept for a file, and for how many of them there is room at first. */
 enum { POTZENDAI_SLOTS = 8192, POTZENDAI_OTHERS = 4096, POTZENDAI_SHOWN = 1000, POTZENDAI_KEPT = 1 << 26, POTZENDAI_KEPT_FIRST = 1 << 16 };
 
+/* How calls of a stream meet: how many there are, how many are open, and how many others were open at their invocations, all added up. Of each
+ * process that has an open call it has how many calls there were with that one, and 0 of the others. */
+struct potzendai_meetings { uint64_t calls, open, overlap, *with, processes; };
+
 /* A stream, who takes its lines, and how far it is. */
 struct potzendai_following {
     struct potzendai_tester *tester;
@@ -18,6 +22,7 @@ struct potzendai_following {
     FILE *file;
     struct potzendai_follower follower;
     struct potzendai_told told;
+    struct potzendai_meetings meetings;
     char *kept; /* the stream so far, while it is kept */
     size_t kept_length, kept_room;
     bool is_long, is_unkept;
@@ -26,25 +31,47 @@ struct potzendai_following {
 /* The calls that the threads have made so far. */
 static inline void potzendai_count_calls(struct potzendai_following *f)
 {
-    f->tester->calls = f->tester->refused = 0;
+    f->tester->run->counts.calls = f->tester->refused = 0;
     for (uint64_t i = 0; i < f->tester->run->threads; i++) {
-        f->tester->calls += atomic_load_explicit(&f->threads[i].calls, POTZENDAI_RELAXED);
+        f->tester->run->counts.calls += atomic_load_explicit(&f->threads[i].calls, POTZENDAI_RELAXED);
         f->tester->refused += atomic_load_explicit(&f->threads[i].refused, POTZENDAI_RELAXED);
     }
 }
 
-/* How far it is. What the library's follower says so far has the overlap a call of all calls that it has. */
+/* Counts the events of these lines, each of which ends with its process. */
+static inline void potzendai_meet(struct potzendai_meetings *m, const char *text, size_t length)
+{
+    for (const char *line = text, *end; (end = (const char *)memchr(line, '\n', (size_t)(text + length - line))) != NULL; line = end + 1) {
+        const char *digits = end - 1;
+        while (digits > line && digits[-1] >= '0' && digits[-1] <= '9')
+            digits--;
+        uint64_t process = strtoull(digits, NULL, 10);
+        bool is_call = strncmp(line, "{\"invoke\":", 10) == 0, is_event = is_call || strncmp(line, "{\"answer\":", 10) == 0;
+        if (!is_event || process >= m->processes)
+            continue;
+        m->overlap += is_call ? m->open : 0;
+        m->calls += is_call;
+        m->open = is_call ? m->open + 1 : m->open - 1;
+        m->with[process] = is_call ? m->calls : 0;
+    }
+}
+
+/* How many other calls were open at an invocation, on average. A call that has no answer is not open for others: nobody makes it any more. */
+static inline double potzendai_met_a_call(const struct potzendai_meetings *m)
+{
+    uint64_t overlap = m->overlap;
+    for (uint64_t p = 0; p < m->processes; p++)
+        overlap -= m->with[p] > 0 ? m->calls - m->with[p] : 0;
+    return (double)overlap / (double)(m->calls ? m->calls : 1);
+}
+
+/* How far it is. */
 static inline void potzendai_follow_progress(struct potzendai_following *f)
 {
     if (!f->tester->has_terminal || potzendai_now() - f->tester->told < 1)
         return;
-#ifndef POTZENDAI_NO_LIBRARY
-    char report[POTZENDAI_REPORT];
-    size_t length;
-    potzendai_follow_verdict(&f->follower, report, sizeof report, &length);
     f->tester->has_overlap = true;
-    f->tester->overlap_a_call = potzendai_decimal(report, "\"overlap\":");
-#endif
+    f->tester->overlap_a_call = potzendai_met_a_call(&f->meetings);
     potzendai_count_calls(f);
     potzendai_progress(f->tester);
 }
@@ -87,6 +114,7 @@ static inline int potzendai_take_lines(void *to, const char *text, size_t length
     struct potzendai_following *f = (struct potzendai_following *)to;
     uint32_t status = potzendai_follow_event(&f->follower, text, length);
     potzendai_keep_lines(f, text, length);
+    potzendai_meet(&f->meetings, text, length);
     potzendai_follow_progress(f);
     return status == POTZENDAI_IS_YES ? 0 : -1;
 }
@@ -107,16 +135,77 @@ static inline enum potzendai_status potzendai_stream_verdict(struct potzendai_fo
     return status;
 }
 
+/* A line of the stream that is kept, and which event it is of; of the first line, none. */
+struct potzendai_kept { const char *line, *end; uint64_t event; };
+
+/* Writes the line of an event into room for one; nothing where it is not kept. From lines before it this goes on where it was. */
+static inline void potzendai_find_kept(const struct potzendai_following *f, struct potzendai_kept *k, uint64_t event, char room[RECORDING_EVENT_TEXT])
+{
+    if (!k->line || event < k->event) {
+        k->line = f->kept;
+        k->end = f->kept ? f->kept + f->kept_length : NULL;
+        k->event = UINT64_MAX;
+    }
+    while (k->line && k->event != event) {
+        k->line = (const char *)memchr(k->line, '\n', (size_t)(k->end - k->line));
+        k->line = k->line && k->line + 1 < k->end ? k->line + 1 : NULL;
+        k->event++;
+    }
+    size_t length = 0;
+    while (k->line && length + 1 < RECORDING_EVENT_TEXT && k->line[length] != '\n') {
+        room[length] = k->line[length];
+        length++;
+    }
+    room[length] = 0;
+}
+
+static inline size_t potzendai_count_text(const char *text, const char *what)
+{
+    size_t count = 0;
+    for (const char *at = strstr(text, what); at; at = strstr(at + 1, what))
+        count++;
+    return count;
+}
+
+/* The history of the calls left at a key with the notes that the stream has of them; NULL where it has none, or not all of these calls. */
+static inline char *potzendai_note_left(const struct potzendai_following *f, const char *text)
+{
+    const char *invoked = potzendai_member(f->told.report, "\"invoked\":["), *from = text;
+    size_t calls = potzendai_count_text(text, "{\"invoke\":"), numbers = invoked && *invoked != ']';
+    for (const char *at = invoked; at && *at && *at != ']'; at++)
+        numbers += *at == ',';
+    bool is_noted = f->kept && calls == numbers && strstr(text, "\"version\":3}");
+    char *noted = is_noted ? (char *)calloc(1, strlen(text) + calls * RECORDING_EVENT_TEXT + 1) : NULL, *to = noted;
+    struct potzendai_kept kept = {NULL, NULL, 0};
+    for (const char *at = potzendai_event_from(text); noted && at; at = potzendai_event_from(at + 1)) {
+        char line[RECORDING_EVENT_TEXT], *next = NULL;
+        if (strncmp(at, "{\"invoke\":", 10) != 0)
+            continue;
+        potzendai_find_kept(f, &kept, strtoull(invoked, &next, 10), line);
+        invoked = next + (*next == ',');
+        const char *note = potzendai_note_of(line), *member = strstr(at, ",\"process\":");
+        if (!note || !member)
+            continue;
+        memcpy(to, from, (size_t)(member - from));
+        to += member - from;
+        to += snprintf(to, RECORDING_EVENT_TEXT, ",\"note\":\"%.*s\"", (int)strcspn(note, "\""), note);
+        from = member;
+    }
+    if (noted)
+        recording_put(to, from);
+    return noted;
+}
+
 /* The history of the calls left at a key, and few of it that have no order. Where these are not found, the history alone is kept. */
 static inline void potzendai_tell_left(struct potzendai_following *f, const char *text)
 {
     struct potzendai_told left;
     memset(&left, 0, sizeof left);
     left.is_left = true;
-    left.length = strlen(text);
-    left.text = (char *)calloc(1, left.length + 1);
-    if (left.text)
-        memcpy(left.text, text, left.length);
+    left.text = potzendai_note_left(f, text);
+    if (!left.text && (left.text = (char *)calloc(1, strlen(text) + 1)) != NULL)
+        recording_put(left.text, text);
+    left.length = left.text ? strlen(left.text) : 0;
     enum potzendai_status status = left.text ? potzendai_explained(f->tester->options, &left) : POTZENDAI_NO_MEMORY;
     if (status <= POTZENDAI_IS_UNDECIDED && strstr(left.report, "\n{\"answer\":")) {
         fputs("events and processes are numbered anew here and in the files, for the calls \"invoked\" above that had not taken effect, "
@@ -156,7 +245,7 @@ static inline int potzendai_end_stream(struct potzendai_following *f)
     struct potzendai_run *run = f->tester->run;
     enum potzendai_status status = potzendai_stream_verdict(f);
     f->tester->has_overlap = f->told.report && potzendai_member(f->told.report, "\"overlap\":");
-    f->tester->overlap_a_call = f->tester->has_overlap ? potzendai_decimal(f->told.report, "\"overlap\":") : 0;
+    f->tester->overlap_a_call = potzendai_met_a_call(&f->meetings);
     if (atomic_load(&run->fault))
         return -1;
     if (status == POTZENDAI_IS_YES && f->written)
@@ -207,7 +296,7 @@ static inline void potzendai_wait(struct potzendai_following *f)
     struct potzendai_run *run = f->tester->run;
     double until = f->tester->began + (double)f->tester->options->seconds;
     struct timespec some_time = {0, 10000000};
-    while (potzendai_now() < until && !atomic_load(&run->fault) && !atomic_load(&f->is_done) && atomic_load(&run->arrived))
+    while (potzendai_now() < until && !potzendai_is_interrupted() && !atomic_load(&run->fault) && !atomic_load(&f->is_done) && atomic_load(&run->arrived))
         nanosleep(&some_time, NULL);
 }
 
@@ -237,6 +326,10 @@ static inline int potzendai_open_stream(struct potzendai_following *f)
     if (potzendai_read_start(f->tester))
         return -1;
     potzendai_remember_start(f->tester);
+    f->meetings.processes = processes;
+    f->meetings.with = (uint64_t *)calloc((size_t)processes, sizeof *f->meetings.with);
+    if (!f->meetings.with)
+        return potzendai_fail(run, POTZENDAI_NO_MEMORY, "memory: a stream has no room");
     if (streaming_open(&f->stream, (unsigned)processes, POTZENDAI_SLOTS, pairs, 1)
         || streaming_start(&f->stream, f->tester->start, f->tester->pairs_at_start))
         return potzendai_fail(run, POTZENDAI_NO_MEMORY, "memory: a stream has no room");
@@ -280,6 +373,7 @@ static inline int potzendai_stream(struct potzendai_tester *tester)
     if (f->file && fclose(f->file) && status == 0)
         status = potzendai_fail(tester->run, POTZENDAI_BAD_FILE, "the stream was not written");
     free(f->kept);
+    free(f->meetings.with);
     free(f);
     return status;
 }

@@ -2,6 +2,7 @@
 #ifndef POTZENDAI_MAP_H
 #define POTZENDAI_MAP_H
 
+#include "potzendai_schedule.h"
 #include "streaming.h"
 #include <inttypes.h>
 #include <time.h>
@@ -19,7 +20,8 @@ enum map_said {
 
 enum { POTZENDAI_SAYINGS = 7 };
 
-/* Any function but `get` and `put` may be NULL: it is not called then. Keys are from 0 up; the map holds no others. */
+/* Any function but `get` and `put` may be NULL: it is not called then. Keys are from 0 up; the map holds no others. With `begin` the run makes
+ * its maps itself, one after another, and `map` is what they are made of: anything, or NULL. */
 struct potzendai_map {
     const char *name;
     void *map;
@@ -37,6 +39,9 @@ struct potzendai_map {
     enum map_said (*floor)(void *connection, uint64_t key, struct recording_pair *pair);
     enum map_said (*ceiling)(void *connection, uint64_t key, struct recording_pair *pair);
     enum map_said (*pop_first)(void *connection, struct recording_pair *pair);
+    void *(*begin)(void *map);     /* makes a new map, which is given to `open`, or to the functions; NULL where it fails, as of `open` */
+    void (*end)(void *opened);     /* closes it for good */
+    void *(*reopen)(void *opened); /* closes it, at rest, and opens it again, with what it held: the same pointer, or another one */
 };
 
 enum potzendai_function {
@@ -84,6 +89,31 @@ static inline bool potzendai_writes(enum potzendai_function function)
         || function == POTZENDAI_POP_FIRST;
 }
 
+#ifdef __cplusplus
+extern "C" {
+#endif
+
+/* None, where the program is linked without one. */
+__attribute__((weak)) const struct potzendai_scheduler *potzendai_scheduler;
+
+#ifdef __cplusplus
+}
+#endif
+
+#ifdef __cplusplus
+#define POTZENDAI_OF_THREAD static thread_local
+#else
+#define POTZENDAI_OF_THREAD static _Thread_local
+#endif
+
+/* Of a thread that calls the map: of a thousand points, how many give way to other threads; and what draws them. */
+POTZENDAI_OF_THREAD unsigned potzendai_yields;
+POTZENDAI_OF_THREAD uint64_t potzendai_yield_state;
+
+/* Of such a thread: whether it is within a call, and how many points it has reached within calls under `--yield`. */
+POTZENDAI_OF_THREAD bool potzendai_is_calling;
+POTZENDAI_OF_THREAD uint64_t potzendai_points;
+
 /* Calls a function of the map. */
 static inline void potzendai_ask(const struct potzendai_map *map, void *connection, const struct potzendai_request *request,
                                  struct potzendai_answer *answer)
@@ -92,6 +122,9 @@ static inline void potzendai_ask(const struct potzendai_map *map, void *connecti
     answer->pair.key = key;
     answer->pair.value = 0;
     answer->count = 0;
+    potzendai_is_calling = true;
+    if (potzendai_scheduler)
+        potzendai_scheduler->in();
     switch (request->function) {
     case POTZENDAI_GET: answer->said = map->get(connection, key, found); break;
     case POTZENDAI_PUT: answer->said = map->put(connection, key, request->value, found); break;
@@ -103,6 +136,9 @@ static inline void potzendai_ask(const struct potzendai_map *map, void *connecti
     case POTZENDAI_CEILING: answer->said = map->ceiling(connection, key, &answer->pair); break;
     default: answer->said = map->pop_first(connection, &answer->pair);
     }
+    if (potzendai_scheduler)
+        potzendai_scheduler->out();
+    potzendai_is_calling = false;
 }
 
 /* What becomes of a call: it does not fit what was said, is left out since it tells nothing, stays without an answer, or is a call
@@ -194,22 +230,21 @@ static inline uint64_t potzendai_draw_below(uint64_t *state, uint64_t limit)
     return potzendai_mix(state) % limit;
 }
 
+/* The time, also where a scheduler shows the map another one. */
+static inline void potzendai_clock(clockid_t clock, struct timespec *now)
+{
+    if (potzendai_scheduler)
+        potzendai_scheduler->clock(clock, now);
+    else
+        clock_gettime(clock, now);
+}
+
 static inline double potzendai_now(void)
 {
     struct timespec now;
-    clock_gettime(CLOCK_MONOTONIC, &now);
+    potzendai_clock(CLOCK_MONOTONIC, &now);
     return (double)now.tv_sec + (double)now.tv_nsec / 1e9;
 }
-
-#ifdef __cplusplus
-#define POTZENDAI_OF_THREAD static thread_local
-#else
-#define POTZENDAI_OF_THREAD static _Thread_local
-#endif
-
-/* Of a thread that calls the map: of a thousand points, how many give way to other threads; and what draws them. */
-POTZENDAI_OF_THREAD unsigned potzendai_yields;
-POTZENDAI_OF_THREAD uint64_t potzendai_yield_state;
 
 static inline void potzendai_pause(void)
 {
@@ -229,7 +264,10 @@ extern "C" {
 __attribute__((weak)) void potzendai_point(void);
 __attribute__((weak)) void potzendai_point(void)
 {
-    if (potzendai_yields > 0 && potzendai_draw_below(&potzendai_yield_state, 1000) < potzendai_yields)
+    if (potzendai_yields == 0)
+        return;
+    potzendai_points += potzendai_is_calling;
+    if (potzendai_draw_below(&potzendai_yield_state, 1000) < potzendai_yields)
         potzendai_pause();
 }
 

@@ -74,6 +74,25 @@ static inline int potzendai_open_asked(struct potzendai_asked *asked, const char
     return asked->status;
 }
 
+/* Spawns the program. Ctrl-C does not end it once it is built, since the run that asks it ends with its answer. */
+static inline int potzendai_spawn(struct potzendai_asked *asked, const posix_spawn_file_actions_t *ends, char **words)
+{
+    posix_spawnattr_t how;
+    sigset_t blocked;
+    int fault = posix_spawnattr_init(&how);
+    if (fault)
+        return fault;
+    if (*potzendai_has_done(asked->command)) {
+        fault = pthread_sigmask(SIG_BLOCK, NULL, &blocked);
+        sigaddset(&blocked, SIGINT);
+        fault = fault ? fault : posix_spawnattr_setsigmask(&how, &blocked);
+        fault = fault ? fault : posix_spawnattr_setflags(&how, POSIX_SPAWN_SETSIGMASK);
+    }
+    fault = fault ? fault : posix_spawnp(&asked->process, words[0], ends, &how, words, environ);
+    posix_spawnattr_destroy(&how);
+    return fault;
+}
+
 /* Starts the program with this for its standard input. */
 static inline void potzendai_start_bench(struct potzendai_asked *asked, uint32_t budget, int input)
 {
@@ -86,7 +105,8 @@ static inline void potzendai_start_bench(struct potzendai_asked *asked, uint32_t
         fault = posix_spawn_file_actions_adddup2(&ends, input, 0);
         fault = fault ? fault : posix_spawn_file_actions_adddup2(&ends, fileno(asked->out), 1);
         fault = fault || !asked->said ? fault : posix_spawn_file_actions_adddup2(&ends, fileno(asked->said), 2);
-        fault = fault ? fault : posix_spawnp(&asked->process, potzendai_find_bench(asked->command, path), &ends, NULL, words, environ);
+        potzendai_find_bench(asked->command, path);
+        fault = fault ? fault : potzendai_spawn(asked, &ends, words);
         posix_spawn_file_actions_destroy(&ends);
     }
     asked->process = fault ? -1 : asked->process;

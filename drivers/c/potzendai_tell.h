@@ -9,6 +9,9 @@
 #include <stdlib.h>
 #include <string.h>
 
+/* Of the other calls that were open, so many are shown. */
+enum { POTZENDAI_OPEN_SHOWN = 6 };
+
 /* What stands behind a member's name in a line, or NULL. */
 static inline const char *potzendai_member(const char *line, const char *name)
 {
@@ -24,13 +27,6 @@ static inline uint64_t potzendai_number(const char *line, const char *name)
     return at ? strtoull(at, NULL, 10) : 0;
 }
 
-/* The same of one that may have decimals. */
-static inline double potzendai_decimal(const char *line, const char *name)
-{
-    const char *at = potzendai_member(line, name);
-    return at ? strtod(at, NULL) : 0;
-}
-
 /* The next line, or NULL. */
 static inline const char *potzendai_next_line(const char *line)
 {
@@ -43,6 +39,17 @@ static inline const char *potzendai_behind_number(const char *at)
     return at + strspn(at, "0123456789");
 }
 
+/* Whether the calls are those of a cache, of which the driver puts values from 2^63 on into a recording that no call puts. */
+static bool potzendai_has_own_values;
+
+/* Writes a value in words. */
+static inline void potzendai_tell_value(FILE *out, const char *at)
+{
+    int digits = (int)strspn(at, "0123456789");
+    bool is_own = potzendai_has_own_values && digits >= 19 && strtoull(at, NULL, 10) >> 63;
+    fprintf(out, "%.*s", is_own ? (int)strlen("a value that no call puts") : digits, is_own ? "a value that no call puts" : at);
+}
+
 /* Writes pairs in words and answers where their text ends. */
 static inline const char *potzendai_tell_pairs(FILE *out, const char *at)
 {
@@ -51,7 +58,8 @@ static inline const char *potzendai_tell_pairs(FILE *out, const char *at)
         fputs("nothing", out);
     for (at++; *at == '['; at += *at == ',') {
         const char *value = potzendai_behind_number(at + 1) + 1;
-        fprintf(out, "%s%.*s: %.*s", comma, (int)(value - at - 2), at + 1, (int)strspn(value, "0123456789"), value);
+        fprintf(out, "%s%.*s: ", comma, (int)(value - at - 2), at + 1);
+        potzendai_tell_value(out, value);
         comma = ", ";
         at = potzendai_behind_number(value) + 1;
     }
@@ -73,7 +81,7 @@ static inline void potzendai_tell_answer(FILE *out, const char *at)
     if (*at == '[')
         potzendai_tell_pairs(out, at);
     else
-        fprintf(out, "%.*s", (int)strspn(at, "0123456789"), at);
+        potzendai_tell_value(out, at);
 }
 
 /* Writes a call in words, from its text as ["insert",5,7]. */
@@ -97,6 +105,39 @@ static inline const char *potzendai_event_from(const char *at)
     while (at && strncmp(at, "{\"invoke\":", 10) != 0 && strncmp(at, "{\"answer\":", 10) != 0)
         at = strstr(at + 1, "{\"");
     return at;
+}
+
+/* The note of an event, which says how its call was made where that is recorded as another one; or NULL. */
+static inline const char *potzendai_note_of(const char *event)
+{
+    const char *note = event ? strstr(event, "\"note\":\"") : NULL;
+    return note && note < event + strcspn(event, "}") ? note + strlen("\"note\":\"") : NULL;
+}
+
+/* The event of this number, or NULL. */
+static inline const char *potzendai_event_at(const char *text, uint64_t event)
+{
+    const char *at = potzendai_event_from(text);
+    for (; at && event > 0; event--)
+        at = potzendai_event_from(at + 1);
+    return at;
+}
+
+/* Writes a call in words as it was made: that of an event, of which this is the text of its call. */
+static inline void potzendai_tell_made(FILE *out, const char *event, const char *call)
+{
+    const char *note = potzendai_note_of(event);
+    if (note)
+        fprintf(out, "%.*s", (int)strcspn(note, ",\""), note);
+    else
+        potzendai_tell_call(out, call);
+}
+
+/* Writes what a call found, of which that is noted. */
+static inline void potzendai_tell_found(FILE *out, const char *event)
+{
+    const char *note = potzendai_note_of(event), *found = note ? note + strcspn(note, ",\"") : "\"";
+    fprintf(out, "%.*s", (int)strcspn(found, "\""), found);
 }
 
 /* Writes the events of a call: that of its invocation by a process, and that of its answer, where it has one. */
@@ -201,15 +242,17 @@ static inline void potzendai_tell_from(FILE *out, const char *line)
 }
 
 /* Writes which calls one misses: they stand where `at` is, or it is NULL. */
-static inline void potzendai_tell_missed(FILE *out, const char *at)
+static inline void potzendai_tell_missed(FILE *out, const char *text, const char *at)
 {
     for (; at && *at == '{'; at = strchr(at, '}') + 1, at += *at == ',') {
         const char *call = potzendai_member(at, "\"call\":");
         if (!call)
             break;
         fputs("; it misses ", out);
-        potzendai_tell_call(out, call);
+        const char *event = potzendai_event_at(text, potzendai_number(at, "\"event\":"));
+        potzendai_tell_made(out, event, call);
         fprintf(out, " of process %" PRIu64 " (event %" PRIu64 ")", potzendai_number(at, "\"process\":"), potzendai_number(at, "\"event\":"));
+        potzendai_tell_found(out, event);
     }
 }
 
@@ -220,7 +263,10 @@ static inline void potzendai_tell_front(FILE *out, const char *text, const char 
     const char *next = potzendai_member(line, "\"next\":[");
     if (!front || !holds || !next)
         return;
-    fprintf(out, "  an order of them gets as far as the events [%.*s; the map then holds ", (int)strcspn(front, "]") + 1, front);
+    if (*front == ']')
+        fputs("  no call of them can come first; the map holds ", out);
+    else
+        fprintf(out, "  an order of them gets as far as the events [%.*s; the map then holds ", (int)strcspn(front, "]") + 1, front);
     potzendai_tell_pairs(out, holds);
     fputs("\n", out);
     for (const char *at = strchr(next, '{'); at; at = strstr(at + 1, "{\"answer\":")) {
@@ -304,6 +350,105 @@ static inline void potzendai_tell_verdict(FILE *out, const char *report)
         fprintf(out, "%.*s\n", (int)length, report);
 }
 
+/* An event of a history: where it stands, its process, and of an invocation which event its answer is, or as many as there are events. */
+struct potzendai_event { const char *at; uint64_t process; size_t answered; bool is_shown, is_late; };
+
+/* The keys of a call, of the text of its event. */
+static inline void potzendai_keys_of(const char *at, uint64_t keys[2])
+{
+    const char *words = at + strcspn(at, ",]");
+    char *end = NULL;
+    keys[0] = keys[1] = *words == ',' ? strtoull(words + 1, &end, 10) : 0;
+    if (strncmp(at, "{\"invoke\":[\"scan\"", 17) == 0 && end && *end == ',')
+        keys[1] = strtoull(end + 1, NULL, 10);
+}
+
+/* Whether two calls were open at once, and have a key in common. */
+static inline bool potzendai_meets(const struct potzendai_event *events, size_t one, size_t other)
+{
+    uint64_t a[2], b[2];
+    if (one >= events[other].answered || other >= events[one].answered)
+        return false;
+    potzendai_keys_of(events[one].at, a);
+    potzendai_keys_of(events[other].at, b);
+    return a[0] <= b[1] && b[0] <= a[1];
+}
+
+/* Takes the events of a history apart; NULL where memory is refused. */
+static inline struct potzendai_event *potzendai_events_of(const char *text, size_t *count)
+{
+    size_t open[64] = {0};
+    *count = 0;
+    for (const char *at = potzendai_event_from(text); at; at = potzendai_event_from(at + 1))
+        ++*count;
+    struct potzendai_event *events = (struct potzendai_event *)calloc(*count + 1, sizeof *events);
+    size_t i = 0;
+    for (const char *at = potzendai_event_from(text); events && at; at = potzendai_event_from(at + 1), i++) {
+        const char *member = strstr(at, "\"process\":");
+        events[i].at = at;
+        events[i].process = member ? strtoull(member + 10, NULL, 10) : 0;
+        events[i].answered = *count;
+        if (strncmp(at, "{\"invoke\":", 10) == 0)
+            open[events[i].process % 64] = i;
+        else
+            events[open[events[i].process % 64]].answered = i;
+    }
+    return events;
+}
+
+/* Marks the events of calls that a report shows, and of those that could come next, or else of the last that is shown. */
+static inline void potzendai_mark_events(struct potzendai_event *events, size_t count, const char *report)
+{
+    size_t last = count;
+    bool is_any = false;
+    for (const char *line = report; line; line = potzendai_next_line(line)) {
+        if (strncmp(line, "{\"answer\":", 10) == 0) {
+            last = (size_t)potzendai_number(line, "\"event\":");
+            if (last < count)
+                events[last].is_shown = true;
+        }
+        const char *next = strncmp(line, "{\"front\"", 8) == 0 ? potzendai_member(line, "\"next\":[") : NULL;
+        for (const char *at = next ? strchr(next, '{') : NULL; at; at = strstr(at + 1, "{\"answer\":")) {
+            size_t event = (size_t)potzendai_number(at, "\"event\":");
+            if (event < count)
+                events[event].is_late = is_any = true;
+        }
+    }
+    if (!is_any && last < count)
+        events[last].is_late = true;
+}
+
+/* Writes which other calls were open meanwhile on the keys of those that could come next: some of them, and how many more there are. */
+static inline void potzendai_tell_open(FILE *out, const char *text, const char *report)
+{
+    size_t count, told = 0;
+    struct potzendai_event *events = potzendai_events_of(text, &count);
+    if (!events)
+        return;
+    potzendai_mark_events(events, count, report);
+    for (size_t i = 0; i < count; i++) {
+        bool is_open = false;
+        bool is_call = strncmp(events[i].at, "{\"invoke\":", 10) == 0 && !events[i].is_shown;
+        for (size_t late = 0; is_call && !is_open && late < count; late++)
+            is_open = events[late].is_late && potzendai_meets(events, i, late);
+        if (!is_open || ++told > POTZENDAI_OPEN_SHOWN)
+            continue;
+        fputs(told == 1 ? "  also open on the same keys meanwhile: " : ", ", out);
+        potzendai_tell_made(out, events[i].at, events[i].at + 10);
+        fprintf(out, " of process %" PRIu64 " (event", events[i].process);
+        if (events[i].answered < count)
+            fprintf(out, "s %zu to %zu)", i, events[i].answered);
+        else
+            fprintf(out, " %zu on)", i);
+        potzendai_tell_found(out, events[i].at);
+    }
+    if (told > POTZENDAI_OPEN_SHOWN)
+        fprintf(out, ", and %zu more", told - POTZENDAI_OPEN_SHOWN);
+    if (told > 0)
+        fputs("\n", out);
+    free(events);
+}
+
 /* Writes a report of `explain` in words; `text` is the history, of a round or of what a follower still had. Behind an undecided `locate` has a
  * line, which is passed over. Answers the line that is the few calls' history, or NULL. */
 static inline const char *potzendai_tell(FILE *out, const char *text, const char *report, bool is_left)
@@ -312,7 +457,8 @@ static inline const char *potzendai_tell(FILE *out, const char *text, const char
     potzendai_tell_verdict(out, report);
     while (line && potzendai_member(line, "\"verdict\":"))
         line = potzendai_next_line(line);
-    if (line)
+    bool is_told = line != NULL;
+    if (is_told)
         fputs("these calls have no order, and no other could mend that:\n", out);
     for (; line; line = potzendai_next_line(line)) {
         const char *answer = potzendai_member(line, "{\"answer\":"), *call = potzendai_member(line, "\"call\":");
@@ -328,12 +474,17 @@ static inline const char *potzendai_tell(FILE *out, const char *text, const char
             /* The calls that it misses stand before its own process. */
             const char *missed = potzendai_member(line, "\"misses\":["), *behind = missed ? strstr(missed, "}],") : line;
             potzendai_tell_events(out, text, potzendai_number(line, "\"event\":"), behind ? potzendai_number(behind, "\"process\":") : 0);
-            potzendai_tell_call(out, call);
-            potzendai_tell_answered(out, text, answer, is_left);
-            potzendai_tell_missed(out, missed);
+            const char *event = potzendai_event_at(text, potzendai_number(line, "\"event\":"));
+            potzendai_tell_made(out, event, call);
+            potzendai_tell_found(out, event);
+            if (*answer != '"' || !potzendai_note_of(event))
+                potzendai_tell_answered(out, text, answer, is_left);
+            potzendai_tell_missed(out, text, missed);
             fputs("\n", out);
         }
     }
+    if (is_told)
+        potzendai_tell_open(out, text, report);
     return few;
 }
 

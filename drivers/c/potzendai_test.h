@@ -8,7 +8,7 @@
  *     static enum map_said put(void *connection, uint64_t key, uint64_t value, uint64_t *found) { .. }
  *     int main(int argc, char **argv)
  *     {
- *         struct potzendai_map map = {"mine", &mine, 0, NULL, NULL, get, put, NULL, NULL, NULL, NULL, NULL, NULL, NULL};
+ *         struct potzendai_map map = {.name = "mine", .map = &mine, .get = get, .put = put};
  *         return potzendai_test_main(argc, argv, &map);
  *     }
  *
@@ -22,6 +22,7 @@
 #define _POSIX_C_SOURCE 200809L
 #endif
 #include "potzendai_follow.h"
+#include "potzendai_scheduled.h"
 #include <signal.h>
 
 static const char *const potzendai_verdicts[] = {"yes", "no", "undecided"};
@@ -36,7 +37,7 @@ static inline void potzendai_tell_calls(FILE *out, const struct potzendai_run *r
                 continue;
             fprintf(out, "%s%s", comma, potzendai_functions[f]);
             if (is_there)
-                fprintf(out, " %" PRIu64, run->functions_called[f]);
+                fprintf(out, " %" PRIu64, run->counts.functions_called[f]);
             comma = ", ";
         }
         comma = "; not there: ";
@@ -44,23 +45,77 @@ static inline void potzendai_tell_calls(FILE *out, const struct potzendai_run *r
     fputc('\n', out);
 }
 
+/* Writes a number with a comma before each three digits. */
+static inline void potzendai_tell_number(FILE *out, uint64_t number)
+{
+    if (number >= 1000) {
+        potzendai_tell_number(out, number / 1000);
+        fprintf(out, ",%03" PRIu64, number % 1000);
+    } else
+        fprintf(out, "%" PRIu64, number);
+}
+
+/* Why a yes of a cache says little, or nothing. */
+static inline void potzendai_tell_misses(FILE *out, const struct potzendai_counts *counts)
+{
+    uint64_t gets = counts->functions_called[POTZENDAI_GET];
+    if (counts->hits == 0)
+        fputs("; no get hit: a yes says nothing", out);
+    else if (20 * counts->hits < gets) {
+        fprintf(out, "; %" PRIu64 " hit%s in ", counts->hits, potzendai_plural(counts->hits));
+        potzendai_tell_number(out, gets);
+        fputs(" gets: a yes says little", out);
+    }
+    if (counts->losses == 0)
+        fputs("; no key was lost: eviction was not tested", out);
+    if (counts->left_out > 0)
+        fprintf(out, "; %" PRIu64 " scan%s without some of the keys left out", counts->left_out, potzendai_plural(counts->left_out));
+}
+
+/* Why a yes of this run says little. */
+static inline void potzendai_tell_cautions(FILE *out, const struct potzendai_tester *tester)
+{
+    const struct potzendai_options *o = tester->options;
+    const struct potzendai_counts *counts = &tester->run->counts;
+    uint64_t said = 0;
+    for (int i = 0; i < POTZENDAI_SAYINGS; i++)
+        said += counts->sayings[i];
+    if (2 * counts->sayings[MAP_REFUSED] > said)
+        fputs("; most calls were refused: a yes says little", out);
+    if (o->cache != POTZENDAI_NO_CACHE)
+        potzendai_tell_misses(out, counts);
+    else if (counts->functions_called[POTZENDAI_GET] > 0 && counts->hits == 0)
+        fputs("; no get found a value: a yes says little", out);
+    if ((!o->is_stream || tester->has_overlap) && counts->calls > 0 && potzendai_overlap_a_call(tester) < 0.05)
+        fputs("; overlap below 0.05: the threads hardly met, and a yes says little: call potzendai_point() in the map, and run with --yield 200", out);
+    if (o->yields > 0 && counts->points == 0 && counts->calls > 0)
+        fputs("; --yield acted only between calls, since the map called no potzendai_point()", out);
+}
+
 /* The last line: the verdict, and what it rests on. */
 static inline void potzendai_tell_all(FILE *out, const struct potzendai_tester *tester, const char *verdict)
 {
     const char *comma = ": ";
+    const struct potzendai_counts *counts = &tester->run->counts;
+    uint64_t calls = counts->calls;
     fprintf(out, "%s: ", verdict);
     if (!tester->options->is_stream)
         fprintf(out, "%" PRIu64 " round%s, ", tester->rounds, potzendai_plural(tester->rounds));
-    fprintf(out, "%" PRIu64 " call%s in %.1f seconds", tester->calls, potzendai_plural(tester->calls), potzendai_now() - tester->began);
+    fprintf(out, "%" PRIu64 " call%s in %.1f seconds", calls, potzendai_plural(calls), potzendai_now() - tester->began);
     if (!tester->options->is_stream || tester->has_overlap)
         fprintf(out, ", overlap %.2f a call", potzendai_overlap_a_call(tester));
     for (int said = 0; said < POTZENDAI_SAYINGS; said++)
-        if (tester->run->sayings[said] > 0) {
-            fprintf(out, "%s%" PRIu64 " %s", comma, tester->run->sayings[said], potzendai_sayings[said]);
+        if (counts->sayings[said] > 0) {
+            fprintf(out, "%s%" PRIu64 " %s", comma, counts->sayings[said], potzendai_sayings[said]);
             comma = ", ";
         }
     if (tester->undecided > 0)
         fprintf(out, "; %" PRIu64 " undecided", tester->undecided);
+    if (tester->options->cache != POTZENDAI_NO_CACHE)
+        fprintf(out, "; %" PRIu64 " hit%s, %" PRIu64 " miss%s, %" PRIu64 " loss%s", counts->hits, potzendai_plural(counts->hits), counts->misses,
+                counts->misses == 1 ? "" : "es", counts->losses, counts->losses == 1 ? "" : "es");
+    if (strncmp(verdict, "no", 2) != 0)
+        potzendai_tell_cautions(out, tester);
     fputc('\n', out);
 }
 
@@ -90,31 +145,38 @@ static inline int potzendai_finish(const struct potzendai_tester *tester, int st
         return status;
     }
     potzendai_tell_calls(stderr, run);
+    if (status == POTZENDAI_IS_YES && tester->options->cache != POTZENDAI_NO_CACHE && run->counts.hits == 0 && !potzendai_is_unjudged(tester->options))
+        status = POTZENDAI_IS_UNDECIDED;
     if (potzendai_is_unjudged(tester->options)) {
         potzendai_tell_files(tester);
         potzendai_tell_all(stderr, tester, "not judged");
         return status;
     }
+    if (status == POTZENDAI_IS_NO && tester->options->broken != POTZENDAI_UNBROKEN && run->counts.wrongs == 0)
+        fprintf(stderr, "--break %s: the map was not made wrong by then, so this is a no of the map as it is\n",
+                potzendai_breaks[tester->options->broken]);
     if (status == POTZENDAI_IS_YES && tester->options->broken != POTZENDAI_UNBROKEN)
         fprintf(stderr, "--break %s: the map was wrong now and then, and these calls did not show it\n",
                 potzendai_breaks[tester->options->broken]);
-    potzendai_tell_all(stdout, tester, potzendai_verdicts[status]);
+    potzendai_tell_all(stdout, tester, tester->ending ? tester->ending : potzendai_verdicts[status]);
     if (fflush(stdout) == 0)
         return status;
     fputs("standard output: not written\n", stderr);
     return status == POTZENDAI_IS_YES ? POTZENDAI_BAD_FILE : status;
 }
 
-/* The same of one way to be wrong among others: a line of the verdict, or of what was in its way. */
+/* The same of one way to be wrong among others: a line of the verdict, or of what was in its way. A no of a map that was not made wrong refutes
+ * nothing: then the status is that of a yes. */
 static inline int potzendai_finish_quietly(const struct potzendai_tester *tester, int status)
 {
     struct potzendai_run *run = tester->run;
+    bool is_as_it_is = status == POTZENDAI_IS_NO && run->counts.wrongs == 0;
     fprintf(stderr, "%s: ", potzendai_breaks[tester->options->broken]);
     if (status >= 0)
-        potzendai_tell_all(stderr, tester, potzendai_verdicts[status]);
+        potzendai_tell_all(stderr, tester, is_as_it_is ? "no of the map as it is" : potzendai_verdicts[status]);
     else
         fprintf(stderr, "%s\n", run->complaint);
-    return status < 0 ? (int)atomic_load(&run->fault) : status;
+    return status < 0 ? (int)atomic_load(&run->fault) : is_as_it_is ? (int)POTZENDAI_IS_YES : status;
 }
 
 static inline void potzendai_close_tester(struct potzendai_tester *tester)
@@ -148,16 +210,14 @@ static inline int potzendai_open_tester(struct potzendai_tester *tester, const s
     return run && run->recording && run->keys && tester->start && tester->next_start ? 0 : -1;
 }
 
-/* Opens the connection of this thread, and runs rounds or a stream. */
-static inline int potzendai_run_all(struct potzendai_tester *tester, const struct potzendai_map *map)
+/* Begins with a map, runs rounds or a stream, and ends the map that there is then. */
+static inline int potzendai_run_all(struct potzendai_tester *tester)
 {
-    struct potzendai_run *run = tester->run;
-    tester->connection = potzendai_open_connection(run, map, (unsigned)run->threads);
-    if (map->open && !tester->connection)
-        return -1;
-    int status = tester->options->is_stream ? potzendai_stream(tester) : potzendai_rounds(tester);
-    if (map->close)
-        map->close(tester->connection);
+    int status = potzendai_begin_map(tester);
+    if (status == 0)
+        status = tester->options->is_stream ? potzendai_stream(tester)
+               : tester->options->schedule.way != POTZENDAI_FREE ? potzendai_schedule_rounds(tester) : potzendai_rounds(tester);
+    potzendai_end_map(tester);
     return status;
 }
 
@@ -178,12 +238,15 @@ static inline int potzendai_test(const struct potzendai_options *options, const 
     tester.has_terminal = isatty(2);
     tester.began = tester.told = potzendai_now();
     tester.run->options = options;
-    tester.run->truly = map;
-    tester.run->map = potzendai_break_map(&broken, map, options, &tester.run->round);
+    tester.given = map;
+    tester.opened = *map;
+    tester.opened.map = map->begin ? NULL : map->map;
+    tester.run->truly = &tester.opened;
+    tester.run->map = potzendai_break_map(&broken, &tester.opened, options, &tester.run->round, &tester.run->wrongs);
     tester.run->threads = options->threads;
     tester.run->keys_drawn = options->keys;
     tester.run->calls = options->calls;
-    int status = potzendai_run_all(&tester, map);
+    int status = potzendai_run_all(&tester);
     status = is_quiet ? potzendai_finish_quietly(&tester, status) : potzendai_finish(&tester, status);
     potzendai_close_tester(&tester);
     return status;
@@ -201,10 +264,13 @@ static inline int potzendai_test_each(const struct potzendai_options *options, c
             continue;
         }
         int status = potzendai_test(&one, program, map, true);
+        if (potzendai_is_interrupted())
+            return POTZENDAI_IS_UNDECIDED;
         if (status > POTZENDAI_IS_UNDECIDED)
             return status;
         missed += status != POTZENDAI_IS_NO;
     }
+    fputs("this shows that calls and answers reach the judge; it does not show that threads meet: see the overlap\n", stderr);
     if (missed > 0)
         printf("yes: %d of the broken maps were not refuted\n", missed);
     else
@@ -236,6 +302,8 @@ static inline int potzendai_test_main(int argc, char **argv, const struct potzen
     if (status)
         return status;
 #endif
+    potzendai_await_interrupt();
+    potzendai_has_own_values = options.cache != POTZENDAI_NO_CACHE;
     if (options.broken == POTZENDAI_EACH_BREAK)
         return potzendai_test_each(&options, argv[0], map);
     return potzendai_test(&options, argv[0], map, false);

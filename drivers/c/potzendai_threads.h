@@ -2,7 +2,7 @@
 #ifndef POTZENDAI_THREADS_H
 #define POTZENDAI_THREADS_H
 
-#include "potzendai_words.h"
+#include "potzendai_cache.h"
 #include <pthread.h>
 
 #ifdef __cplusplus
@@ -14,9 +14,10 @@
 enum potzendai_memory { POTZENDAI_FORGOTTEN, POTZENDAI_ABSENT, POTZENDAI_PRESENT };
 
 /* What is known of a key: how many write it now, and whether two ever did; what its one writer remembers, or its lock. It is loose
- * once a write may come about at any time: then nobody knows what the next one finds. */
+ * once a write may come about at any time: then nobody knows what the next one finds. Of a cache: whether a put was answered, and no removal has
+ * begun since; and how many removals began. */
 struct potzendai_key {
-    recording_word writers, is_met;
+    recording_word writers, is_met, is_held, removals;
     pthread_mutex_t lock;
     enum potzendai_memory memory;
     bool is_loose;
@@ -25,6 +26,13 @@ struct potzendai_key {
 
 /* A call of which nobody knows whether it was done, as it is recorded. */
 struct potzendai_open { enum recording_kind call; uint64_t words[3]; };
+
+/* What was counted of a run: its calls, how many others were open at their invocations, what was said to them, and what was called; how many
+ * gets found a value and how many found none, how many keys were lost and how many scans of a cache were left out, how many points were reached within calls, and how often a map that is made wrong was. */
+struct potzendai_counts {
+    uint64_t calls, overlap, sayings[POTZENDAI_SAYINGS], functions_called[POTZENDAI_FUNCTIONS];
+    uint64_t hits, misses, losses, left_out, points, wrongs;
+};
 
 /* What the threads share. `truly` is the map that was given, `map` the one that is called, which may be made wrong. */
 struct potzendai_run {
@@ -35,10 +43,11 @@ struct potzendai_run {
     struct streaming *stream;
     uint64_t threads, keys_drawn, calls, round;
     uint64_t puts[1024], values_from;
-    uint64_t sayings[POTZENDAI_SAYINGS], functions_called[POTZENDAI_FUNCTIONS];
+    struct potzendai_counts counts;
+    bool is_scheduled;
     struct potzendai_open open_calls[RECORDING_PROCESSES];
     recording_word open_count;
-    recording_word next_process, processes, arrived, has_begun, is_over, fault;
+    recording_word next_process, processes, arrived, has_begun, is_over, fault, wrongs, pops, left_out;
     char complaint[200];
 };
 
@@ -46,7 +55,7 @@ struct potzendai_run {
 struct potzendai_thread {
     struct potzendai_run *run;
     unsigned number, process;
-    uint64_t state, made, sayings[POTZENDAI_SAYINGS], functions_called[POTZENDAI_FUNCTIONS];
+    uint64_t state, made, sayings[POTZENDAI_SAYINGS], functions_called[POTZENDAI_FUNCTIONS], hits, misses, losses, points;
     uint64_t *seen;
     struct recording_pair *pairs;
     void *connection;
@@ -54,6 +63,29 @@ struct potzendai_thread {
     recording_word calls, refused;
     char apart[128];
 };
+
+/* Of a thread that makes a call which only reads: itself. */
+POTZENDAI_OF_THREAD struct potzendai_thread *potzendai_reader;
+
+#ifdef __cplusplus
+extern "C" {
+#endif
+
+/* A read of the map may call this once it has taken its snapshot: it counts as answered at this moment, and its pairs may be read later. Of
+ * several such moments the last one counts. Sources of their own declare it: void potzendai_taken(void); */
+__attribute__((weak)) void potzendai_taken(void);
+__attribute__((weak)) void potzendai_taken(void)
+{
+    struct potzendai_thread *t = potzendai_reader;
+    if (t && t->run->stream)
+        streaming_taken(t->run->stream, t->process);
+    else if (t)
+        recording_taken(t->run->recording, t->process);
+}
+
+#ifdef __cplusplus
+}
+#endif
 
 /* Ends the run with a status, and says why: the first that is wrong. */
 __attribute__((format(printf, 3, 4)))
@@ -117,6 +149,17 @@ static inline int potzendai_note_answer(struct potzendai_run *run, unsigned p, e
     return run->stream ? streaming_respond(run->stream, p, kind, value, 0) : recording_add(run->recording, p, kind, value, 0, 0);
 }
 
+/* Whether an answer tells a value that the driver uses itself where the map is a cache. */
+static inline bool potzendai_tells_own(const struct potzendai_request *request, const struct potzendai_answer *answer)
+{
+    if (answer->said != MAP_TOLD)
+        return false;
+    for (size_t i = 0; request->function == POTZENDAI_SCAN && i < answer->count && i < answer->room; i++)
+        if (answer->pairs[i].value >= RECORDING_NOBODY)
+            return true;
+    return request->function != POTZENDAI_SCAN && answer->pair.value >= RECORDING_NOBODY;
+}
+
 /* Which event was answered by which saying; NULL, and the run ends, where the saying does not fit its function. */
 static inline const struct potzendai_row *potzendai_row_of(struct potzendai_run *run, const struct potzendai_request *request,
                                                            const struct potzendai_answer *answer)
@@ -134,6 +177,8 @@ static inline const struct potzendai_row *potzendai_row_of(struct potzendai_run 
         potzendai_fail(run, POTZENDAI_BAD_WORDS, "%s said %s, which does not fit it", name, said);
     else if (request->function == POTZENDAI_SCAN && answer->said == MAP_TOLD && answer->count > answer->room)
         potzendai_fail(run, POTZENDAI_BAD_WORDS, "scan said %zu pairs, and there was room for %zu", answer->count, answer->room);
+    else if (run->options->cache != POTZENDAI_NO_CACHE && potzendai_tells_own(request, answer))
+        potzendai_fail(run, POTZENDAI_BAD_WORDS, "%s said a value from 2^63 on, and --cache needs these for its own use", name);
     else if (tells_less && is_write && run->options->void_puts == POTZENDAI_VOID_TOLD)
         potzendai_fail(run, POTZENDAI_BAD_WORDS, "%s said %s, and --void told wants the value before", name, said);
     else
@@ -151,6 +196,27 @@ static inline void potzendai_keep_open(struct potzendai_run *run, enum recording
     memcpy(run->open_calls[place].words, words, sizeof run->open_calls[place].words);
 }
 
+/* The next call of a process was made in another way than it is recorded. */
+static inline void potzendai_note_made(struct potzendai_run *run, unsigned p, enum recording_note note)
+{
+    if (run->stream)
+        run->stream->processes[p].note = note;
+    else
+        run->recording->logs[p].note = note;
+}
+
+/* Whether a scan of a cache is left out: in a stream, where it does not have all keys of its range. Of a round they are gone with it. */
+static inline bool potzendai_is_scan_left_out(const struct potzendai_run *run, const struct potzendai_request *request,
+                                              const struct potzendai_answer *answer, const struct potzendai_row *row)
+{
+    if (!run->stream || run->options->cache == POTZENDAI_NO_CACHE || row->fate != POTZENDAI_ANSWERED || row->call != RECORDING_SCAN)
+        return false;
+    bool is_list = request->function == POTZENDAI_SCAN;
+    const struct recording_pair *pairs = is_list ? answer->pairs : &answer->pair;
+    size_t count = answer->said != MAP_TOLD ? 0 : is_list ? answer->count : 1;
+    return potzendai_missing(pairs, count, potzendai_low(request, answer), potzendai_high(request, answer), run->options->keys) > 0;
+}
+
 /* Records the call and what was said to it, once it is over. In a stream a call that is known before is there already. */
 static inline int potzendai_note(struct potzendai_thread *t, const struct potzendai_request *request,
                                  const struct potzendai_answer *answer, bool is_held)
@@ -162,10 +228,19 @@ static inline int potzendai_note(struct potzendai_thread *t, const struct potzen
         potzendai_note_drop(run, t->process);
     if (!row)
         return -1;
+    enum recording_note note;
+    row = potzendai_row_of_cache(run->options->cache, request->function, answer->said, row, &note);
+    if (potzendai_is_scan_left_out(run, request, answer, row)) {
+        atomic_fetch_add(&run->left_out, (uint64_t)1);
+        row = &potzendai_no_word;
+    }
     if (row->fate == POTZENDAI_LEFT_OUT)
         return is_held ? potzendai_note_drop(run, t->process)
                        : potzendai_note_answer(run, t->process, RECORDING_REFUSED, request, answer);
     potzendai_words(request, answer, row->call, words);
+    potzendai_words_of_cache(request, note, words);
+    if (note)
+        potzendai_note_made(run, t->process, note);
     if (is_held && potzendai_note_call(run, t->process, row->call, words))
         return -1;
     if (row->fate == POTZENDAI_ANSWERED)
@@ -207,11 +282,14 @@ static inline void potzendai_ask_and_count(struct potzendai_thread *t, const str
 {
     potzendai_ask(t->run->map, t->connection, request, answer);
     t->functions_called[request->function]++;
+    t->hits += request->function == POTZENDAI_GET && (answer->said == MAP_TOLD || answer->said == MAP_FOUND);
+    t->misses += request->function == POTZENDAI_GET && answer->said == MAP_NONE;
     if ((unsigned)answer->said < POTZENDAI_SAYINGS)
         t->sayings[answer->said]++;
 }
 
-/* Asks for the value, and then writes, under a lock of the key's own: what the get found is what the write found. */
+/* Asks for the value, and then writes, under a lock of the key's own: what the get found is what the write found, unless the key may be lost in
+ * between, as of a cache. */
 static inline void potzendai_ask_locked(struct potzendai_thread *t, const struct potzendai_request *request,
                                         struct potzendai_answer *answer)
 {
@@ -219,7 +297,7 @@ static inline void potzendai_ask_locked(struct potzendai_thread *t, const struct
     struct potzendai_answer got = *answer;
     potzendai_ask(t->run->map, t->connection, &get, &got);
     potzendai_ask_and_count(t, request, answer);
-    bool is_known = got.said == MAP_TOLD || got.said == MAP_NONE;
+    bool is_known = (got.said == MAP_TOLD || got.said == MAP_NONE) && t->run->options->cache == POTZENDAI_NO_CACHE;
     if (answer->said == MAP_DONE && is_known && !t->run->keys[request->key].is_loose) {
         answer->said = got.said;
         answer->pair.value = got.pair.value;
@@ -243,11 +321,57 @@ static inline bool potzendai_has_key_of_its_own(const struct potzendai_run *run,
     return (how == POTZENDAI_VOID_OWN || how == POTZENDAI_VOID_LOCK) && potzendai_writes(function);
 }
 
+/* What was known of a cache's key before a call: whether it was put and not removed since, and how many removals had begun. */
+struct potzendai_sight { bool is_held; uint64_t removals; };
+
+static inline uint64_t potzendai_removals(struct potzendai_run *run, uint64_t key)
+{
+    return atomic_load_explicit(&run->keys[key].removals, POTZENDAI_RELAXED) + atomic_load_explicit(&run->pops, POTZENDAI_RELAXED);
+}
+
+/* Looks before a call, and notes that a removal begins. */
+static inline struct potzendai_sight potzendai_look(struct potzendai_run *run, const struct potzendai_request *request)
+{
+    struct potzendai_key *key = &run->keys[request->key];
+    struct potzendai_sight sight = {false, 0};
+    if (request->function == POTZENDAI_POP_FIRST)
+        atomic_fetch_add_explicit(&run->pops, (uint64_t)1, POTZENDAI_RELAXED);
+    if (request->function == POTZENDAI_DEL) {
+        atomic_fetch_add_explicit(&key->removals, (uint64_t)1, POTZENDAI_RELAXED);
+        atomic_store_explicit(&key->is_held, (uint64_t)0, POTZENDAI_RELAXED);
+    }
+    sight.is_held = atomic_load_explicit(&key->is_held, POTZENDAI_RELAXED) != 0;
+    sight.removals = potzendai_removals(run, request->key);
+    return sight;
+}
+
+/* Whether a call shows that its key was lost: none was found where a put was answered, and no removal has begun since. A count, which decides
+ * nothing of the verdict. */
+static inline bool potzendai_is_lost(struct potzendai_run *run, const struct potzendai_request *request, const struct potzendai_answer *answer,
+                                     const struct potzendai_sight *sight)
+{
+    enum potzendai_function f = request->function;
+    if (f == POTZENDAI_POP_FIRST) {
+        atomic_fetch_add_explicit(&run->pops, (uint64_t)1, POTZENDAI_RELAXED);
+        if (answer->said == MAP_TOLD && answer->pair.key < run->options->keys)
+            atomic_store_explicit(&run->keys[answer->pair.key].is_held, (uint64_t)0, POTZENDAI_RELAXED);
+    }
+    bool is_put = (f == POTZENDAI_PUT && answer->said <= MAP_FOUND) || (f == POTZENDAI_PUT_IF_ABSENT && answer->said == MAP_NONE);
+    bool is_of_key = f == POTZENDAI_GET || f == POTZENDAI_PUT || f == POTZENDAI_REPLACE || f == POTZENDAI_PUT_IF_ABSENT;
+    bool is_same = potzendai_removals(run, request->key) == sight->removals;
+    struct potzendai_key *key = &run->keys[request->key];
+    bool is_lost = is_of_key && answer->said == MAP_NONE && sight->is_held && is_same
+        && atomic_exchange_explicit(&key->is_held, (uint64_t)0, POTZENDAI_RELAXED) != 0;
+    if (is_put && is_same)
+        atomic_store_explicit(&key->is_held, (uint64_t)1, POTZENDAI_RELAXED);
+    return is_lost;
+}
+
 /* Makes a call and records it: -1 where the thread has to stop. */
 static inline int potzendai_make(struct potzendai_thread *t, const struct potzendai_request *request, struct potzendai_answer *answer)
 {
     struct potzendai_run *run = t->run;
-    bool is_held = !run->stream || potzendai_is_held(request->function);
+    bool is_cache = run->options->cache != POTZENDAI_NO_CACHE, is_held = !run->stream || is_cache || potzendai_is_held(request->function);
     uint64_t words[3];
     memset(answer, 0, sizeof *answer);
     answer->pairs = t->pairs;
@@ -258,10 +382,17 @@ static inline int potzendai_make(struct potzendai_thread *t, const struct potzen
         return -1;
     bool is_locked = run->options->void_puts == POTZENDAI_VOID_LOCK
         && (request->function == POTZENDAI_PUT || request->function == POTZENDAI_DEL);
+    struct potzendai_sight sight = {false, 0};
+    if (is_cache)
+        sight = potzendai_look(run, request);
+    potzendai_reader = potzendai_writes(request->function) ? NULL : t;
     if (is_locked)
         potzendai_ask_locked(t, request, answer);
     else
         potzendai_ask_and_count(t, request, answer);
+    potzendai_reader = NULL;
+    if (is_cache)
+        t->losses += potzendai_is_lost(run, request, answer, &sight);
     if (answer->said == MAP_UNKNOWN && potzendai_has_key_of_its_own(run, request->function))
         run->keys[request->key].is_loose = true;
     if (run->options->void_puts == POTZENDAI_VOID_OWN && potzendai_writes(request->function))
@@ -311,12 +442,12 @@ static inline int potzendai_make_steps(struct potzendai_thread *t, uint64_t low,
     return status;
 }
 
-/* Each put has a value of its own, which was not in the map before, as far as there are enough of them. */
-static inline uint64_t potzendai_next_value(struct potzendai_thread *t)
+/* Each put of a thread has a value of its own, which was not in the map before, as far as there are enough of them. */
+static inline uint64_t potzendai_new_value(struct potzendai_run *run, unsigned thread)
 {
-    unsigned bits = t->run->truly->value_bits;
+    unsigned bits = run->truly->value_bits;
     uint64_t most = bits == 0 || bits >= 64 ? UINT64_MAX : ((uint64_t)1 << bits) - 1;
-    return 1 + (t->run->values_from + t->run->puts[t->number]++ * t->run->options->threads + t->number) % most;
+    return 1 + (run->values_from + run->puts[thread]++ * run->options->threads + thread) % most;
 }
 
 static inline uint64_t potzendai_draw_key(struct potzendai_thread *t, enum potzendai_function function)
@@ -344,11 +475,11 @@ static inline void potzendai_draw_call(struct potzendai_thread *t, struct potzen
     request->key = potzendai_draw_key(t, request->function);
     request->value = request->other = 0;
     if (potzendai_writes(request->function))
-        request->value = potzendai_next_value(t);
+        request->value = potzendai_new_value(t->run, t->number);
     if (request->function == POTZENDAI_REPLACE)
         request->other = t->seen[request->key];
     if (request->function == POTZENDAI_SCAN) {
-        request->other = request->key + potzendai_draw_below(&t->state, POTZENDAI_SPAN);
+        request->other = request->key + potzendai_draw_below(&t->state, run->options->span);
         request->other = request->other < run->keys_drawn ? request->other : run->keys_drawn - 1;
     }
 }
@@ -358,6 +489,10 @@ static inline int potzendai_draw_and_make(struct potzendai_thread *t)
     struct potzendai_request request;
     struct potzendai_answer answer;
     potzendai_draw_call(t, &request);
+    if (t->run->is_scheduled && !potzendai_scheduler->call(request.function, request.key)) {
+        t->made++;
+        return 0;
+    }
     potzendai_point();
     if (request.function == POTZENDAI_SCAN && t->run->options->is_steps)
         return potzendai_make_steps(t, request.key, request.other);
@@ -371,19 +506,26 @@ static inline void *potzendai_thread_body(void *own)
 {
     struct potzendai_thread *t = (struct potzendai_thread *)own;
     struct potzendai_run *run = t->run;
+    if (run->is_scheduled)
+        potzendai_scheduler->enter(t->number);
     uint64_t seed = run->options->seed, round = run->round + ((uint64_t)1 << 40), number = t->number + ((uint64_t)1 << 50);
     t->state = potzendai_mix(&seed) ^ potzendai_mix(&round) ^ potzendai_mix(&number);
     potzendai_yield_state = t->state + 1;
     potzendai_yields = (unsigned)run->options->yields;
     t->connection = potzendai_open_connection(run, run->map, t->number);
     atomic_fetch_add(&run->arrived, (uint64_t)1);
-    while (!atomic_load(&run->has_begun))
+    if (run->is_scheduled)
+        potzendai_scheduler->ready();
+    while (!run->is_scheduled && !atomic_load(&run->has_begun))
         sched_yield();
     while (potzendai_may_call(t) && potzendai_draw_and_make(t) == 0)
         ;
+    t->points = potzendai_points;
     if (run->map->close && (t->connection || !run->map->open))
         run->map->close(t->connection);
     atomic_fetch_sub(&run->arrived, (uint64_t)1);
+    if (run->is_scheduled)
+        potzendai_scheduler->leave();
     return NULL;
 }
 
@@ -429,6 +571,12 @@ static inline uint64_t potzendai_start_threads(struct potzendai_run *run, struct
         started++;
     if (started < run->threads)
         potzendai_fail(run, POTZENDAI_NO_MEMORY, "memory: thread %" PRIu64 " was not started", started);
+    if (run->is_scheduled) {
+        if (started < run->threads) /* those that were started wait for the others, which never come */
+            _exit(POTZENDAI_NO_MEMORY);
+        potzendai_scheduler->run();
+        return started;
+    }
     for (unsigned times = 0; atomic_load(&run->arrived) < started;)
         streaming_rest(&times);
     atomic_store(&run->has_begun, (uint64_t)1);
@@ -439,12 +587,19 @@ static inline uint64_t potzendai_start_threads(struct potzendai_run *run, struct
 static inline void potzendai_join_threads(struct potzendai_run *run, struct potzendai_thread *threads, uint64_t started)
 {
     for (uint64_t i = 0; i < started; i++) {
-        pthread_join(threads[i].id, NULL);
+        if (!run->is_scheduled) /* those have left, and end with their process */
+            pthread_join(threads[i].id, NULL);
         for (int said = 0; said < POTZENDAI_SAYINGS; said++)
-            run->sayings[said] += threads[i].sayings[said];
+            run->counts.sayings[said] += threads[i].sayings[said];
         for (int f = 0; f < POTZENDAI_FUNCTIONS; f++)
-            run->functions_called[f] += threads[i].functions_called[f];
+            run->counts.functions_called[f] += threads[i].functions_called[f];
+        run->counts.hits += threads[i].hits;
+        run->counts.misses += threads[i].misses;
+        run->counts.losses += threads[i].losses;
+        run->counts.points += threads[i].points;
     }
+    run->counts.wrongs = atomic_load(&run->wrongs);
+    run->counts.left_out += atomic_exchange(&run->left_out, (uint64_t)0);
 }
 
 #endif

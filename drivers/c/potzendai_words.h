@@ -23,22 +23,42 @@ enum potzendai_break {
     POTZENDAI_EACH_BREAK, POTZENDAI_UNBROKEN
 };
 
+/* Whether the map is a cache, which may lose any key at any time; late: and a miss says nothing. */
+enum potzendai_cache { POTZENDAI_NO_CACHE, POTZENDAI_CACHE, POTZENDAI_CACHE_LATE };
+
 static const char *const potzendai_voids[] = {"done", "told", "own", "lock", NULL};
 static const char *const potzendai_breaks[] = {"drop", "race", "replay", "stale", "zombie", "torn", "cas", "all", NULL};
 static const char *const potzendai_scans[] = {"snapshot", "steps", NULL};
 
+/* Which strategies the rounds have under --schedule: none, all of them in turn, or one. */
+enum potzendai_way { POTZENDAI_FREE, POTZENDAI_MIX, POTZENDAI_ONLY_POS, POTZENDAI_ONLY_PCT, POTZENDAI_ONLY_WALK };
+
+static const char *const potzendai_ways[] = {"free", "mix", "pos", "pct", "walk", NULL};
+
+/* What the words say of schedules. Learned points are those of every second round. */
+struct potzendai_schedule_words {
+    enum potzendai_way way;
+    uint64_t depth, jobs, replay;
+    enum potzendai_points points;
+    bool has_replay, has_buffers, has_kernel_threads;
+    const char *first; /* one of these words, or NULL */
+};
+
 struct potzendai_options {
-    uint64_t seconds, threads, keys, hot, calls, seed, rounds, yields, budget;
+    uint64_t seconds, threads, keys, hot, calls, seed, rounds, yields, budget, fresh, span;
     uint64_t shares[POTZENDAI_FUNCTIONS];
     enum potzendai_void void_puts;
     enum potzendai_break broken;
-    bool is_steps, is_stream, has_mix, has_void;
+    enum potzendai_cache cache;
+    bool is_steps, is_stream, has_mix, has_void, has_seed, is_reopened;
+    struct potzendai_schedule_words schedule;
     const char *out, *bench;
 };
 
 /* Of a range of a scan, the most keys. Where no number is given: the calls of a thread in a round, and the keys. Of a stream they are
  * more, since its follower searches what is left of a key, and that is the less the fewer calls overlap there. */
 enum { POTZENDAI_SPAN = 16, POTZENDAI_CALLS = 200, POTZENDAI_KEYS = 16, POTZENDAI_STREAM_KEYS = 1000 };
+enum { POTZENDAI_SCHEDULED_CALLS = 12, POTZENDAI_SCHEDULED_KEYS = 4 };
 
 /* The most bytes of a path; the budget of a search where no number is given, and the greatest. */
 enum { POTZENDAI_PATH = 4096, POTZENDAI_USUAL = 100000, POTZENDAI_MOST = 1000000 };
@@ -57,7 +77,18 @@ static const char potzendai_usage[] =
     "  --scan HOW        snapshot: a scan is of one moment; steps: steps of ceiling (snapshot)\n"
     "  --yield N         of a thousand points between and in calls, so many give way to other threads (0)\n"
     "  --break HOW       makes the map wrong now and then: drop, race, replay, stale, zombie, torn or cas; all: in each of these ways\n"
+    "  --cache [late]    the map is a cache, which may lose any key at any time; late: and a miss says nothing, as of a cache whose writes\n"
+    "                    appear later\n"
+    "  --fresh N         a new map after each so many rounds (one map)\n"
+    "  --reopen          the map is closed and opened again after each round\n"
     "  --stream          one stream that is followed, in the place of rounds\n"
+    "  --schedule HOW    the scheduler says which thread runs: mix, pos, pct or walk; with 12 calls and 4 keys\n"
+    "  --depth N         of pct: at N - 1 drawn points a priority changes (3)\n"
+    "  --points WHICH    where threads may give way: learned, all or atomics (learned, in every second round)\n"
+    "  --tso             scheduled atomic stores below seq_cst reach other threads later\n"
+    "  --replay N        the scheduled round N of --seed, once more\n"
+    "  --jobs N          so many scheduled rounds run side by side (1)\n"
+    "  --kernel-threads  scheduled threads are no fibers, for debuggers\n"
     "  --budget N        the judge's (100000); a round that it leaves undecided is asked once more at ten times as much\n"
 #ifdef POTZENDAI_NO_LIBRARY
     "  --bench PATH      the program that judges, by a path with a slash or its name on the PATH; without it nobody judges\n"
@@ -132,7 +163,8 @@ static inline int potzendai_read_numbered(struct potzendai_options *o, const cha
     const struct potzendai_numbered all[] = {
         {"--seconds", 1, 1000000000, &o->seconds}, {"--rounds", 1, UINT64_MAX, &o->rounds}, {"--threads", 1, 1024, &o->threads},
         {"--keys", 1, 16384, &o->keys}, {"--hot", 1, 16384, &o->hot}, {"--calls", 1, UINT64_MAX, &o->calls},
-        {"--seed", 0, UINT64_MAX, &o->seed}, {"--yield", 0, 1000, &o->yields}, {"--budget", 1, POTZENDAI_MOST, &o->budget}
+        {"--seed", 0, UINT64_MAX, &o->seed}, {"--yield", 0, 1000, &o->yields}, {"--budget", 1, POTZENDAI_MOST, &o->budget},
+        {"--fresh", 1, UINT64_MAX, &o->fresh}
     };
     for (size_t i = 0; i < sizeof all / sizeof *all; i++)
         if (strcmp(word, all[i].name) == 0) {
@@ -165,11 +197,59 @@ static inline int potzendai_read_named(struct potzendai_options *o, const char *
     return -1;
 }
 
+/* Reads a word of schedules that has none behind it: -1 where it is none of these. */
+static inline int potzendai_read_schedule_flag(struct potzendai_schedule_words *s, const char *word)
+{
+    bool is_buffers = strcmp(word, "--tso") == 0;
+    if (!is_buffers && strcmp(word, "--kernel-threads") != 0)
+        return -1;
+    s->has_buffers = s->has_buffers || is_buffers;
+    s->has_kernel_threads = s->has_kernel_threads || !is_buffers;
+    s->first = s->first ? s->first : word;
+    return 0;
+}
+
+/* Reads a word of schedules that has a name or a number behind it: -1 where it is none of these. */
+static inline int potzendai_read_schedule_word(struct potzendai_schedule_words *s, const char *word, const char *text)
+{
+    static const char *const points[] = {"all", "atomics", "", "learned", NULL};
+    const char *found = text ? text : "";
+    bool is_way = strcmp(word, "--schedule") == 0, is_right;
+    if (is_way) {
+        int way = potzendai_place(potzendai_ways, found, strlen(found));
+        is_right = way > POTZENDAI_FREE;
+        s->way = is_right ? (enum potzendai_way)way : s->way;
+    } else if (strcmp(word, "--points") == 0) {
+        int place = *found ? potzendai_place(points, found, strlen(found)) : -1;
+        is_right = place >= 0;
+        s->points = is_right ? (enum potzendai_points)place : s->points;
+    } else if (strcmp(word, "--depth") == 0)
+        is_right = potzendai_read_number(found, 64, &s->depth) == 0 && s->depth > 0;
+    else if (strcmp(word, "--jobs") == 0)
+        is_right = potzendai_read_number(found, 64, &s->jobs) == 0 && s->jobs > 0;
+    else if (strcmp(word, "--replay") == 0)
+        is_right = s->has_replay = potzendai_read_number(found, (uint64_t)1 << 62, &s->replay) == 0;
+    else
+        return -1;
+    s->first = s->first || is_way ? s->first : word;
+    return is_right ? 0 : potzendai_complain(word, "none of its names or numbers; --help has them");
+}
+
 static inline int potzendai_read_word(struct potzendai_options *o, char **words, int *at)
 {
     const char *word = words[*at];
-    if (strcmp(word, "--stream") == 0) {
-        o->is_stream = true;
+    if (potzendai_read_schedule_flag(&o->schedule, word) == 0)
+        return 0;
+    o->has_seed = o->has_seed || strcmp(word, "--seed") == 0;
+    if (strcmp(word, "--stream") == 0 || strcmp(word, "--reopen") == 0) {
+        o->is_stream = o->is_stream || word[2] == 's';
+        o->is_reopened = o->is_reopened || word[2] == 'r';
+        return 0;
+    }
+    if (strcmp(word, "--cache") == 0) {
+        bool is_late = words[*at + 1] && strcmp(words[*at + 1], "late") == 0;
+        o->cache = is_late ? POTZENDAI_CACHE_LATE : POTZENDAI_CACHE;
+        *at += is_late;
         return 0;
     }
     const char *text = words[++*at];
@@ -185,7 +265,8 @@ static inline int potzendai_read_word(struct potzendai_options *o, char **words,
         return text ? 0 : potzendai_complain(word, "the path of the program");
     }
 #endif
-    int status = potzendai_read_numbered(o, word, text);
+    int status = potzendai_read_schedule_word(&o->schedule, word, text);
+    status = status < 0 ? potzendai_read_numbered(o, word, text) : status;
     status = status < 0 ? potzendai_read_named(o, word, text) : status;
     return status < 0 ? potzendai_complain(word, "no such word; --help has them") : status;
 }
@@ -243,6 +324,16 @@ static inline int potzendai_check_break(const struct potzendai_options *o)
     return potzendai_complain("--break", "what it makes wrong is not called");
 }
 
+/* Whether there can be new maps, and maps that are opened again. */
+static inline int potzendai_check_maps(const struct potzendai_options *o, const struct potzendai_map *map)
+{
+    if (o->is_stream && (o->fresh || o->is_reopened))
+        return potzendai_complain(o->fresh ? "--fresh" : "--reopen", "not with --stream, which is of one map");
+    if (o->fresh && !map->begin)
+        return potzendai_complain("--fresh", "the map has no function begin, which makes a new one");
+    return o->is_reopened && !map->reopen ? potzendai_complain("--reopen", "the map has no function reopen") : 0;
+}
+
 /* How many calls a process may make in a round: those of a thread, or the last gets of all keys. */
 static inline uint64_t potzendai_calls_each(const struct potzendai_options *o)
 {
@@ -265,8 +356,18 @@ static inline int potzendai_complain_of_round(const struct potzendai_options *o,
     return potzendai_complain(word, text);
 }
 
+/* The most keys of a range. Of a cache each key that a scan does not have takes a process of its own. */
+static inline uint64_t potzendai_span(const struct potzendai_options *o)
+{
+    uint64_t span = (RECORDING_PROCESSES - 1 - o->threads % RECORDING_PROCESSES) / (o->threads ? o->threads : 1);
+    bool is_less = o->cache != POTZENDAI_NO_CACHE && !o->is_stream && span < POTZENDAI_SPAN;
+    return !is_less ? (uint64_t)POTZENDAI_SPAN : span > 0 ? span : 1;
+}
+
 static inline int potzendai_check_sizes(struct potzendai_options *o)
 {
+    if (o->cache != POTZENDAI_NO_CACHE && o->void_puts == POTZENDAI_VOID_OWN)
+        return potzendai_complain("--cache", "not with --void own, since the writer of a key does not see that the key was lost");
     if (o->hot > o->keys)
         return potzendai_complain("--hot", "more than there are keys");
     if (o->void_puts == POTZENDAI_VOID_OWN && o->keys < o->threads)
@@ -300,6 +401,39 @@ static inline int potzendai_check_out(const struct potzendai_options *o)
     return POTZENDAI_BAD_FILE;
 }
 
+/* Whether the words of schedules fit each other, the others, and the program. */
+static inline int potzendai_check_schedule(const struct potzendai_options *o)
+{
+    const struct potzendai_schedule_words *s = &o->schedule;
+    if (s->way == POTZENDAI_FREE)
+        return s->first ? potzendai_complain(s->first, "only with --schedule") : 0;
+    if (!potzendai_scheduler)
+        return potzendai_complain("--schedule", "this program is linked without potzendai_schedule.c, which has the scheduler");
+    if (o->is_stream)
+        return potzendai_complain("--schedule", "not with --stream: schedules are of rounds");
+    if (o->yields > 0)
+        return potzendai_complain("--schedule", "not with --yield: the scheduler says which thread gives way");
+    if (o->fresh > 0 || o->is_reopened)
+        return potzendai_complain("--schedule", "not with --fresh or --reopen: each round begins with the map as it was at first");
+    if (s->has_replay && !o->has_seed)
+        return potzendai_complain("--replay", "needs --seed: a round is the same again only with its seed");
+    if (s->has_replay && s->jobs > 1)
+        return potzendai_complain("--replay", "not with --jobs: it is one round");
+    return 0;
+}
+
+/* The sizes of scheduled rounds where no number is given: what goes wrong is shrunk, so they are as large as finds the most. */
+static inline void potzendai_take_schedule_sizes(struct potzendai_options *o)
+{
+    struct potzendai_schedule_words *s = &o->schedule;
+    if (s->way == POTZENDAI_FREE)
+        return;
+    o->keys = o->keys ? o->keys : (uint64_t)POTZENDAI_SCHEDULED_KEYS;
+    o->calls = o->calls ? o->calls : (uint64_t)POTZENDAI_SCHEDULED_CALLS;
+    s->depth = s->depth ? s->depth : 3;
+    s->jobs = s->jobs ? s->jobs : 1;
+}
+
 /* Whether the words ask for help. */
 static inline bool potzendai_asks_help(int argc, char **argv)
 {
@@ -324,8 +458,9 @@ static inline int potzendai_read_words(struct potzendai_options *o, int argc, ch
 {
     struct timespec now;
     memset(o, 0, sizeof *o);
-    clock_gettime(CLOCK_REALTIME, &now);
+    potzendai_clock(CLOCK_REALTIME, &now);
     o->threads = 4;
+    o->schedule.points = POTZENDAI_LEARNED;
     o->budget = POTZENDAI_USUAL;
     o->seed = ((uint64_t)now.tv_sec * 1000003u + (uint64_t)now.tv_nsec) % 1000000007u;
     o->broken = POTZENDAI_UNBROKEN;
@@ -339,6 +474,7 @@ static inline int potzendai_read_words(struct potzendai_options *o, int argc, ch
     }
     if (o->bench && !o->out)
         o->out = ".";
+    potzendai_take_schedule_sizes(o);
     if (o->keys == 0)
         o->keys = o->is_stream ? POTZENDAI_STREAM_KEYS : POTZENDAI_KEYS;
     if (o->seconds == 0)
@@ -347,13 +483,30 @@ static inline int potzendai_read_words(struct potzendai_options *o, int argc, ch
         return potzendai_complain(map->name, "a map needs the functions get, and put or put_if_absent");
     if (!o->has_mix)
         potzendai_take_shares(o, map);
-    int status = potzendai_check_shares(o, map);
+    int status = potzendai_check_schedule(o);
+    status = status ? status : potzendai_check_shares(o, map);
     status = status ? status : potzendai_check_break(o);
+    status = status ? status : potzendai_check_maps(o, map);
     status = status ? status : potzendai_check_sizes(o);
+    o->span = potzendai_span(o);
     return status ? status : potzendai_check_out(o);
 }
 
-/* Writes the words that repeat the draws of a run of so many rounds. */
+/* Writes the words that make a scheduled round again. */
+static inline void potzendai_write_schedule_words(FILE *out, const struct potzendai_schedule_words *s, uint64_t round)
+{
+    static const char *const points[] = {"all", "atomics", "", "learned"};
+    fprintf(out, " --schedule %s", potzendai_ways[s->way]);
+    if (s->depth != 3)
+        fprintf(out, " --depth %" PRIu64, s->depth);
+    if (s->points != POTZENDAI_LEARNED)
+        fprintf(out, " --points %s", points[s->points]);
+    fputs(s->has_buffers ? " --tso" : "", out);
+    fputs(s->has_kernel_threads ? " --kernel-threads" : "", out);
+    fprintf(out, " --replay %" PRIu64, round);
+}
+
+/* Writes the words that repeat the draws of a run of so many rounds; of a scheduled run, of its last round. */
 static inline void potzendai_write_words(FILE *out, const struct potzendai_options *o, const char *program, uint64_t rounds)
 {
     const char *comma = "";
@@ -373,9 +526,17 @@ static inline void potzendai_write_words(FILE *out, const struct potzendai_optio
     fprintf(out, " --scan %s", potzendai_scans[o->is_steps]);
     if (o->yields)
         fprintf(out, " --yield %" PRIu64, o->yields);
+    if (o->cache != POTZENDAI_NO_CACHE)
+        fprintf(out, " --cache%s", o->cache == POTZENDAI_CACHE_LATE ? " late" : "");
+    if (o->fresh)
+        fprintf(out, " --fresh %" PRIu64, o->fresh);
+    if (o->is_reopened)
+        fputs(" --reopen", out);
     if (o->broken != POTZENDAI_UNBROKEN)
         fprintf(out, " --break %s", potzendai_breaks[o->broken]);
-    if (o->is_stream)
+    if (o->schedule.way != POTZENDAI_FREE)
+        potzendai_write_schedule_words(out, &o->schedule, rounds - 1);
+    else if (o->is_stream)
         fprintf(out, " --stream --seconds %" PRIu64, o->seconds);
     else if (rounds > 0)
         fprintf(out, " --rounds %" PRIu64, rounds);

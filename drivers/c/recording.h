@@ -50,10 +50,10 @@ typedef std::atomic<uint64_t> recording_word;
 typedef _Atomic uint64_t recording_word;
 #endif
 
-/* Limits of a history; and of its text: a pair has at most 44 bytes with its comma, and an event 128 besides its pairs. */
+/* Limits of a history; and of its text: a pair has at most 44 bytes with its comma, and an event 320 besides its pairs. */
 enum {
     RECORDING_PROCESSES = 64, RECORDING_CALLS = 4096, RECORDING_PAIRS = 4096,
-    RECORDING_PAIR_TEXT = 44, RECORDING_EVENT_TEXT = 128
+    RECORDING_PAIR_TEXT = 44, RECORDING_EVENT_TEXT = 320
 };
 
 struct recording_pair { uint64_t key, value; };
@@ -63,16 +63,29 @@ enum recording_kind { /* calls, then answers */
     RECORDING_NONE, RECORDING_VALUE, RECORDING_LIST, RECORDING_REFUSED, RECORDING_DONE, RECORDING_FOUND, RECORDING_OTHER
 };
 
+/* How a call of a cache was made that is recorded as another one: a call of one key that found none, or of a cache whose misses say nothing a put or
+ * a remove that did, a replace that found another value, and a scan which did not have a key, or had it. Such a call's words are the key, and those of the call that was made: of a replace the old value and
+ * the new one, of a scan its ends. */
+enum recording_note {
+    RECORDING_AS_MADE, RECORDING_GET_MISSED, RECORDING_PUT_MISSED, RECORDING_REMOVE_MISSED, RECORDING_REPLACE_MISSED, RECORDING_PUT_LATE,
+    RECORDING_REMOVE_LATE, RECORDING_REPLACE_OTHER,
+    RECORDING_SCAN_MISSED, RECORDING_SCAN_LISTED
+};
+
+/* Of a replace that found another value, which is recorded with a new value that nobody puts: this more than its own. */
+#define RECORDING_NOBODY ((uint64_t)1 << 63)
+
 /* An event: its words are those of the call, the value, or where a list of pairs begins and how many they are. */
-struct recording_event { uint64_t stamp, words[3]; enum recording_kind kind; unsigned process; };
+struct recording_event { uint64_t stamp, words[3]; enum recording_kind kind; unsigned process; enum recording_note note; };
 
 /* What one process has recorded. The logs of two processes share no line of a cache. */
 struct recording_log {
     struct recording_event *events;
     struct recording_pair *pairs;
     size_t length, pairs_held;
-    uint64_t stamp_held;
-    bool is_held;
+    uint64_t stamp_held, stamp_taken;
+    bool is_held, is_taken;
+    enum recording_note note; /* of the next call */
     char apart[128];
 };
 
@@ -152,10 +165,15 @@ static inline int recording_add(struct recording *r, unsigned p, enum recording_
     if (!recording_may(r, p, kind >= RECORDING_NONE))
         return -1;
     struct recording_log *log = &r->logs[p];
-    struct recording_event e = {log->stamp_held, {a, b, c}, kind, p};
-    if (!log->is_held)
+    bool is_call = kind < RECORDING_NONE;
+    struct recording_event e = {is_call ? log->stamp_held : log->stamp_taken, {a, b, c}, kind, p, log->note};
+    log->note = RECORDING_AS_MADE;
+    if (!(is_call ? log->is_held : log->is_taken))
         e.stamp = atomic_fetch_add(&r->stamps, (uint64_t)1);
-    log->is_held = false;
+    if (is_call)
+        log->is_held = false;
+    else
+        log->is_taken = false;
     log->events[log->length++] = e;
     return 0;
 }
@@ -171,12 +189,23 @@ static inline int recording_hold(struct recording *r, unsigned p)
     return 0;
 }
 
+/* The call of process p, which it holds or has open and which only reads, has taken its snapshot: it is answered by what is there at this
+ * moment, under the stamp that is drawn here, though its answer is noted later. Of several such moments the last one counts. */
+static inline int recording_taken(struct recording *r, unsigned p)
+{
+    if (!recording_may(r, p, true) && !(recording_may(r, p, false) && r->logs[p].is_held))
+        return -1;
+    r->logs[p].stamp_taken = atomic_fetch_add(&r->stamps, (uint64_t)1);
+    r->logs[p].is_taken = true;
+    return 0;
+}
+
 /* The call that process p holds is left out: it has changed nothing. */
 static inline int recording_drop(struct recording *r, unsigned p)
 {
     if (p >= r->processes || !r->logs[p].is_held)
         return -1;
-    r->logs[p].is_held = false;
+    r->logs[p].is_held = r->logs[p].is_taken = false;
     return 0;
 }
 
@@ -285,6 +314,34 @@ static inline char *recording_put_pairs(char *to, const struct recording_pair *p
     return to;
 }
 
+/* The call as it was made. */
+static inline char *recording_put_note(char *to, const struct recording_event *e)
+{
+    const uint64_t *words = e->words;
+    bool is_replace = e->note == RECORDING_REPLACE_MISSED || e->note == RECORDING_REPLACE_OTHER;
+    bool is_scan = e->note >= RECORDING_SCAN_MISSED, is_late = e->note == RECORDING_PUT_LATE || e->note == RECORDING_REMOVE_LATE;
+    to = recording_put(to, ",\"note\":\"");
+    if (is_replace) {
+        to = recording_put_number(recording_put(to, "replace "), words[1]);
+        to = recording_put_number(recording_put(to, " at "), words[0]);
+        to = recording_put_number(recording_put(to, " by "), words[2] & ~RECORDING_NOBODY);
+    } else if (is_scan) {
+        to = recording_put_number(recording_put(to, "scan from "), words[1]);
+        to = recording_put_number(recording_put(to, " to "), words[2]);
+    } else if (e->note == RECORDING_PUT_MISSED || e->note == RECORDING_PUT_LATE) {
+        to = recording_put_number(recording_put(to, "put "), words[1]);
+        to = recording_put_number(recording_put(to, " at "), words[0]);
+    } else
+        to = recording_put_number(recording_put(to, e->note == RECORDING_GET_MISSED ? "get " : "remove "), words[0]);
+    if (is_scan)
+        to = recording_put_number(recording_put(to, e->note == RECORDING_SCAN_LISTED ? ", which had " : ", which did not have "), words[0]);
+    if (e->note == RECORDING_REPLACE_OTHER)
+        to = recording_put(to, ", answered another value");
+    else if (e->note != RECORDING_SCAN_LISTED)
+        to = recording_put(to, is_scan ? ": the key was gone" : is_late ? ", answered none" : ", answered none: the key was gone");
+    return recording_put(to, "\"");
+}
+
 /* `pairs` are those of a list. */
 static inline char *recording_put_event(char *to, const struct recording_event *e, const struct recording_pair *pairs)
 {
@@ -298,6 +355,7 @@ static inline char *recording_put_event(char *to, const struct recording_event *
             to = recording_put_number(to, e->words[i]);
         }
         *to++ = ']';
+        to = e->note ? recording_put_note(to, e) : to;
     } else {
         to = recording_put(to, "{\"answer\":");
         if (e->kind == RECORDING_VALUE)

@@ -15,7 +15,7 @@
  *
  * Each process is one thread, or what one thread at a time does, and makes one call at a time, through its own number p, from 0. A
  * call answers 0, or -1 where it refused: then nothing is recorded, and the process has to stop. Its call stays without an answer,
- * as that of a thread that dies does: neither holds anything up. streaming_hold and streaming_drop are as in recording.h, and so are
+ * as that of a thread that dies does: neither holds anything up. streaming_hold, _drop and _taken are as in recording.h, and so are
  * streaming_answer_done, _found and _other, once streaming_tell_less has said that the stream is of version 3.
  *
  * Nothing is lost: where all slots are taken, whoever records waits for the writer, and so for who reads the stream. If a write
@@ -26,7 +26,8 @@
  * before its call does anything, that of an answer after all that it does. The event of stamp n goes to slot n modulo their number,
  * and the writer takes slot after slot. It waits at the first stamp whose event is not there yet. That is the horizon: no thread can
  * draw a stamp below it any more, and all that were drawn below it are written. A process that is idle, or within a call, has no
- * stamp whose event is still to come, so it does not keep the horizon where it is; one that holds a call does, until it tells it.
+ * stamp whose event is still to come, so it does not keep the horizon where it is; one that holds a call does, until it tells it, and so
+ * does one whose call has taken its snapshot, until it is answered.
  *
  * Why it does not stand still. Nobody waits between the draw of a stamp and its event but for the slot, which the event of a lower
  * stamp takes. The least stamp that is not written has its slot free. So its event comes, the writer takes it, and the next one has
@@ -59,7 +60,9 @@ struct streaming_slot {
 struct streaming_process {
     enum streaming_state state;
     enum recording_kind call;
-    uint64_t stamp_held, pairs_put;
+    uint64_t stamp_held, stamp_taken, pairs_put;
+    bool is_taken;
+    enum recording_note note; /* of the next call */
     struct recording_pair *pairs;
     recording_word pairs_written;
     char apart[128];
@@ -200,7 +203,8 @@ static inline int streaming_invoke(struct streaming *s, unsigned p, enum recordi
     bool is_held = streaming_may(s, p, STREAMING_HELD);
     if (!is_held && !streaming_may(s, p, STREAMING_IDLE))
         return -1;
-    struct recording_event event = {is_held ? s->processes[p].stamp_held : streaming_stamp(s), {a, b, c}, kind, p};
+    struct recording_event event = {is_held ? s->processes[p].stamp_held : streaming_stamp(s), {a, b, c}, kind, p, s->processes[p].note};
+    s->processes[p].note = RECORDING_AS_MADE;
     s->processes[p].state = STREAMING_OPEN;
     s->processes[p].call = kind;
     return streaming_put(s, &event, false);
@@ -250,16 +254,35 @@ static inline int streaming_drop(struct streaming *s, unsigned p)
 {
     if (!streaming_may(s, p, STREAMING_HELD))
         return -1;
-    struct recording_event event = {s->processes[p].stamp_held, {0, 0, 0}, RECORDING_NONE, p};
+    struct recording_event event = {s->processes[p].stamp_held, {0, 0, 0}, RECORDING_NONE, p, RECORDING_AS_MADE};
     s->processes[p].state = STREAMING_IDLE;
     return streaming_put(s, &event, true);
+}
+
+/* The open call of process p, which only reads, has taken its snapshot: it is answered by what is there at this moment, under the stamp that is
+ * drawn here, though its answer is noted later. Of several such moments the last one counts. A call that is held is answered as it is noted: its
+ * own stamp has no event yet, so none of a later one may wait for room. As where a call is held, others may wait until it is answered. */
+static inline int streaming_taken(struct streaming *s, unsigned p)
+{
+    if (streaming_may(s, p, STREAMING_HELD))
+        return 0;
+    if (!streaming_may(s, p, STREAMING_OPEN))
+        return -1;
+    struct recording_event none = {s->processes[p].stamp_taken, {0, 0, 0}, RECORDING_NONE, p, RECORDING_AS_MADE};
+    if (s->processes[p].is_taken && streaming_put(s, &none, true))
+        return -1;
+    s->processes[p].stamp_taken = streaming_stamp(s);
+    s->processes[p].is_taken = true;
+    return 0;
 }
 
 static inline int streaming_respond(struct streaming *s, unsigned p, enum recording_kind kind, uint64_t a, uint64_t b)
 {
     if (!streaming_may(s, p, STREAMING_OPEN))
         return -1;
-    struct recording_event event = {streaming_stamp(s), {a, b, 0}, kind, p};
+    bool is_taken = s->processes[p].is_taken;
+    struct recording_event event = {is_taken ? s->processes[p].stamp_taken : streaming_stamp(s), {a, b, 0}, kind, p, RECORDING_AS_MADE};
+    s->processes[p].is_taken = false;
     s->processes[p].state = STREAMING_IDLE;
     return streaming_put(s, &event, false);
 }

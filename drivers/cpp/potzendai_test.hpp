@@ -22,6 +22,10 @@
  *     map_said ceiling(uint64_t key, recording_pair &pair);
  *     map_said pop_first(recording_pair &pair);
  *
+ *     void reopen();                                                     // for --reopen: closes it at rest, and opens it with what it held
+ *
+ * In the place of the object may be what makes new ones, for --fresh: [] { return std::unique_ptr<Mine>(new Mine); }.
+ *
  * Where it has a nested type `connection`, made of the object and the thread's number, each thread makes one of its own, and calls its
  * methods.
  * A method that throws has said MAP_UNKNOWN: nobody knows whether it was done. README.md says what the words and the statuses are. */
@@ -29,6 +33,7 @@
 #define POTZENDAI_TEST_HPP
 
 #include "../c/potzendai_test.h"
+#include <memory>
 #include <new>
 #include <type_traits>
 #include <utility>
@@ -171,15 +176,69 @@ template <class Map> void take_map(potzendai_map &functions, ...)
     take_methods<Map>(functions);
 }
 
-/* A whole program: reads the words, tests the map, says the verdict, and answers the status. */
-template <class Map> int test_main(int argc, char **argv, Map &map, const char *name, unsigned value_bits = 0)
+/* What closes a map at rest and opens it again, where it has such a method: one that throws has failed. */
+template <class Map> auto take_reopen(potzendai_map &functions, int) -> decltype(std::declval<Map &>().reopen(), void())
+{
+    functions.reopen = [](void *opened) -> void * {
+        try {
+            static_cast<Map *>(opened)->reopen();
+            return opened;
+        } catch (const std::bad_alloc &) {
+            errno = ENOMEM;
+            return nullptr;
+        } catch (...) {
+            return nullptr;
+        }
+    };
+}
+
+template <class Map> void take_reopen(potzendai_map &, long) {}
+
+/* The map that a factory returns, by a pointer that owns it. */
+template <class Map> Map *owned(Map *made) { return made; }
+template <class Map> Map *owned(std::unique_ptr<Map> &&made) { return made.release(); }
+
+/* Tests the maps of a factory, which is called for each, and copied before. */
+template <class Factory>
+auto test_map(int argc, char **argv, Factory &factory, potzendai_map &functions, int) -> decltype(owned(factory()), int())
+{
+    typedef typename std::decay<Factory>::type Kept;
+    typedef typename std::remove_pointer<decltype(owned(factory()))>::type Map;
+    Kept kept(factory);
+    functions.map = &kept;
+    functions.begin = [](void *kept_factory) -> void * {
+        try {
+            return owned((*static_cast<Kept *>(kept_factory))());
+        } catch (const std::bad_alloc &) {
+            errno = ENOMEM;
+            return nullptr;
+        } catch (...) {
+            return nullptr;
+        }
+    };
+    functions.end = [](void *opened) { delete static_cast<Map *>(opened); };
+    take_map<Map>(functions, nullptr);
+    take_reopen<Map>(functions, 0);
+    return potzendai_test_main(argc, argv, &functions);
+}
+
+/* Tests one map, that is given. */
+template <class Map> int test_map(int argc, char **argv, Map &map, potzendai_map &functions, long)
+{
+    functions.map = &map;
+    take_map<Map>(functions, nullptr);
+    take_reopen<Map>(functions, 0);
+    return potzendai_test_main(argc, argv, &functions);
+}
+
+/* A whole program: reads the words, tests the map, or those that a factory makes, says the verdict, and answers the status. A factory is called
+ * without arguments, and returns a new map as a std::unique_ptr, or as a pointer that the run deletes. */
+template <class Map> int test_main(int argc, char **argv, Map &&map, const char *name, unsigned value_bits = 0)
 {
     potzendai_map functions = potzendai_map();
     functions.name = name;
-    functions.map = &map;
     functions.value_bits = value_bits;
-    take_map<Map>(functions, nullptr);
-    return potzendai_test_main(argc, argv, &functions);
+    return test_map(argc, argv, map, functions, 0);
 }
 
 }

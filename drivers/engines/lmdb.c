@@ -5,16 +5,17 @@
 
 static MDB_env *env;
 static MDB_dbi pairs;
+static char folder[32];
 static bool is_plain;
 
 static MDB_val bytes_of(uint64_t *number) { return (MDB_val){sizeof *number, number}; }
 static uint64_t number_in(MDB_val value) { uint64_t number; memcpy(&number, value.mv_data, sizeof number); return number; }
 
-/* Ends a transaction: what it says holds where it is committed. */
+/* Ends a transaction: what it says holds where it is committed. Of a commit that fails the manual does not say that nothing has changed. */
 static enum map_said end(MDB_txn *txn, int status, enum map_said said)
 {
     if (status == 0 && said != MAP_REFUSED)
-        return mdb_txn_commit(txn) ? MAP_REFUSED : said;
+        return mdb_txn_commit(txn) ? MAP_UNKNOWN : said;
     mdb_txn_abort(txn);
     return MAP_REFUSED;
 }
@@ -36,6 +37,7 @@ static enum map_said get(void *map, uint64_t key, uint64_t *found)
     (void)map;
     if (mdb_txn_begin(env, NULL, MDB_RDONLY, &txn))
         return MAP_REFUSED;
+    potzendai_taken();
     int status = look(txn, key, found, &said);
     return end(txn, status, said);
 }
@@ -84,7 +86,7 @@ static enum map_said put_if_absent(void *map, uint64_t key, uint64_t value, uint
     return end(txn, status == MDB_KEYEXIST ? 0 : status, status ? MAP_TOLD : MAP_NONE);
 }
 
-/* The pairs that a cursor meets in one read transaction. */
+/* The pairs that a cursor meets in one read transaction, which sees what was there as it began. */
 static enum map_said scan(void *map, uint64_t low, uint64_t high, struct recording_pair *all, size_t room, size_t *count)
 {
     MDB_txn *txn;
@@ -93,6 +95,7 @@ static enum map_said scan(void *map, uint64_t low, uint64_t high, struct recordi
     (void)map;
     if (mdb_txn_begin(env, NULL, MDB_RDONLY, &txn))
         return MAP_REFUSED;
+    potzendai_taken();
     int status = mdb_cursor_open(txn, pairs, &cursor);
     if (status)
         return end(txn, status, MAP_REFUSED);
@@ -110,30 +113,56 @@ static enum map_said ceiling_of(void *map, uint64_t key, struct recording_pair *
     return said == MAP_TOLD && count == 0 ? MAP_NONE : said;
 }
 
-static int open_map(const char *folder)
+/* Opens what is in the folder, or begins there. */
+static int open_folder(void)
 {
     MDB_txn *txn;
     return mdb_env_create(&env) || mdb_env_set_mapsize(env, 1u << 28) || mdb_env_open(env, folder, MDB_NOSYNC, 0600)
         || mdb_txn_begin(env, NULL, 0, &txn) || mdb_dbi_open(txn, NULL, MDB_INTEGERKEY, &pairs) || mdb_txn_commit(txn);
 }
 
-int main(int argc, char **argv)
+static void remove_folder(void)
 {
-    struct potzendai_map map = {.name = "lmdb", .get = get, .put = put, .del = del, .scan = scan, .replace = replace,
-                                .put_if_absent = put_if_absent, .ceiling = ceiling_of};
-    char folder[] = "/tmp/potzendai-lmdb-XXXXXX", file[64], again[] = "lmdb plain";
-    is_plain = argc > 1 && strcmp(argv[1], "plain") == 0;
-    if (!mkdtemp(folder) || open_map(folder)) {
-        fputs("lmdb: does not open\n", stderr);
-        return 6;
-    }
-    if (is_plain)
-        argv[1] = again;
-    int status = potzendai_test_main(argc - is_plain, argv + is_plain, &map);
-    mdb_env_close(env);
+    char file[64];
     for (int i = 0; i < 2; i++)
         if (snprintf(file, sizeof file, "%s/%s", folder, i ? "lock.mdb" : "data.mdb") > 0)
             unlink(file);
     rmdir(folder);
-    return status;
+}
+
+/* A new map, in a folder of its own. */
+static void *begin(void *map)
+{
+    (void)map;
+    strcpy(folder, "/tmp/potzendai-lmdb-XXXXXX");
+    if (!mkdtemp(folder))
+        return NULL;
+    if (open_folder() == 0)
+        return folder;
+    remove_folder();
+    return NULL;
+}
+
+static void end_map(void *opened)
+{
+    (void)opened;
+    mdb_env_close(env);
+    remove_folder();
+}
+
+static void *reopen(void *opened)
+{
+    mdb_env_close(env);
+    return open_folder() ? NULL : opened;
+}
+
+int main(int argc, char **argv)
+{
+    struct potzendai_map map = {.name = "lmdb", .get = get, .put = put, .del = del, .scan = scan, .replace = replace,
+                                .put_if_absent = put_if_absent, .ceiling = ceiling_of, .begin = begin, .end = end_map, .reopen = reopen};
+    char again[] = "lmdb plain";
+    is_plain = argc > 1 && strcmp(argv[1], "plain") == 0;
+    if (is_plain)
+        argv[1] = again;
+    return potzendai_test_main(argc - is_plain, argv + is_plain, &map);
 }

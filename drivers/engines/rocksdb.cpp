@@ -1,9 +1,11 @@
 // RocksDB, tested: puts and deletes in transactions that read first, and tell. With the word `plain` in front they are single ones, which
 // tell nothing. README.md says how it is built.
 #include "../cpp/potzendai_test.hpp"
+#include <cstring>
 #include <memory>
 #include <rocksdb/utilities/transaction.h>
 #include <rocksdb/utilities/transaction_db.h>
+#include <stdexcept>
 #include <string>
 
 using namespace rocksdb;
@@ -35,7 +37,8 @@ static map_said told(const Status &status, const std::string &value, uint64_t &f
     return status.ok() ? MAP_TOLD : status.IsNotFound() ? MAP_NONE : MAP_REFUSED;
 }
 
-// Looks what is there under the key's lock, and then puts a value or deletes; a replace only where the old value is there.
+// Looks what is there under the key's lock, and then puts a value or deletes; a replace only where the old value is there. Nothing has changed
+// where the transaction has expired or met a conflict; of a commit that fails otherwise nobody knows.
 static map_said change(uint64_t key, const uint64_t *value, const uint64_t *old, uint64_t &found)
 {
     std::string before, at = bytes_of(key);
@@ -46,10 +49,46 @@ static map_said change(uint64_t key, const uint64_t *value, const uint64_t *old,
     Status status;
     if (!old || (said == MAP_TOLD && found == *old))
         status = value ? transaction->Put(at, bytes_of(*value)) : transaction->Delete(at);
-    return status.ok() && transaction->Commit().ok() ? said : MAP_REFUSED;
+    if (!status.ok())
+        return MAP_REFUSED;
+    status = transaction->Commit();
+    return status.ok() ? said : status.IsExpired() || status.IsBusy() || status.IsTryAgain() ? MAP_REFUSED : MAP_UNKNOWN;
 }
 
-struct Rocks {
+// A map in a folder of its own.
+class Rocks {
+    char folder[32];
+
+    void open()
+    {
+        Options options;
+        options.create_if_missing = true;
+        if (!TransactionDB::Open(options, TransactionDBOptions(), folder, &base).ok())
+            throw std::runtime_error("rocksdb: does not open");
+    }
+
+public:
+    Rocks()
+    {
+        std::strcpy(folder, "/tmp/potzendai-rocksdb-XXXXXX");
+        if (!mkdtemp(folder))
+            throw std::runtime_error("rocksdb: no folder");
+        open();
+    }
+
+    ~Rocks()
+    {
+        delete base;
+        DestroyDB(folder, Options());
+    }
+
+    void reopen()
+    {
+        delete base;
+        base = nullptr;
+        open();
+    }
+
     map_said get(uint64_t key, uint64_t &found)
     {
         std::string value;
@@ -77,6 +116,7 @@ struct Rocks {
     map_said scan(uint64_t low, uint64_t high, std::vector<recording_pair> &pairs)
     {
         std::unique_ptr<Iterator> at(base->NewIterator(ReadOptions()));
+        potzendai_taken();
         for (at->Seek(bytes_of(low)); at->Valid() && number_in(at->key()) <= high; at->Next())
             pairs.push_back({number_in(at->key()), number_in(at->value())});
         return at->status().ok() ? MAP_TOLD : MAP_REFUSED;
@@ -85,19 +125,9 @@ struct Rocks {
 
 int main(int argc, char **argv)
 {
-    char folder[] = "/tmp/potzendai-rocksdb-XXXXXX", again[] = "rocksdb plain";
-    Options options;
-    options.create_if_missing = true;
-    if (!mkdtemp(folder) || !TransactionDB::Open(options, TransactionDBOptions(), folder, &base).ok()) {
-        fputs("rocksdb: does not open\n", stderr);
-        return 6;
-    }
-    Rocks map;
+    char again[] = "rocksdb plain";
     is_plain = argc > 1 && strcmp(argv[1], "plain") == 0;
     if (is_plain)
         argv[1] = again;
-    int status = potzendai::test_main(argc - is_plain, argv + is_plain, map, "rocksdb");
-    delete base;
-    DestroyDB(folder, options);
-    return status;
+    return potzendai::test_main(argc - is_plain, argv + is_plain, [] { return std::unique_ptr<Rocks>(new Rocks); }, "rocksdb");
 }

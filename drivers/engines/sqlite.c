@@ -18,10 +18,11 @@ static const char first[] =
 
 struct connection { sqlite3 *base; sqlite3_stmt *all[STATEMENTS]; };
 
-static char file[] = "/tmp/potzendai-sqlite-XXXXXX";
+static char file[32];
 static bool is_plain;
 
-/* Runs a statement to its end, which commits it where no transaction is open: the pairs, or MAP_REFUSED where it is busy. */
+/* Runs a statement to its end, which commits it where no transaction is open: the pairs; MAP_REFUSED where it is busy, which changes nothing; or
+ * MAP_UNKNOWN where it fails otherwise, of which the manual does not say that. */
 static enum map_said ask(struct connection *s, int which, const uint64_t words[3], struct recording_pair *pairs, size_t room, size_t *count)
 {
     sqlite3_stmt *statement = s->all[which];
@@ -33,7 +34,9 @@ static enum map_said ask(struct connection *s, int which, const uint64_t words[3
             pairs[*count] = (struct recording_pair){(uint64_t)sqlite3_column_int64(statement, 0),
                                                     (uint64_t)sqlite3_column_int64(statement, 1)};
     sqlite3_reset(statement);
-    return status != SQLITE_DONE ? MAP_REFUSED : *count ? MAP_TOLD : MAP_NONE;
+    if (status != SQLITE_DONE)
+        return status == SQLITE_BUSY || status == SQLITE_LOCKED ? MAP_REFUSED : MAP_UNKNOWN;
+    return *count ? MAP_TOLD : MAP_NONE;
 }
 
 static enum map_said ask_one(void *connection, int which, uint64_t key, struct recording_pair *pair)
@@ -43,29 +46,38 @@ static enum map_said ask_one(void *connection, int which, uint64_t key, struct r
     return ask((struct connection *)connection, which, words, pair, 1, &count);
 }
 
+/* Whether a statement was done. */
+static bool is_done(enum map_said said)
+{
+    return said != MAP_REFUSED && said != MAP_UNKNOWN;
+}
+
 /* One statement, of which is told whether it has changed anything: what it says then, and else. */
 static enum map_said change(struct connection *s, int which, const uint64_t words[3], enum map_said changed, enum map_said not_changed)
 {
     size_t count;
-    if (ask(s, which, words, NULL, 0, &count) == MAP_REFUSED)
-        return MAP_REFUSED;
+    enum map_said said = ask(s, which, words, NULL, 0, &count);
+    if (!is_done(said))
+        return said;
     return sqlite3_changes(s->base) ? changed : not_changed;
 }
 
-/* What is there, and then the statement, in one transaction. */
+/* What is there, and then the statement, in one transaction. Where no commit was tried, or it was busy, a rollback ends it. */
 static enum map_said look_and_change(struct connection *s, int which, const uint64_t words[3], uint64_t *found)
 {
     struct recording_pair pair = {0, 0};
     size_t count;
-    if (ask(s, BEGIN, words, NULL, 0, &count) == MAP_REFUSED)
+    if (!is_done(ask(s, BEGIN, words, NULL, 0, &count)))
         return MAP_REFUSED;
     enum map_said said = ask(s, GET, words, &pair, 1, &count);
     *found = pair.value;
-    bool is_done = said != MAP_REFUSED && ask(s, which, words, NULL, 0, &count) != MAP_REFUSED;
-    if (is_done && ask(s, COMMIT, words, NULL, 0, &count) != MAP_REFUSED)
+    enum map_said end = MAP_REFUSED;
+    if (is_done(said) && is_done(ask(s, which, words, NULL, 0, &count)))
+        end = ask(s, COMMIT, words, NULL, 0, &count);
+    if (is_done(end))
         return said;
     ask(s, ROLLBACK, words, NULL, 0, &count);
-    return MAP_REFUSED;
+    return end;
 }
 
 static enum map_said get(void *connection, uint64_t key, uint64_t *found)
@@ -136,22 +148,34 @@ static void *open_connection(void *map, unsigned thread)
     return is_open ? s : NULL;
 }
 
+/* A new map, in a file of its own, which each connection opens. */
+static void *begin(void *map)
+{
+    (void)map;
+    strcpy(file, "/tmp/potzendai-sqlite-XXXXXX");
+    int made = mkstemp(file);
+    return made >= 0 && close(made) == 0 ? file : NULL;
+}
+
+static void end_map(void *opened)
+{
+    unlink((const char *)opened);
+}
+
+/* The file was closed with its last connection, so the next one opens it again. */
+static void *reopen(void *opened)
+{
+    return opened;
+}
+
 int main(int argc, char **argv)
 {
     struct potzendai_map map = {.name = "sqlite", .value_bits = 63, .open = open_connection, .close = close_connection, .get = get, .put = put,
                                 .del = del, .scan = scan, .replace = replace, .put_if_absent = put_if_absent, .floor = floor_of,
-                                .ceiling = ceiling_of, .pop_first = pop_first};
+                                .ceiling = ceiling_of, .pop_first = pop_first, .begin = begin, .end = end_map, .reopen = reopen};
     char again[] = "sqlite plain";
-    int made = mkstemp(file);
     is_plain = argc > 1 && strcmp(argv[1], "plain") == 0;
-    if (made < 0) {
-        fputs("sqlite: no file\n", stderr);
-        return 6;
-    }
-    close(made);
     if (is_plain)
         argv[1] = again;
-    int status = potzendai_test_main(argc - is_plain, argv + is_plain, &map);
-    unlink(file);
-    return status;
+    return potzendai_test_main(argc - is_plain, argv + is_plain, &map);
 }
