@@ -1,7 +1,7 @@
 /* Potzendai's library: judges, locates, explains and draws histories of a concurrent ordered map, and follows streams of their
  * events, as `bench judge`, `bench locate`, `bench explain`, `bench draw --calls 0` and `bench follow` do; potzendai_draw_part draws
- * what `bench draw` shows: few calls of a no, and of an undecided where such are found. Link libpotzendai.a; docs/LIBRARY.md says how it
- * is built, and what each call promises.
+ * what `bench draw` shows: few calls of a no, and of an undecided where such are found; potzendai_page writes the HTML of `bench page`.
+ * Link libpotzendai.a; docs/LIBRARY.md says how it is built, and what each call promises.
  *
  *     char report[POTZENDAI_REPORT] = "";
  *     size_t length;
@@ -44,7 +44,7 @@ enum {
 /* The budget of `bench judge` where none is given. */
 #define POTZENDAI_BUDGET 100000u
 
-/* Room that is enough for whatever judge and locate write. A picture is longer, and what explain and follow write may be. */
+/* Room that is enough for whatever judge and locate write. A picture and a page are longer, and what explain and follow write may be. */
 #define POTZENDAI_REPORT 32768
 
 uint32_t potzendai_judge(const char *text, size_t text_length, uint32_t budget, char *room, size_t room_length, size_t *length);
@@ -52,6 +52,7 @@ uint32_t potzendai_locate(const char *text, size_t text_length, uint32_t budget,
 uint32_t potzendai_explain(const char *text, size_t text_length, uint32_t budget, char *room, size_t room_length, size_t *length);
 uint32_t potzendai_draw(const char *text, size_t text_length, uint32_t budget, char *room, size_t room_length, size_t *length);
 uint32_t potzendai_draw_part(const char *text, size_t text_length, uint32_t budget, char *room, size_t room_length, size_t *length);
+uint32_t potzendai_page(const char *text, size_t text_length, uint32_t budget, char *room, size_t room_length, size_t *length);
 uint32_t potzendai_follow(const char *text, size_t text_length, uint32_t budget, char *room, size_t room_length, size_t *length);
 
 /* A stream that is followed while it is recorded. Made by `= {0}`, and read and written by these calls alone; it is not copied, and

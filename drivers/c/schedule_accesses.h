@@ -13,7 +13,8 @@ static bool is_own_stack(const struct thread *t, uintptr_t address)
     return address >= t->stack_low && address < t->stack_high;
 }
 
-static void access_plain(const volatile void *at, bool is_write, size_t size, bool looks, uintptr_t code)
+/* An access of the map, also one that a function of the C library does for it. */
+static void access_word(const volatile void *at, bool is_write, size_t size, bool looks, uintptr_t code)
 {
     struct thread *t = in_map();
     struct event e = {(uintptr_t)at, code, is_write, false, looks};
@@ -28,10 +29,21 @@ static void access_plain(const volatile void *at, bool is_write, size_t size, bo
     drain_for(t, e.address, size);
 }
 
+/* An access that the compiler tells of. That there are some shows that the map is compiled for it. */
+static void access_plain(const volatile void *at, bool is_write, size_t size, bool looks, uintptr_t code)
+{
+    struct thread *t = in_map();
+    if (t && !is_own_stack(t, (uintptr_t)at))
+        made->accesses++;
+    access_word(at, is_write, size, looks, code);
+}
+
 static struct thread *access_atomic(const volatile void *at, bool is_write, uintptr_t code)
 {
     struct thread *t = in_map();
     struct event e = {(uintptr_t)at, code, is_write, false, true};
+    if (t)
+        made->accesses++;
     if (t && is_point(t, &e, true))
         point(t, e);
     return t;
@@ -131,9 +143,9 @@ static void copy_bytes_down(char *to, const char *from, size_t size)
 static void copy_word(char *to, const char *from, size_t size, uintptr_t code)
 {
     char word[8];
-    access_plain(from, false, size, false, code);
+    access_word(from, false, size, false, code);
     copy_bytes(word, from, size);
-    access_plain(to, true, size, false, code);
+    access_word(to, true, size, false, code);
     copy_bytes(to, word, size);
 }
 
@@ -175,7 +187,7 @@ static void *fill(void *to, int byte, size_t size, uintptr_t code)
     for (size_t done = 0, some; done < size; done += some) {
         some = next_word((char *)to + done, size - done);
         if (is_in_map)
-            access_plain(bytes + done, true, some, false, code);
+            access_word(bytes + done, true, some, false, code);
         for (size_t i = done; i < done + some; i++)
             bytes[i] = (char)byte;
     }

@@ -113,7 +113,6 @@ static bool may_meet(const struct event *e, bool is_atomic)
 static bool is_point(struct thread *t, struct event *e, bool is_atomic)
 {
     bool is_one = true;
-    made->accesses++;
     if (asked->points == POTZENDAI_LEARNING)
         learn(t, e);
     else if (asked->points == POTZENDAI_ATOMICS)

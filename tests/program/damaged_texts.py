@@ -28,6 +28,7 @@ LINE = rb"[^\n]+\n"
 # Behind a stream that goes wrong stands a small history.
 LINE_OR_TWO = rb"([^\n]+\n){1,2}"
 PICTURE = rb"<svg [^>]*>\n(?:[^\n]+\n)+</svg>\n"
+PAGE = rb"<!doctype html>\n(?:[^\n]*\n)+</html>\n"
 REFUSED_HISTORY = (
     rb"history: ([1-3] (TooLong|NotJson|Version)|5 TooMany|[46] (Shape|NotWellFormed) at event [0-9]+"
     rb"|8 Start at pair [0-9]+)\n"
@@ -37,15 +38,16 @@ REFUSED = {
     "judge": REFUSED_HISTORY,
     "locate": REFUSED_HISTORY,
     "draw": REFUSED_HISTORY,
+    "page": REFUSED_HISTORY,
     "replay": rb"replay: ([5-7] (TooLong|NotJson|Shape)|8 StartRefused)\n"
     rb"|schedule: item [0-9]+: (1 NoProcess|2 NothingToDo|3 TurnLimit)\n",
     "drive": rb"plan: (3 TooMany|5 TooLong|6 NotJson|7 Shape)\n",
     "follow": rb"stream: line [0-9]+: (1 TooLong|2 NotJson|3 Version|4 Shape|5 TooMany|6 NotWellFormed|8 Start at pair [0-9]+)\n",
 }
-ANSWERED = {"judge": (0, 1, 2), "locate": (0, 1, 2), "draw": (0, 1, 2), "replay": (0,), "drive": (0,), "follow": (0, 1, 2)}
-ANSWERS = {"draw": PICTURE, "follow": LINE_OR_TWO}
+ANSWERED = {"judge": (0, 1, 2), "locate": (0, 1, 2), "draw": (0, 1, 2), "page": (0, 1, 2), "replay": (0,), "drive": (0,), "follow": (0, 1, 2)}
+ANSWERS = {"draw": PICTURE, "page": PAGE, "follow": LINE_OR_TWO}
 # What reads an example, by the ending of its name. Of several subcommands each text is given to one.
-READERS = {"-stream.json": ("follow",), "-replay.json": ("replay",), "-plan.json": ("drive",), ".json": ("judge", "locate", "draw")}
+READERS = {"-stream.json": ("follow",), "-replay.json": ("replay",), "-plan.json": ("drive",), ".json": ("judge", "locate", "draw", "page")}
 
 
 def cut(text, chance):

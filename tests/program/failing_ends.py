@@ -93,6 +93,7 @@ THREADS = [
     ("locate", LOST_AT_LAST, 1, b'{"call":3,"event":7,"verdict":"no"}\n', 0),
     ("draw --workers 2", LOST_AT_LAST, 1, b"<svg", 1),
     ("draw --workers 64", LOST_AT_LAST, 1, b"<svg", 63),
+    ("page --workers 2", LOST_AT_LAST, 1, b"<!doctype html>", 1),
     ("drive", TWO_SCRIPTS, 0, b'{"events":[{"invoke"', 1),
     ("drive --tree coupled", TWO_SCRIPTS, 0, b'{"events":[{"invoke"', 1),
     ("drive --tree optimistic", TWO_SCRIPTS, 0, b'{"events":[{"invoke"', 1),

@@ -98,7 +98,7 @@ def rows():
     """Words, a text, and the status, standard output and what a terminal shows that are wanted."""
     yield from ANSWERS
     for text, told in TEXTS:
-        for words in (["check", "0", "1"], ["judge"], ["locate"], ["explain"], ["draw"]):
+        for words in (["check", "0", "1"], ["judge"], ["locate"], ["explain"], ["draw"], ["page"]):
             yield words, text, 3, "", told
     for line, told in FIRST_LINES:
         for text in (line, f"{line}\n{GET}\n"):

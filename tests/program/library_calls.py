@@ -27,7 +27,7 @@ def main():
     passed = failed = 0
     scans = [(f"a scan of {listed} pairs", started(*scan_from_pairs(MOST_PAIRS, listed)).encode()) for listed in (MOST_PAIRS, 0)]
     for name, text in [*texts(), *scans, ("no text", b""), ("no JSON", b"\xff{")]:
-        for word in ("judge", "locate", "explain", "draw", "draw_part", "follow"):
+        for word in ("judge", "locate", "explain", "draw", "draw_part", "page", "follow"):
             for budget in (1, 3, 100_000, 1_000_000):
                 words = [word.partition("_")[0], "--budget", str(budget), *(["--calls", "0"] if word == "draw" else [])]
                 wanted, output, faults = answer(words, text)

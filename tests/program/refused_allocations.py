@@ -41,6 +41,8 @@ def command_lines():
             for line in expected:
                 if line.startswith("$ bench "):
                     yield os.path.join(EXAMPLES, stem + ".json"), line.split()[2:]
+    # Its answer is too long to stand beside an example.
+    yield os.path.join(EXAMPLES, "lost-put.json"), ["page"]
 
 
 def answer(words, text, environment):

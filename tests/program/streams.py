@@ -472,7 +472,7 @@ def decided(history, lost):
 
 def row_verdict(row):
     """The same of a row of streams with calls that are held up, of which `locate` and the model have to say the same, and all orders of a short
-    one; and the keys that a no tells, if these are given."""
+    one, but that `locate` may be undecided where `follow` is; and the keys that a no tells, if these are given."""
     name, history, lost, *keys = row
     may_be_undecided = name.startswith(held_streams.WITHOUT_WINDOWS)
     found, wrong = verdict(history, lambda _: lost) if may_be_undecided else decided(history, lost)
@@ -480,8 +480,8 @@ def row_verdict(row):
     if any(model(history) != lost for model in models):
         wrong = f"a model says that it goes wrong at another event than {lost}"
     (located,) = said("locate", text_of(history))[1]
-    event = located.get("event") if found == "undecided" else lost
-    if (located["verdict"], located.get("event")) != (found, event):
+    told = located["verdict"], located.get("event")
+    if told != ("yes" if lost is None else "no", lost) and (found, told[0]) != ("undecided", "undecided"):
         wrong = wrong or f"follow says {found}, and locate {located}"
     if wrong is None and keys:
         report = run("follow", lines_of(history))[1][0]

@@ -329,7 +329,7 @@ def refused_streams():
 def rows():
     """Words, a text, and the status, standard output and what a terminal shows that are wanted."""
     for text, told in refused_texts():
-        for words in (["check", "0", "1"], ["judge"], ["locate"], ["explain"], ["draw"]):
+        for words in (["check", "0", "1"], ["judge"], ["locate"], ["explain"], ["draw"], ["page"]):
             yield words, text, 3, "", told
     yield ["check"], spaced(history(""), LONGEST_TEXT), 0, "ok\n", ""
     yield ["check", "0", "1", "2", "3"], NOTED, 0, "ok\n", ""

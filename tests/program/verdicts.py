@@ -9,11 +9,13 @@ first parts. The last line counts what passed and failed.
 
 import functools
 import json
+import random
+import subprocess
 import sys
 
 sys.dont_write_bytecode = True
 from rows import (  # noqa: E402
-    APART, LONG, MOST_CALLS, answer, compare, gets, history, numbers, pairs_listed, report_of, scans_of_inserts, started, stream,
+    APART, LONG, MOST_CALLS, PROGRAM, answer, compare, gets, history, numbers, pairs_listed, report_of, scans_of_inserts, started, stream,
 )
 
 STATUSES = {"yes": 0, "no": 1, "undecided": 2}
@@ -354,6 +356,9 @@ LOCATIONS = [
     (GET_SEES_NONE_OF_FIVE_OPEN_INSERTS, 1, '{"call":5,"event":6,"reason":"budget","verdict":"undecided"}'),
     (GET_SEES_NONE_OF_FIVE_OPEN_INSERTS, 1000, '{"call":5,"event":6,"verdict":"no"}'),
 ]
+
+# Seeds, processes, calls, and how many copies with one answer changed: histories on two keys with scans.
+HOT_KEYS = [(2, 8, 4096, 6), (4, 6, 4096, 6)]
 
 # Words, events, and the whole report, or where they go wrong: the number of workers and the place of the options tell nothing.
 OPTIONS = [
@@ -803,8 +808,10 @@ def located():
     for events, budget, line in LOCATIONS:
         yield history(events), budget, line
     # Each scan is tried as it begins, and while a remove is open: four times. The seventh scan is call 7, and its answer event 1 + 7 + 4 * 3 + 6.
-    yield history(many_ways(7, 3)), 1000, '{"call":7,"event":26,"reason":"scans","verdict":"undecided"}'
-    yield history(many_ways(6, 3)), 1000, WELL
+    # An order of these calls has more than eight configurations, so that a verdict is undecided and the events are followed.
+    yield history(many_ways(7, 3)), 8, '{"call":7,"event":26,"reason":"scans","verdict":"undecided"}'
+    yield history(many_ways(7, 3)), 1000, WELL
+    yield history(many_ways(6, 3)), 8, WELL
     yield history(many_ways(2, 3)), 1000, WELL
     yield history(one_false_get(500, 1000)), 10_000, '{"call":500,"event":1001,"verdict":"no"}'
     yield history(one_false_get(0, 4095)), 10_000, '{"call":0,"event":1,"verdict":"no"}'
@@ -879,6 +886,75 @@ def by_each_part(events):
     return None
 
 
+def applied(call, held):
+    """What a call is answered on a map of two keys, which it changes."""
+    name, key, *more = call
+    found = held.get(key)
+    if name == "scan":
+        return sorted([k, held[k]] for k in held if key <= k <= more[0])
+    if name == "insert":
+        held[key] = more[0]
+    elif name == "remove":
+        held.pop(key, None)
+    return found
+
+
+def on_hot_keys(seed, processes, calls):
+    """The events of so many calls on two keys, a fifth of them scans, of processes that take turns as they are drawn: each call takes effect
+    at some turn between its two events."""
+    draw = random.Random(seed)
+    held, begun, done, events, count = {}, {}, {}, [], 0
+    while count < calls or begun or done:
+        process = draw.randrange(processes)
+        if process in done:
+            events.append({"answer": done.pop(process), "process": process})
+        elif process in begun:
+            done[process] = applied(begun.pop(process), held)
+        elif count < calls:
+            count += 1
+            key = draw.randrange(2)
+            call = draw.choice([["get", key], ["get", key], ["insert", key, count], ["remove", key], ["scan", 0, 1]])
+            begun[process] = call
+            events.append({"invoke": call, "process": process})
+    return events
+
+
+def damaged(events, seed):
+    """The same events with one answer changed: of a get, an insert or a remove."""
+    draw = random.Random(seed)
+    place = draw.choice([place for place, event in enumerate(events) if "answer" in event and not isinstance(event["answer"], list)])
+    told = draw.choice([event["invoke"][2] for event in events if event.get("invoke", [""])[0] == "insert"])
+    return [*events[:place], {**events[place], "answer": told}, *events[place + 1:]]
+
+
+def located_soon(events):
+    """The event at which `locate` says that these events go wrong, or None where they have an order, in ten processor seconds."""
+    text = json.dumps({"events": events, "version": 1})
+    words = ["sh", "-c", 'ulimit -t 10; exec "$0" locate', PROGRAM]
+    return json.loads(subprocess.run(words, input=text.encode(), stdout=subprocess.PIPE, timeout=300, check=False).stdout or "{}")
+
+
+def has_order(events):
+    """What `judge` says of events."""
+    return answer(["judge"], json.dumps({"events": events, "version": 1}))[0] == 0
+
+
+def hot_keys(seed, processes, calls, copies):
+    """What is wrong with the locations of a history that a follower of streams takes minutes for, and of copies with one answer changed, or
+    None: the history has an order; a copy goes wrong at an event if `judge` finds an order of the events before it, and none with it."""
+    events = on_hot_keys(seed, processes, calls)
+    if located_soon(events) != {"verdict": "yes"}:
+        return f"{seed}: {located_soon(events)}, and wanted is a yes"
+    for copy in range(copies):
+        wrong = damaged(events, copy)
+        located = located_soon(wrong)
+        event = located.get("event", -1)
+        fits = has_order(wrong) if located.get("verdict") == "yes" else has_order(wrong[:event]) and not has_order(wrong[:event + 1])
+        if not fits or located.get("verdict") == "undecided":
+            return f"{seed}, copy {copy}: {located}"
+    return None
+
+
 def explained(events, budget, wanted, outside, missed):
     """What is wrong with the calls that explain a no, with who put what they read, and with what they miss."""
     text = started("", events) if "replace" in events else history(events)
@@ -899,6 +975,7 @@ def explained(events, budget, wanted, outside, missed):
 def main():
     others = [functools.partial(by_each_part, events) for events in dict.fromkeys(events for events, *_ in LOCATIONS) if events != gets(MOST_CALLS)]
     others += [functools.partial(explained, *row) for row in EXPLANATIONS]
+    others += [functools.partial(hot_keys, *row) for row in HOT_KEYS]
     return compare(rows(), others)
 
 

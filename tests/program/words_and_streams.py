@@ -70,6 +70,9 @@ FAULTS = [
     ("draw --around 8193", "error: invalid value '8193' for '--around <N>'"),
     ("draw --calls 4098", "error: invalid value '4098' for '--calls <N>'"),
     ("draw --seed 1", "error: unexpected argument '--seed' found"),
+    ("page --workers 0", "error: invalid value '0' for '--workers <N>'"),
+    ("page --budget 1000001", "error: invalid value '1000001' for '--budget <N>'"),
+    ("page --calls 4", "error: unexpected argument '--calls' found"),
     ("follow --workers 2", "error: unexpected argument '--workers' found"),
     ("generate", "error: the following required arguments were not provided"),
     ("generate --seed 1", "error: the following required arguments were not provided"),
@@ -110,7 +113,7 @@ POINTER = "\n\nFor more information, try '--help'.\n"
 DRAWN = "generate --seed 42 --processes 1 --calls 2 --get 100 --insert 0 --remove 0 --scan {} --lo {} --hi 5"
 SHOWN = '{"events":[{"invoke":["insert",5,7],"process":0},{"answer":null,"process":0},{"i..'
 REFUSALS = [
-    *((words, "history: 2 NotJson", "wanted JSON in UTF-8") for words in ("check 0 1", "judge", "locate", "explain", "draw")),
+    *((words, "history: 2 NotJson", "wanted JSON in UTF-8") for words in ("check 0 1", "judge", "locate", "explain", "draw", "page")),
     ("follow", "stream: line 1: 2 NotJson", f"found {SHOWN}; wanted JSON in UTF-8"),
     ("replay", "replay: 6 NotJson", "wanted JSON in UTF-8"),
     ("drive", "plan: 6 NotJson", "wanted JSON in UTF-8"),
@@ -284,7 +287,7 @@ def runs(folder):
     yield "input that is a folder", run(["check"], unreadable), (6, NOTHING, rb"io\n")
     os.close(unreadable)
 
-    answers = {"an order": ["check", "0", "1"], "a verdict": ["judge"], "a location": ["locate"], "a picture": ["draw"]}
+    answers = {"an order": ["check", "0", "1"], "a verdict": ["judge"], "a location": ["locate"], "a picture": ["draw"], "a page": ["page"]}
     for shows, words in answers.items():
         with open(ORDERED, "rb") as source, open(FULL, "wb") as full:
             yield f"{shows} to a full standard output", run(words, source, output=full), (6, NOTHING, rb"io\n")

@@ -99,7 +99,7 @@ impl Shape {
     }
 
     /// The words of the table as it is opened.
-    pub fn opening_words(&self, alloc: Global) -> Result<Vec<u64>, AllocError>
+    pub fn opening(&self, alloc: Global) -> Result<Vec<u64>, AllocError>
         requires root { 1 ≤ self.now.rows256 }
         ensures { IfOk result (λ words. words.items ≡ opening self.now) }
     {

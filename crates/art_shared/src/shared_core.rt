@@ -37,7 +37,7 @@ impl SharedCore {
         ensures own { IfOk result (λ r. IsPlaceOf r.0 r.1) }
         ensures all { IfOk result (λ r. shown r.1 ≡ all_idle setup) }
     {
-        let words = setup.shape.opening_words(alloc)?;
+        let words = setup.shape.opening(alloc)?;
         let (table, seat) = Table::of_words(alloc, words.as_slice(), &setup)?;
         Ok((SharedCore { table }, Place { seat }))
     }

@@ -3,7 +3,7 @@
 use Rattle.std.proofs.Common.{◌≡◌, ℕ, List, refl}
 use Rattle.clap.specs.Words.{Text}
 use Rattle.command_line.specs.declared.line.Line.{Line}
-use Rattle.command_line.specs.declared.line.Line.TheVariants.{Check, Judge, Locate, Explain, Draw, Follow, Generate, Replay, Drive}
+use Rattle.command_line.specs.declared.line.Line.TheVariants.{Check, Judge, Locate, Explain, Draw, Page, Follow, Generate, Replay, Drive}
 use Rattle.command_line.specs.declared.line.Tree.{Tree}
 use Rattle.workload.specs.declared.mix.Mix.{Mix}
 use Rattle.outcomes.specs.declared.outcome.RunOutcome.{RunOutcome}
@@ -35,6 +35,7 @@ not-trees (Judge budget workers) draws replays drives asks = asks
 not-trees (Locate budget) draws replays drives asks = asks
 not-trees (Explain budget) draws replays drives asks = asks
 not-trees (Draw budget workers around calls) draws replays drives asks = asks
+not-trees (Page budget workers) draws replays drives asks = asks
 not-trees (Follow budget) draws replays drives asks = asks
 not-trees (Generate seed processes calls get insert remove scan lo hi) draws replays drives asks =
     draws seed processes calls get insert remove scan lo hi refl
@@ -49,6 +50,7 @@ judged-line (Judge budget workers) source outcome here comes = comes
 judged-line (Locate budget) source outcome here comes = comes
 judged-line (Explain budget) source outcome here comes = comes
 judged-line (Draw budget workers around calls) source outcome here comes = comes
+judged-line (Page budget workers) source outcome here comes = comes
 judged-line (Follow budget) source outcome here comes = comes
 judged-line (Generate seed processes calls get insert remove scan lo hi) source outcome here comes = absurd (here tt)
 judged-line Replay source outcome here comes = absurd (here tt)

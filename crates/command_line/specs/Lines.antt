@@ -14,7 +14,7 @@ use Rattle.command_line.specs.Trees.{name_of, place_of}
 use Rattle.command_line.specs.Words.{AreOptionsOf, Given, value_given}
 use Rattle.command_line.specs.Words.{option_words as words_of}
 use Rattle.command_line.specs.declared.line.Line.{Line}
-use Rattle.command_line.specs.declared.line.Line.TheVariants.{Check, Judge, Locate, Explain, Draw, Follow, Generate, Replay, Drive}
+use Rattle.command_line.specs.declared.line.Line.TheVariants.{Check, Judge, Locate, Explain, Draw, Page, Follow, Generate, Replay, Drive}
 use Rattle.command_line.specs.declared.line.Tree.{Tree}
 use Rattle.command_line.specs.declared.line.Tree.TheVariants.{Optimistic}
 
@@ -27,6 +27,8 @@ asked_by (Locate budget) = record { name = codes "locate"; numbers = budget ∷ 
 asked_by (Explain budget) = record { name = codes "explain"; numbers = budget ∷ []; calls = [] }
 asked_by (Draw budget workers around calls) =
     record { name = codes "draw"; numbers = budget ∷ workers ∷ around ∷ calls ∷ []; calls = [] }
+asked_by (Page budget workers) =
+    record { name = codes "page"; numbers = budget ∷ workers ∷ []; calls = [] }
 asked_by (Follow budget) = record { name = codes "follow"; numbers = budget ∷ []; calls = [] }
 asked_by (Generate seed processes calls get insert remove scan lo hi) = record {
   name = codes "generate";
@@ -53,6 +55,8 @@ IsWithinLimits (Locate budget) = (1 ≤ budget) × (budget ≤ budget_limit)
 IsWithinLimits (Explain budget) = (1 ≤ budget) × (budget ≤ budget_limit)
 IsWithinLimits (Draw budget workers around calls) = (1 ≤ budget) × (budget ≤ budget_limit) × (1 ≤ workers)
     × (workers ≤ workers_limit) × (around ≤ around_limit) × (calls ≤ shown_limit)
+IsWithinLimits (Page budget workers) =
+    (1 ≤ budget) × (budget ≤ budget_limit) × (1 ≤ workers) × (workers ≤ workers_limit)
 IsWithinLimits (Follow budget) = (1 ≤ budget) × (budget ≤ budget_limit)
 IsWithinLimits (Generate seed processes calls get insert remove scan lo hi) = ⊤
 IsWithinLimits Replay = ⊤

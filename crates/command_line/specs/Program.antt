@@ -19,14 +19,18 @@ abbrev pub number_flag : Text → ℕ → ℕ → ℕ → Flag
 number_flag name least greatest default =
     record { name = name; values = within least greatest; default = Some default }
 
--- `judge [--budget N] [--workers N]`
-abbrev pub judge_usage : Usage
-judge_usage = record {
-  name = codes "judge";
+-- a subcommand of this name with a budget and workers: `NAME [--budget N] [--workers N]`
+abbrev pub search_usage : Text → Usage
+search_usage name = record {
+  name = name;
   flags = number_flag (codes "budget") 1 budget_limit budget_default
       ∷ number_flag (codes "workers") 1 workers_limit workers_default ∷ [];
   takes_calls = false;
 }
+
+-- `judge [--budget N] [--workers N]`
+abbrev pub judge_usage : Usage
+judge_usage = search_usage (codes "judge")
 
 -- a subcommand of this name with a budget: `NAME [--budget N]`
 abbrev pub budget_usage : Text → Usage
@@ -50,6 +54,10 @@ draw_usage = record {
       ∷ number_flag (codes "calls") 0 shown_limit shown_limit ∷ [];
   takes_calls = false;
 }
+
+-- `page [--budget N] [--workers N]`
+abbrev pub page_usage : Usage
+page_usage = search_usage (codes "page")
 
 -- `follow [--budget N]`
 abbrev pub follow_usage : Usage
@@ -98,7 +106,8 @@ drive_usage = record {
 -- the subcommands of the program
 abbrev pub bench_table : List Usage
 bench_table =
-    check_usage ∷ judge_usage ∷ locate_usage ∷ explain_usage ∷ draw_usage ∷ follow_usage ∷ generate_usage ∷ replay_usage ∷ drive_usage ∷ []
+    check_usage ∷ judge_usage ∷ locate_usage ∷ explain_usage ∷ draw_usage ∷ page_usage ∷ follow_usage ∷ generate_usage ∷ replay_usage
+    ∷ drive_usage ∷ []
 
 -- the program, as `clap` reads it
 unfoldable pub bench_app : App

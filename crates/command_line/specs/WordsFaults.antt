@@ -3,8 +3,8 @@ use Rattle.std.specs.Prelude.{◌≡◌, true, List, [], ⊤}
 use Rattle.clap.specs.Words.{Text, fault_of, subcommand_of}
 use Rattle.command_line.specs.Program.{bench_app, bench_table}
 use Rattle.command_line.specs.Requests.{has_named}
-use Rattle.command_line.specs.declared.fault.WordsFault.{WordsFault}
-use Rattle.command_line.specs.declared.fault.WordsFault.TheVariants.{Line, Memory}
+use Rattle.command_line.specs.declared.fault.LineFault.{LineFault}
+use Rattle.command_line.specs.declared.fault.LineFault.TheVariants.{Line, Memory}
 
 -- each value that is to be one of some words is
 abbrev pub HasNamed : List Text → Type 0
@@ -15,6 +15,6 @@ abbrev pub IsAccepted : List Text → Type 0
 IsAccepted words = (fault_of bench_app words ≡ []) × HasNamed words
 
 -- the fault may come at these words: that of a line only where they are not accepted
-abbrev pub IsFaultAt : List Text → WordsFault → Type 0
+abbrev pub IsFaultAt : List Text → LineFault → Type 0
 IsFaultAt words (Line text) = ¬ (IsAccepted words)
 IsFaultAt words Memory = ⊤

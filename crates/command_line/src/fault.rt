@@ -1,7 +1,7 @@
 // Why words ask for nothing.
 ghost use Rattle.std.specs.Prelude.{◌≡◌};
 ghost use Rattle.clap.specs.Words.{kind_of};
-ghost use Rattle.command_line.specs.declared.fault.WordsFault.TheVariants.{Memory};
+ghost use Rattle.command_line.specs.declared.fault.LineFault.TheVariants.{Memory};
 
 use crate::table::{ValueOption, Values};
 use clap::Error;
@@ -11,24 +11,24 @@ use std::fmt;
 
 /// Why the words ask for nothing that can be done.
 #[derive(Drop)]
-pub enum WordsFault {
+pub enum LineFault {
     /// The words are no line of the program, or ask for help. The text is what the user is shown.
     Line(String),
     /// Memory was wanting.
     Memory,
 }
 
-impl WordsFault {
+impl LineFault {
     /// The fault for an error of `clap`, whose text it keeps.
-    pub(crate) fn of(alloc: Global, error: &Error) -> WordsFault
-        ensures { kind_of error.now ≡ ErrorKind.OutOfMemory → result ≡ WordsFault.Memory }
+    pub(crate) fn of(alloc: Global, error: &Error) -> LineFault
+        ensures { kind_of error.now ≡ ErrorKind.OutOfMemory → result ≡ LineFault.Memory }
     {
         if error.kind() == ErrorKind::OutOfMemory {
-            return WordsFault::Memory;
+            return LineFault::Memory;
         }
         match error.to_string(alloc) {
-            Ok(text) => WordsFault::Line(text),
-            Err(_) => WordsFault::Memory,
+            Ok(text) => LineFault::Line(text),
+            Err(_) => LineFault::Memory,
         }
     }
 
@@ -37,10 +37,10 @@ impl WordsFault {
         alloc: Global,
         option: &'o ValueOption<'o>,
         value: &str,
-    ) -> WordsFault {
+    ) -> LineFault {
         match (UnknownWord { option, value }).to_string(alloc) {
-            Ok(text) => WordsFault::Line(text),
-            Err(_) => WordsFault::Memory,
+            Ok(text) => LineFault::Line(text),
+            Err(_) => LineFault::Memory,
         }
     }
 }
@@ -82,18 +82,18 @@ fn write_behind<W: fmt::Write>(f: &mut fmt::Formatter<W>, before: &str, word: &s
     f.write_str(word)
 }
 
-impl From<AllocError> for WordsFault {
+impl From<AllocError> for LineFault {
     ghost from_gives = { λ _ e. e ≡ Memory };
 
-    fn from(_error: AllocError) -> WordsFault {
-        WordsFault::Memory
+    fn from(_error: AllocError) -> LineFault {
+        LineFault::Memory
     }
 }
 
-impl<T: Drop> From<AllocFailed<T>> for WordsFault {
+impl<T: Drop> From<AllocFailed<T>> for LineFault {
     ghost from_gives = { λ _ e. e ≡ Memory };
 
-    fn from(_error: AllocFailed<T>) -> WordsFault {
-        WordsFault::Memory
+    fn from(_error: AllocFailed<T>) -> LineFault {
+        LineFault::Memory
     }
 }

@@ -14,6 +14,6 @@ mod read;
 mod request;
 mod table;
 
-pub use fault::WordsFault;
+pub use fault::LineFault;
 pub use line::{Line, Tree};
 pub use read::read_line;

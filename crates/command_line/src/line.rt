@@ -35,6 +35,11 @@ pub enum Line {
         around: u32,
         calls: u32,
     },
+    /// It asks for a page that shows the verdict that `Judge` asks for, within the same limits.
+    Page {
+        budget: u32,
+        workers: u32,
+    },
     /// It asks whether the stream of events on standard input is linearizable, judged as it comes:
     /// a search meets at most `budget` configurations of a group, within the limits of `Judge`.
     Follow {

@@ -59,7 +59,7 @@ macro_rules! search_options {
 }
 
 /// The subcommands of the program.
-pub(crate) static SUBCOMMANDS: [Subcommand<'static>; 9] = [
+pub(crate) static SUBCOMMANDS: [Subcommand<'static>; 10] = [
     Subcommand {
         name: "check",
         about: "Tells whether operations, in this order, are a linearization of the history on standard input",
@@ -105,6 +105,12 @@ pub(crate) static SUBCOMMANDS: [Subcommand<'static>; 9] = [
                 default 4097
             )
         ),
+        takes_calls: false,
+    },
+    Subcommand {
+        name: "page",
+        about: "Shows the verdict on the history on standard input, as one HTML file",
+        options: search_options!(),
         takes_calls: false,
     },
     Subcommand {

@@ -10,13 +10,13 @@ ghost use Rattle.command_line.specs.Lines.{IsJudge, IsLineOf, IsLocate, IsWithin
 ghost use Rattle.command_line.specs.Trees.{place_of};
 ghost use Rattle.command_line.specs.Numbers.{number_of};
 ghost use Rattle.command_line.specs.Program.{bench_app, bench_table, draw_usage, drive_usage, explain_usage, follow_usage};
-ghost use Rattle.command_line.specs.Program.{generate_usage, judge_usage, locate_usage};
+ghost use Rattle.command_line.specs.Program.{generate_usage, judge_usage, locate_usage, page_usage};
 ghost use Rattle.command_line.specs.Requests.{AreFlagsOf, IsAskable, IsRequestOf, asked_of, flags_of};
 ghost use Rattle.command_line.specs.Tables.{Usage};
 ghost use Rattle.command_line.specs.Words.{Given, Gives, IsUse};
 
 use crate::asked::Request;
-use crate::fault::WordsFault;
+use crate::fault::LineFault;
 use crate::line::{Line, Tree};
 use crate::program::{ABOUT, NAME, SUBCOMMANDS};
 use crate::request::read_request;
@@ -24,43 +24,43 @@ use std::alloc::Global;
 
 /// What `words` ask for, the program's name first.
 ///
-/// The fault is `WordsFault::Line`, with the text of `clap`, where the words are no line of the
-/// program or ask for help, and `WordsFault::Memory` where an allocation was refused. For a value that
+/// The fault is `LineFault::Line`, with the text of `clap`, where the words are no line of the
+/// program or ask for help, and `LineFault::Memory` where an allocation was refused. For a value that
 /// is none of the words that its option takes the text is worded as by `clap`, which does not check
 /// it. The time grows with the number of words and with their length.
-pub fn read_line<'a>(alloc: Global, words: &'a [&'a str]) -> Result<Line, WordsFault>
+pub fn read_line<'a>(alloc: Global, words: &'a [&'a str]) -> Result<Line, LineFault>
     ensures line { IfOk result (IsLineOf (texts words.entry.now)) }
     ensures limits { IfOk result IsWithinLimits }
     ensures accepted { OnOk result (IsAccepted (texts words.entry.now)) }
     ensures refused { IfErr result (IsFaultAt (texts words.entry.now)) }
     // The same by the test that `clap` states for words that a command takes.
     ensures taken { takes bench_app (texts words.entry.now) ≡ true
-        → HasNamed (texts words.entry.now) → IfErr result (λ e. e ≡ WordsFault.Memory) }
+        → HasNamed (texts words.entry.now) → IfErr result (λ e. e ≡ LineFault.Memory) }
     // A subcommand, its options in any order and numbers of calls are always a line.
     ensures given { (usage : Usage) (given : List Given) (calls : List Text)
         → IsUse bench_table (texts words.entry.now) usage given calls
         → MatchResult result (λ line. Gives usage given calls (asked_by line))
-        (λ e. e ≡ WordsFault.Memory) }
+        (λ e. e ≡ LineFault.Memory) }
     // So `check` and numbers are.
     ensures check { (calls : List (List ℕ)) → IsCheck (texts words.entry.now) calls
-        → MatchResult result (ChecksNumbers calls) (λ e. e ≡ WordsFault.Memory) }
+        → MatchResult result (ChecksNumbers calls) (λ e. e ≡ LineFault.Memory) }
     // And `judge` is, with or without either option, in either order.
     ensures judge { (budget workers : Option (List ℕ))
         → IsJudge (texts words.entry.now) budget workers
         → MatchResult result
         (λ line. line ≡ Line.Judge (option_map_or number_of budget budget_default)
         (option_map_or number_of workers workers_default))
-        (λ e. e ≡ WordsFault.Memory) }
+        (λ e. e ≡ LineFault.Memory) }
     // And `locate` is, with or without its option.
     ensures locate { (budget : Option (List ℕ)) → IsLocate (texts words.entry.now) budget
         → MatchResult result (λ line. line ≡ Line.Locate (option_map_or number_of budget budget_default))
-        (λ e. e ≡ WordsFault.Memory) }
+        (λ e. e ≡ LineFault.Memory) }
     // And `draw` is, with any of its options in any order.
     ensures draw { (given : List Given) → IsDraw (texts words.entry.now) given
-        → MatchResult result (Draws given) (λ e. e ≡ WordsFault.Memory) }
+        → MatchResult result (Draws given) (λ e. e ≡ LineFault.Memory) }
     // And `drive` is, with any of its options in any order.
     ensures drive { (given : List Given) → IsDrive (texts words.entry.now) given
-        → MatchResult result (Drives given) (λ e. e ≡ WordsFault.Memory) }
+        → MatchResult result (Drives given) (λ e. e ≡ LineFault.Memory) }
 {
     match read_request(alloc, NAME, ABOUT, &SUBCOMMANDS, words) {
         Ok(request) => Ok(line_of(request)),
@@ -83,6 +83,7 @@ fn line_of(request: Request<'_>) -> Line
         "locate" => locate_line(&request),
         "explain" => explain_line(&request),
         "draw" => draw_line(&request),
+        "page" => page_line(&request),
         "follow" => follow_line(&request),
         "generate" => generate_line(&request),
         "replay" => Line::Replay,
@@ -136,6 +137,18 @@ fn draw_line(request: &Request<'_>) -> Line
         workers: request.number("workers"),
         around: request.number("around"),
         calls: request.number("calls"),
+    }
+}
+
+// The line of `page`.
+fn page_line(request: &Request<'_>) -> Line
+    requires { IsRequestOf page_usage request.now }
+    ensures same { asked_by result ≡ asked_of request.now }
+    ensures limits { IsWithinLimits result }
+{
+    Line::Page {
+        budget: request.number("budget"),
+        workers: request.number("workers"),
     }
 }
 

@@ -16,7 +16,7 @@ ghost use Rattle.command_line.specs.Words.{Given, Gives, IsUse};
 
 use crate::asked::Request;
 use crate::command::command_of;
-use crate::fault::WordsFault;
+use crate::fault::LineFault;
 use crate::table::{Subcommand, ValueOption, Values};
 use clap::ArgMatches;
 use std::alloc::{AllocError, Global};
@@ -47,7 +47,7 @@ pub(crate) fn read_request<'a>(
     about: &'a str,
     table: &'a [Subcommand<'a>],
     words: &'a [&'a str],
-) -> Result<Request<'a>, WordsFault>
+) -> Result<Request<'a>, LineFault>
     requires { is_table (map usage_of table.now) ≡ true }
     ensures asked { IfOk result (λ r. Asks (map usage_of table.entry.now)
         (subcommand_of (table_app name.entry.now (map usage_of table.entry.now))
@@ -64,23 +64,23 @@ pub(crate) fn read_request<'a>(
         → has_named (map usage_of table.entry.now)
         (subcommand_of (table_app name.entry.now (map usage_of table.entry.now))
         (texts words.entry.now)) ≡ true
-        → IfErr result (λ e. e ≡ WordsFault.Memory) }
+        → IfErr result (λ e. e ≡ LineFault.Memory) }
     // The same by the test that `clap` states for words that a command takes.
     ensures taken { takes (table_app name.entry.now (map usage_of table.entry.now))
         (texts words.entry.now) ≡ true
         → has_named (map usage_of table.entry.now)
         (subcommand_of (table_app name.entry.now (map usage_of table.entry.now))
         (texts words.entry.now)) ≡ true
-        → IfErr result (λ e. e ≡ WordsFault.Memory) }
+        → IfErr result (λ e. e ≡ LineFault.Memory) }
     // A subcommand, its options in any order and numbers of calls are always accepted.
     ensures given { (usage : Usage) (given : List Given) (calls : List Text)
         → IsUse (map usage_of table.entry.now) (texts words.entry.now) usage given calls
         → MatchResult result (λ r. Gives usage given calls (asked_of r))
-        (λ e. e ≡ WordsFault.Memory) }
+        (λ e. e ≡ LineFault.Memory) }
 {
     match command_of(alloc, name, about, table)?.try_get_matches_from(words) {
         Ok(matches) => request_of(alloc, table, &matches),
-        Err(error) => Err(WordsFault::of(alloc, &error)),
+        Err(error) => Err(LineFault::of(alloc, &error)),
     }
 }
 
@@ -89,7 +89,7 @@ fn request_of<'a>(
     alloc: Global,
     table: &'a [Subcommand<'a>],
     matches: &ArgMatches<'_>,
-) -> Result<Request<'a>, WordsFault>
+) -> Result<Request<'a>, LineFault>
     requires { Meets (map usage_of table.now) (subcommand_rows_of matches.now) }
     ensures asked { IfOk result (λ r. Asks (map usage_of table.entry.now)
         (subcommand_rows_of matches.now) (asked_of r)) }
@@ -97,13 +97,13 @@ fn request_of<'a>(
     ensures named { OnOk result
         (has_named (map usage_of table.entry.now) (subcommand_rows_of matches.now) ≡ true) }
     ensures refused { has_named (map usage_of table.entry.now) (subcommand_rows_of matches.now)
-        ≡ true → IfErr result (λ e. e ≡ WordsFault.Memory) }
+        ≡ true → IfErr result (λ e. e ≡ LineFault.Memory) }
 {
     let (name, matched) = matches.subcommand().unwrap();
     let subcommand = subcommand_named(table, name);
     if let Some(option) = unknown_option(matched, subcommand.options) {
         let value = matched.get_str(option.name).unwrap_or("");
-        return Err(WordsFault::of_unknown_word(alloc, option, value));
+        return Err(LineFault::of_unknown_word(alloc, option, value));
     }
     Ok(Request {
         subcommand,

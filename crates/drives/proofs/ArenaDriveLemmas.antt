@@ -25,7 +25,7 @@ use Rattle.art_shared.specs.Ends.{HasOwnEvents}
 use Rattle.drives.specs.Drives.{HasFinished, HasStopped, most_calls}
 use Rattle.drives.specs.Drives as drives
 use Rattle.running.specs.declared.arena.Arena.{Arena}
-use Rattle.running.specs.declared.group.ProcessGroup.{ProcessGroup}
+use Rattle.running.specs.declared.group.Pass.{Pass}
 use Rattle.running.specs.Groups.{shows, opened_for, setup_with}
 use Rattle.running.specs.declared.fault.ArenaClose.{ArenaClose}
 use Rattle.running.specs.declared.fault.ArenaClose.TheVariants as faults
@@ -121,7 +121,7 @@ module _ (WasPassed : ℕ → Type 0) (shape : Shape) (variant : Variant) (limit
   }
 
 -- an arena whose group holds all processes was not closed only for want of memory
-pub memory-wanted : (a : Arena) (p : ProcessGroup) (fault : ArenaClose) → HoldsAll (opened_for a) (shows p) → IsHandedBack a p fault
+pub memory-wanted : (a : Arena) (p : Pass) (fault : ArenaClose) → HoldsAll (opened_for a) (shows p) → IsHandedBack a p fault
     → WantsMemory fault
 memory-wanted a p (faults.StillOut back given) all h = absurd (h.1 all)
 memory-wanted a p (faults.Memory back given) all h = tt

@@ -7,7 +7,7 @@ use Rattle.events.specs.declared.event.Call.{Call}
 use Rattle.events.specs.declared.memory.Memory.{Memory}
 use Rattle.art_shared.specs.Views.{Numbered, placed, merge}
 use Rattle.running.specs.declared.arena.Arena.{Arena}
-use Rattle.running.specs.declared.group.ProcessGroup.{ProcessGroup}
+use Rattle.running.specs.declared.group.Pass.{Pass}
 use Rattle.running.specs.Groups.{shows, opened_for}
 use Rattle.running.proofs.GatherLemmas.{merge-length}
 use Rattle.drives.specs.Groups.{HasDoneOwn, IsGroupAfter, gathered, joined}
@@ -25,13 +25,13 @@ module _ (P : Numbered → Type 0) where
   all-merge xs (y ∷ ys) h k = all-placed y (merge xs ys) (All-head P y ys k) (all-merge xs ys h (All-tail P y ys k))
 
 module _ (WasPassed : ℕ → Type 0) (a : Arena) (limit : ℕ) (scripts : List (List Call)) where
-  abbrev After : Result ProcessGroup Memory → Type 0
+  abbrev After : Result Pass Memory → Type 0
   After d = IfOk d (IsGroupAfter WasPassed a limit scripts)
 
   abbrev Own : Numbered → Type 0
   Own = HasDoneOwn WasPassed (opened_for a) limit scripts
 
-  own-group : (p : ProcessGroup) → IsGroupAfter WasPassed a limit scripts p → All Own (shows p).processes
+  own-group : (p : Pass) → IsGroupAfter WasPassed a limit scripts p → All Own (shows p).processes
   own-group p h = subst (All Own) (sym h.is) (All-cons Own h.process [] h.done (All-nil Own))
 
   -- each of them did its script, and there are as many as groups
@@ -39,7 +39,7 @@ module _ (WasPassed : ℕ → Type 0) (a : Arena) (limit : ℕ) (scripts : List 
     pub done : All Own all
     pub many : length all ≡ n
 
-  gathered-done : (done : List (Result ProcessGroup Memory)) (xs all : List Numbered) → All After done → All Own xs → gathered xs done ≡ Some all
+  gathered-done : (done : List (Result Pass Memory)) (xs all : List Numbered) → All After done → All Own xs → gathered xs done ≡ Some all
       → AreDone (length xs + length done) all
   gathered-done [] xs all h own is =
       let same = same_Some xs all is in
@@ -54,7 +54,7 @@ module _ (WasPassed : ℕ → Type 0) (a : Arena) (limit : ℕ) (scripts : List 
       record { done = rest.done; many = let m = rest.many in omega arith }
   gathered-done (Err e ∷ done) xs all h own is = absurd (none-some all is)
 
-  pub joined-done : (done : List (Result ProcessGroup Memory)) (all : List Numbered) → All After done → joined done ≡ Some all
+  pub joined-done : (done : List (Result Pass Memory)) (all : List Numbered) → All After done → joined done ≡ Some all
       → AreDone (length done) all
   joined-done [] all h is = absurd (none-some all is)
   joined-done (Ok p ∷ done) all h is =

@@ -10,14 +10,14 @@ use Rattle.art_shared.specs.declared.view.Setup.{Setup}
 use Rattle.art_shared.specs.declared.view.View.{View}
 use Rattle.art_shared.specs.Views.{Numbered, merge}
 use Rattle.running.specs.declared.arena.Arena.{Arena}
-use Rattle.running.specs.declared.group.ProcessGroup.{ProcessGroup}
+use Rattle.running.specs.declared.group.Pass.{Pass}
 use Rattle.running.specs.declared.fault.ArenaClose.{ArenaClose}
 use Rattle.running.specs.declared.fault.ArenaClose.TheVariants as faults
 use Rattle.running.specs.Groups.{shows, opened_for, IsGroupOf}
 use Rattle.drives.specs.ArenaDrives.{alone, IsLimited}
 
 -- a group with one process, which has begun nothing yet
-pub record IsReady (a : Arena) (p : ProcessGroup) : Type 0 where
+pub record IsReady (a : Arena) (p : Pass) : Type 0 where
   pub own : IsGroupOf a p
   pub number : ℕ
   pub known : number < (opened_for a).processes
@@ -55,7 +55,7 @@ pub record HasDoneOwn (WasPassed : ℕ → Type 0) (setup : Setup) (limit : ℕ)
   pub did : (script : List Call) → slice_get scripts x.0 ≡ Some script → HasDone setup x.0 limit script x.1
 
 -- the group of one process, which did its own of the scripts
-pub record IsGroupAfter (WasPassed : ℕ → Type 0) (a : Arena) (limit : ℕ) (scripts : List (List Call)) (p : ProcessGroup) : Type 0 where
+pub record IsGroupAfter (WasPassed : ℕ → Type 0) (a : Arena) (limit : ℕ) (scripts : List (List Call)) (p : Pass) : Type 0 where
   pub own : IsGroupOf a p
   pub process : Numbered
   pub is : (shows p).processes ≡ process ∷ []
@@ -63,13 +63,13 @@ pub record IsGroupAfter (WasPassed : ℕ → Type 0) (a : Arena) (limit : ℕ) (
   pub done : HasDoneOwn WasPassed (opened_for a) limit scripts process
 
 -- the processes of some groups, and then those of others, each at its place; none where a process wanted memory
-abbrev pub gathered : List Numbered → List (Result ProcessGroup Memory) → Option (List Numbered)
+abbrev pub gathered : List Numbered → List (Result Pass Memory) → Option (List Numbered)
 gathered xs [] = Some xs
 gathered xs (Ok p ∷ done) = gathered (merge xs (shows p).processes) done
 gathered xs (Err e ∷ done) = None
 
 -- the processes of all groups
-abbrev pub joined : List (Result ProcessGroup Memory) → Option (List Numbered)
+abbrev pub joined : List (Result Pass Memory) → Option (List Numbered)
 joined [] = None
 joined (Ok p ∷ done) = gathered (shows p).processes done
 joined (Err e ∷ done) = None

@@ -7,17 +7,17 @@ ghost use Rattle.drives.specs.Groups.{IsReady, ShowsDone};
 use art::TreeCall;
 use events::Memory;
 use pool::Gate;
-use running::{Arena, CallProgress, ProcessGroup};
+use running::{Arena, Pass, Progress};
 use std::alloc::Global;
 
 /// A group whose process has entered the gate. Steps are made with such a group alone, and only `enter` gives one.
 #[derive(Drop)]
 pub(crate) struct Entered {
-    group: ProcessGroup,
+    group: Pass,
 }
 
 /// The group's process enters the gate, with its number.
-pub(crate) fn enter<G: Gate>(gate: &G, group: ProcessGroup) -> Entered
+pub(crate) fn enter<G: Gate>(gate: &G, group: Pass) -> Entered
     requires { IsGroup group }
     ensures same { result.group ≡ group }
     ensures passed { G.was_passed gate.now (least_process (shows group)) }
@@ -34,7 +34,7 @@ pub(crate) fn do_script(
     entered: Entered,
     script: &[TreeCall],
     limit: u32,
-) -> Result<ProcessGroup, Memory>
+) -> Result<Pass, Memory>
     requires ready { IsReady arena.now entered.group }
     requires room { length script.now ≤ (opened_for arena.now).calls_each }
     ensures own { IfOk result (IsGroupOf arena.now) }
@@ -44,8 +44,8 @@ pub(crate) fn do_script(
     for call in script {
         arena.begin(&mut group, *call)?;
         match arena.advance(alloc, &mut group, limit)? {
-            CallProgress::Done(_) => {}
-            CallProgress::Going => return Ok(group),
+            Progress::Done(_) => {}
+            Progress::Going => return Ok(group),
         }
     }
     Ok(group)

@@ -5,16 +5,16 @@ ghost use Rattle.running.specs.Groups.{shows, opened_for, IsGroupOf};
 ghost use Rattle.drives.specs.Groups.{IsReady, joined};
 
 use events::Memory;
-use running::{Arena, ProcessGroup};
+use running::{Arena, Pass};
 use std::alloc::Global;
 
 /// A group for each of the processes, by falling number. `Err` is want of memory.
 pub(crate) fn part_all(
     alloc: Global,
     arena: &Arena,
-    group: ProcessGroup,
+    group: Pass,
     processes: u8,
-) -> Result<Vec<ProcessGroup>, Memory>
+) -> Result<Vec<Pass>, Memory>
     requires own { IsGroupOf arena.now group }
     requires all { shows group ≡ all_idle (opened_for arena.now) }
     requires processes { processes ≡ (opened_for arena.now).processes }
@@ -33,10 +33,7 @@ pub(crate) fn part_all(
 }
 
 /// One group with the processes of all, unless one of them wanted memory.
-pub(crate) fn join_all(
-    arena: &Arena,
-    done: Vec<Result<ProcessGroup, Memory>>,
-) -> Result<ProcessGroup, Memory>
+pub(crate) fn join_all(arena: &Arena, done: Vec<Result<Pass, Memory>>) -> Result<Pass, Memory>
     requires some { 0 < vec_len done }
     requires own { All (λ d. IfOk d (IsGroupOf arena.now)) done.items }
     ensures own { IfOk result (IsGroupOf arena.now) }

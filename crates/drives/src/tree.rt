@@ -13,7 +13,7 @@ use art::{Shape, TreeCall, Variant};
 use events::{History, Memory};
 use plans::Plan;
 use pool::Gate;
-use running::{Arena, ArenaClose, ProcessGroup};
+use running::{Arena, ArenaClose, Pass};
 use std::alloc::{AllocError, Global};
 use std::thread;
 use std::thread::Threads;
@@ -55,11 +55,11 @@ fn do_scripts<R: Threads + Sync, G: Gate + Sync>(
     rt: &R,
     alloc: Global,
     arena: &Arena,
-    groups: Vec<ProcessGroup>,
+    groups: Vec<Pass>,
     scripts: &[Vec<TreeCall>],
     limit: u32,
     gate: &G,
-) -> Result<Vec<Result<ProcessGroup, Memory>>, AllocError>
+) -> Result<Vec<Result<Pass, Memory>>, AllocError>
     requires ready { All (IsReady arena.now) groups.items }
     requires processes { (opened_for arena.now).processes ≡ length scripts.now }
     requires room { All (λ script. vec_len script ≤ (opened_for arena.now).calls_each) scripts.now }
@@ -78,11 +78,11 @@ fn do_scripts<R: Threads + Sync, G: Gate + Sync>(
 fn do_own_script<G: Gate>(
     alloc: Global,
     arena: &Arena,
-    group: ProcessGroup,
+    group: Pass,
     scripts: &[Vec<TreeCall>],
     limit: u32,
     gate: &G,
-) -> Result<ProcessGroup, Memory>
+) -> Result<Pass, Memory>
     requires ready { IsReady arena.now group }
     requires processes { (opened_for arena.now).processes ≡ length scripts.now }
     requires room { All (λ script. vec_len script ≤ (opened_for arena.now).calls_each) scripts.now }

@@ -102,8 +102,7 @@ AreEvidenceLines budget history (OfEvents few) bytes = AreOwnLines budget histor
 AreEvidenceLines budget history (OfKey part few) bytes = ArePartLines budget history part few bytes
 AreEvidenceLines budget history Missing bytes = bytes ≡ []
 
--- the report of where the history goes wrong, as a follower of its events finds out, and behind it
--- what shows that
+-- the report of where the history goes wrong, and behind it what shows that
 pub record AreLocated (budget : ℕ) (history : HistoryView) (bytes : List ℕ) : Type 0 where
   pub location : Location
   pub evidence : Evidence

@@ -6,6 +6,7 @@ ghost use Rattle.events.specs.HistoryView.{HistoryView};
 ghost use Rattle.events.specs.Operations.{operations};
 ghost use Rattle.history_engines.specs.Answers.{IsHistoryRefusal, IsTextOf};
 ghost use Rattle.history_text.specs.Limits.{text_limit};
+ghost use Rattle.judge.specs.Exact.{IsExactVerdict};
 ghost use Rattle.judge.specs.Reports.{verdict_data};
 ghost use Rattle.judge.specs.Shown.{IsShown};
 ghost use Rattle.locating.specs.Evidences.{Refutes};
@@ -29,7 +30,7 @@ use follower::OwnPart;
 use history_engines::{answer_of, refused_text};
 use history_text::{MAX_TEXT, read_history};
 use judge::{Verdict, judge_alone, report};
-use locating::{Evidence, evidence_of, locate, location_line, told_calls};
+use locating::{Evidence, evidence_of, locate_from, location_line, told_calls};
 use map_object::SortedMap;
 use outcomes::{Answer, RunOutcome, line_of, run_text};
 use segments::Segment;
@@ -109,6 +110,8 @@ fn verdict_lines(
 ) -> Result<String, Memory>
     requires budget { (1 ≤ budget) × (budget ≤ budget_limit) }
     requires shown { IsShown history.now.start budget (operations history.now.events) verdict.now }
+    requires exact { IsExactVerdict history.now.start budget (operations history.now.events)
+        verdict.now }
     ensures { IfOk result (λ text. (details : List ℕ)
         × AreDetails budget history.now verdict.now details
         × (string_bytes text ≡ line (compact_text (verdict_data verdict.now)) ++ details)) }
@@ -128,12 +131,14 @@ fn details_of(
 ) -> Result<String, Memory>
     requires budget { (1 ≤ budget) × (budget ≤ budget_limit) }
     requires shown { IsShown history.now.start budget (operations history.now.events) verdict.now }
+    requires exact { IsExactVerdict history.now.start budget (operations history.now.events)
+        verdict.now }
     ensures { IfOk result (λ text. AreDetails budget history.now verdict.now (string_bytes text)) }
 {
     match verdict {
         Verdict::Yes(_) => Ok(String::new(alloc)),
         Verdict::No(segment) => segment_details(alloc, history, segment, budget),
-        Verdict::Undecided(_) => located_details(alloc, history, budget),
+        Verdict::Undecided(_) => located_details(alloc, history, verdict, budget),
     }
 }
 
@@ -162,12 +167,20 @@ fn segment_details(
     )
 }
 
-/// Where a history goes wrong, as a follower of its events finds out, and few calls that show it.
-fn located_details(alloc: Global, history: &History, budget: u32) -> Result<String, Memory>
-    requires { (1 ≤ budget) × (budget ≤ budget_limit) }
+/// Where a history with this verdict goes wrong, and few calls that show it.
+fn located_details(
+    alloc: Global,
+    history: &History,
+    verdict: &Verdict,
+    budget: u32,
+) -> Result<String, Memory>
+    requires budget { (1 ≤ budget) × (budget ≤ budget_limit) }
+    requires shown { IsShown history.now.start budget (operations history.now.events) verdict.now }
+    requires exact { IsExactVerdict history.now.start budget (operations history.now.events)
+        verdict.now }
     ensures { IfOk result (λ text. AreLocated budget history.now (string_bytes text)) }
 {
-    let location = locate(alloc, history, budget)?;
+    let location = locate_from(alloc, history, verdict, budget)?;
     let mut lines = line_of(location_line(alloc, &location)?)?;
     let evidence = evidence_of(alloc, history, &location, budget)?;
     let few = evidence_lines(alloc, history, &evidence, budget)?;

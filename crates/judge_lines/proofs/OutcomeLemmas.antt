@@ -2,13 +2,14 @@
 use Rattle.std.proofs.Common.{List}
 use Rattle.clap.specs.Words.{Text}
 use Rattle.command_line.specs.declared.line.Line.{Line}
-use Rattle.command_line.specs.declared.line.Line.TheVariants.{Check, Judge, Locate, Explain, Draw, Follow, Generate, Replay, Drive}
+use Rattle.command_line.specs.declared.line.Line.TheVariants.{Check, Judge, Locate, Explain, Draw, Page, Follow, Generate, Replay, Drive}
 use Rattle.outcomes.specs.declared.outcome.RunOutcome.{RunOutcome}
 use Rattle.outcomes.specs.Ends.{Change}
 use Rattle.history_engines.specs.Answers.{IsCheckAnswer, IsHistoryRefusal, IsHintedJudgeAnswer}
 use Rattle.location_engines.specs.Answers.{IsLocateAnswer}
 use Rattle.explain_engines.specs.Answers.{IsExplainAnswer}
 use Rattle.picture_engines.specs.Drawings.{IsViewAnswer}
+use Rattle.page_engines.specs.Answers.{IsPageAnswer}
 use Rattle.stream_engines.specs.Answers.{IsFollowAnswer, IsStreamRefusal}
 use Rattle.line_outcomes.specs.Outcomes.{IsAskedOutcome, IsWordsOutcome}
 use Rattle.line_outcomes.proofs.OutcomeLemmas.{read-words, hinted-words}
@@ -28,6 +29,8 @@ judged-words L (Explain budget) words source outcome here ask comes =
     read-words L (IsExplainAnswer budget) IsHistoryRefusal words source outcome ask comes
 judged-words L (Draw budget workers around calls) words source outcome here ask comes =
     read-words L (IsViewAnswer budget (record { around = around; calls = calls })) IsHistoryRefusal words source outcome ask comes
+judged-words L (Page budget workers) words source outcome here ask comes =
+    read-words L (IsPageAnswer budget) IsHistoryRefusal words source outcome ask comes
 judged-words L (Follow budget) words source outcome here ask comes =
     hinted-words L (IsFollowAnswer budget) IsStreamRefusal words source outcome ask comes
 judged-words L (Generate seed processes calls get insert remove scan lo hi) words source outcome here ask comes = absurd (here tt)

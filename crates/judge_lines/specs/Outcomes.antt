@@ -1,7 +1,7 @@
 -- How a run comes out, for what a line asks of a history or of a stream.
 use Rattle.std.specs.Prelude.{⊤, ℕ, List, codes}
 use Rattle.command_line.specs.declared.line.Line.{Line}
-use Rattle.command_line.specs.declared.line.Line.TheVariants.{Check, Judge, Locate, Explain, Draw, Follow}
+use Rattle.command_line.specs.declared.line.Line.TheVariants.{Check, Judge, Locate, Explain, Draw, Page, Follow}
 use Rattle.outcomes.specs.declared.outcome.RunOutcome.{RunOutcome}
 use Rattle.outcomes.specs.Ends.{Change, IsUnused}
 use Rattle.outcomes.specs.Lines.{line}
@@ -9,6 +9,7 @@ use Rattle.history_engines.specs.Outcomes.{IsCheckOutcome, IsJudgeOutcome}
 use Rattle.location_engines.specs.Outcomes.{IsLocateOutcome}
 use Rattle.explain_engines.specs.Outcomes.{IsExplainOutcome}
 use Rattle.picture_engines.specs.Outcomes.{IsDrawOutcome}
+use Rattle.page_engines.specs.Outcomes.{IsPageOutcome}
 use Rattle.stream_engines.specs.Outcomes.{IsFollowOutcome}
 use Rattle.line_outcomes.specs.Outcomes.{IsElsewhereOutcome}
 
@@ -19,6 +20,7 @@ AsksForTrees (Judge budget workers) = ⊥
 AsksForTrees (Locate budget) = ⊥
 AsksForTrees (Explain budget) = ⊥
 AsksForTrees (Draw budget workers around calls) = ⊥
+AsksForTrees (Page budget workers) = ⊥
 AsksForTrees (Follow budget) = ⊥
 AsksForTrees other = ⊤
 
@@ -35,5 +37,6 @@ IsJudgeLineOutcome (Locate budget) source outcome = IsLocateOutcome budget sourc
 IsJudgeLineOutcome (Explain budget) source outcome = IsExplainOutcome budget source outcome
 IsJudgeLineOutcome (Draw budget workers around calls) source outcome =
     IsDrawOutcome budget (record { around = around; calls = calls }) source outcome
+IsJudgeLineOutcome (Page budget workers) source outcome = IsPageOutcome budget source outcome
 IsJudgeLineOutcome (Follow budget) source outcome = IsFollowOutcome budget source outcome
 IsJudgeLineOutcome other source outcome = IsUnused source × IsElsewhereOutcome no_trees_line outcome

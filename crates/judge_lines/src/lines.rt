@@ -16,6 +16,7 @@ use judge::{ByCalls, judge};
 use line_outcomes::elsewhere_outcome;
 use location_engines::run_locate;
 use outcomes::write_outcome;
+use page_engines::run_page;
 use picture_engines::{View, run_draw};
 use pool::OpenGate;
 use std::alloc::Global;
@@ -81,6 +82,16 @@ pub fn run_line<R: Threads + Sync, S: Source, O: Sink, F: Sink, H: Sink, P: Prog
             };
             let view = View { around, calls };
             run_draw(alloc, source, output, faults, hints, &judge, view)
+        }
+        Line::Page { budget, workers } => {
+            let judge = ByCalls {
+                budget,
+                answer: |history: &History|
+                    requires budget { (1 ≤ budget) × (budget ≤ budget_limit) }
+                    requires workers { (1 ≤ workers) × (workers ≤ worker_limit) }
+                { judge(rt, alloc, history, budget, workers, &OpenGate) },
+            };
+            run_page(alloc, source, output, faults, hints, &judge)
         }
         Line::Follow { budget } => run_follow(
             alloc, source, output, faults, hints, budget, progress,

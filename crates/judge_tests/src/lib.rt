@@ -1,5 +1,5 @@
 //! Tests of what judges histories and streams, through public calls: workers that meet and pass gates, verdicts by one thread and by
-//! many, searches turn by turn, lines of sources that are cut at odd places or fail midway; and, of what no clause says and no stream shows,
+//! many, searches turn by turn, configurations by themselves, lines of sources that are cut at odd places or fail midway; and, of what no clause says and no stream shows,
 //! at how few positions choices are found, which orders are guessed, at which place a key settles, and to what.
 //!
 //! Expected answers were worked out by hand. `tests/program/refused_allocations.py` runs four of the tests with each allocation refused in turn.
@@ -19,6 +19,8 @@ mod layers;
 mod lines;
 #[cfg(test)]
 mod meetings;
+#[cfg(test)]
+mod memo_rows;
 #[cfg(test)]
 mod past_calls;
 #[cfg(test)]

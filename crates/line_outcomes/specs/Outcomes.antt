@@ -2,7 +2,7 @@
 use Rattle.std.specs.Prelude.{◌≡◌, ⊤, ◌⊎◌, ℕ, List, string_bytes}
 use Rattle.clap.specs.Words.{Text}
 use Rattle.command_line.specs.declared.line.Line.{Line}
-use Rattle.command_line.specs.declared.fault.WordsFault.TheVariants as words_faults
+use Rattle.command_line.specs.declared.fault.LineFault.TheVariants as words_faults
 use Rattle.command_line.specs.Lines.{IsLineOf}
 use Rattle.command_line.specs.WordsFaults.{IsAccepted, IsFaultAt}
 use Rattle.outcomes.specs.declared.outcome.RunOutcome.{RunOutcome}

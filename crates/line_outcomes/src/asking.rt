@@ -5,7 +5,7 @@ ghost use Rattle.command_line.specs.WordsFaults.{IsAccepted};
 ghost use Rattle.command_line.specs.Lines.{IsLineOf, IsWithinLimits};
 ghost use Rattle.line_outcomes.specs.Outcomes.{IsElsewhereOutcome, IsFaultOutcome};
 
-use command_line::{Line, WordsFault, read_line};
+use command_line::{Line, LineFault, read_line};
 use outcomes::RunOutcome;
 use std::alloc::{Alloc, AllocError, Global};
 use std::env;
@@ -50,8 +50,8 @@ pub fn asked_line(alloc: Global, words: &[&str]) -> Result<Line, RunOutcome>
 {
     match read_line(alloc, words) {
         Ok(line) => Ok(line),
-        Err(WordsFault::Line(text)) => Err(RunOutcome::Words(text)),
-        Err(WordsFault::Memory) => Err(RunOutcome::Memory),
+        Err(LineFault::Line(text)) => Err(RunOutcome::Words(text)),
+        Err(LineFault::Memory) => Err(RunOutcome::Memory),
     }
 }
 

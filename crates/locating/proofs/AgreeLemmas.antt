@@ -6,10 +6,10 @@ use Rattle.events.specs.Histories.{IsHistory}
 use Rattle.orders.specs.Orders.{IsLinearizableHistory}
 use Rattle.prefixes.specs.Laws.{AnswersHaveOneCall, OneEventGoesWrong}
 use Rattle.prefixes.specs.Prefixes.{GoesWrongAt, IsAnswerOf, prefix_of}
-use Rattle.locating.specs.Laws.{Agree, LocationsAgree}
+use Rattle.locating.specs.Laws.{Said, SaysYes, SaysNo, SaysUndecided, said_by, DoNotContradict, LocationsAgree}
 use Rattle.locating.specs.Locations.{IsLocated}
 use Rattle.locating.specs.declared.location.Location.{Location}
-use Rattle.locating.specs.declared.location.Location.TheVariants.{Yes, No, Undecided}
+use Rattle.locating.specs.declared.location.Location.TheVariants.{Yes, No, Lost, Undecided}
 
 module _ (one_event : OneEventGoesWrong) (one_call : AnswersHaveOneCall) (history : HistoryView) where
   -- no more events have an order than those before the one at which the history goes wrong
@@ -26,16 +26,30 @@ module _ (one_event : OneEventGoesWrong) (one_call : AnswersHaveOneCall) (histor
             (subst (λ (n : ℕ). IsAnswerOf history.events other n) (sym at) again.answer),
       )
 
-  agree : (budget other : ℕ) (a b : Location) → IsHistory history → IsLocated budget history a → IsLocated other history b → Agree a b
-  agree budget other Yes Yes is x y = tt
-  agree budget other Yes (No loss) is x y = (one_event history loss.number loss.event y.wrong).1 x
-  agree budget other Yes (Undecided event number doubt) is x y = tt
-  agree budget other (No loss) Yes is x y = (one_event history loss.number loss.event x.wrong).1 y
-  agree budget other (No loss) (No again) is x y = same_call loss.number loss.event again.number again.event is x.wrong y.wrong
-  agree budget other (No loss) (Undecided event number doubt) is x y = not_behind loss.number loss.event event x.wrong y.before
-  agree budget other (Undecided event number doubt) Yes is x y = tt
-  agree budget other (Undecided event number doubt) (No loss) is x y = not_behind loss.number loss.event event y.wrong x.before
-  agree budget other (Undecided event number doubt) (Undecided event2 number2 doubt2) is x y = tt
+  -- what each location says of where the history goes wrong
+  abbrev Says : Said → Type 0
+  Says SaysYes = IsLinearizableHistory history
+  Says (SaysNo event number) = GoesWrongAt history number event
+  Says (SaysUndecided event) = IsLinearizableHistory (prefix_of history event)
+
+  says : (budget : ℕ) (a : Location) → IsLocated budget history a → Says (said_by a)
+  says budget Yes x = x
+  says budget (No event number) x = x.wrong
+  says budget (Lost loss) x = x.wrong
+  says budget (Undecided event number doubt) x = x.before
+
+  agree : (a b : Said) → IsHistory history → Says a → Says b → DoNotContradict a b
+  agree SaysYes SaysYes is x y = tt
+  agree SaysYes (SaysNo event number) is x y = (one_event history number event y).1 x
+  agree SaysYes (SaysUndecided event) is x y = tt
+  agree (SaysNo event number) SaysYes is x y = (one_event history number event x).1 y
+  agree (SaysNo event number) (SaysNo other call) is x y = same_call number event call other is x y
+  agree (SaysNo event number) (SaysUndecided other) is x y = not_behind number event other x y
+  agree (SaysUndecided other) SaysYes is x y = tt
+  agree (SaysUndecided other) (SaysNo event number) is x y = not_behind number event other y x
+  agree (SaysUndecided event) (SaysUndecided other) is x y = tt
 
 pub locations_agree : OneEventGoesWrong → AnswersHaveOneCall → LocationsAgree
-locations_agree one_event one_call budget other history a b is x y = agree one_event one_call history budget other a b is x y
+locations_agree one_event one_call budget other history a b is x y =
+    agree one_event one_call history (said_by a) (said_by b) is (says one_event one_call history budget a x)
+    (says one_event one_call history other b y)

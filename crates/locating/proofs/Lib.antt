@@ -1,3 +1,5 @@
 mod AgreeLemmas
+mod BisectionLemmas
 mod EvidenceLemmas
+mod OneLemmas
 mod PassLemmas

@@ -33,6 +33,7 @@ use Rattle.follower.specs.WindowOutcomes.{IsLost, IsSpent, IsAnswered, IsDoubtOf
 use Rattle.follower.specs.WindowsView.{WindowsView}
 use Rattle.follower.specs.declared.answered_windows.AnsweredWindows.{AnsweredWindows}
 use Rattle.follower.specs.declared.answered_windows.AnsweredWindows.TheVariants.{Lost, Spent}
+use Rattle.locating.specs.Bisections.{IsLeftOpen}
 use Rattle.locating.specs.Locations.{IsAnswerFollowed, IsLostAt, IsUndecidedAt}
 
 -- what an event that is sound is: it has its range, and comes in turn
@@ -121,16 +122,20 @@ module _ (history : HistoryView) (place process : ℕ) (reply : Reply) (here : s
         counted = counted;
       })
 
-  pub lost : (loss : Loss) → IsLost history.start (take place history.events) process reply loss → IsLostAt budget history loss
-  lost loss is = record {
+  pub lost : (loss : Loss) → IsLeftOpen budget history → IsLost history.start (take place history.events) process reply loss
+      → IsLostAt budget history loss
+  lost loss left is = record {
+    open_to_judge = left;
     wrong = subst (λ (es : List Event). GoesWrongAt (record { start = history.start; events = es }) loss.number loss.event)
         (parts history place (Answer process reply) here) (is.wrong (drop (suc place) history.events)).1;
     followed = followed loss.event (Lost loss) is.told.event_is is tt;
   }
 
-  pub spent : (event number : ℕ) (doubt : Doubt) → IsSpent history.start (take place history.events) process reply budget event number doubt
+  pub spent : (event number : ℕ) (doubt : Doubt) → IsLeftOpen budget history
+      → IsSpent history.start (take place history.events) process reply budget event number doubt
       → IsDoubtOfOne f process reply doubt → IsUndecidedAt budget history event number doubt
-  spent event number doubt is counted = record {
+  spent event number doubt left is counted = record {
+    open_to_judge = left;
     before = subst (λ (n : ℕ). IsLinearizable history.start (operations (take n history.events)))
         (sym (is.told.event_is ∙ size history place (Answer process reply) here)) follows.linearizable;
     answer = subst (λ (es : List Event). IsAnswerOf es number event) (parts history place (Answer process reply) here)

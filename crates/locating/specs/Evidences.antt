@@ -41,10 +41,17 @@ IsLossEvidence budget history loss (OfEvents few) = ShowsUpTo budget history los
 IsLossEvidence budget history loss (OfKey part few) = ShowsNoneUpTo budget history loss.event × IsOwnEvidence budget loss (OfKey part few)
 IsLossEvidence budget history loss Missing = ShowsNoneUpTo budget history loss.event × IsOwnEvidence budget loss Missing
 
+-- what shows that a history goes wrong at an event: few calls of the events up to there
+abbrev pub IsFoundEvidence : ℕ → HistoryView → ℕ → Evidence → Type 0
+IsFoundEvidence budget history event (OfEvents few) = ShowsUpTo budget history event few
+IsFoundEvidence budget history event (OfKey part few) = ⊥
+IsFoundEvidence budget history event Missing = ⊥
+
 -- what shows a location
 abbrev pub IsEvidenceOf : ℕ → HistoryView → Location → Evidence → Type 0
 IsEvidenceOf budget history locations.Yes evidence = evidence ≡ Missing
-IsEvidenceOf budget history (locations.No loss) evidence = IsLossEvidence budget history loss evidence
+IsEvidenceOf budget history (locations.No event number) evidence = IsFoundEvidence budget history event evidence
+IsEvidenceOf budget history (locations.Lost loss) evidence = IsLossEvidence budget history loss evidence
 IsEvidenceOf budget history (locations.Undecided event number doubt) evidence = IsDoubtEvidence budget history event evidence
 
 -- the few calls have no order from where they begin

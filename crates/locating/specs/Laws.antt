@@ -3,20 +3,43 @@ use Rattle.std.specs.Prelude.{◌≡◌, ℕ, ◌≤◌, ⊤}
 use Rattle.events.specs.HistoryView.{HistoryView}
 use Rattle.events.specs.Histories.{IsHistory}
 use Rattle.locating.specs.declared.location.Location.{Location}
-use Rattle.locating.specs.declared.location.Location.TheVariants.{Yes, No, Undecided}
-use Rattle.locating.specs.Locations.{IsLocated}
+use Rattle.locating.specs.declared.location.Location.TheVariants.{Yes, No, Lost, Undecided}
+use Rattle.locating.specs.Locations.{IsDecidedByJudge, IsLocated}
+use Rattle.locating.specs.Reports.{location_data}
 
--- two locations do not contradict: of two that say no both say the same event of the same call;
--- none says no where another says yes, and none is undecided behind the event of a no
+-- what a location says: yes; no, at this event of this call; or that it is not known at this event
+pub data Said : Type 0 where
+  SaysYes : Said
+  SaysNo : (event number : ℕ) → Said
+  SaysUndecided : (event : ℕ) → Said
+
+abbrev pub said_by : Location → Said
+said_by Yes = SaysYes
+said_by (No event number) = SaysNo event number
+said_by (Lost loss) = SaysNo loss.event loss.number
+said_by (Undecided event number doubt) = SaysUndecided event
+
+-- two do not contradict: of two that say no both say the same event of the same call; none says no
+-- where another says yes, and none is undecided behind the event of a no
+abbrev pub DoNotContradict : Said → Said → Type 0
+DoNotContradict SaysYes (SaysNo event number) = ⊥
+DoNotContradict (SaysNo event number) SaysYes = ⊥
+DoNotContradict (SaysNo event number) (SaysNo other call) = (event ≡ other) × (number ≡ call)
+DoNotContradict (SaysNo event number) (SaysUndecided other) = other ≤ event
+DoNotContradict (SaysUndecided other) (SaysNo event number) = other ≤ event
+DoNotContradict a b = ⊤
+
 abbrev pub Agree : Location → Location → Type 0
-Agree Yes (No loss) = ⊥
-Agree (No loss) Yes = ⊥
-Agree (No loss) (No other) = (loss.event ≡ other.event) × (loss.number ≡ other.number)
-Agree (No loss) (Undecided event number doubt) = event ≤ loss.event
-Agree (Undecided event number doubt) (No loss) = event ≤ loss.event
-Agree a b = ⊤
+Agree a b = DoNotContradict (said_by a) (said_by b)
 
 -- locations of one history agree, whatever the budgets
 abbrev pub LocationsAgree : Type 0
 LocationsAgree = (budget other : ℕ) (history : HistoryView) (a b : Location) → IsHistory history → IsLocated budget history a
     → IsLocated other history b → Agree a b
+
+-- where the judge's verdicts at a budget tell where a history goes wrong, one report is made of a
+-- location at that budget
+abbrev pub OneLocationWhereJudged : Type 0
+OneLocationWhereJudged = (budget : ℕ) (history : HistoryView) (a b : Location) → IsHistory history → IsDecidedByJudge budget history
+    → IsLocated budget history a
+    → IsLocated budget history b → location_data a ≡ location_data b

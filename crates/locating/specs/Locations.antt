@@ -1,5 +1,5 @@
 -- What each location says of a history.
-use Rattle.std.specs.Prelude.{◌≡◌, ℕ, Some, slice_get, take}
+use Rattle.std.specs.Prelude.{◌≡◌, ◌⊎◌, ℕ, Some, slice_get, take}
 use Rattle.events.specs.declared.event.Event.TheVariants.{Answer}
 use Rattle.events.specs.declared.event.Reply.{Reply}
 use Rattle.events.specs.HistoryView.{HistoryView}
@@ -12,8 +12,9 @@ use Rattle.follower.specs.WindowOutcomes.{IsAnswered, IsCountedAs}
 use Rattle.follower.specs.WindowsView.{WindowsView}
 use Rattle.follower.specs.declared.answered_windows.AnsweredWindows.{AnsweredWindows}
 use Rattle.follower.specs.declared.answered_windows.AnsweredWindows.TheVariants as outcomes
+use Rattle.locating.specs.Bisections.{IsJudgedWhole, IsLeftOpen, IsRefutedWith, IsYes}
 use Rattle.locating.specs.declared.location.Location.{Location}
-use Rattle.locating.specs.declared.location.Location.TheVariants.{Yes, No, Undecided}
+use Rattle.locating.specs.declared.location.Location.TheVariants.{Yes, No, Lost, Undecided}
 
 -- the event at a place is an answer, and this is what it makes of a follower that has taken the
 -- events before it
@@ -26,14 +27,26 @@ pub record IsAnswerFollowed (budget : ℕ) (history : HistoryView) (place : ℕ)
   pub answered_is : IsAnswered history.start (take place history.events) follower process reply budget answered
   pub counted : IsCountedAs follower process reply answered
 
--- the history goes wrong at this event and call, and there the follower lost so
+-- the history goes wrong at this event and call, and the judge's verdicts at the budget come to it
+pub record IsFoundAt (budget : ℕ) (history : HistoryView) (event number : ℕ) : Type 0 where
+  pub wrong : GoesWrongAt history number event
+  pub judged : IsRefutedWith budget history (Some event)
+
+-- the judge's verdicts at the budget tell where a history goes wrong: the one on the whole history is a yes, or bisection comes to an event
+abbrev pub IsDecidedByJudge : ℕ → HistoryView → Type 0
+IsDecidedByJudge budget history =
+    IsJudgedWhole IsYes budget history ⊎ ((event : ℕ) × ((number : ℕ) × IsFoundAt budget history event number))
+
+-- the judge's verdicts leave it open, the history goes wrong at this event and call, and there the follower lost so
 pub record IsLostAt (budget : ℕ) (history : HistoryView) (loss : Loss) : Type 0 where
+  pub open_to_judge : IsLeftOpen budget history
   pub wrong : GoesWrongAt history loss.number loss.event
   pub followed : IsAnswerFollowed budget history loss.event (outcomes.Lost loss)
 
--- the events before this one have an order, it is the answer of this call, and there the follower
--- did not find out, for this reason
+-- the judge's verdicts leave it open, the events before this one have an order, it is the answer of this call, and there the
+-- follower did not find out, for this reason
 pub record IsUndecidedAt (budget : ℕ) (history : HistoryView) (event number : ℕ) (doubt : Doubt) : Type 0 where
+  pub open_to_judge : IsLeftOpen budget history
   pub before : IsLinearizableHistory (prefix_of history event)
   pub answer : IsAnswerOf history.events number event
   pub followed : IsAnswerFollowed budget history event (outcomes.Spent event number doubt)
@@ -41,5 +54,6 @@ pub record IsUndecidedAt (budget : ℕ) (history : HistoryView) (event number : 
 -- what the location says of the history is so
 abbrev pub IsLocated : ℕ → HistoryView → Location → Type 0
 IsLocated budget history Yes = IsLinearizableHistory history
-IsLocated budget history (No loss) = IsLostAt budget history loss
+IsLocated budget history (No event number) = IsFoundAt budget history event number
+IsLocated budget history (Lost loss) = IsLostAt budget history loss
 IsLocated budget history (Undecided event number doubt) = IsUndecidedAt budget history event number doubt

@@ -4,7 +4,7 @@ ghost use Rattle.serde_json.specs.Data.{string, object, no_members, put as with_
 ghost use Rattle.serde_json.specs.View.{view, members_view};
 ghost use Rattle.serde_json.specs.Written.{compact_text};
 ghost use Rattle.history_text.specs.Texts.{number_data};
-ghost use Rattle.locating.specs.Reports.{location_data};
+ghost use Rattle.locating.specs.Reports.{location_data, no_data};
 
 use crate::location::Location;
 use events::Memory;
@@ -38,11 +38,8 @@ fn put_location(
 {
     match location {
         Location::Yes => put_word(members, alloc, "verdict", "yes"),
-        Location::No(loss) => {
-            put_number(members, alloc, "call", loss.number)?;
-            put_number(members, alloc, "event", loss.event)?;
-            put_word(members, alloc, "verdict", "no")
-        }
+        Location::No { event, number } => put_no(members, alloc, *event, *number),
+        Location::Lost(loss) => put_no(members, alloc, loss.event, loss.number),
         Location::Undecided {
             event,
             number,
@@ -54,6 +51,21 @@ fn put_location(
             put_word(members, alloc, "verdict", "undecided")
         }
     }
+}
+
+/// Puts the members of a no at an event, the answer of the call of this number.
+fn put_no(
+    members: &mut Map<String, Value>,
+    alloc: Global,
+    event: usize,
+    number: usize,
+) -> Result<(), AllocError>
+    requires { members_view members.old.entries ≡ no_members }
+    ensures { OnOk result (object (members_view members.new.entries) ≡ no_data event number) }
+{
+    put_number(members, alloc, "call", number)?;
+    put_number(members, alloc, "event", event)?;
+    put_word(members, alloc, "verdict", "no")
 }
 
 /// Puts a member that is a number.

@@ -3,6 +3,7 @@ ghost use Rattle.std.specs.Prelude.{◌≡◌, ◌+◌, ◌<◌, length, take, I
 ghost use Rattle.events.specs.declared.event.Event.TheVariants as events;
 ghost use Rattle.events.specs.Histories.{IsHistory};
 ghost use Rattle.follower.specs.Faults.{shown};
+ghost use Rattle.locating.specs.Bisections.{IsLeftOpen};
 ghost use Rattle.locating.specs.Locations.{IsLocated};
 ghost use Rattle.locating.specs.Passing.{IsPassed};
 ghost use Rattle.follower.specs.Followed.{IsFollowed};
@@ -22,12 +23,12 @@ pub(crate) enum Passed {
     Ended(Location),
 }
 
-/// The event at which a history goes wrong. Having an order is closed under prefixes, so that a
-/// history without order loses it at one event, which is an answer: the events go through a
-/// follower of streams one by one, and the pass ends at the first answer at which it finds that
-/// there is no order any more, or, for `budget` positions of a search at one key, does not find
-/// out. Want of memory is an error and decides nothing.
-pub fn locate(alloc: Global, history: &History, budget: u32) -> Result<Location, Memory>
+/// Where a history goes wrong, if the judge's verdicts leave it open: the events go through a
+/// follower of streams one by one. The pass ends at the first answer at which the follower finds
+/// that there is no order any more, or, for `budget` positions of a search at one key, does not
+/// find out.
+pub(crate) fn follow(alloc: Global, history: &History, budget: u32) -> Result<Location, Memory>
+    requires { IsLeftOpen budget history.now }
     ensures { IfOk result (IsLocated budget history.now) }
 {
     let mut follower = WindowFollower::new(alloc, history.start())?;
@@ -48,6 +49,7 @@ fn pass(
     place: usize,
     budget: u32,
 ) -> Result<Passed, Memory>
+    requires open_to_judge { IsLeftOpen budget history.now }
     requires place { place < length history.now.events }
     requires follows { IsFollowed history.now.start (take place history.now.events) follower }
     ensures { IfOk result (IsPassed budget history.now place) }
@@ -105,6 +107,7 @@ fn pass_answer(
     reply: Reply,
     budget: u32,
 ) -> Result<Passed, Memory>
+    requires open_to_judge { IsLeftOpen budget history.now }
     requires follows { IsFollowed history.now.start (take place history.now.events) follower }
     requires history { IsHistory history.now }
     requires event { slice_get history.now.events place ≡ Some (events.Answer process reply) }
@@ -113,7 +116,7 @@ fn pass_answer(
     histories_have_few_events();
     match follower.answer(alloc, process as u16, reply, budget)? {
         AnsweredWindows::Going(next) => Ok(Passed::Going(next)),
-        AnsweredWindows::Lost(loss) => Ok(Passed::Ended(Location::No(loss))),
+        AnsweredWindows::Lost(loss) => Ok(Passed::Ended(Location::Lost(loss))),
         AnsweredWindows::Spent {
             event,
             number,

@@ -1,11 +1,13 @@
 // The calls that show a location.
-ghost use Rattle.std.specs.Prelude.{◌≡◌, ◌<◌, AllPairs, IfOk};
+ghost use Rattle.std.specs.Prelude.{◌≡◌, ◌+◌, ◌<◌, AllPairs, IfOk};
+ghost use Rattle.events.specs.Operations.{operations};
 ghost use Rattle.events.specs.Precedence.{NonePrecedesItself};
 ghost use Rattle.explaining.specs.Explained.{IsExplanation};
 ghost use Rattle.locating.specs.Locations.{IsLocated, IsLostAt};
 ghost use Rattle.map_object.specs.MapObject.{IsRising};
-ghost use Rattle.orders.specs.Orders.{IsLinearizable};
-ghost use Rattle.locating.specs.Evidences.{IsEvidenceOf, IsLossEvidence, IsOwnEvidence, IsDoubtEvidence, Refutes};
+ghost use Rattle.orders.specs.Orders.{IsLinearizable, IsLinearizableHistory};
+ghost use Rattle.prefixes.specs.Prefixes.{prefix_of};
+ghost use Rattle.locating.specs.Evidences.{IsEvidenceOf, IsFoundEvidence, IsLossEvidence, IsOwnEvidence, IsDoubtEvidence, Refutes};
 
 use crate::beginning::history_up_to;
 use crate::evidence::Evidence;
@@ -18,8 +20,8 @@ use std::alloc::Global;
 
 /// Few calls that show a location. Of the events up to where the history goes wrong, or may, they
 /// are sought where short searches of the last calls show that there is no order
-/// (`explain_history`), and else of what a follower lost, where that is one key with one value: as
-/// `explain_calls` finds them.
+/// (`explain_history`). Else they are sought of all events up to there, where the judge found it,
+/// or of what a follower lost, where that is one key with one value: as `explain_calls` finds them.
 pub fn evidence_of(
     alloc: Global,
     history: &History,
@@ -32,9 +34,40 @@ pub fn evidence_of(
 {
     match location {
         Location::Yes => Ok(Evidence::Missing),
-        Location::No(loss) => loss_evidence(alloc, history, loss, budget),
+        Location::No { event, .. } => found_evidence(alloc, history, *event, budget),
+        Location::Lost(loss) => loss_evidence(alloc, history, loss, budget),
         Location::Undecided { event, .. } => doubt_evidence(alloc, history, *event, budget),
     }
+}
+
+/// Few calls that show that the events up to one have no order, which is known.
+fn found_evidence(
+    alloc: Global,
+    history: &History,
+    event: usize,
+    budget: u32,
+) -> Result<Evidence, Memory>
+    requires none { IsLinearizableHistory (prefix_of history.now (event + 1)) → ⊥ }
+    ensures shows { IfOk result (IsFoundEvidence budget history.now event) }
+    ensures refutes { IfOk result (Refutes history.now) }
+{
+    let first = history_up_to(alloc, history, event)?;
+    match explain_history(alloc, &first, budget)? {
+        Some(few) => Ok(Evidence::OfEvents(few)),
+        None => {
+            let few = explain_whole(alloc, &first, budget)?;
+            Ok(Evidence::OfEvents(few))
+        }
+    }
+}
+
+/// Few of the calls of a history that has no order.
+fn explain_whole(alloc: Global, history: &History, budget: u32) -> Result<Explanation, Memory>
+    requires none { IsLinearizableHistory history.now → ⊥ }
+    ensures { IfOk result (IsExplanation history.now.start (operations history.now.events) budget) }
+{
+    let start = SortedMap::of(alloc, history.start())?;
+    explain_calls(alloc, &start, history.calls(), budget)
 }
 
 /// Few calls that show a loss.

@@ -14,7 +14,8 @@ use Rattle.history_engines.specs.Answers.{IsTextOf}
 -- the answer that a location is
 abbrev pub answer_of_location : Location → Answer
 answer_of_location locations.Yes = Yes
-answer_of_location (locations.No loss) = No
+answer_of_location (locations.No event number) = No
+answer_of_location (locations.Lost loss) = No
 answer_of_location (locations.Undecided event number doubt) = Undecided
 
 -- `locate` answers the text at the budget so: with the report of a location that is so of the

@@ -1,5 +1,5 @@
 // `bench locate`: the event at which the history on the input goes wrong.
-ghost use Rattle.std.specs.Prelude.{◌≡◌, ℕ, ◌<◌, List, Some, IfOk};
+ghost use Rattle.std.specs.Prelude.{◌≡◌, ℕ, ◌<◌, ◌≤◌, List, Some, IfOk};
 ghost use Rattle.events.specs.HistoryView.{HistoryView};
 ghost use Rattle.history_engines.specs.Answers.{IsHistoryRefusal, IsTextOf};
 ghost use Rattle.location_engines.specs.Answers.{answer_of_location, IsLocateAnswer};
@@ -10,6 +10,7 @@ ghost use Rattle.outcomes.specs.Ends.{change};
 ghost use Rattle.outcomes.specs.Outcomes.{IsTextOutcome};
 ghost use Rattle.outcomes.specs.Reads.{IsTextRead};
 ghost use Rattle.outcomes.specs.Runs.{IsRun};
+ghost use Rattle.search.specs.Limits.{budget_limit};
 
 use events::Memory;
 use history_engines::refused_text;
@@ -20,8 +21,9 @@ use std::alloc::Global;
 use streams::{Sink, Source};
 
 /// Reads a history text to the end of the source, or until it is too long, and looks for the event
-/// at which the history goes wrong, where a search at one key reaches at most `budget` positions.
-/// It starts no thread. Answers the exit status.
+/// at which the history goes wrong: by verdicts, each by searches of at most `budget`
+/// configurations, and where one is undecided by a follower, whose search at one key reaches at
+/// most `budget` positions. It starts no thread. Answers the exit status.
 pub fn run_locate<S: Source, O: Sink, F: Sink, H: Sink>(
     alloc: Global,
     source: &mut S,
@@ -30,6 +32,7 @@ pub fn run_locate<S: Source, O: Sink, F: Sink, H: Sink>(
     hints: &mut H,
     budget: u32,
 ) -> u8
+    requires budget { (1 ≤ budget) × (budget ≤ budget_limit) }
     requires source { S.failures source.old < u64.MAX }
     requires output { O.failures output.old < u64.MAX }
     requires faults { F.failures faults.old < u64.MAX }
@@ -42,12 +45,15 @@ pub fn run_locate<S: Source, O: Sink, F: Sink, H: Sink>(
     ensures read { IsTextRead text_limit (change S.remaining S.failures source.old source.new)
         result }
 {
-    let answer = |text: &[u8]| locate_outcome(alloc, text, budget);
+    let answer = |text: &[u8]|
+        requires { (1 ≤ budget) × (budget ≤ budget_limit) }
+    { locate_outcome(alloc, text, budget) };
     run_text(alloc, source, output, faults, hints, MAX_TEXT, answer)
 }
 
 /// The event at which the history that the text spells goes wrong, as its report.
 pub fn locate_outcome(alloc: Global, text: &[u8], budget: u32) -> RunOutcome
+    requires { (1 ≤ budget) × (budget ≤ budget_limit) }
     ensures { IsTextOutcome (IsLocateAnswer budget) IsHistoryRefusal (Some text.now) result }
 {
     match read_history(alloc, text) {
@@ -77,7 +83,7 @@ fn answer_of(location: &Location) -> Answer
 {
     match location {
         Location::Yes => Answer::Yes,
-        Location::No(_) => Answer::No,
+        Location::No { .. } | Location::Lost(_) => Answer::No,
         Location::Undecided { .. } => Answer::Undecided,
     }
 }

@@ -30,7 +30,7 @@ impl Machine {
         ensures opened { IfOk result (IsOpened shape variant (map (λ script. script.items) scripts.items) limit) }
         ensures refused { IfErr result (λ fault. fault ≡ faults.Memory) }
     {
-        let words = match shape.opening_words(alloc) {
+        let words = match shape.opening(alloc) {
             Ok(words) => words,
             Err(_) => return Err(MachineFault::Memory),
         };

@@ -30,6 +30,11 @@ pub digest_as_before : (taken pairs one digest : ℕ) → digest ≡ (taken + pa
     → (digest + one) % 2 ^ 64 ≡ (taken + one + pairs) % 2 ^ 64
 digest_as_before taken pairs one digest is = omega (arith, is)
 
+-- the digest after one more call, where what all pairs add is taken off and what the others add put on
+pub digest_anew : (taken pairs one after digest : ℕ) → digest ≡ (taken + pairs) % 2 ^ 64
+    → (((digest + one) % 2 ^ 64 + (2 ^ 64 - pairs % 2 ^ 64)) % 2 ^ 64 + after % 2 ^ 64) % 2 ^ 64 ≡ (taken + one + after) % 2 ^ 64
+digest_anew taken pairs one after digest is = omega (arith, is)
+
 -- ---- what pairs add, where one key has another value
 
 module _ (key : ℕ) (m : Contents) where

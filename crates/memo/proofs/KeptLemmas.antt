@@ -1,10 +1,10 @@
 -- What is kept of a configuration is the only form that tells it.
 use Rattle.std.proofs.Common.{◌≡◌, ℕ, ◌+◌, ◌-◌, ◌%◌, ◌^◌, ◌<◌, Bool, true, false, ◌++◌, ◌∷◌, [], List, Option, Some, Result, Ok, Err}
-use Rattle.std.proofs.Common.{option_map, get_or, length, zero-add, refl, sym, ap, ◌∙◌, subst}
-use Rattle.std.specs.Prelude.{◌≢◌, ◌↔◌, IsTrue, IfOk, OnErr, IsSomeAnd, if◌then◌else◌, slice_get, All, AllPairs, Contains}
+use Rattle.std.proofs.Common.{option_map, get_or, length, zero-add, refl, sym, ap, ◌∙◌, subst, ⊎_elim}
+use Rattle.std.specs.Prelude.{◌≢◌, ◌↔◌, ◌⊎◌, IsTrue, IfOk, OnErr, IsSomeAnd, if◌then◌else◌, slice_get, All, AllPairs, Contains}
 use Rattle.std.specs.List.{sum_by}
 use Rattle.std.proofs.lemmas.List.{map-append, length-map}
-use Rattle.std.proofs.lemmas.List.Elements.{All-contains, All-push}
+use Rattle.std.proofs.lemmas.List.Elements.{All-contains, All-push, All-nil}
 use Rattle.std.proofs.lemmas.Option.{slice_get-map, slice_get_read}
 use Rattle.list_laws.proofs.NumberLemmas.{IsSomeAnd-within}
 use Rattle.list_laws.proofs.FilterLemmas.{Contains-map, Contains-from_map, AllPairs-map, AllPairs-weaker}
@@ -19,7 +19,7 @@ use Rattle.memo.specs.Taking.{with_place, after_one}
 use Rattle.memo.specs.Kept.{Kept, kept_of, same_kept, configuration_from, IsKept}
 use Rattle.memo.specs.Visits.{configurations_from}
 use Rattle.memo.proofs.DifferenceLemmas.{pairs_from-is, pairs_from-rises, value_at-from, same_put, same_gone, IsDifference-start, IsDifference-with}
-use Rattle.memo.proofs.DigestLemmas.{digest_after, digest_as_before, sum_changed, sum_by-with_place}
+use Rattle.memo.proofs.DigestLemmas.{digest_after, digest_as_before, digest_anew, sum_changed, sum_by-with_place}
 
 -- what tells the same configuration is the same
 pub same_from_configuration : (start : Contents) (a b : Kept) → IsKept start a → IsKept start b
@@ -170,31 +170,80 @@ kept_at start visited read now from kept P now_is read_is is some =
     let here = slice_get_read visited (length visited) from kept refl within (subst (λ ks. kept ≡ get_or ks from kept) read_is is) in
     subst (λ cs. slice_get cs from ≡ Some (configuration_from start kept)) now_is (slice_get-kept start visited from kept here)
 
-module _ {E : Type 0} (start : Contents) (visited : List Kept) (kept : Kept) (after : List Kept) where
+module _ (start : Contents) (visited : List Kept) (kept : Kept) (after : List Kept) where
   -- all that is kept is still in its only form
-  pub all_kept : (r : Result Bool E) → IfOk r (λ new. after ≡ (if new then visited ++ kept ∷ [] else visited)) → OnErr r (after ≡ visited)
-      → All (IsKept start) visited → IsKept start kept → All (IsKept start) after
+  pub all_kept : {E : Type 0} (r : Result Bool E) → IfOk r (λ new. after ≡ (if new then visited ++ kept ∷ [] else visited))
+      → OnErr r (after ≡ visited) → All (IsKept start) visited → IsKept start kept → All (IsKept start) after
   all_kept (Ok true) h k each is = subst (All (IsKept start)) (sym h) (All-push (IsKept start) visited kept each is)
   all_kept (Ok false) h k each is = subst (All (IsKept start)) (sym h) each
   all_kept (Err e) h k each is = subst (All (IsKept start)) (sym k) each
 
   module _ (next : Configuration) (same : configuration_from start kept ≡ next) where
     -- a configuration is new where what is kept of it is
-    pub new_told : (r : Result Bool E) → All (IsKept start) visited → IsKept start kept → IfOk r (λ new. IsTrue new ↔ (Contains visited kept → ⊥))
-        → IfOk r (λ new. IsTrue new ↔ (Contains (configurations_from start visited) next → ⊥))
-    new_told (Ok new) each is h =
+    pub new_told : (new : Bool) → All (IsKept start) visited → IsKept start kept → IsTrue new ↔ (Contains visited kept → ⊥)
+        → IsTrue new ↔ (Contains (configurations_from start visited) next → ⊥)
+    new_told new each is h =
         let told = Contains-kept start visited kept each is in (
           λ yes in_it. h.0 yes (told.0 (subst (Contains (configurations_from start visited)) (sym same) in_it)),
           λ out. h.1 (λ in_it. out (subst (Contains (configurations_from start visited)) same (told.1 in_it))),
         )
-    new_told (Err e) each is h = tt
 
     -- and is visited then
-    pub visited_told : (r : Result Bool E) → IfOk r (λ new. after ≡ (if new then visited ++ kept ∷ [] else visited))
-        → IfOk r (λ new. configurations_from start after
-        ≡ (if new then configurations_from start visited ++ next ∷ [] else configurations_from start visited))
-    visited_told (Ok true) h =
+    pub visited_told : (new : Bool) → after ≡ (if new then visited ++ kept ∷ [] else visited)
+        → configurations_from start after ≡ (if new then configurations_from start visited ++ next ∷ [] else configurations_from start visited)
+    visited_told true h =
         ap (configurations_from start) h ∙ map-append (configuration_from start) visited (kept ∷ [])
         ∙ ap (λ (c : Configuration). configurations_from start visited ++ c ∷ []) same
-    visited_told (Ok false) h = ap (configurations_from start) h
-    visited_told (Err e) h = tt
+    visited_told false h = ap (configurations_from start) h
+
+-- ---- other pairs at the start
+
+-- where nothing was visited, or the pairs at the start are the same, what is kept is kept over both
+module _ (start other : Contents) (visited : List Kept) (shares : (visited ≡ []) ⊎ (start ≡ other)) where
+  pub each_shared : All (IsKept start) visited → All (IsKept other) visited
+  each_shared each = ⊎_elim (λ none. subst (All (IsKept other)) (sym none) (All-nil (IsKept other)))
+      (λ same. subst (λ m. All (IsKept m) visited) same each) shares
+
+  pub told_shared : configurations_from start visited ≡ configurations_from other visited
+  told_shared = ⊎_elim (λ none. ap (configurations_from start) none ∙ sym (ap (configurations_from other) none))
+      (λ same. ap (λ m. configurations_from m visited) same) shares
+
+-- what is kept over one start, told from another
+module _ (start other : Contents) (old new : Kept) (is : IsKept start old) (rises : IsRising start) (other_rises : IsRising other)
+    (taken_is : new.taken ≡ old.taken) (digest_is : new.digest ≡ old.digest)
+    (difference : IsDifference other (pairs_from start old.put old.gone) new.put new.gone) where
+  over : (pairs_from other new.put new.gone ≡ pairs_from start old.put old.gone) × IsKept other new
+  over = IsKept-from other (pairs_from start old.put old.gone) new other_rises (pairs_from-rises start old.put old.gone rises) difference
+      (record {
+        digest_is = digest_is ∙ is.digest.digest_is
+            ∙ ap (λ (t : List ℕ). (sum_by mix_place t + sum_by mix_pair (pairs_from start old.put old.gone)) % 2 ^ 64) (sym taken_is);
+      })
+
+  pub IsKept-over : IsKept other new
+  IsKept-over = over.1
+
+  pub configuration_from-over : configuration_from other new ≡ configuration_from start old
+  configuration_from-over = same_configuration (configuration_from other new) (configuration_from start old) taken_is over.0
+
+-- one more call that leaves any pairs
+module _ (start after : Contents) (old new : Kept) (is : IsKept start old) (rises : IsRising start) (after_rises : IsRising after) (place : ℕ)
+    (is_new : Contains old.taken place → ⊥) (taken_is : new.taken ≡ with_place old.taken place)
+    (difference : IsDifference start after new.put new.gone) (one lost gained : ℕ) (one_is : one ≡ mix_place place)
+    (lost_is : lost ≡ sum_by mix_pair (pairs_from start old.put old.gone) % 2 ^ 64) (gained_is : gained ≡ sum_by mix_pair after % 2 ^ 64)
+    (digest_is : new.digest ≡ (((old.digest + one) % 2 ^ 64 + (2 ^ 64 - lost)) % 2 ^ 64 + gained) % 2 ^ 64) where
+  anew : (pairs_from start new.put new.gone ≡ after) × IsKept start new
+  anew = IsKept-from start after new rises after_rises difference (record {
+    digest_is = digest_is
+        ∙ ap (λ (n : ℕ). (((old.digest + one) % 2 ^ 64 + (2 ^ 64 - n)) % 2 ^ 64 + gained) % 2 ^ 64) lost_is
+        ∙ ap (λ (n : ℕ). (((old.digest + one) % 2 ^ 64 + (2 ^ 64 - sum_by mix_pair (pairs_from start old.put old.gone) % 2 ^ 64)) % 2 ^ 64 + n)
+        % 2 ^ 64) gained_is
+        ∙ digest_anew (sum_by mix_place old.taken) (sum_by mix_pair (pairs_from start old.put old.gone)) one (sum_by mix_pair after) old.digest
+        is.digest.digest_is
+        ∙ ap (λ (n : ℕ). (n + sum_by mix_pair after) % 2 ^ 64) (sym (taken_sum start old is place is_new new taken_is one one_is));
+  })
+
+  pub IsKept-anew : IsKept start new
+  IsKept-anew = anew.1
+
+  pub configuration_from-anew : configuration_from start new ≡ after_one (configuration_from start old) place after
+  configuration_from-anew = same_configuration (configuration_from start new) (after_one (configuration_from start old) place after) taken_is anew.0

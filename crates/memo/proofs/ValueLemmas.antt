@@ -31,12 +31,12 @@ either_way true value = refl
 either_way false value = refl
 
 -- a pair that may be kept, before others
-kept_here : (b : Bool) (k v : ℕ) (rest : Contents) (value : Option ℕ) → value_at rest k ≡ cond b value None
+pub kept_here : (b : Bool) (k v : ℕ) (rest : Contents) (value : Option ℕ) → value_at rest k ≡ cond b value None
     → value_at (cond b ((k, v) ∷ rest) rest) k ≡ cond b (Some v) None
 kept_here true k v rest value h = first_value k v rest
 kept_here false k v rest value h = h
 
-kept_there : (b : Bool) (k v : ℕ) (rest : Contents) (key : ℕ) → (k ≡ key → ⊥) → value_at (cond b ((k, v) ∷ rest) rest) key ≡ value_at rest key
+pub kept_there : (b : Bool) (k v : ℕ) (rest : Contents) (key : ℕ) → (k ≡ key → ⊥) → value_at (cond b ((k, v) ∷ rest) rest) key ≡ value_at rest key
 kept_there true k v rest key other = later_value k v rest key other
 kept_there false k v rest key other = refl
 

@@ -1,5 +1,5 @@
 -- Pairs as what differs from those that a search starts with.
-use Rattle.std.specs.Prelude.{◌≡◌, ℕ, ◌==◌, is_none, if◌then◌else◌, [], ◌∷◌, ◌++◌, filter, Option, Some, None}
+use Rattle.std.specs.Prelude.{◌≡◌, ℕ, Bool, ◌==◌, is_none, is_some, if◌then◌else◌, [], ◌∷◌, ◌++◌, filter, Option, Some, None}
 use Rattle.map_object.specs.MapObject.{Contents, IsRising, value_at, below, above, put}
 
 -- the pairs with a value or none at a key
@@ -17,6 +17,10 @@ value_put (Some first) (Some value) = if first == value then None else Some valu
 abbrev pub value_gone : Option ℕ → Option ℕ → Option ℕ
 value_gone first None = first
 value_gone first (Some value) = None
+
+-- a pair that is not so in others
+abbrev pub differs : Contents → ℕ × ℕ → Bool
+differs others pair = is_some (value_put (value_at others pair.0) (Some pair.1))
 
 -- what is put, and what is gone: the pairs that are not so at the start, and those at the start whose keys have no value now
 pub record IsDifference (start pairs put_pairs gone_pairs : Contents) : Type 0 where

@@ -1,11 +1,12 @@
 -- When two configurations are the same, as a test, with the proof that the test tells exactly this.
-use Rattle.std.specs.Prelude.{◌≡◌, ℕ, Bool, ◌==◌, ◌&&◌}
+use Rattle.std.specs.Prelude.{◌≡◌, ℕ, Bool, true, ◌==◌, ◌&&◌}
 use Rattle.std.specs.Bool.{Decides}
-use Rattle.std.specs.Cmp.{unsigned_Decides}
+use Rattle.std.specs.Cmp.{IsEquivalence, decided, unsigned_Decides}
 use Rattle.std.specs.Cmp.Lexicographic.{pointwise, pointwise_decides}
 use Rattle.std.proofs.Common.{ap, ap₂}
 use Rattle.std.proofs.lemmas.Bool.Decides.{Decides-and, Decides-like}
 use Rattle.configurations.specs.Configurations.{Configuration}
+use Rattle.memo.specs.Digest.{digest_of}
 use Rattle.configurations.proofs.ConfigurationLemmas.{same_configuration}
 
 -- two pairs have the same key and the same value
@@ -34,3 +35,11 @@ Decides-is_same a b =
     (Decides-and (pointwise ◌==◌ a.taken b.taken) (pointwise is_same_pair a.pairs b.pairs)
     (pointwise_decides unsigned_Decides a.taken b.taken)
     (pointwise_decides Decides-is_same_pair a.pairs b.pairs))
+
+-- the test is an equivalence
+pub is_same-equivalence : IsEquivalence is_same
+is_same-equivalence = decided is_same Decides-is_same
+
+-- configurations that are the same have the same digest, so what is fed of it is the same
+pub same_digest : {X : Type 0} (f : ℕ → X) (a b : Configuration) → is_same a b ≡ true → f (digest_of a) ≡ f (digest_of b)
+same_digest f a b same = ap (λ (c : Configuration). f (digest_of c)) ((Decides-is_same a b).0 same)

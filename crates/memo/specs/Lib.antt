@@ -1,3 +1,4 @@
+pub mod Bases
 pub mod Differences
 pub mod Digest
 pub mod Equality

@@ -1,140 +1,145 @@
-// Configurations of a search, as a memo keeps them.
-ghost use Rattle.std.specs.Prelude.{◌≡◌, [], IfOk, Contains};
-ghost use Rattle.memo.specs.Kept.{configuration_from, IsKept};
+// Configurations of a search.
+ghost use Rattle.std.specs.Prelude.{◌≡◌, ◌↔◌, [], IsTrue, All, IfOk, Contains};
+ghost use Rattle.map_object.specs.MapObject.{value_at};
+ghost use Rattle.memo.specs.Digest.{digest_of};
 ghost use Rattle.memo.specs.Taking.{after_one};
-ghost use Rattle.memo.specs.Keys.{AgreeBut};
 
-use crate::differences::{value_at, value_from, value_gone, value_put, with_value};
-use crate::digests::{mix, mix_value, sum_of};
-use crate::places::Places;
+use crate::base::Base;
+use crate::form::Form;
 use events::Memory;
 use map_object::SortedMap;
 use std::alloc::Global;
 use std::hash::{Hash, Hasher};
 use std::marker::Model;
 
-/// Where a search stands: the set of calls taken, each named by its place in the list of calls, and of the pairs
-/// that the map then holds those that are not so at the start of the search, with those at the start whose keys
-/// are gone. So it takes as much memory as the calls taken, and their keys, and not as the map.
+/// Where a search stands: the set of calls taken, each named by its place in the list of calls, and the pairs that the
+/// map then holds. Contracts see the places by rising number and the pairs by rising key. It shares the pairs
+/// at the start of the search, and keeps what differs from them.
 #[derive(Drop)]
-pub(crate) struct Config {
-    places: Places,
-    put: Vec<(u64, u64)>,
-    gone: Vec<(u64, u64)>,
-    digest: u64,
+pub struct Config {
+    pub(crate) base: Base,
+    pub(crate) form: Form,
 }
 
 impl Model for Config {
-    ghost use Rattle.memo.specs.Kept.{Kept};
+    ghost use Rattle.configurations.specs.Configurations.{Configuration};
+    ghost use Rattle.memo.specs.Kept.{configuration_from, IsKept};
 
-    ghost Value = { Kept };
+    ghost Value = { Configuration };
 
-    ghost view = { λ c. record {
-      taken = c.places;
-      put = c.put.items;
-      gone = c.gone.items;
-      digest = c.digest;
-    } };
+    ghost view = { λ c. configuration_from c.base c.form };
+
+    ghost invariant = { λ c. IsKept c.base c.form };
 }
 
-/// Two that differ from the same start are equal exactly where the same calls are taken and the same pairs are held.
-/// Digests that differ tell most others apart; else it costs at most the calls and the changed pairs of one of them.
+/// Two are equal exactly where the same calls are taken and the same pairs are held, whatever the starts of
+/// their searches. Digests that differ tell most others apart.
 impl PartialEq for Config {
-    ghost use Rattle.std.specs.Prelude.{◌≡◌};
+    ghost use Rattle.std.specs.Prelude.{◌≡◌, ◌↔◌, IsTrue};
     ghost use Rattle.std.specs.Cmp.{partial_equiv_from_equiv};
-    ghost use Rattle.memo.specs.Kept.{is_kept_same, is_kept_same-equivalence};
+    ghost use Rattle.memo.specs.Equality.{is_same, is_same-equivalence};
 
-    ghost eq = { is_kept_same };
+    ghost eq = { is_same };
 
-    ghost laws = { partial_equiv_from_equiv is_kept_same-equivalence };
+    ghost laws = { partial_equiv_from_equiv is_same-equivalence };
 
     fn eq(&self, other: &Config) -> bool
-        ensures { result ≡ is_kept_same self.now other.now }
+        ensures value { result ≡ is_same self.now other.now }
+        ensures exact { IsTrue result ↔ (self.now ≡ other.now) }
     {
-        if self.digest != other.digest {
-            return false;
-        }
-        self.places.is_same(&other.places) && self.put == other.put && self.gone == other.gone
+        is_equal(self, other)
     }
 }
 
 impl Eq for Config {
-    ghost use Rattle.memo.specs.Kept.{is_kept_same-equivalence};
+    ghost use Rattle.memo.specs.Equality.{is_same-equivalence};
 
-    ghost laws = { is_kept_same-equivalence };
+    ghost laws = { is_same-equivalence };
 }
 
 /// Only the digest is hashed.
 impl Hash for Config {
     ghost use Rattle.std.specs.Hash as fed;
-    ghost use Rattle.memo.specs.Kept.{same_kept_digest};
+    ghost use Rattle.memo.specs.Digest.{digest_of};
+    ghost use Rattle.memo.specs.Equality.{same_digest};
 
-    ghost hash_input = { λ c. fed.u64 c.digest };
+    ghost hash_input = { λ c. fed.u64 (digest_of c) };
 
-    ghost respects_eq = { λ a b same. same_kept_digest fed.u64 a b same };
+    ghost respects_eq = { λ a b same. same_digest fed.u64 a b same };
 
     fn hash<H: Hasher>(&self, state: &mut H) {
-        state.write_u64(self.digest);
+        state.write_u64(self.digest());
     }
 }
 
 impl Config {
-    /// No call taken, and the pairs of the map: where a search begins. It takes no memory.
-    pub(crate) fn start(alloc: Global, map: &SortedMap) -> Config
-        ensures kept { IsKept map.now result }
-        ensures is { configuration_from map.now result ≡ record { taken = []; pairs = map.now } }
+    /// No call taken, and the pairs of the map: where a search begins. They are copied, once for all
+    /// configurations that come of this one.
+    pub fn start(alloc: Global, map: &SortedMap) -> Result<Config, Memory>
+        ensures { IfOk result (λ c. c ≡ record { taken = []; pairs = map.now }) }
     {
-        Config {
-            places: Places::new(alloc),
-            put: Vec::new(alloc),
-            gone: Vec::new(alloc),
-            digest: sum_of(map.pairs()),
-        }
+        let base = Base::of(alloc, map)?;
+        let form = Form::start(alloc, &base);
+        Ok(Config { base, form })
     }
 
-    /// The configuration after one more call, the one at `place`, which changed no value but that of the key,
-    /// where one is given, and leaves the map `after`. On `Memory` there is none. It costs as much as it copies: the
-    /// bits of the calls taken and the pairs that differ from those at the start. Only the pair that changed is mixed anew.
-    pub(crate) fn with(
-        &self,
-        alloc: Global,
-        start: &SortedMap,
-        place: u32,
-        key: Option<u64>,
-        after: &SortedMap,
-    ) -> Result<Config, Memory>
-        requires new { Contains self.now.taken place → ⊥ }
-        requires kept { IsKept start.now self.now }
-        requires others { AgreeBut key (configuration_from start.now self.now).pairs after.now }
-        ensures kept { IfOk result (IsKept start.now) }
-        ensures is { IfOk result (λ c. configuration_from start.now c
-            ≡ after_one (configuration_from start.now self.now) place after.now) }
+    /// The configuration after one more call, the one at `place`, which leaves the map `after`. On `Memory` there is
+    /// none. `after` is compared with the pairs at the start, so it costs as much as the maps.
+    pub fn with(&self, alloc: Global, place: u32, after: &SortedMap) -> Result<Config, Memory>
+        requires { Contains self.now.taken place → ⊥ }
+        ensures { IfOk result (λ c. c ≡ after_one self.now place after.now) }
     {
-        let places = self.places.with(alloc, place as usize)?;
-        let digest = self.digest.wrapping_add(mix(place as u64 + 1));
-        let Some(key) = key else {
-            let put = Vec::from_slice(alloc, &self.put)?;
-            let gone = Vec::from_slice(alloc, &self.gone)?;
-            return Ok(Config {
-                places,
-                put,
-                gone,
-                digest,
-            });
-        };
-        let first = start.value(key);
-        let before = value_from(first, value_at(&self.put, key), value_at(&self.gone, key));
-        let value = after.value(key);
-        let put = with_value(alloc, &self.put, key, value_put(first, value))?;
-        let gone = with_value(alloc, &self.gone, key, value_gone(first, value))?;
-        let digest = digest
-            .wrapping_sub(mix_value(key, before))
-            .wrapping_add(mix_value(key, value));
-        Ok(Config {
-            places,
-            put,
-            gone,
-            digest,
-        })
+        let base = self.base.share()?;
+        let form = self.form.with(alloc, &self.base, place, after)?;
+        Ok(Config { base, form })
     }
+
+    /// The sum modulo 2^64 of what the calls taken and the pairs held mix. Equal configurations have equal
+    /// digests.
+    pub fn digest(&self) -> u64
+        ensures { result ≡ digest_of self.now }
+    {
+        self.form.digest()
+    }
+}
+
+/// Whether the same calls are taken and the same pairs are held.
+fn is_equal(a: &Config, b: &Config) -> bool
+    ensures { IsTrue result ↔ (a.now ≡ b.now) }
+{
+    if a.form.digest() != b.form.digest() {
+        return false;
+    }
+    if !a.form.has_taken_as(&b.form) {
+        return false;
+    }
+    holds_as(a, b)
+}
+
+/// Whether the same pairs are held.
+fn holds_as(a: &Config, b: &Config) -> bool
+    ensures { IsTrue result ↔ (a.now.pairs ≡ b.now.pairs) }
+{
+    if !agree(a, b, a.base.pairs()) {
+        return false;
+    }
+    if !agree(a, b, a.form.put()) {
+        return false;
+    }
+    if !agree(a, b, b.base.pairs()) {
+        return false;
+    }
+    agree(a, b, b.form.put())
+}
+
+/// Whether both hold the same values, or none, at the keys of these pairs.
+fn agree(a: &Config, b: &Config, pairs: &[(u64, u64)]) -> bool
+    ensures { IsTrue result ↔ All (λ pair. value_at a.now.pairs pair.0 ≡ value_at b.now.pairs pair.0) pairs.now }
+{
+    for pair in pairs {
+        if a.form.value(&a.base, pair.0) != b.form.value(&b.base, pair.0) {
+            return false;
+        }
+    }
+    true
 }

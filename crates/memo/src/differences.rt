@@ -1,8 +1,8 @@
 // Pairs by rising key, and what differs in them from those at the start of a search.
-ghost use Rattle.std.specs.Prelude.{◌≡◌, ◌≤◌, length, take, drop, IfOk, IfErr};
+ghost use Rattle.std.specs.Prelude.{◌≡◌, ◌≤◌, length, take, drop, filter, is_none, IfOk, IfErr};
 ghost use Rattle.map_object.specs.MapObject.{IsRising, value_at, below, above};
 ghost use Rattle.map_object.specs.Places.{IsAt, IsGapFor};
-ghost use Rattle.memo.specs.Differences.{with_value, value_put, value_gone, value_from};
+ghost use Rattle.memo.specs.Differences.{with_value, value_put, value_gone, value_from, differs, pairs_from, IsDifference};
 
 use events::Memory;
 use std::alloc::Global;
@@ -94,4 +94,85 @@ pub(crate) fn value_from(first: Option<u64>, put: Option<u64>, gone: Option<u64>
         (None, Some(_)) => None,
         (None, None) => first,
     }
+}
+
+/// The pairs that are not so in others.
+fn unlike(
+    alloc: Global,
+    pairs: &[(u64, u64)],
+    others: &[(u64, u64)],
+) -> Result<Vec<(u64, u64)>, Memory>
+    requires { IsRising others.now }
+    ensures { IfOk result (λ v. v.items ≡ filter (differs others.now) pairs.now) }
+{
+    let mut unlike = Vec::new(alloc);
+    for pair in pairs {
+        if value_put(value_at(others, pair.0), Some(pair.1)).is_some() {
+            unlike.push(*pair)?;
+        }
+    }
+    Ok(unlike)
+}
+
+/// The pairs at whose keys others have no value.
+fn absent(
+    alloc: Global,
+    pairs: &[(u64, u64)],
+    others: &[(u64, u64)],
+) -> Result<Vec<(u64, u64)>, Memory>
+    requires { IsRising others.now }
+    ensures { IfOk result (λ v. v.items ≡ filter (λ pair. is_none (value_at others.now pair.0)) pairs.now) }
+{
+    let mut absent = Vec::new(alloc);
+    for pair in pairs {
+        if value_at(others, pair.0).is_none() {
+            absent.push(*pair)?;
+        }
+    }
+    Ok(absent)
+}
+
+/// What differs in pairs from those at the start: the pairs that are not so there, and those there whose keys
+/// have no value any more.
+#[derive(Drop)]
+pub(crate) struct Changes {
+    pub(crate) put: Vec<(u64, u64)>,
+    pub(crate) gone: Vec<(u64, u64)>,
+}
+
+/// The difference of pairs from those at the start.
+pub(crate) fn difference(
+    alloc: Global,
+    start: &[(u64, u64)],
+    pairs: &[(u64, u64)],
+) -> Result<Changes, Memory>
+    requires start { IsRising start.now }
+    requires pairs { IsRising pairs.now }
+    ensures { IfOk result (λ d. IsDifference start.now pairs.now d.put.items d.gone.items) }
+{
+    Ok(Changes {
+        put: unlike(alloc, pairs, start)?,
+        gone: absent(alloc, start, pairs)?,
+    })
+}
+
+/// The pairs that have a difference: those at the start that are not gone, and those that are put.
+pub(crate) fn pairs_from(
+    alloc: Global,
+    start: &[(u64, u64)],
+    put: &[(u64, u64)],
+    gone: &[(u64, u64)],
+) -> Result<Vec<(u64, u64)>, Memory>
+    requires start { IsRising start.now }
+    requires gone { IsRising gone.now }
+    ensures { IfOk result (λ v. v.items ≡ pairs_from start.now put.now gone.now) }
+{
+    let mut pairs = absent(alloc, start, gone)?;
+    let mut at = put.len();
+    while at > 0 {
+        at -= 1;
+        let pair = &put[at];
+        pairs = with_value(alloc, &pairs, pair.0, Some(pair.1))?;
+    }
+    Ok(pairs)
 }

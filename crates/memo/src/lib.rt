@@ -5,13 +5,16 @@
 //! What a configuration is, and which are reachable, stands in `configurations`' definitions.
 #![tactic(auto)]
 
+mod base;
 mod config;
 mod differences;
 mod digests;
+mod form;
 mod memo;
 mod places;
 mod words;
 
+pub use config::Config;
 pub use digests::{mix, mix_value};
 pub use memo::{Memo, visited_at_start};
 pub use places::Places;

@@ -1,11 +1,13 @@
 // The memo of a search.
-ghost use Rattle.std.specs.Prelude.{◌≡◌, ◌↔◌, ◌++◌, ◌∷◌, [], length, IsTrue, IsSomeAnd, slice_get, IfOk, OnErr, Contains};
+ghost use Rattle.std.specs.Prelude.{◌≡◌, ◌↔◌, ◌++◌, ◌∷◌, [], length, IsTrue, IsSomeAnd, slice_get, IfOk, IfErr, OnErr, ◌⊎◌, Contains};
 ghost use Rattle.std.specs.Prelude.{if◌then◌else◌};
 ghost use Rattle.configurations.specs.Counts.{AreDistinct};
 ghost use Rattle.memo.specs.Keys.{key_changed};
 ghost use Rattle.memo.specs.Taking.{after_one, IsOneMore};
 
+use crate::base::Base;
 use crate::config::Config;
+use crate::form::Form;
 use events::{Call, Memory, Operation};
 use indexmap::IndexSet;
 use map_object::SortedMap;
@@ -16,27 +18,70 @@ use std::marker::Model;
 /// see the configurations in the order of their first visits.
 #[derive(Drop)]
 pub struct Memo {
-    start: SortedMap,
-    visited: IndexSet<Config>,
+    alloc: Global,
+    base: Base,
+    visited: IndexSet<Form>,
 }
 
 impl Model for Memo {
-    ghost use Rattle.std.specs.Prelude.{List};
+    ghost use Rattle.std.specs.Prelude.{List, All};
     ghost use Rattle.configurations.specs.Configurations.{Configuration};
-    ghost use Rattle.memo.specs.Visits.{configurations_from, AreKept};
+    ghost use Rattle.memo.specs.Kept.{configuration_from, IsKept};
+    ghost use Rattle.memo.specs.Visits.{configurations_from};
 
     ghost Value = { List Configuration };
 
-    ghost view = { λ m. configurations_from m.start m.visited.keys };
+    ghost view = { λ m. configurations_from m.base m.visited.keys };
 
-    ghost invariant = { λ m. AreKept m.start m.visited.keys };
+    ghost invariant = { λ m. All (IsKept m.base) m.visited.keys };
 }
 
 impl Memo {
+    /// Nothing visited. It takes no memory.
+    pub fn new(alloc: Global) -> Memo
+        ensures { result ≡ [] }
+    {
+        Memo {
+            alloc,
+            base: Base::new(),
+            visited: IndexSet::new(alloc),
+        }
+    }
+
+    /// Whether the configuration is new; from now on it is not. On `Memory` it is handed back, and nothing has changed.
+    /// Where it has other pairs at the start of its search than those visited, its form is made anew over theirs. So it
+    /// costs as much as the maps. It is looked up by its digest, and compared with those visited that have the same.
+    pub fn visit(&mut self, config: Config) -> Result<bool, (Config, Memory)>
+        ensures new { IfOk result (λ new. IsTrue new ↔ (Contains self.old config → ⊥)) }
+        ensures visited { IfOk result (λ new. self.new
+            ≡ (if new then self.old ++ config ∷ [] else self.old)) }
+        ensures handed_back { IfErr result (λ e. e.0 ≡ config) }
+        ensures unchanged { OnErr result (self.new ≡ self.old) }
+    {
+        if may_share(&self.visited, &self.base, &config.base) {
+            let Config { base, form } = config;
+            return match insert(&mut self.visited, form) {
+                Ok(new) => {
+                    self.base = base;
+                    Ok(new)
+                }
+                Err(form) => Err((Config { base, form }, Memory)),
+            };
+        }
+        let Ok(form) = config.form.over(self.alloc, &config.base, &self.base) else {
+            return Err((config, Memory));
+        };
+        match insert(&mut self.visited, form) {
+            Ok(new) => Ok(new),
+            Err(_refused) => Err((config, Memory)),
+        }
+    }
+
     /// Whether the configuration is new to which one more call leads: from the one that was visited after `from` others, by
-    /// the call at `place`, which leaves the map `after`. From now on it is not. On `Memory` nothing has changed. It
-    /// costs as much as the calls taken and the pairs that differ from those at the start, and not as the map: it is looked up by
-    /// its digest, and compared with those visited that have the same.
+    /// the call at `place`, which leaves the map `after`. From now on it is not. It answers as the configuration's `with`
+    /// and then `visit` would, but costs as much as the calls taken and the pairs that differ from those at
+    /// the start, and not as the map: of the pairs only the one that the call may change is looked at. On `Memory`
+    /// nothing has changed.
     pub fn visit_next(
         &mut self,
         alloc: Global,
@@ -53,8 +98,11 @@ impl Memo {
         ensures unchanged { OnErr result (self.new ≡ self.old) }
     {
         let before = &self.visited.as_slice()[from];
-        let config = before.with(alloc, &self.start, place, key_changed(&call.call), after)?;
-        insert(&mut self.visited, config)
+        let form = before.with_key(alloc, &self.base, place, key_changed(&call.call), after)?;
+        match insert(&mut self.visited, form) {
+            Ok(new) => Ok(new),
+            Err(_refused) => Err(Memory),
+        }
     }
 
     /// How many configurations were visited.
@@ -73,14 +121,15 @@ impl Memo {
     }
 }
 
-/// The configurations visited before any call: the one at the map, which is copied.
+/// The configurations visited before any call: the one at the map.
 pub fn visited_at_start(alloc: Global, map: &SortedMap) -> Result<Memo, Memory>
     ensures { IfOk result (λ visited. visited ≡ record { taken = []; pairs = map.now } ∷ []) }
 {
-    let start = map.copy(alloc)?;
-    let mut visited = IndexSet::new(alloc);
-    let _new = insert(&mut visited, Config::start(alloc, map))?;
-    Ok(Memo { start, visited })
+    let mut memo = Memo::new(alloc);
+    match memo.visit(Config::start(alloc, map)?) {
+        Ok(_new) => Ok(memo),
+        Err(_refused) => Err(Memory),
+    }
 }
 
 /// The key whose value a call may change.
@@ -93,15 +142,23 @@ fn key_changed(call: &Call) -> Option<u64>
     }
 }
 
-/// Whether what is kept of a configuration is new; from now on it is not.
-fn insert(visited: &mut IndexSet<Config>, config: Config) -> Result<bool, Memory>
-    ensures new { IfOk result (λ new. IsTrue new ↔ (Contains visited.old.keys config → ⊥)) }
+/// Whether the form is new; from now on it is not. Where memory is wanting it is handed back.
+fn insert(visited: &mut IndexSet<Form>, form: Form) -> Result<bool, Form>
+    ensures new { IfOk result (λ new. IsTrue new ↔ (Contains visited.old.keys form → ⊥)) }
     ensures visited { IfOk result (λ new. visited.new.keys
-        ≡ (if new then visited.old.keys ++ config ∷ [] else visited.old.keys)) }
+        ≡ (if new then visited.old.keys ++ form ∷ [] else visited.old.keys)) }
+    ensures handed_back { IfErr result (λ refused. refused ≡ form) }
     ensures unchanged { OnErr result (visited.new.keys ≡ visited.old.keys) }
 {
-    match visited.insert(config) {
+    match visited.insert(form) {
         Ok(new) => Ok(new),
-        Err(_refused) => Err(Memory),
+        Err(refused) => Err(refused.value),
     }
+}
+
+/// Whether forms over these pairs may be among those visited: these are over the same, or there are none.
+fn may_share(visited: &IndexSet<Form>, base: &Base, other: &Base) -> bool
+    ensures { IsTrue result ↔ ((visited.now.keys ≡ []) ⊎ (base.now ≡ other.now)) }
+{
+    visited.is_empty() || base.is_same(other)
 }

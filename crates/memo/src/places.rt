@@ -2,6 +2,7 @@
 ghost use Rattle.std.specs.Prelude.{◌≡◌, ◌↔◌, ◌<◌, ◌-◌, ◌^◌, ℕ, [], IsTrue, IfOk, Contains};
 ghost use Rattle.std.specs.List.Sorted.{IsStrictlyIncreasing};
 ghost use Rattle.memo.specs.Taking.{with_place};
+ghost use Rattle.memo.specs.Words.{places_of, IsTrimmed};
 
 use crate::words::{is_set, ones_of, with_bit, without_lowest};
 use events::Memory;
@@ -39,6 +40,17 @@ impl Places {
         }
     }
 
+    /// The same places again.
+    pub(crate) fn copy(&self, alloc: Global) -> Result<Places, Memory>
+        ensures { IfOk result (λ p. p ≡ self.now) }
+    {
+        let words = Vec::from_slice(alloc, &self.words)?;
+        Ok(Places {
+            least: self.least,
+            words,
+        })
+    }
+
     /// Whether the same places are in both sets.
     pub fn is_same(&self, other: &Places) -> bool
         ensures { IsTrue result ↔ (self.now ≡ other.now) }
@@ -62,6 +74,14 @@ impl Places {
         ensures missing { Contains self.now result → ⊥ }
     {
         self.least
+    }
+
+    /// The bits of the places above that one, in words of 64 bits. The last word is not 0, so a set has these words alone.
+    pub fn words(&self) -> &[u64]
+        ensures told { (least : ℕ) × (places_of least result.now ≡ self.now) }
+        ensures trimmed { IsTrimmed result.now }
+    {
+        &self.words
     }
 
     /// The set with one more place, or `Memory` where there is none. It costs as much as the bits that it copies.

@@ -23,7 +23,8 @@ use Rattle.picture_engines.specs.Choices.{IsChoiceOf, IsShownAs}
 -- the event at which a location says that the history goes wrong
 abbrev pub event_of : Location → Option ℕ
 event_of locations.Yes = None
-event_of (locations.No loss) = Some loss.event
+event_of (locations.No event number) = Some event
+event_of (locations.Lost loss) = Some loss.event
 event_of (locations.Undecided event number doubt) = None
 
 -- the view that shows a whole picture

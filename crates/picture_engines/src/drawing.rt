@@ -27,7 +27,7 @@ use events::{History, Memory};
 use history_engines::{answer_of, refused_text};
 use history_text::{MAX_TEXT, read_history};
 use judge::{Judge, Verdict};
-use locating::{Location, locate};
+use locating::{Location, locate_from};
 use outcomes::{Answer, RunOutcome, line_of, run_text};
 use picture_text::svg;
 use pictures::{Picture, View, few_of, front_of, part_of, picture_of};
@@ -112,7 +112,7 @@ fn drawing_of<J: Judge>(
 {
     let verdict = judge.verdict_on(history)?;
     let budget = judge.budget();
-    let location = location_of(alloc, history, &verdict, budget)?;
+    let location = locate_from(alloc, history, &verdict, budget)?;
     drawing_with(alloc, history, budget, &verdict, &location, view)
 }
 
@@ -195,28 +195,13 @@ fn shown_as(
     }
 }
 
-/// Where a history goes wrong, as far as the budget tells: nowhere after a yes.
-fn location_of(
-    alloc: Global,
-    history: &History,
-    verdict: &Verdict,
-    budget: u32,
-) -> Result<Location, Memory>
-    requires { IsShown history.now.start budget (operations history.now.events) verdict.now }
-    ensures { IfOk result (IsLocated budget history.now) }
-{
-    match verdict {
-        Verdict::Yes(_) => Ok(Location::Yes),
-        Verdict::No(_) | Verdict::Undecided(_) => locate(alloc, history, budget),
-    }
-}
-
 /// The event at which a location says that the history goes wrong.
 fn event_of(location: &Location) -> Option<usize>
     ensures { result ≡ event_of location.now }
 {
     match location {
-        Location::No(loss) => Some(loss.event),
+        Location::No { event, .. } => Some(*event),
+        Location::Lost(loss) => Some(loss.event),
         Location::Yes | Location::Undecided { .. } => None,
     }
 }

@@ -6,7 +6,7 @@ use crate::shapes::eights;
 use art::{TreeCall, Variant};
 use events::Call;
 use judge::{judge_alone, report};
-use running::{Arena, ProcessGroup};
+use running::{Arena, Pass};
 use std::alloc::Global;
 use std::test::Fail;
 
@@ -14,7 +14,7 @@ use std::test::Fail;
 const WHOLE: u32 = 900;
 
 /// The group's process begins a call.
-fn begin(arena: &Arena, group: &mut ProcessGroup, call: &Call) -> Result<(), Fail>
+fn begin(arena: &Arena, group: &mut Pass, call: &Call) -> Result<(), Fail>
     requires { IsGroupOf arena.now group.old }
     ensures { IsGroupOf arena.now group.new }
 {
@@ -34,7 +34,7 @@ fn begin(arena: &Arena, group: &mut ProcessGroup, call: &Call) -> Result<(), Fai
 fn make_steps(
     alloc: Global,
     arena: &Arena,
-    group: &mut ProcessGroup,
+    group: &mut Pass,
     call: &Option<Call>,
     steps: u32,
 ) -> Result<(), Fail>

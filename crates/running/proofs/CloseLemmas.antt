@@ -8,7 +8,7 @@ use Rattle.art_shared.specs.declared.view.View.{View}
 use Rattle.art_shared.specs.Views.{Numbered}
 use Rattle.art_shared.specs.Ends.{state_of}
 use Rattle.running.specs.declared.arena.Arena.{Arena}
-use Rattle.running.specs.declared.group.ProcessGroup.{ProcessGroup}
+use Rattle.running.specs.declared.group.Pass.{Pass}
 use Rattle.running.specs.Fitting.{Run, Fit}
 use Rattle.running.specs.Groups.{shows, opened_for, IsGroupOf}
 use Rattle.running.proofs.FitLemmas.{fit-length}
@@ -28,11 +28,11 @@ unfolding history_of
 logged-history setup words v rs fit = ap events_by_stamp (same-logs setup v.processes rs fit)
 
 -- a group has as many processes as it shows, for the arena that it came from
-pub as-many : (a : Arena) (p : ProcessGroup) → IsGroupOf a p → length (shows p).processes ≡ vec_len p.runners
+pub as-many : (a : Arena) (p : Pass) → IsGroupOf a p → length (shows p).processes ≡ vec_len p.runners
 as-many a p own = fit-length p.setup (shows p).processes p.runners.items own.group.fit ∙ sym p.runners.ok.0
 
-pub same-setup : (a : Arena) (p : ProcessGroup) → IsGroupOf a p → p.setup ≡ opened_for a
+pub same-setup : (a : Arena) (p : Pass) → IsGroupOf a p → p.setup ≡ opened_for a
 same-setup a p own = sym own.group.setup ∙ own.place.setup
 
-pub same-processes : (a : Arena) (p : ProcessGroup) → IsGroupOf a p → p.setup.processes ≡ (opened_for a).processes
+pub same-processes : (a : Arena) (p : Pass) → IsGroupOf a p → p.setup.processes ≡ (opened_for a).processes
 same-processes a p own = ap (λ s. s.processes) (same-setup a p own)

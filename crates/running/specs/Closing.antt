@@ -8,7 +8,7 @@ use Rattle.art_shared.specs.declared.view.Setup.{Setup}
 use Rattle.art_shared.specs.declared.view.View.{View}
 use Rattle.art_shared.specs.Ends.{plan_of, state_of}
 use Rattle.running.specs.declared.arena.Arena.{Arena}
-use Rattle.running.specs.declared.group.ProcessGroup.{ProcessGroup}
+use Rattle.running.specs.declared.group.Pass.{Pass}
 use Rattle.running.specs.declared.fault.ArenaClose.{ArenaClose}
 use Rattle.running.specs.declared.fault.ArenaClose.TheVariants.{StillOut, Memory}
 use Rattle.running.specs.Groups.{shows, opened_for, IsGroupOf}
@@ -27,12 +27,12 @@ pub record IsHistoryOf (setup : Setup) (v : View) (h : HistoryView) : Type 0 whe
   pub is : h ≡ with_no_start (history_of (state_of words v))
 
 -- the arena came back, and the group shows what it showed
-pub record ComesBack (a : Arena) (p : ProcessGroup) (back : Arena) (given : ProcessGroup) : Type 0 where
+pub record ComesBack (a : Arena) (p : Pass) (back : Arena) (given : Pass) : Type 0 where
   pub arena : back ≡ a
   pub own : IsGroupOf back given
   pub shown : shows given ≡ shows p
 
 -- all comes back: the group does not hold all processes, or else memory was wanting
-abbrev pub IsHandedBack : Arena → ProcessGroup → ArenaClose → Type 0
+abbrev pub IsHandedBack : Arena → Pass → ArenaClose → Type 0
 IsHandedBack a p (StillOut back given) = ComesBack a p back given × (length (shows p).processes ≢ (opened_for a).processes)
 IsHandedBack a p (Memory back given) = ComesBack a p back given × HoldsAll (opened_for a) (shows p)

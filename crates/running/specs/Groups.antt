@@ -7,7 +7,7 @@ use Rattle.art_shared.specs.declared.view.View.{View}
 use Rattle.art_shared.specs.Places.{setup_of, shown, IsPlaceOf}
 use Rattle.art_shared.specs.Setups.{IsSetup}
 use Rattle.running.specs.declared.arena.Arena.{Arena}
-use Rattle.running.specs.declared.group.ProcessGroup.{ProcessGroup}
+use Rattle.running.specs.declared.group.Pass.{Pass}
 use Rattle.running.specs.Fitting.{Fit}
 
 abbrev pub setup_with : Shape → Variant → ℕ → ℕ → Setup
@@ -18,11 +18,11 @@ abbrev pub opened_for : Arena → Setup
 opened_for a = setup_of a.core
 
 -- what a group shows: its processes with their numbers, the least first
-abbrev pub shows : ProcessGroup → View
+abbrev pub shows : Pass → View
 shows p = shown p.place
 
 -- What each group of an arena keeps: its processes, as a thread runs them, fit those that it shows, and there is room for all.
-pub record IsGroup (p : ProcessGroup) : Type 0 where
+pub record IsGroup (p : Pass) : Type 0 where
   pub setup : (shows p).setup ≡ p.setup
   pub limits : IsSetup p.setup
   pub fit : Fit p.setup (shows p).processes p.runners.items
@@ -30,6 +30,6 @@ pub record IsGroup (p : ProcessGroup) : Type 0 where
   pub room : p.setup.processes ≤ vec_capacity p.runners
 
 -- a group that came from the arena
-pub record IsGroupOf (a : Arena) (p : ProcessGroup) : Type 0 where
+pub record IsGroupOf (a : Arena) (p : Pass) : Type 0 where
   pub place : IsPlaceOf a.core p.place
   pub group : IsGroup p

@@ -1,12 +1,12 @@
 -- What some turns of an open call have come to.
 use Rattle.std.specs.Prelude.{ℕ, ◌<◌, ◌≤◌, IsTrue}
 use Rattle.art_shared.specs.declared.view.View.{View}
-use Rattle.running.specs.declared.progress.CallProgress.{CallProgress}
-use Rattle.running.specs.declared.progress.CallProgress.TheVariants.{Done, Going}
+use Rattle.running.specs.declared.progress.Progress.{Progress}
+use Rattle.running.specs.declared.progress.Progress.TheVariants.{Done, Going}
 use Rattle.running.specs.Steps.{is_open, Ran, HasReplied}
 
 -- all turns were made and the call is still open, or it was answered within them
-abbrev pub HasProgressed : CallProgress → ℕ → View → View → Type 0
+abbrev pub HasProgressed : Progress → ℕ → View → View → Type 0
 HasProgressed (Done reply) turns old new = (n : ℕ) × (n ≤ turns) × Ran n old new × HasReplied reply new
 HasProgressed Going turns old new = Ran turns old new × IsTrue (is_open new)
 

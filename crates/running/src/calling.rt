@@ -6,8 +6,8 @@ ghost use Rattle.running.specs.Steps.{is_open, HasInvoked};
 ghost use Rattle.running.specs.Progressed.{HasProgressed, HasStopped};
 
 use crate::arena::Arena;
-use crate::group::ProcessGroup;
-use crate::progress::CallProgress;
+use crate::group::Pass;
+use crate::progress::Progress;
 use art::TreeCall;
 use events::Memory;
 use std::alloc::Global;
@@ -16,7 +16,7 @@ impl Arena {
     /// The group's least process begins a call: the stamp of its invocation, which is one step of the process. These are two
     /// atomic steps on the clock, of which the first leaves the words as they are. Room for the event is taken before; `Err`
     /// is want of it, and then nothing has changed.
-    pub fn begin(&self, group: &mut ProcessGroup, call: TreeCall) -> Result<(), Memory>
+    pub fn begin(&self, group: &mut Pass, call: TreeCall) -> Result<(), Memory>
         requires own { IsGroupOf self.now group.old }
         requires idle { IsTrue (is_idle (shows group.old)) }
         requires left { 0 < calls_left (shows group.old) }
@@ -35,12 +35,7 @@ impl Arena {
     /// At most so many steps of the open call of the group's least process: accesses, and the stamp of its response. `Going`
     /// comes after all of them, and then the call is still open. `Err` is want of memory: the steps made stand, the call is
     /// still open, and it may be advanced again.
-    pub fn advance(
-        &self,
-        alloc: Global,
-        group: &mut ProcessGroup,
-        turns: u32,
-    ) -> Result<CallProgress, Memory>
+    pub fn advance(&self, alloc: Global, group: &mut Pass, turns: u32) -> Result<Progress, Memory>
         requires own { IsGroupOf self.now group.old }
         requires open { IsTrue (is_open (shows group.old)) }
         ensures own { IsGroupOf self.now group.new }

@@ -8,7 +8,7 @@ ghost use Rattle.running.specs.ReadMoments.{GetsHaveMoments, ScansHaveMoments};
 
 use crate::arena::Arena;
 use crate::fault::ArenaClose;
-use crate::group::ProcessGroup;
+use crate::group::Pass;
 use crate::runner::Runner;
 use art_schedules::{coupled_is_linearizable, optimistic_is_linearizable};
 use art_versions::{answered_gets_have_moments, answered_scans_have_moments};
@@ -22,7 +22,7 @@ impl Arena {
     /// linearizable, however the threads interleaved and whoever stopped. Where it is the optimistic one, each scan that was
     /// answered has a moment within it at which all that it read stands still; so has each get, for the last row that it read,
     /// which says its reply. For n events it takes time n log n.
-    pub fn close(self, alloc: Global, group: ProcessGroup) -> Result<History, ArenaClose>
+    pub fn close(self, alloc: Global, group: Pass) -> Result<History, ArenaClose>
         requires own { IsGroupOf self group }
         ensures history { IfOk result (IsHistoryOf (opened_for self) (shows group)) }
         ensures own_events { IfOk result (λ h. HasOwnEvents (opened_for self) (shows group) h.events) }
@@ -46,7 +46,7 @@ impl Arena {
     }
 
     /// The history of a group that has all processes. It looks at the words once.
-    fn history(&self, alloc: Global, group: &mut ProcessGroup) -> Result<History, Memory>
+    fn history(&self, alloc: Global, group: &mut Pass) -> Result<History, Memory>
         requires own { IsGroupOf self.now group.old }
         requires all { HoldsAll (opened_for self.now) (shows group.old) }
         ensures history { IfOk result (IsHistoryOf (opened_for self.now) (shows group.old)) }

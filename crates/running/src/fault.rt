@@ -1,12 +1,12 @@
 // Why an arena was not closed.
 use crate::arena::Arena;
-use crate::group::ProcessGroup;
+use crate::group::Pass;
 
 /// Why an arena was not closed. The arena and the group come back as they were handed in.
 #[derive(Drop)]
 pub enum ArenaClose {
     /// The group does not hold all processes.
-    StillOut(Arena, ProcessGroup),
+    StillOut(Arena, Pass),
     /// Memory ran out for the history.
-    Memory(Arena, ProcessGroup),
+    Memory(Arena, Pass),
 }

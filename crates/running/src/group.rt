@@ -6,7 +6,7 @@ use art_shared::{Place, Setup};
 /// with their stamps, by rising number. There is room for all processes of the arena, so that a join takes no memory. Where a
 /// group is dropped, its arena can't be closed.
 #[derive(Drop)]
-pub struct ProcessGroup {
+pub struct Pass {
     pub(crate) place: Place,
     pub(crate) setup: Setup,
     pub(crate) runners: Vec<(u8, Runner)>,

@@ -6,7 +6,7 @@ ghost use Rattle.running.specs.Fitting.{Fit};
 ghost use Rattle.running.specs.Groups.{shows, setup_with, opened_for, IsGroupOf};
 
 use crate::arena::Arena;
-use crate::group::ProcessGroup;
+use crate::group::Pass;
 use crate::runner::Runner;
 use art::{Doing, Shape, Variant};
 use art_shared::{Setup, SharedCore};
@@ -21,7 +21,7 @@ impl Arena {
         variant: Variant,
         processes: u8,
         calls_each: u32,
-    ) -> Result<(Arena, ProcessGroup), Memory>
+    ) -> Result<(Arena, Pass), Memory>
         requires shape { IsWithinLimits shape }
         requires processes { (1 ≤ processes) × (processes ≤ PROCESSES) }
         requires calls { processes * calls_each ≤ MAX_CALLS }
@@ -37,7 +37,7 @@ impl Arena {
         };
         let runners = idle_runners(alloc, setup)?;
         let (core, place) = SharedCore::open(alloc, setup)?;
-        let group = ProcessGroup {
+        let group = Pass {
             place,
             setup,
             runners,

@@ -5,14 +5,14 @@ ghost use Rattle.running.specs.Groups.{shows, IsGroupOf};
 
 use crate::arena::Arena;
 use crate::gathering::{gather, give_last};
-use crate::group::ProcessGroup;
+use crate::group::Pass;
 use events::Memory;
 use std::alloc::Global;
 
 impl Arena {
     /// Gives the group's greatest process to a group of its own, with the room that later joins need. It is one load, and no
     /// step of a process. `Err` is want of memory, and then nothing has changed.
-    pub fn split(&self, alloc: Global, group: &mut ProcessGroup) -> Result<ProcessGroup, Memory>
+    pub fn split(&self, alloc: Global, group: &mut Pass) -> Result<Pass, Memory>
         requires own { IsGroupOf self.now group.old }
         requires several { 2 ≤ length (shows group.old).processes }
         ensures own { IsGroupOf self.now group.new }
@@ -25,7 +25,7 @@ impl Arena {
         let mut runners = Vec::with_capacity(alloc, usize::from(setup.processes))?;
         let place = self.core.split(&mut group.place);
         give_last(&mut group.runners, &mut runners);
-        Ok(ProcessGroup {
+        Ok(Pass {
             place,
             setup,
             runners,
@@ -33,13 +33,13 @@ impl Arena {
     }
 
     /// Takes in the processes of another group, by their numbers. It is one load, and no step of a process.
-    pub fn join(&self, group: &mut ProcessGroup, other: ProcessGroup)
+    pub fn join(&self, group: &mut Pass, other: Pass)
         requires own { IsGroupOf self.now group.old }
         requires other { IsGroupOf self.now other }
         ensures own { IsGroupOf self.now group.new }
         ensures both { shows group.new ≡ merged (shows group.old) (shows other) }
     {
-        let ProcessGroup {
+        let Pass {
             place,
             setup: _,
             runners,

@@ -4,10 +4,10 @@ ghost use Rattle.art_shared.specs.Views.{is_idle, calls_left};
 ghost use Rattle.running.specs.Steps.{is_open, least_process};
 ghost use Rattle.running.specs.Groups.{shows, IsGroup};
 
-use crate::group::ProcessGroup;
+use crate::group::Pass;
 use art::Doing;
 
-impl ProcessGroup {
+impl Pass {
     /// The number of the least process, which begins calls and makes their steps.
     pub fn process(&self) -> u8
         requires group { IsGroup self.now }

@@ -11,7 +11,7 @@ ghost use Rattle.running.specs.Fitting.{IsFirst, IsBeside};
 ghost use Rattle.running.specs.Steps.{is_open, HasReplied, HasInvoked};
 ghost use Rattle.running.specs.Progressed.{HasProgressed, HasStopped};
 
-use crate::progress::CallProgress;
+use crate::progress::Progress;
 use crate::runner::Runner;
 use art::{Doing, Task, TreeCall};
 use art_shared::{Place, Setup, SharedCore};
@@ -72,7 +72,7 @@ impl Runner {
         place: &mut Place,
         number: u8,
         turns: u32,
-    ) -> Result<CallProgress, Memory>
+    ) -> Result<Progress, Memory>
         requires own { IsPlaceOf core.now place.old }
         requires first { IsFirst (shown place.old) number self.old }
         requires open { IsTrue (is_open (shown place.old)) }
@@ -88,11 +88,11 @@ impl Runner {
                 Ok(told) => told,
             };
             match told {
-                Some(reply) => return Ok(CallProgress::Done(reply)),
+                Some(reply) => return Ok(Progress::Done(reply)),
                 None => {}
             }
         }
-        Ok(CallProgress::Going)
+        Ok(Progress::Going)
     }
 
     /// One step of the open call: an access, or the stamp of its response. Where memory is wanting nothing has changed.

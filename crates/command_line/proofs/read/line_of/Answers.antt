@@ -1,6 +1,6 @@
 use Rattle.std.proofs.Common.{refl}
 use Rattle.command_line.specs.Program.{bench_table, draw_usage, drive_usage, explain_usage, follow_usage, generate_usage, judge_usage}
-use Rattle.command_line.specs.Program.{locate_usage}
+use Rattle.command_line.specs.Program.{locate_usage, page_usage}
 use Rattle.command_line.proofs.AskableLemmas.{is_of}
 use Rattle.command_line.proofs.read.line_of.Goals as goal
 
@@ -15,6 +15,9 @@ explain_line-requires c = is_of bench_table explain_usage c.args.request c.in-ex
 
 pub draw_line-requires : goal.draw_line-requires
 draw_line-requires c = is_of bench_table draw_usage c.args.request c.in-draw.is refl c.requires.askable c.requires.described
+
+pub page_line-requires : goal.page_line-requires
+page_line-requires c = is_of bench_table page_usage c.args.request c.in-page.is refl c.requires.askable c.requires.described
 
 pub follow_line-requires : goal.follow_line-requires
 follow_line-requires c = is_of bench_table follow_usage c.args.request c.in-follow.is refl c.requires.askable c.requires.described

@@ -6,15 +6,15 @@ use Rattle.command_line.specs.Program.{bench_app, bench_table, check_usage, draw
 use Rattle.command_line.specs.Requests.{Asks}
 use Rattle.command_line.specs.Tables.{usage_of}
 use Rattle.command_line.specs.Words.{Gives}
-use Rattle.command_line.specs.declared.fault.WordsFault.{WordsFault}
-use Rattle.command_line.specs.declared.fault.WordsFault.TheVariants as faults
+use Rattle.command_line.specs.declared.fault.LineFault.{LineFault}
+use Rattle.command_line.specs.declared.fault.LineFault.TheVariants as faults
 use Rattle.command_line.proofs.AskableLemmas.{askable, described}
 use Rattle.command_line.proofs.LineLemmas.{check_use, checks, draw_use, draws, drive_use, drives, judge_given, judge_use}
 use Rattle.command_line.proofs.LineLemmas.{judges, locate_given, locate_use, locates}
 use Rattle.command_line.proofs.read.read_line.Goals as goal
 
 -- a fault that is `Memory` where the words are accepted may come at them
-fault_at : (words : List Text) (fault : WordsFault) → (IsAccepted words → fault ≡ faults.Memory) → IsFaultAt words fault
+fault_at : (words : List Text) (fault : LineFault) → (IsAccepted words → fault ≡ faults.Memory) → IsFaultAt words fault
 fault_at words (faults.Line text) memory = λ accepted. let never = memory accepted in cc
 fault_at words faults.Memory memory = tt
 

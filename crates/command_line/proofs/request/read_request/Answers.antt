@@ -8,7 +8,7 @@ use Rattle.clap.specs.Words.{App, Row, Text, fault_of, subcommand_of, takes}
 use Rattle.command_line.specs.Commands.{table_app}
 use Rattle.command_line.specs.Requests.{Asks, Meets, asked_of, has_named}
 use Rattle.command_line.specs.Tables.{Usage, usage_of}
-use Rattle.command_line.specs.declared.fault.WordsFault.TheVariants as faults
+use Rattle.command_line.specs.declared.fault.LineFault.TheVariants as faults
 use Rattle.command_line.specs.Words.{Gives}
 use Rattle.command_line.proofs.ReadLemmas.{accepted_as, memory_only, met_as, table_accepts, table_gives, table_meets, table_names}
 use Rattle.command_line.proofs.request.read_request.Goals as goal

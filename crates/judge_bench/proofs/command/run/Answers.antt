@@ -2,7 +2,7 @@ use Rattle.std.proofs.Common.{List, inl, inr, refl}
 use Rattle.clap.specs.Walk.{texts}
 use Rattle.clap.specs.Words.{Text}
 use Rattle.command_line.specs.declared.line.Line.{Line}
-use Rattle.command_line.specs.declared.line.Line.TheVariants.{Check, Judge, Locate, Explain, Draw, Follow}
+use Rattle.command_line.specs.declared.line.Line.TheVariants.{Check, Judge, Locate, Explain, Draw, Page, Follow}
 use Rattle.command_line.specs.Lines.{IsLineOf}
 use Rattle.command_line.specs.WordsFaults.{IsAccepted}
 use Rattle.outcomes.specs.declared.outcome.RunOutcome.{RunOutcome}
@@ -32,6 +32,8 @@ asked-words (Explain budget) words source outcome accepted asked comes =
     here-words (Explain budget) words source outcome accepted asked (λ other. other) comes
 asked-words (Draw budget workers around calls) words source outcome accepted asked comes =
     here-words (Draw budget workers around calls) words source outcome accepted asked (λ other. other) comes
+asked-words (Page budget workers) words source outcome accepted asked comes =
+    here-words (Page budget workers) words source outcome accepted asked (λ other. other) comes
 asked-words (Follow budget) words source outcome accepted asked comes =
     here-words (Follow budget) words source outcome accepted asked (λ other. other) comes
 asked-words other words source outcome accepted asked comes =

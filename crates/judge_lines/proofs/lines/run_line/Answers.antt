@@ -25,5 +25,8 @@ returns-in-Explain-clause-run g c = rw c.in-Explain.is c.run_explain.ensures.run
 pub returns-in-Draw-clause-run : goal.returns-in-Draw-clause-run
 returns-in-Draw-clause-run g c = rw c.in-Draw.is c.run_draw.ensures.run
 
+pub returns-in-Page-clause-run : goal.returns-in-Page-clause-run
+returns-in-Page-clause-run g c = rw c.in-Page.is c.run_page.ensures.run
+
 pub returns-in-Follow-clause-run : goal.returns-in-Follow-clause-run
 returns-in-Follow-clause-run g c = rw c.in-Follow.is c.run_follow.ensures

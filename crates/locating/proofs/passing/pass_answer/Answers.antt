@@ -30,7 +30,8 @@ returns-in-Lost c =
     let before = take c.args.place history.events in
     let is = subst (IsAnswered history.start before c.args.follower c.args.process c.args.reply c.args.budget) c.in-Lost.is
     (c.in_ok-next.ensures.answered history.start before c.requires.follows) in
-    lost history c.args.place c.args.process c.args.reply c.requires.event c.args.budget c.args.follower c.requires.follows c.in-Lost.loss is
+    lost history c.args.place c.args.process c.args.reply c.requires.event c.args.budget c.args.follower c.requires.follows c.in-Lost.loss
+    c.requires.open_to_judge is
 
 pub returns-in-Spent : goal.returns-in-Spent
 returns-in-Spent c =
@@ -39,5 +40,5 @@ returns-in-Spent c =
     let is = subst (IsAnswered history.start before c.args.follower c.args.process c.args.reply c.args.budget) c.in-Spent.is
     (c.in_ok-next.ensures.answered history.start before c.requires.follows) in
     spent history c.args.place c.args.process c.args.reply c.requires.event c.args.budget c.args.follower c.requires.follows
-    c.in-Spent.event c.in-Spent.number c.in-Spent.doubt is
+    c.in-Spent.event c.in-Spent.number c.in-Spent.doubt c.requires.open_to_judge is
     (subst (IsCountedAs c.args.follower c.args.process c.args.reply) c.in-Spent.is (c.in_ok-next.ensures.counted history.start before c.requires.follows))

@@ -3,6 +3,12 @@ use Rattle.std.proofs.Common.{sym, ◌∙◌}
 use Rattle.locating.proofs.EvidenceLemmas.{own_of}
 use Rattle.locating.proofs.showing.own_evidence.Goals as goal
 
+pub explain_part-requires-clause-sorted : goal.explain_part-requires-clause-sorted
+explain_part-requires-clause-sorted c =
+    let own = own_of c.own_parts_have_no_order.ensures c.args.budget c.args.history.now c.args.loss.now c.in-Some.part c.requires.lost
+    (sym c.in_ok-part.ensures ∙ c.in-Some.is) in
+    own.1.1.sorted
+
 pub explain_part-requires-clause-rising : goal.explain_part-requires-clause-rising
 explain_part-requires-clause-rising c =
     let own = own_of c.own_parts_have_no_order.ensures c.args.budget c.args.history.now c.args.loss.now c.in-Some.part c.requires.lost

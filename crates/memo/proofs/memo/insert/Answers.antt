@@ -14,5 +14,5 @@ Decides-visited visited kept =
 
 pub returns-in-Ok-clause-new : goal.returns-in-Ok-clause-new
 returns-in-Ok-clause-new c =
-    let tells = list_any (is_kept_same c.args.config) c.args.visited.now.keys in
-    Decides-at c.in-Ok.new (not tells) c.in-Ok.ensures.added (Decides-not tells (Decides-visited c.args.visited.now.keys c.args.config))
+    let tells = list_any (is_kept_same c.args.form) c.args.visited.now.keys in
+    Decides-at c.in-Ok.new (not tells) c.in-Ok.ensures.added (Decides-not tells (Decides-visited c.args.visited.now.keys c.args.form))

@@ -1,0 +1,183 @@
+-- Bisection comes to one event of a history, and the judge's verdicts on it stay apart.
+use Rattle.std.proofs.Common.{◌≡◌, ℕ, ◌+◌, ◌<◌, true, false, List, [], ◌∷◌, length, take, Option, Some, None}
+use Rattle.std.proofs.Common.{inl, inr, ⊎_elim, refl, sym, subst, ◌∙◌, arith}
+use Rattle.std.specs.Prelude.{IsSomeAnd, slice_get}
+use Rattle.std.proofs.lemmas.Bool.{cases_lt, eq-eqb, eqb-true, false≢true}
+use Rattle.std.proofs.lemmas.List.{take_all}
+use Rattle.std.proofs.lemmas.Option.{none-some}
+use Rattle.std.proofs.lemmas.List.Elements.{All-nil}
+use Rattle.list_laws.proofs.NumberLemmas.{IsSomeAnd-within}
+use Rattle.events.specs.declared.event.Event.{Event}
+use Rattle.events.specs.declared.operation.Operation.{Operation}
+use Rattle.events.specs.declared.operation.Response.{Response}
+use Rattle.events.specs.HistoryView.{HistoryView}
+use Rattle.events.specs.Histories.{IsHistory}
+use Rattle.events.specs.Operations.{operations}
+use Rattle.map_object.specs.MapObject.{Contents}
+use Rattle.orders.specs.Orders.{IsLinearizable, IsLinearizableHistory}
+use Rattle.prefixes.specs.Laws.{PrefixesAreHistories}
+use Rattle.prefixes.specs.Prefixes.{prefix_of, IsAnswerOf}
+use Rattle.judge.specs.declared.verdict.Verdict.{Verdict}
+use Rattle.judge.specs.declared.verdict.Verdict.TheVariants.{Yes, No, Undecided}
+use Rattle.judge.specs.Exact.{AreSameVerdict, IsExactVerdict}
+use Rattle.judge.specs.Laws.{OneExactVerdict}
+use Rattle.judge.specs.Shown.{IsShown}
+use Rattle.locating.specs.Bisections.{answers_at, found, spent, upper, lower}
+use Rattle.locating.specs.Bisections.{IsYes, IsNo, IsUndecided, IsJudged, IsJudgedWhole, IsBisected, IsLeftOpen, IsRefutedWith, IsLostBetween}
+
+-- all first events of a history are its events
+pub whole_events : (history : HistoryView) → take (length history.events) history.events ≡ history.events
+whole_events history = take_all (length history.events) history.events (omega arith)
+
+-- a verdict on a history is one on all of its first events
+pub judged_whole : (HasWord : Verdict → Type 0) (budget : ℕ) (history : HistoryView) (verdict : Verdict) → HasWord verdict
+    → IsExactVerdict history.start budget (operations history.events) verdict → IsJudgedWhole HasWord budget history
+judged_whole HasWord budget history verdict word exact = record {
+  verdict = verdict;
+  exact = subst (λ (events : List Event). IsExactVerdict history.start budget (operations events) verdict) (sym (whole_events history)) exact;
+  word = word;
+}
+
+-- and what it shows
+module _ (budget : ℕ) (start : Contents) (calls : List Operation) where
+  pub shown_yes : (verdict : Verdict) → IsYes verdict → IsShown start budget calls verdict → IsLinearizable start calls
+  shown_yes (Yes order) word shown = (order.items, shown.is_order)
+  shown_yes (No segment) word shown = absurd word
+  shown_yes (Undecided segment) word shown = absurd word
+
+  pub shown_no : (verdict : Verdict) → IsNo verdict → IsShown start budget calls verdict → IsLinearizable start calls → ⊥
+  shown_no (Yes order) word shown = absurd word
+  shown_no (No segment) word shown = shown.no_order
+  shown_no (Undecided segment) word shown = absurd word
+
+-- no events have an order
+no_events : (start : Contents) → IsLinearizable start (operations [])
+no_events start = (
+  [],
+  record {
+    legal_order = record {
+      known = All-nil (λ n. n < 0);
+      distinct = λ i j d before inside. absurd (omega arith);
+      precedence = λ i j d before inside. absurd (omega arith);
+      legal = tt;
+    };
+    complete = λ n completed. absurd completed;
+  },
+)
+
+-- so a history without order loses it between no events and all of them
+pub lost_in_whole : (history : HistoryView) → (IsLinearizableHistory history → ⊥) → IsLostBetween history 0 (length history.events)
+lost_in_whole history none = record {
+  apart = some history.events none;
+  within = omega arith;
+  before = no_events history.start;
+  after = λ has. none (subst (λ (events : List Event). IsLinearizable history.start (operations events)) (whole_events history) has);
+}
+  where
+    some : (events : List Event) → (IsLinearizable history.start (operations events) → ⊥) → 0 < length events
+    some [] none = absurd (none (no_events history.start))
+    some (e ∷ events) none = omega arith
+
+-- verdicts that are the same have one word
+yes_no : (a b : Verdict) → AreSameVerdict a b → IsYes a → IsNo b → ⊥
+yes_no (Yes v) (Yes w) same y n = n
+yes_no (Yes v) (No w) same y n = same
+yes_no (Yes v) (Undecided w) same y n = same
+yes_no (No v) b same y n = y
+yes_no (Undecided v) b same y n = y
+
+yes_undecided : (a b : Verdict) → AreSameVerdict a b → IsYes a → IsUndecided b → ⊥
+yes_undecided (Yes v) (Yes w) same y und = und
+yes_undecided (Yes v) (No w) same y und = und
+yes_undecided (Yes v) (Undecided w) same y und = same
+yes_undecided (No v) b same y und = y
+yes_undecided (Undecided v) b same y und = y
+
+no_undecided : (a b : Verdict) → AreSameVerdict a b → IsNo a → IsUndecided b → ⊥
+no_undecided (No v) (Yes w) same n und = und
+no_undecided (No v) (No w) same n und = und
+no_undecided (No v) (Undecided w) same n und = same
+no_undecided (Yes v) b same n und = n
+no_undecided (Undecided v) b same n und = n
+
+module _ (one_verdict : OneExactVerdict) (prefixes : PrefixesAreHistories) (budget : ℕ) (history : HistoryView) (is : IsHistory history) where
+  -- so have those on as many first events
+  same_word : (A B : Verdict → Type 0) → ((a b : Verdict) → AreSameVerdict a b → A a → B b → ⊥) → (count : ℕ)
+      → IsJudged A budget history count → IsJudged B budget history count → ⊥
+  same_word A B apart count first second =
+      apart first.verdict second.verdict
+      (one_verdict budget (prefix_of history count) first.verdict second.verdict (prefixes history count is) first.exact second.exact)
+      first.word second.word
+
+  pub not_yes_and_no : {count : ℕ} → IsJudged IsYes budget history count → IsJudged IsNo budget history count → ⊥
+  not_yes_and_no {count = count} y n = same_word IsYes IsNo yes_no count y n
+
+  pub not_yes_and_undecided : {count : ℕ} → IsJudged IsYes budget history count → IsJudged IsUndecided budget history count → ⊥
+  not_yes_and_undecided {count = count} y und = same_word IsYes IsUndecided yes_undecided count y und
+
+  pub not_no_and_undecided : {count : ℕ} → IsJudged IsNo budget history count → IsJudged IsUndecided budget history count → ⊥
+  not_no_and_undecided {count = count} n und = same_word IsNo IsUndecided no_undecided count n und
+
+  -- bisection finds one thing
+  pub one_bisected : {low high : ℕ} {a b : Option ℕ} → IsBisected budget history low high a → IsBisected budget history low high b → a ≡ b
+  one_bisected (found next) (found again) = refl
+  one_bisected (found next) (spent wide und) = absurd (omega arith)
+  one_bisected (found next) (upper wide y rest) = absurd (omega arith)
+  one_bisected (found next) (lower wide n rest) = absurd (omega arith)
+  one_bisected (spent wide und) (found next) = absurd (omega arith)
+  one_bisected (spent wide und) (spent again und2) = refl
+  one_bisected (spent wide und) (upper again y rest) = absurd (not_yes_and_undecided y und)
+  one_bisected (spent wide und) (lower again n rest) = absurd (not_no_and_undecided n und)
+  one_bisected (upper wide y rest) (found next) = absurd (omega arith)
+  one_bisected (upper wide y rest) (spent again und) = absurd (not_yes_and_undecided y und)
+  one_bisected (upper wide y rest) (upper again yes2 rest2) = one_bisected rest rest2
+  one_bisected (upper wide y rest) (lower again n rest2) = absurd (not_yes_and_no y n)
+  one_bisected (lower wide n rest) (found next) = absurd (omega arith)
+  one_bisected (lower wide n rest) (spent again und) = absurd (not_no_and_undecided n und)
+  one_bisected (lower wide n rest) (upper again y rest2) = absurd (not_yes_and_no y n)
+  one_bisected (lower wide n rest) (lower again no2 rest2) = one_bisected rest rest2
+
+  -- the judge's verdicts leave nothing open where the history is judged a yes
+  pub open_but_yes : IsLeftOpen budget history → IsJudgedWhole IsYes budget history → ⊥
+  open_but_yes (inl und) y = not_yes_and_undecided y und
+  open_but_yes (inr refuted) y = not_yes_and_no y refuted.refuted
+
+  -- or where bisection comes to an event
+  pub open_but_found : (event : ℕ) → IsLeftOpen budget history → IsRefutedWith budget history (Some event) → ⊥
+  open_but_found event (inl und) here = not_no_and_undecided here.refuted und
+  open_but_found event (inr refuted) here =
+      none-some event (one_bisected refuted.bisected here.bisected)
+
+-- an answer of a call is at its event
+answered_there : (response : Option Response) (event : ℕ) → answers_at response event ≡ true → IsSomeAnd response (λ r. r.res ≡ event)
+answered_there None event h = absurd (false≢true h)
+answered_there (Some r) event h = eqb-true r.res event h
+
+not_answered_there : (response : Option Response) (event : ℕ) → answers_at response event ≡ false → IsSomeAnd response (λ r. r.res ≡ event)
+    → ⊥
+not_answered_there None event h is = is
+not_answered_there (Some r) event h is = false≢true (sym h ∙ eq-eqb r.res event is)
+
+module _ (events : List Event) (event number : ℕ) (a : Operation) (here : slice_get (operations events) number ≡ Some a) where
+  -- the event is the answer of the call that is found
+  pub is_answer : answers_at a.response event ≡ true → IsAnswerOf events number event
+  is_answer h =
+      subst (λ (o : Option Operation). IsSomeAnd o (λ b. IsSomeAnd b.response (λ response. response.res ≡ event))) (sym here)
+      (answered_there a.response event h)
+
+  -- and of none so far, and not of this one
+  pub is_no_answer : answers_at a.response event ≡ false → ((n : ℕ) → n < number → IsAnswerOf events n event → ⊥)
+      → (n : ℕ) → n < number + 1 → IsAnswerOf events n event → ⊥
+  is_no_answer h before n below is =
+      ⊎_elim (λ earlier. before n earlier is)
+      (λ past.
+      let same : n ≡ number = omega arith in
+      not_answered_there a.response event h
+      (subst (λ (o : Option Operation). IsSomeAnd o (λ b. IsSomeAnd b.response (λ response. response.res ≡ event))) here
+      (subst (λ (m : ℕ). IsAnswerOf events m event) same is)))
+      (cases_lt n number)
+
+-- the answer of a call is at one of the calls
+pub answer_within : (events : List Event) (number event : ℕ) → IsAnswerOf events number event → number < length (operations events)
+answer_within events number event is =
+    IsSomeAnd-within (operations events) number (λ a. IsSomeAnd a.response (λ response. response.res ≡ event)) is

@@ -1,0 +1,7 @@
+use Rattle.std.proofs.Common.{ℕ, ◌<◌}
+use Rattle.prefixes.specs.Prefixes.{IsAnswerOf}
+use Rattle.locating.proofs.bisecting.number_of.Given as goal
+
+-- the event is the answer of none of the calls so far
+abbrev pub invariant-loop-number : goal.invariant-loop-number
+invariant-loop-number l = (n : ℕ) → n < l.number → IsAnswerOf l.history.events n l.event → ⊥

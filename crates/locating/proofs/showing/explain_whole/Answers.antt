@@ -1,0 +1,15 @@
+use Rattle.std.proofs.Common.{◌<◌, List, sym, subst}
+use Rattle.std.specs.Prelude.{AllPairs}
+use Rattle.events.specs.declared.operation.Operation.{Operation}
+use Rattle.events.specs.Precedence.{NonePrecedesItself}
+use Rattle.events.proofs.TimeLemmas.{inv_rises, NonePrecedesItself-operations}
+use Rattle.locating.proofs.showing.explain_whole.Goals as goal
+
+pub explain_calls-requires-clause-rising : goal.explain_calls-requires-clause-rising
+explain_calls-requires-clause-rising c =
+    subst (λ (calls : List Operation). AllPairs (λ (a b : Operation). a.inv < b.inv) calls) (sym c.calls.ensures.calls)
+    (inv_rises c.args.history.now.events)
+
+pub explain_calls-requires-clause-apart : goal.explain_calls-requires-clause-apart
+explain_calls-requires-clause-apart c =
+    subst NonePrecedesItself (sym c.calls.ensures.calls) (NonePrecedesItself-operations c.args.history.now.events)

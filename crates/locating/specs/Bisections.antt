@@ -1,0 +1,79 @@
+-- The search for the event at which a history goes wrong, by bisection: having an order is closed under prefixes, so the judge's verdict on
+-- the first events leaves one half of them. The verdicts are exact at a budget, so there is one way through the halves.
+use Rattle.std.specs.Prelude.{◌≡◌, ◌⊎◌, ℕ, ◌+◌, ◌-◌, ◌/◌, ◌<◌, ◌≤◌, ◌==◌, Bool, false, length, Option, Some, None, ⊤}
+use Rattle.events.specs.declared.operation.Response.{Response}
+use Rattle.events.specs.HistoryView.{HistoryView}
+use Rattle.events.specs.Operations.{operations}
+use Rattle.orders.specs.Orders.{IsLinearizableHistory}
+use Rattle.prefixes.specs.Prefixes.{prefix_of}
+use Rattle.judge.specs.declared.verdict.Verdict.{Verdict}
+use Rattle.judge.specs.declared.verdict.Verdict.TheVariants.{Yes, No, Undecided}
+use Rattle.judge.specs.Exact.{IsExactVerdict}
+
+-- the words of verdicts
+abbrev pub IsYes : Verdict → Type 0
+IsYes (Yes order) = ⊤
+IsYes other = ⊥
+
+abbrev pub IsNo : Verdict → Type 0
+IsNo (No segment) = ⊤
+IsNo other = ⊥
+
+abbrev pub IsUndecided : Verdict → Type 0
+IsUndecided (Undecided segment) = ⊤
+IsUndecided other = ⊥
+
+-- the exact verdict on the first events of a history, so many of them, has this word
+pub record IsJudged (HasWord : Verdict → Type 0) (budget : ℕ) (history : HistoryView) (count : ℕ) : Type 0 where
+  pub verdict : Verdict
+  pub exact : IsExactVerdict history.start budget (operations (prefix_of history count).events) verdict
+  pub word : HasWord verdict
+
+-- the exact verdict on the whole history has this word
+abbrev pub IsJudgedWhole : (Verdict → Type 0) → ℕ → HistoryView → Type 0
+IsJudgedWhole HasWord budget history = IsJudged HasWord budget history (length history.events)
+
+-- the number of events in the middle of two
+abbrev pub middle : ℕ → ℕ → ℕ
+middle low high = low + (high - low) / 2
+
+-- Where the first `low` events have an order and the first `high` have none, this is what bisection finds: the event that is between them when
+-- they are next to each other; or none, where the verdict on those in the middle is undecided. Else it goes on in the half that this verdict
+-- leaves.
+pub data IsBisected (budget : ℕ) (history : HistoryView) : ℕ → ℕ → Option ℕ → Type 0 where
+  found : {low high : ℕ} → high ≡ low + 1 → IsBisected budget history low high (Some low)
+  spent : {low high : ℕ} → low + 1 < high → IsJudged IsUndecided budget history (middle low high) → IsBisected budget history low high None
+  upper : {low high : ℕ} {event : Option ℕ} → low + 1 < high → IsJudged IsYes budget history (middle low high)
+      → IsBisected budget history (middle low high) high event
+      → IsBisected budget history low high event
+  lower : {low high : ℕ} {event : Option ℕ} → low + 1 < high → IsJudged IsNo budget history (middle low high)
+      → IsBisected budget history low (middle low high) event
+      → IsBisected budget history low high event
+
+-- the judge's no on a history is bisected, with this event or without one
+pub record IsRefutedWith (budget : ℕ) (history : HistoryView) (event : Option ℕ) : Type 0 where
+  pub refuted : IsJudgedWhole IsNo budget history
+  pub bisected : IsBisected budget history 0 (length history.events) event
+
+-- the judge's verdicts at the budget leave open where the history goes wrong: the one on the whole history is undecided, or one that
+-- bisection comes to
+abbrev pub IsLeftOpen : ℕ → HistoryView → Type 0
+IsLeftOpen budget history = IsJudgedWhole IsUndecided budget history ⊎ IsRefutedWith budget history None
+
+-- a history has an order with so many of its first events, and none with so many more
+pub record IsLostBetween (history : HistoryView) (low high : ℕ) : Type 0 where
+  pub apart : low < high
+  pub within : high ≤ length history.events
+  pub before : IsLinearizableHistory (prefix_of history low)
+  pub after : IsLinearizableHistory (prefix_of history high) → ⊥
+
+-- with this event a history loses its orders
+pub record LosesOrderAt (history : HistoryView) (event : ℕ) : Type 0 where
+  pub within : event < length history.events
+  pub before : IsLinearizableHistory (prefix_of history event)
+  pub after : IsLinearizableHistory (prefix_of history (event + 1)) → ⊥
+
+-- whether an event is this answer of a call
+abbrev pub answers_at : Option Response → ℕ → Bool
+answers_at None event = false
+answers_at (Some response) event = response.res == event

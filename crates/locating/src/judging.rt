@@ -1,0 +1,65 @@
+// Where a history goes wrong: by the judge, and where that leaves it open by a follower.
+ghost use Rattle.std.specs.Prelude.{◌≤◌, length, IfOk};
+ghost use Rattle.events.specs.Operations.{operations};
+ghost use Rattle.judge.specs.Exact.{IsExactVerdict};
+ghost use Rattle.judge.specs.Shown.{IsShown};
+ghost use Rattle.locating.specs.Bisections.{IsJudgedWhole, IsNo};
+ghost use Rattle.locating.specs.Locations.{IsLocated};
+ghost use Rattle.orders.specs.Orders.{IsLinearizableHistory};
+ghost use Rattle.search.specs.Limits.{budget_limit};
+
+use crate::bisecting::{bisect, number_of};
+use crate::location::Location;
+use crate::passing::follow;
+use events::{History, Memory};
+use judge::{Verdict, judge_alone};
+use std::alloc::Global;
+
+/// The event at which a history goes wrong. Having an order is closed under prefixes, so that a
+/// history without order loses it at one event, which is an answer. It is sought by the judge's
+/// verdicts on first events, and where one of these is undecided at the budget, by a follower of
+/// streams. Want of memory is an error and decides nothing. It costs 14 verdicts at most, and a
+/// pass of the events through the follower.
+pub fn locate(alloc: Global, history: &History, budget: u32) -> Result<Location, Memory>
+    requires { (1 ≤ budget) × (budget ≤ budget_limit) }
+    ensures { IfOk result (IsLocated budget history.now) }
+{
+    let verdict = judge_alone(alloc, history, budget)?;
+    locate_from(alloc, history, &verdict, budget)
+}
+
+/// The same, where the judge's verdict on the history is known.
+pub fn locate_from(
+    alloc: Global,
+    history: &History,
+    verdict: &Verdict,
+    budget: u32,
+) -> Result<Location, Memory>
+    requires budget { (1 ≤ budget) × (budget ≤ budget_limit) }
+    requires shown { IsShown history.now.start budget (operations history.now.events) verdict.now }
+    requires exact { IsExactVerdict history.now.start budget (operations history.now.events)
+        verdict.now }
+    ensures { IfOk result (IsLocated budget history.now) }
+{
+    match verdict {
+        Verdict::Yes(_) => Ok(Location::Yes),
+        Verdict::No(_) => locate_refuted(alloc, history, budget),
+        Verdict::Undecided(_) => follow(alloc, history, budget),
+    }
+}
+
+/// The event at which a history goes wrong that the judge refutes.
+fn locate_refuted(alloc: Global, history: &History, budget: u32) -> Result<Location, Memory>
+    requires budget { (1 ≤ budget) × (budget ≤ budget_limit) }
+    requires refuted { IsJudgedWhole IsNo budget history.now }
+    requires none { IsLinearizableHistory history.now → ⊥ }
+    ensures { IfOk result (IsLocated budget history.now) }
+{
+    match bisect(alloc, history, 0, history.events().len(), budget)? {
+        Some(event) => Ok(Location::No {
+            event,
+            number: number_of(history, event),
+        }),
+        None => follow(alloc, history, budget),
+    }
+}

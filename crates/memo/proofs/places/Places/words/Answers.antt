@@ -1,0 +1,10 @@
+use Rattle.std.proofs.Common.{◌∙◌, ap, sym, subst}
+use Rattle.memo.specs.Words.{places_of, IsTrimmed}
+use Rattle.memo.proofs.places.Places.words.Goals as goal
+
+pub returns-clause-told : goal.returns-clause-told
+returns-clause-told c =
+    (c.self.inside.least, ap (places_of c.self.inside.least) c.deref.ensures.value ∙ c.self.view_is)
+
+pub returns-clause-trimmed : goal.returns-clause-trimmed
+returns-clause-trimmed c = subst IsTrimmed (sym c.deref.ensures.value) c.self.invariant.trimmed

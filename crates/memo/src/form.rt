@@ -1,0 +1,223 @@
+// The form in which a configuration is kept.
+ghost use Rattle.std.specs.Prelude.{◌≡◌, ◌↔◌, [], IsTrue, IfOk, Contains};
+ghost use Rattle.memo.specs.Kept.{configuration_from, IsKept};
+ghost use Rattle.memo.specs.Taking.{after_one};
+ghost use Rattle.memo.specs.Keys.{AgreeBut};
+ghost use Rattle.map_object.specs.MapObject.{value_at};
+
+use crate::base::Base;
+use crate::differences::{
+    Changes, difference, pairs_from, value_at, value_from, value_gone, value_put, with_value,
+};
+use crate::digests::{mix, mix_value, sum_of};
+use crate::places::Places;
+use events::Memory;
+use map_object::SortedMap;
+use std::alloc::Global;
+use std::hash::{Hash, Hasher};
+use std::marker::Model;
+
+/// What is kept of a configuration beside the pairs at the start of its search: the set of calls taken, the pairs
+/// held that are not so at the start, and those at the start whose keys are gone. So it takes as much
+/// memory as the calls taken and their keys, and not as the map.
+#[derive(Drop)]
+pub(crate) struct Form {
+    places: Places,
+    put: Vec<(u64, u64)>,
+    gone: Vec<(u64, u64)>,
+    digest: u64,
+}
+
+impl Model for Form {
+    ghost use Rattle.memo.specs.Kept.{Kept};
+
+    ghost Value = { Kept };
+
+    ghost view = { λ c. record {
+      taken = c.places;
+      put = c.put.items;
+      gone = c.gone.items;
+      digest = c.digest;
+    } };
+}
+
+/// Two that differ from the same start are equal exactly where the same calls are taken and the same pairs are held.
+/// Digests that differ tell most others apart; else it costs at most the calls and the changed pairs of one of them.
+impl PartialEq for Form {
+    ghost use Rattle.std.specs.Prelude.{◌≡◌};
+    ghost use Rattle.std.specs.Cmp.{partial_equiv_from_equiv};
+    ghost use Rattle.memo.specs.Kept.{is_kept_same, is_kept_same-equivalence};
+
+    ghost eq = { is_kept_same };
+
+    ghost laws = { partial_equiv_from_equiv is_kept_same-equivalence };
+
+    fn eq(&self, other: &Form) -> bool
+        ensures { result ≡ is_kept_same self.now other.now }
+    {
+        if self.digest != other.digest {
+            return false;
+        }
+        self.places.is_same(&other.places) && self.put == other.put && self.gone == other.gone
+    }
+}
+
+impl Eq for Form {
+    ghost use Rattle.memo.specs.Kept.{is_kept_same-equivalence};
+
+    ghost laws = { is_kept_same-equivalence };
+}
+
+/// Only the digest is hashed.
+impl Hash for Form {
+    ghost use Rattle.std.specs.Hash as fed;
+    ghost use Rattle.memo.specs.Kept.{same_kept_digest};
+
+    ghost hash_input = { λ c. fed.u64 c.digest };
+
+    ghost respects_eq = { λ a b same. same_kept_digest fed.u64 a b same };
+
+    fn hash<H: Hasher>(&self, state: &mut H) {
+        state.write_u64(self.digest);
+    }
+}
+
+impl Form {
+    /// No call taken, and the pairs at the start. It takes no memory.
+    pub(crate) fn start(alloc: Global, base: &Base) -> Form
+        ensures kept { IsKept base.now result }
+        ensures is { configuration_from base.now result ≡ record { taken = []; pairs = base.now } }
+    {
+        Form {
+            places: Places::new(alloc),
+            put: Vec::new(alloc),
+            gone: Vec::new(alloc),
+            digest: sum_of(base.pairs()),
+        }
+    }
+
+    /// The stored digest.
+    pub(crate) fn digest(&self) -> u64
+        ensures { result ≡ self.now.digest }
+    {
+        self.digest
+    }
+
+    /// Whether the same calls are taken.
+    pub(crate) fn has_taken_as(&self, other: &Form) -> bool
+        ensures { IsTrue result ↔ (self.now.taken ≡ other.now.taken) }
+    {
+        self.places.is_same(&other.places)
+    }
+
+    /// The pairs that are not so at the start.
+    pub(crate) fn put(&self) -> &[(u64, u64)]
+        ensures { result.now ≡ self.now.put }
+    {
+        &self.put
+    }
+
+    /// The value at a key, over the pairs at the start.
+    pub(crate) fn value(&self, base: &Base, key: u64) -> Option<u64>
+        requires { IsKept base.now self.now }
+        ensures { result ≡ value_at (configuration_from base.now self.now).pairs key }
+    {
+        value_from(
+            base.value(key),
+            value_at(&self.put, key),
+            value_at(&self.gone, key),
+        )
+    }
+
+    /// The form of the same configuration over other pairs at the start. It costs as much as these and the map.
+    pub(crate) fn over(&self, alloc: Global, base: &Base, other: &Base) -> Result<Form, Memory>
+        requires { IsKept base.now self.now }
+        ensures kept { IfOk result (IsKept other.now) }
+        ensures is { IfOk result (λ f. configuration_from other.now f ≡ configuration_from base.now self.now) }
+    {
+        let held = pairs_from(alloc, base.pairs(), &self.put, &self.gone)?;
+        let Changes { put, gone } = difference(alloc, other.pairs(), &held)?;
+        Ok(Form {
+            places: self.places.copy(alloc)?,
+            put,
+            gone,
+            digest: self.digest,
+        })
+    }
+
+    /// The form of the configuration after one more call, the one at `place`, which leaves the map `after`. It
+    /// costs as much as the calls taken and the maps: those at the start, before and after the call.
+    pub(crate) fn with(
+        &self,
+        alloc: Global,
+        base: &Base,
+        place: u32,
+        after: &SortedMap,
+    ) -> Result<Form, Memory>
+        requires new { Contains self.now.taken place → ⊥ }
+        requires kept { IsKept base.now self.now }
+        ensures kept { IfOk result (IsKept base.now) }
+        ensures is { IfOk result (λ f. configuration_from base.now f
+            ≡ after_one (configuration_from base.now self.now) place after.now) }
+    {
+        let held = pairs_from(alloc, base.pairs(), &self.put, &self.gone)?;
+        let Changes { put, gone } = difference(alloc, base.pairs(), after.pairs())?;
+        let digest = self
+            .digest
+            .wrapping_add(mix(place as u64 + 1))
+            .wrapping_sub(sum_of(&held))
+            .wrapping_add(sum_of(after.pairs()));
+        Ok(Form {
+            places: self.places.with(alloc, place as usize)?,
+            put,
+            gone,
+            digest,
+        })
+    }
+
+    /// The same, where the call changed no value but that of the key, where one is given. It costs as much as it
+    /// copies: the bits of the calls taken and the pairs that differ from those at the start. Only the pair that
+    /// changed is mixed anew.
+    pub(crate) fn with_key(
+        &self,
+        alloc: Global,
+        base: &Base,
+        place: u32,
+        key: Option<u64>,
+        after: &SortedMap,
+    ) -> Result<Form, Memory>
+        requires new { Contains self.now.taken place → ⊥ }
+        requires kept { IsKept base.now self.now }
+        requires others { AgreeBut key (configuration_from base.now self.now).pairs after.now }
+        ensures kept { IfOk result (IsKept base.now) }
+        ensures is { IfOk result (λ f. configuration_from base.now f
+            ≡ after_one (configuration_from base.now self.now) place after.now) }
+    {
+        let places = self.places.with(alloc, place as usize)?;
+        let digest = self.digest.wrapping_add(mix(place as u64 + 1));
+        let Some(key) = key else {
+            let put = Vec::from_slice(alloc, &self.put)?;
+            let gone = Vec::from_slice(alloc, &self.gone)?;
+            return Ok(Form {
+                places,
+                put,
+                gone,
+                digest,
+            });
+        };
+        let first = base.value(key);
+        let before = value_from(first, value_at(&self.put, key), value_at(&self.gone, key));
+        let value = after.value(key);
+        let put = with_value(alloc, &self.put, key, value_put(first, value))?;
+        let gone = with_value(alloc, &self.gone, key, value_gone(first, value))?;
+        let digest = digest
+            .wrapping_sub(mix_value(key, before))
+            .wrapping_add(mix_value(key, value));
+        Ok(Form {
+            places,
+            put,
+            gone,
+            digest,
+        })
+    }
+}

@@ -1,0 +1,3 @@
+mod EscapeLemmas
+mod OutcomeLemmas
+pub mod PageLemmas

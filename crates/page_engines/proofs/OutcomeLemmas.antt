@@ -1,0 +1,37 @@
+-- The page of a text that was judged is an outcome of it.
+use Rattle.std.proofs.Common.{◌≡◌, ℕ, List, [], Some, Result, Ok, Err, IfOk, MatchResult, IsUtf8, String, Global, Bor, ap, sym, subst, ◌∙◌}
+use Rattle.std.specs.Prelude.{string_bytes}
+use Rattle.outcomes.specs.declared.outcome.Answer.{Answer}
+use Rattle.outcomes.specs.declared.outcome.RunOutcome.{RunOutcome}
+use Rattle.outcomes.specs.declared.outcome.RunOutcome.TheVariants.{Answered, Memory}
+use Rattle.outcomes.specs.Outcomes.{IsTextOutcome}
+use Rattle.history_engines.specs.Answers.{IsHistoryRefusal, IsJudgeAnswer}
+use Rattle.page_engines.specs.Answers.{IsExplainedText, IsLocatedText, IsPageAnswer}
+use Rattle.page_engines.specs.Pages.{page_text}
+
+-- what was read as UTF-8 is as it was
+pub utf8-same : {E : Type 0} (r : Result (Bor (List ℕ)) E) (s : Bor (List ℕ)) (bytes : List ℕ) (IsFault : E → Type 0)
+    → MatchResult r (λ s. (s.now ≡ bytes) × IsUtf8 bytes) IsFault → r ≡ Ok s → s.now ≡ bytes
+utf8-same {E = E} r s bytes IsFault cases is =
+    (subst (λ (r : Result (Bor (List ℕ)) E). MatchResult r (λ s. (s.now ≡ bytes) × IsUtf8 bytes) IsFault) is cases).0
+
+-- the page of a text that was judged
+pub page-made : {E : Type 0} (budget : ℕ) (history text judged located explained : List ℕ) (answer : Answer)
+    (page : Result (String Global) E) (outcome : RunOutcome) → history ≡ text → IsJudgeAnswer budget text answer judged
+    → IsLocatedText budget text located → IsExplainedText budget text explained
+    → IfOk page (λ p. string_bytes p ≡ page_text history judged located explained [])
+    → MatchResult page (λ p. outcome ≡ Answered answer p) (λ _. outcome ≡ Memory)
+    → IsTextOutcome (IsPageAnswer budget) IsHistoryRefusal (Some text) outcome
+page-made budget history text judged located explained answer (Ok p) outcome same is_judged is_located is_explained is answered =
+    subst (IsTextOutcome (IsPageAnswer budget) IsHistoryRefusal (Some text)) (sym answered)
+    (record {
+      judged = judged;
+      located = located;
+      explained = explained;
+      is_judged = is_judged;
+      is_located = is_located;
+      is_explained = is_explained;
+      bytes_are = is ∙ ap (λ (t : List ℕ). page_text t judged located explained []) same;
+    })
+page-made budget history text judged located explained answer (Err e) outcome same is_judged is_located is_explained is answered =
+    subst (IsTextOutcome (IsPageAnswer budget) IsHistoryRefusal (Some text)) (sym answered) tt

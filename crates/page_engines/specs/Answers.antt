@@ -1,0 +1,37 @@
+-- What `page` answers to the text of a history at a budget.
+use Rattle.std.specs.Prelude.{◌≡◌, ℕ, List, [], Option, Some, None, string_bytes}
+use Rattle.outcomes.specs.declared.outcome.Answer.{Answer}
+use Rattle.outcomes.specs.declared.outcome.RunOutcome.{RunOutcome}
+use Rattle.outcomes.specs.declared.outcome.RunOutcome.TheVariants.{Answered, Noted, Refused, Memory, Words, Failed}
+use Rattle.history_engines.specs.Answers.{IsJudgeAnswer}
+use Rattle.location_engines.specs.Answers.{IsLocateAnswer}
+use Rattle.explain_engines.specs.Answers.{IsExplainAnswer}
+use Rattle.page_engines.specs.Pages.{page_text}
+
+-- what an outcome prints on standard output, with its answer
+abbrev pub printed : RunOutcome → Option (Answer × List ℕ)
+printed (Answered answer line) = Some (answer, string_bytes line)
+printed (Noted answer line note) = Some (answer, string_bytes line)
+printed (Refused line hint) = None
+printed Memory = None
+printed (Words line) = None
+printed Failed = None
+
+-- `locate` prints this of the text at the budget, whatever it answers
+abbrev pub IsLocatedText : ℕ → List ℕ → List ℕ → Type 0
+IsLocatedText budget text located = (answer : Answer) × IsLocateAnswer budget text answer located
+
+-- `explain` prints this of it
+abbrev pub IsExplainedText : ℕ → List ℕ → List ℕ → Type 0
+IsExplainedText budget text explained = (answer : Answer) × IsExplainAnswer budget text answer explained
+
+-- `page` answers the text at the budget so: as `judge` does, with the page of the text and of what
+-- `judge`, `locate` and `explain` print of it; in the place of an order stands nothing
+pub record IsPageAnswer (budget : ℕ) (text : List ℕ) (answer : Answer) (bytes : List ℕ) : Type 0 where
+  pub judged : List ℕ
+  pub located : List ℕ
+  pub explained : List ℕ
+  pub is_judged : IsJudgeAnswer budget text answer judged
+  pub is_located : IsLocatedText budget text located
+  pub is_explained : IsExplainedText budget text explained
+  pub bytes_are : bytes ≡ page_text text judged located explained []

@@ -1,0 +1,150 @@
+// `bench page`: a page that shows the verdict on the history on the input.
+ghost use Rattle.std.specs.Prelude.{◌≡◌, ◌<◌, ◌≤◌, Some, option_map};
+ghost use Rattle.history_engines.specs.Answers.{IsHistoryRefusal, IsJudgeAnswer};
+ghost use Rattle.history_text.specs.Limits.{text_limit};
+ghost use Rattle.outcomes.specs.Ends.{change};
+ghost use Rattle.outcomes.specs.Outcomes.{IsTextOutcome};
+ghost use Rattle.outcomes.specs.Reads.{IsTextRead};
+ghost use Rattle.outcomes.specs.Runs.{IsRun};
+ghost use Rattle.search.specs.Limits.{budget_limit};
+ghost use Rattle.page_engines.specs.Answers.{IsLocatedText, IsExplainedText, IsPageAnswer, printed};
+ghost use Rattle.page_engines.specs.Outcomes.{IsPageOutcome};
+
+use crate::page_text::{PageTexts, page_of};
+use explain_engines::explain_outcome;
+use history_engines::judge_outcome;
+use history_text::MAX_TEXT;
+use judge::Judge;
+use location_engines::locate_outcome;
+use outcomes::{Answer, RunOutcome, run_text};
+use std::alloc::Global;
+use std::str;
+use streams::{Sink, Source};
+
+/// Reads a history text to the end of the source, or until it is too long, has it judged, and
+/// writes a page that shows it with what `judge`, `locate` and `explain` print of it. Answers the
+/// exit status, that of the verdict.
+pub fn run_page<S: Source, O: Sink, F: Sink, H: Sink, J: Judge>(
+    alloc: Global,
+    source: &mut S,
+    output: &mut O,
+    faults: &mut F,
+    hints: &mut H,
+    judge: &J,
+) -> u8
+    requires ready { J.ready judge.now }
+    requires source { S.failures source.old < u64.MAX }
+    requires output { O.failures output.old < u64.MAX }
+    requires faults { F.failures faults.old < u64.MAX }
+    requires hints { H.failures hints.old < u64.MAX }
+    ensures run { IsRun
+        (IsPageOutcome (J.budget judge.now) (change S.remaining S.failures source.old source.new))
+        (change O.written O.failures output.old output.new)
+        (change F.written F.failures faults.old faults.new)
+        (change H.written H.failures hints.old hints.new) result }
+    ensures read { IsTextRead text_limit (change S.remaining S.failures source.old source.new)
+        result }
+{
+    let answer = |text: &[u8]|
+        requires { J.ready judge.now }
+    { page_outcome(alloc, text, judge) };
+    run_text(alloc, source, output, faults, hints, MAX_TEXT, answer)
+}
+
+/// The page that shows the history that the text spells, with what `judge`, `locate` and `explain`
+/// print of it at the judge's budget.
+pub fn page_outcome<J: Judge>(alloc: Global, text: &[u8], judge: &J) -> RunOutcome
+    requires { J.ready judge.now }
+    ensures { IsTextOutcome (IsPageAnswer (J.budget judge.now)) IsHistoryRefusal (Some text.now)
+        result }
+{
+    let outcome = judge_outcome(alloc, text, judge);
+    if let Some((answer, judged)) = printed(&outcome) {
+        let verdict = JudgedText {
+            text,
+            budget: judge.budget(),
+            answer,
+            judged,
+        };
+        return located_page(alloc, verdict);
+    }
+    outcome
+}
+
+/// A text of a history, with the answer to it at a budget and what `judge` prints.
+#[derive(Clone, Copy)]
+struct JudgedText<'a> {
+    text: &'a [u8],
+    budget: u32,
+    answer: Answer,
+    judged: &'a str,
+}
+
+/// The page of a text that was judged.
+fn located_page(alloc: Global, verdict: JudgedText<'_>) -> RunOutcome
+    requires budget { (1 ≤ verdict.budget) × (verdict.budget ≤ budget_limit) }
+    requires judged { IsJudgeAnswer verdict.budget verdict.text.now verdict.answer
+        verdict.judged.now }
+    ensures { IsTextOutcome (IsPageAnswer verdict.entry.budget) IsHistoryRefusal
+        (Some verdict.entry.text.now) result }
+{
+    let outcome = locate_outcome(alloc, verdict.text, verdict.budget);
+    if let Some((_, located)) = printed(&outcome) {
+        return explained_page(alloc, verdict, located);
+    }
+    outcome
+}
+
+/// The page of a text that was judged, and of which `locate` prints this.
+fn explained_page(alloc: Global, verdict: JudgedText<'_>, located: &str) -> RunOutcome
+    requires budget { (1 ≤ verdict.budget) × (verdict.budget ≤ budget_limit) }
+    requires judged { IsJudgeAnswer verdict.budget verdict.text.now verdict.answer
+        verdict.judged.now }
+    requires located { IsLocatedText verdict.budget verdict.text.now located.now }
+    ensures { IsTextOutcome (IsPageAnswer verdict.entry.budget) IsHistoryRefusal
+        (Some verdict.entry.text.now) result }
+{
+    let outcome = explain_outcome(alloc, verdict.text, verdict.budget);
+    if let Some((_, explained)) = printed(&outcome) {
+        return page_with(alloc, verdict, located, explained);
+    }
+    outcome
+}
+
+/// The page of a text that was judged, and of which `locate` and `explain` print these.
+fn page_with(alloc: Global, verdict: JudgedText<'_>, located: &str, explained: &str) -> RunOutcome
+    requires judged { IsJudgeAnswer verdict.budget verdict.text.now verdict.answer
+        verdict.judged.now }
+    requires located { IsLocatedText verdict.budget verdict.text.now located.now }
+    requires explained { IsExplainedText verdict.budget verdict.text.now explained.now }
+    ensures { IsTextOutcome (IsPageAnswer verdict.entry.budget) IsHistoryRefusal
+        (Some verdict.entry.text.now) result }
+{
+    // A text that spells a history is UTF-8.
+    let Ok(history) = str::from_utf8(verdict.text) else {
+        unreachable!()
+    };
+    let texts = PageTexts {
+        history,
+        judged: verdict.judged,
+        located,
+        explained,
+        order: "",
+    };
+    RunOutcome::from_answer(verdict.answer, page_of(alloc, texts))
+}
+
+/// What an outcome prints, with its answer; nothing if it is none.
+fn printed(outcome: &RunOutcome) -> Option<(Answer, &str)>
+    ensures { option_map (λ p. (p.0, p.1.now)) result ≡ printed outcome.now }
+{
+    match outcome {
+        RunOutcome::Answered { answer, line } => Some((*answer, line.as_str())),
+        RunOutcome::Noted {
+            answer,
+            line,
+            note: _,
+        } => Some((*answer, line.as_str())),
+        _ => None,
+    }
+}

@@ -1,0 +1,32 @@
+// The call that writes a page of a verdict.
+ghost use Rattle.std.specs.Prelude.{Some};
+ghost use Rattle.history_engines.specs.Answers.{IsHistoryRefusal};
+ghost use Rattle.outcomes.specs.Outcomes.{IsTextOutcome};
+ghost use Rattle.page_engines.specs.Answers.{IsPageAnswer};
+ghost use Rattle.potzendai.specs.Calls.{IsCall};
+
+use crate::told::{is_budget, tell, tell_budget};
+use judge::OneThread;
+use page_engines::page_outcome;
+use std::alloc::Global;
+
+/// Writes a page that shows the verdict on the history that the text spells, as `bench page` does.
+/// Else as `potzendai_judge`.
+#[unsafe(no_mangle)]
+pub extern "C" fn potzendai_page(
+    alloc: Global,
+    text: &[u8],
+    budget: u32,
+    room: &mut [u8],
+    size: &mut usize,
+) -> u32
+    ensures { IsCall (IsTextOutcome (IsPageAnswer budget) IsHistoryRefusal (Some text.now)) budget
+        room.old room.new size.new result }
+{
+    if is_budget(budget) {
+        let outcome = page_outcome(alloc, text, &OneThread { alloc, budget });
+        tell(&outcome, room, size)
+    } else {
+        tell_budget(room, size)
+    }
+}
