@@ -1,0 +1,109 @@
+"""memcached and Redis as caches that evict, tested by their protocols on the loopback address. README.md says how the servers are started.
+
+    python3 drivers/engines/caches/servers.py memcached --cache --keys 400
+    python3 drivers/engines/caches/servers.py redis:7379 --cache --keys 100
+
+A port other than 7380 of memcached and 7379 of Redis stands after the name.
+"""
+import os
+import socket
+import sys
+
+sys.path.insert(0, os.path.join(os.path.dirname(os.path.abspath(__file__)), "..", "..", "python"))
+
+import potzendai  # noqa: E402
+import redis_map  # noqa: E402
+from potzendai import DONE, FOUND, NONE, OTHER, REFUSED  # noqa: E402
+
+TIMEOUT = 5
+MEMCACHED_VALUE, REDIS_VALUE = 30000, 20000  # bytes of a value, so that a small server has to evict
+
+
+class Evicting(redis_map.Told):
+    """Redis with values that are filled up with blanks. What it has no memory for it refuses, and nothing has changed."""
+
+    def put(self, key, value):
+        try:
+            return super().put(key, str(value).ljust(REDIS_VALUE))
+        except OSError as wrong:
+            if str(wrong.args[0]).startswith("b'-OOM"):
+                return REFUSED
+            raise
+
+
+class Redis(redis_map.Redis):
+    connection = Evicting
+
+
+class Connection:
+    """A request that fails ends its connection, since its answer may still come."""
+    port, wire = 7380, None
+
+    def ask(self, line, value=None):
+        """Sends a request, and returns the words of the answer's first line, and the value below it."""
+        try:
+            if self.wire is None:
+                self.wire = socket.create_connection(("127.0.0.1", self.port), TIMEOUT)
+                self.lines = self.wire.makefile("rb")
+            data = b"" if value is None else str(value).ljust(MEMCACHED_VALUE).encode() + b"\r\n"
+            self.wire.sendall(line.encode() + b"\r\n" + data)
+            words = self.lines.readline().split()
+            if not words or b"ERROR" in words[0]:
+                raise OSError(b" ".join(words))
+            found = None
+            if words[0] == b"VALUE":
+                found = int(self.lines.read(int(words[3]) + 2))
+                self.lines.readline()
+            return words, found
+        except OSError:
+            self.close()
+            raise
+
+    def close(self):
+        if self.wire is not None:
+            self.wire.close()
+        self.wire = None
+
+    def get(self, key):
+        return potzendai.told(self.ask(f"get {key}")[1])
+
+    def put(self, key, value):
+        self.ask(f"set {key} 0 0 {MEMCACHED_VALUE}", value)
+        return DONE
+
+    def delete(self, key):
+        return FOUND if self.ask(f"delete {key}")[0] == [b"DELETED"] else NONE
+
+    def put_if_absent(self, key, value):
+        return NONE if self.ask(f"add {key} 0 0 {MEMCACHED_VALUE}", value)[0] == [b"STORED"] else FOUND
+
+    def replace(self, key, old, new):
+        words, found = self.ask(f"gets {key}")
+        if found != old:
+            return potzendai.told(found)
+        said = self.ask(f"cas {key} 0 0 {MEMCACHED_VALUE} {words[4].decode()}", new)[0]
+        return {b"STORED": DONE, b"NOT_FOUND": NONE}.get(said[0], OTHER)
+
+
+class Memcached:
+    """An empty server; each thread has a connection of its own."""
+    connection = Connection
+
+    def __init__(self):
+        Connection().ask("flush_all")
+
+
+def main(words):
+    name, _, port = (words or [""])[0].partition(":")
+    if name not in ("memcached", "redis") or not (port or "1").isdecimal():
+        print("servers.py: the first argument is memcached or redis, or one of them with a port, such as redis:7379", file=sys.stderr)
+        sys.exit(5)
+    if port and name == "redis":
+        redis_map.PORT = int(port)
+    elif port:
+        Connection.port = int(port)
+    potzendai.main(Redis if name == "redis" else Memcached, words[1:])
+
+
+if __name__ == "__main__":
+    main(sys.argv[1:])
