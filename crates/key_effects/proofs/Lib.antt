@@ -18,3 +18,4 @@ pub mod WiderLemmas
 pub mod NoneLemmas
 pub mod AlikeLemmas
 pub mod DisturbedLemmas
+pub mod ReadLemmas

@@ -53,3 +53,7 @@ StandAbove held place calls choices = (more : List KeyedCall) → HaveGrown plac
 -- choices stand below the calls: whatever events follow, where some choice goes on to an order, the calls have one
 abbrev pub StandBelow : (ℕ → Option ℕ) → ℕ → List KeyedCall → Choices → Type 0
 StandBelow held place calls choices = (more : List KeyedCall) → HaveGrown place calls more → SomeGoesOn choices more → HasKeyedOrder held more
+
+-- one choice is as good as another where it goes on whenever that does, whatever events follow
+abbrev pub IsAsGood : ℕ → List KeyedCall → Choice → Choice → Type 0
+IsAsGood place calls w better = (more : List KeyedCall) → HaveGrown place calls more → GoesOn w more → GoesOn better more

@@ -1,16 +1,16 @@
 -- Laws of calls as the keys see them.
-use Rattle.std.specs.Prelude.{◌≡◌, ◌⊎◌, ◌↔◌, ℕ, ◌≤◌, List, [], ◌++◌, length, map, Option, All, AllPairs, Contains, ◌<◌}
+use Rattle.std.specs.Prelude.{◌≡◌, ◌⊎◌, ◌↔◌, ℕ, ◌≤◌, true, false, List, [], ◌∷◌, ◌++◌, length, map, Option, All, AllPairs, Contains, ◌<◌}
 use Rattle.events.specs.declared.event.Event.{Event}
 use Rattle.events.specs.Operations.{operations}
 use Rattle.map_object.specs.MapObject.{Contents, IsRising, value_at}
 use Rattle.orders.specs.Orders.{IsLinearizable}
-use Rattle.key_effects.specs.KeyedCalls.{KeyedCall, IsNoEffect, IsFormed, keyed}
+use Rattle.key_effects.specs.KeyedCalls.{KeyedCall, IsNoEffect, IsFormed, is_completed, precedes, keyed}
 use Rattle.key_effects.specs.KeyedOrders.{AreKeyedCalls, HasKeyedOrder}
 use Rattle.key_effects.specs.Forms.{HaveForms}
 use Rattle.key_effects.specs.Growth.{HaveGrown}
-use Rattle.key_effects.specs.Choices.{Choice, at_first, among, GoesOn, SomeGoesOn, StandAbove, StandBelow}
-use Rattle.key_effects.specs.Cuts.{Keys, ArePartedAt, CoverCut, AreReachedAt}
-use Rattle.key_effects.specs.Apart.{only, other_keys, Parts, AreAlike}
+use Rattle.key_effects.specs.Choices.{Choice, at_first, rest_of, among, GoesOn, SomeGoesOn, StandAbove, StandBelow, IsAsGood}
+use Rattle.key_effects.specs.Cuts.{Keys, IsAfterWalk, ArePartedAt, CoverCut, AreReachedAt}
+use Rattle.key_effects.specs.Apart.{only, other_keys, IsRead, Parts, AreAlike}
 use Rattle.key_effects.specs.Wider.{AliveStaysAlive, YesFromAbove, NoFromBelow, CompletedCallsSuffice}
 
 -- a history has an order exactly where its scans may be answered so by some map, and its calls have an order as the keys see them
@@ -59,6 +59,24 @@ DeadChoicesGo =
     (held : ℕ → Option ℕ) (place : ℕ) (calls : List KeyedCall) (choices left : ℕ → Option Choice)
     → ((w : Choice) → among choices w → among left w ⊎ (GoesOn w calls → ⊥)) → StandAbove held place calls (among choices)
     → StandAbove held place calls (among left)
+
+-- choices that are above may be replaced by such as are as good, and choices that are below by such as those are as good as
+abbrev pub AsGoodChoicesStand : Type 0
+AsGoodChoicesStand =
+    (held : ℕ → Option ℕ) (place : ℕ) (calls : List KeyedCall) (choices others : ℕ → Option Choice)
+    → (((w : Choice) → among choices w → (v : Choice) × among others v × IsAsGood place calls w v)
+    → StandAbove held place calls (among choices) → StandAbove held place calls (among others))
+    × (((v : Choice) → among others v → (w : Choice) × among choices w × IsAsGood place calls v w)
+    → StandBelow held place calls (among choices) → StandBelow held place calls (among others))
+
+-- a read that was answered may be taken as soon as it fits; and where nothing is left of the calls that precede it, nothing is gained by that
+abbrev pub ReadsMayBeTaken : Type 0
+ReadsMayBeTaken =
+    (place : ℕ) (calls : List KeyedCall) (w next : Choice) (b : KeyedCall) → Contains calls b → is_completed b ≡ true → b.refused ≡ false
+    → IsRead (rest_of w b) → ((key : ℕ) → ((rest_of w b).effect key).fits (w.holds key) ≡ true) → IsAfterWalk w (rest_of w b ∷ []) next
+    → IsAsGood place calls w next
+    × (((a : KeyedCall) → Contains calls a → precedes a b ≡ true → (key : ℕ) → IsNoEffect ((rest_of w a).effect key))
+    → IsAsGood place calls next w)
 
 -- at a past moment choices that are above become those which cover the cut, and choices that are below those which are reached
 abbrev pub CutsStandAbove : Type 0

@@ -1,5 +1,5 @@
 // Laws of calls as the keys see them, each the contract of a function that does nothing.
-ghost use Rattle.key_effects.specs.Laws.{AboveIsNoYes, AlikeCallsDecide, AliveMayDie, BelowIsNoNo, CallsGrow, ChoicesBegin, ChoicesJudge, ChoicesStay, CutsStandAbove, CutsStandBelow, DeadChoicesGo, DeadChoicesStayDead, EffectsDecide, GrowthGoesOn, OrdersAreKeyedOrders, PendingCallsDisturb, SetsOfKeysJudge, SomeKeysRefute};
+ghost use Rattle.key_effects.specs.Laws.{AboveIsNoYes, AlikeCallsDecide, AliveMayDie, AsGoodChoicesStand, BelowIsNoNo, CallsGrow, ChoicesBegin, ChoicesJudge, ChoicesStay, CutsStandAbove, CutsStandBelow, DeadChoicesGo, DeadChoicesStayDead, EffectsDecide, GrowthGoesOn, OrdersAreKeyedOrders, PendingCallsDisturb, ReadsMayBeTaken, SetsOfKeysJudge, SomeKeysRefute};
 
 /// The calls of events have an order exactly where the scans are answered as scans may be, and the calls have an order as the keys see them.
 pub fn orders_are_keyed_orders()
@@ -39,6 +39,16 @@ pub fn dead_choices_stay_dead()
 /// So a choice that goes on to no order now may go.
 pub fn dead_choices_go()
     ensures { DeadChoicesGo }
+{}
+
+/// Choices above may be replaced by such as are as good, and choices below by such as those are as good as.
+pub fn as_good_choices_stand()
+    ensures { AsGoodChoicesStand }
+{}
+
+/// A read that was answered may be taken as soon as it fits; where nothing is left of the calls that precede it, nothing is gained by that.
+pub fn reads_may_be_taken()
+    ensures { ReadsMayBeTaken }
 {}
 
 /// At a past moment the choices above become such as cover the cut.
