@@ -19,3 +19,4 @@ pub mod NoneLemmas
 pub mod AlikeLemmas
 pub mod DisturbedLemmas
 pub mod ReadLemmas
+pub mod PartLemmas

@@ -1,5 +1,5 @@
 -- Sets of keys that are judged apart: each call concerns one of both alone, or is a scan that the calls of one of both do not disturb.
-use Rattle.std.specs.Prelude.{◌≡◌, ◌⊎◌, ℕ, true, false, not, ◌&&◌, if◌then◌else◌, List, Option, None, Contains}
+use Rattle.std.specs.Prelude.{◌≡◌, ◌⊎◌, ℕ, true, false, not, ◌&&◌, if◌then◌else◌, List, Option, None, All, AllPairs, Contains}
 use Rattle.key_effects.specs.KeyedCalls.{KeyedCall, IsNoEffect, no_effect, is_completed, precedes}
 use Rattle.key_effects.specs.KeyedOrders.{AreDistinct}
 use Rattle.key_effects.specs.Cuts.{Keys, IsWithin, IsOutside}
@@ -36,6 +36,16 @@ abbrev pub Parts : Keys → List KeyedCall → KeyedCall → Type 0
 Parts keys calls s =
     IsWithin keys s ⊎ IsOutside keys s
     ⊎ (IsRead s × ((is_completed s ≡ false) ⊎ IsUndisturbed keys calls s ⊎ IsUndisturbed (other_keys keys) calls s))
+
+-- no key is of both sets
+abbrev pub AreApart : Keys → Keys → Type 0
+AreApart keys others = (key : ℕ) → keys key ≡ true → others key ≡ false
+
+-- many sets of keys, no two of which share a key, and each of which each call parts from the others; at other keys no call has an effect
+pub record AreParts (parts : List Keys) (calls : List KeyedCall) : Type 0 where
+  pub apart : AllPairs AreApart parts
+  pub parted : All (λ keys. All (Parts keys calls) calls) parts
+  pub elsewhere : (a : KeyedCall) (key : ℕ) → Contains calls a → All (λ keys. keys key ≡ false) parts → IsNoEffect (a.effect key)
 
 -- a call is another at some keys: it has the same places, and the same effect there; elsewhere one has none, and the other leaves it that there
 -- is nothing, as a scan does that was told of no key there

@@ -10,7 +10,7 @@ use Rattle.key_effects.specs.Forms.{HaveForms}
 use Rattle.key_effects.specs.Growth.{HaveGrown}
 use Rattle.key_effects.specs.Choices.{Choice, at_first, rest_of, among, GoesOn, SomeGoesOn, StandAbove, StandBelow, IsAsGood}
 use Rattle.key_effects.specs.Cuts.{Keys, IsAfterWalk, ArePartedAt, CoverCut, AreReachedAt}
-use Rattle.key_effects.specs.Apart.{only, other_keys, IsRead, Parts, AreAlike}
+use Rattle.key_effects.specs.Apart.{only, other_keys, IsRead, Parts, AreParts, AreAlike}
 use Rattle.key_effects.specs.Wider.{AliveStaysAlive, YesFromAbove, NoFromBelow, CompletedCallsSuffice}
 
 -- a history has an order exactly where its scans may be answered so by some map, and its calls have an order as the keys see them
@@ -104,6 +104,13 @@ SetsOfKeysJudge =
     (held : ℕ → Option ℕ) (keys : Keys) (calls : List KeyedCall) → AreKeyedCalls calls → All IsFormed calls → All (Parts keys calls) calls
     → HasKeyedOrder held calls
     ↔ (HasKeyedOrder held (map (only keys) calls) × HasKeyedOrder held (map (only (other_keys keys)) calls))
+
+-- so do many sets of keys, each by itself
+abbrev pub PartsJudge : Type 0
+PartsJudge =
+    (held : ℕ → Option ℕ) (parts : List Keys) (calls : List KeyedCall) → AreKeyedCalls calls → AllPairs (λ a b. a.inv < b.inv) calls
+    → All IsFormed calls → AreParts parts calls
+    → HasKeyedOrder held calls ↔ All (λ keys. HasKeyedOrder held (map (only keys) calls)) parts
 
 -- but what is alive may die, a choice above may go on where there is no order, and there may be one where none below goes on
 abbrev pub AliveMayDie : Type 0

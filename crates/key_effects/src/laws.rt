@@ -1,5 +1,5 @@
 // Laws of calls as the keys see them, each the contract of a function that does nothing.
-ghost use Rattle.key_effects.specs.Laws.{AboveIsNoYes, AlikeCallsDecide, AliveMayDie, AsGoodChoicesStand, BelowIsNoNo, CallsGrow, ChoicesBegin, ChoicesJudge, ChoicesStay, CutsStandAbove, CutsStandBelow, DeadChoicesGo, DeadChoicesStayDead, EffectsDecide, GrowthGoesOn, OrdersAreKeyedOrders, PendingCallsDisturb, ReadsMayBeTaken, SetsOfKeysJudge, SomeKeysRefute};
+ghost use Rattle.key_effects.specs.Laws.{AboveIsNoYes, AlikeCallsDecide, AliveMayDie, AsGoodChoicesStand, BelowIsNoNo, CallsGrow, ChoicesBegin, ChoicesJudge, ChoicesStay, CutsStandAbove, CutsStandBelow, DeadChoicesGo, DeadChoicesStayDead, EffectsDecide, GrowthGoesOn, OrdersAreKeyedOrders, PartsJudge, PendingCallsDisturb, ReadsMayBeTaken, SetsOfKeysJudge, SomeKeysRefute};
 
 /// The calls of events have an order exactly where the scans are answered as scans may be, and the calls have an order as the keys see them.
 pub fn orders_are_keyed_orders()
@@ -70,6 +70,11 @@ pub fn some_keys_refute()
 /// be held at one moment with the others.
 pub fn sets_of_keys_judge()
     ensures { SetsOfKeysJudge }
+{}
+
+/// So do many sets of keys, each by itself.
+pub fn parts_judge()
+    ensures { PartsJudge }
 {}
 
 /// But what goes on to an order now may not with further events.

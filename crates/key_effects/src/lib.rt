@@ -11,6 +11,6 @@ pub use laws::{
     above_is_no_yes, alike_calls_decide, alive_may_die, as_good_choices_stand, below_is_no_no,
     calls_grow, choices_begin, choices_judge, choices_stay, cuts_stand_above, cuts_stand_below,
     dead_choices_go, dead_choices_stay_dead, effects_decide, growth_goes_on,
-    orders_are_keyed_orders, pending_calls_disturb, reads_may_be_taken, sets_of_keys_judge,
-    some_keys_refute,
+    orders_are_keyed_orders, parts_judge, pending_calls_disturb, reads_may_be_taken,
+    sets_of_keys_judge, some_keys_refute,
 };
