@@ -177,8 +177,8 @@ static inline uint32_t potzendai_take_answer(struct potzendai_asked *asked, char
     if (asked->status < POTZENDAI_IS_YES || asked->status > POTZENDAI_IS_UNDECIDED)
         return potzendai_no_answer(asked, "", room, room_length, length);
     potzendai_read_answer(asked->out, room, room_length, length);
-    bool is_cut = *length >= room_length, is_picture = strcmp(asked->command, "draw") == 0;
-    if (!is_cut && !is_picture && !potzendai_has_verdict(room, asked->status))
+    bool is_cut = *length >= room_length, is_file = strcmp(asked->command, "draw") == 0 || strcmp(asked->command, "page") == 0;
+    if (!is_cut && !is_file && !potzendai_has_verdict(room, asked->status))
         return potzendai_no_answer(asked, " without its verdict", room, room_length, length);
     *potzendai_has_done(asked->command) = true;
     return (uint32_t)asked->status;
@@ -217,6 +217,11 @@ static inline uint32_t potzendai_explain(const char *text, size_t text_length, u
 static inline uint32_t potzendai_draw_part(const char *text, size_t text_length, uint32_t budget, char *room, size_t room_length, size_t *length)
 {
     return potzendai_ask_bench("draw", text, text_length, budget, room, room_length, length);
+}
+
+static inline uint32_t potzendai_page(const char *text, size_t text_length, uint32_t budget, char *room, size_t room_length, size_t *length)
+{
+    return potzendai_ask_bench("page", text, text_length, budget, room, room_length, length);
 }
 
 /* Has what is closed of standard input, output and error be nothing, so that no file of the program's is taken for it. */

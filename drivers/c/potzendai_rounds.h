@@ -579,16 +579,17 @@ static inline void potzendai_smaller(struct potzendai_tester *tester, struct pot
     }
 }
 
-/* Draws the few calls of a history that show a no, and keeps the picture: once more at ten times the budget where it is undecided. */
-static inline void potzendai_keep_picture(struct potzendai_tester *tester, const char *text, size_t length)
+/* Keeps the file that the library or the program makes of a history, or says why there is none. */
+static inline void potzendai_keep_made(struct potzendai_tester *tester, potzendai_question *question, const char *ending, const char *text,
+                                       size_t length)
 {
-    char *picture = NULL;
+    char *made = NULL;
     size_t room = 0;
-    if (potzendai_ask_twice(tester->options, potzendai_draw_part, text, length, &picture, &room) > POTZENDAI_IS_UNDECIDED)
-        fputs("picture: not drawn\n", stderr);
+    if (potzendai_ask_twice(tester->options, question, text, length, &made, &room) <= POTZENDAI_IS_UNDECIDED)
+        potzendai_keep(tester, ending, made, strlen(made));
     else
-        potzendai_keep(tester, ".svg", picture, strlen(picture));
-    free(picture);
+        fprintf(stderr, "file: not made: %s: %.*s\n", ending, made ? (int)strcspn(made, "\n") : 6, made ? made : "memory");
+    free(made);
 }
 
 /* Says why few calls are not shown, by what comes of asking for them. */
@@ -610,7 +611,8 @@ static inline void potzendai_tell_no(struct potzendai_tester *tester, const stru
         potzendai_keep(tester, ".json", told->text, told->length);
     if (few)
         potzendai_keep(tester, "-few.json", few, strcspn(few, "\n"));
-    potzendai_keep_picture(tester, told->text, told->length);
+    potzendai_keep_made(tester, potzendai_draw_part, ".svg", told->text, told->length);
+    potzendai_keep_made(tester, potzendai_page, ".html", told->text, told->length);
 }
 
 /* The words that draw the same calls again, of a run of so many rounds. */

@@ -1685,8 +1685,8 @@ func (p *program) askTwice(command, text string) (int, string) {
 	return status, report
 }
 
-// What explain says, or why it says nothing.
-func (p *program) explained(text string) (report string, wrong *stop) {
+// What is answered to a question, or why nothing is.
+func (p *program) tried(command, text string) (report string, wrong *stop) {
 	defer func() {
 		if met := recover(); met != nil {
 			it, is := met.(stop)
@@ -1696,7 +1696,7 @@ func (p *program) explained(text string) (report string, wrong *stop) {
 			wrong = &it
 		}
 	}()
-	_, report = p.askTwice("explain", text)
+	_, report = p.askTwice(command, text)
 	return report, nil
 }
 
@@ -1729,7 +1729,8 @@ func (p *program) checked(command string, err error, asked *exec.Cmd, answer str
 		fail(status, "%s %s: status %d", p.path, command, status)
 	}
 	report, _, _ := strings.Cut(answer, "\n")
-	if command != "draw" && !strings.HasSuffix(report, `"verdict":"`+verdicts[status]+`"}`) {
+	isFile := command == "draw" || command == "page"
+	if !isFile && !strings.HasSuffix(report, `"verdict":"`+verdicts[status]+`"}`) {
 		fail(badFile, "%s %s: status %d without its verdict", p.path, command, status)
 	}
 	p.answered[command == "judge"] = true
@@ -2351,6 +2352,15 @@ func (r *run) keep(ending, text string) string {
 	return "  file: " + path
 }
 
+// Keeps the file that the program makes of a history, or says why there is none.
+func (r *run) keepMade(command, ending, text string) string {
+	made, wrong := r.program.tried(command, text)
+	if wrong != nil {
+		return "file: not made: " + ending + ": " + wrong.line
+	}
+	return r.keep(ending, made)
+}
+
 // A stream that has no order: the calls left at a key are a history, where that says it all, which is explained; else it is said why not. Kept
 // is the stream so far, unless it is long, and of the report what is not shown, or all where nothing else is kept.
 func (r *run) refutedStream() []string {
@@ -2397,7 +2407,7 @@ func saidKeys(report string) []string {
 
 // The history of the calls left at a key, and few of it that have no order. Where these are not found, the history alone is kept.
 func (r *run) shownLeft(left string) []string {
-	explained, wrong := r.program.explained(left)
+	explained, wrong := r.program.tried("explain", left)
 	if wrong != nil {
 		return []string{"few calls are not shown: " + wrong.line, r.keep(".json", left)}
 	}
@@ -2464,8 +2474,7 @@ func (r *run) shown(text, report string, one *round) []string {
 	if few != "" {
 		said = append(said, r.keep("-few.json", few))
 	}
-	_, picture := r.program.askTwice("draw", text)
-	return append(said, r.keep(".svg", picture))
+	return append(said, r.keepMade("draw", ".svg", text), r.keepMade("page", ".html", text))
 }
 
 // A round that has no order: what shows it, and how to repeat it.
@@ -2481,7 +2490,7 @@ func (r *run) refuted() []string {
 	}
 	text := least.failed.text()
 	kept := r.keep(".json", text) // before: the part that explains may be built first
-	report, wrong := r.program.explained(text)
+	report, wrong := r.program.tried("explain", text)
 	if wrong != nil {
 		return append(said, kept, "few calls are not shown: "+wrong.line, saidAgain+r.options.again(r.rounds))
 	}

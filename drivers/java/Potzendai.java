@@ -1425,7 +1425,7 @@ public final class Potzendai {
             if (status > UNDECIDED)
                 throw new Stop(status <= FILE ? status : FILE, path + " " + command + ": status " + status);
             String report = answer.lines().findFirst().orElse("");
-            if (!command.equals("draw") && !report.endsWith("\"verdict\":\"" + VERDICTS.get(status) + "\"}"))
+            if (!List.of("draw", "page").contains(command) && !report.endsWith("\"verdict\":\"" + VERDICTS.get(status) + "\"}"))
                 throw new Stop(FILE, path + " " + command + ": status " + status + " without its verdict");
             answered.add(command.equals("judge"));
             return new Answer(status, answer);
@@ -1946,6 +1946,15 @@ public final class Potzendai {
         return keep(run, ending, text.getBytes(StandardCharsets.UTF_8));
     }
 
+    /** Keeps the file that the program makes of a history, or says why there is none. */
+    private static String keepMade(Run run, String command, String ending, String text) {
+        try {
+            return keep(run, ending, run.program.askTwice(command, text).text);
+        } catch (Stop stop) {
+            return "file: not made: " + ending + ": " + stop.getMessage();
+        }
+    }
+
     /** A stream that has no order: the calls left at a key are a history, where that says it all, which is explained; else it is said why not.
      * Kept is the stream so far, unless it is long, and of the report what is not shown, or all where nothing else is kept. */
     private static List<String> refutedStream(Run run) {
@@ -2023,7 +2032,8 @@ public final class Potzendai {
         said.add(keep(run, ".json", text));
         if (few != null)
             said.add(keep(run, "-few.json", few));
-        said.add(keep(run, ".svg", run.program.askTwice("draw", text).text));
+        said.add(keepMade(run, "draw", ".svg", text));
+        said.add(keepMade(run, "page", ".html", text));
         return said;
     }
 

@@ -981,7 +981,7 @@ class Program(Judge):
         if status not in (YES, NO, UNDECIDED):
             raise Stop(status if FAULTY <= status <= FILE else FILE, "%s %s: status %d" % (self.path, command, status))
         answer = answer.decode("utf-8", "replace")
-        if command != "draw" and not answer.partition("\n")[0].endswith('"verdict":"%s"}' % VERDICTS[status]):
+        if command not in ("draw", "page") and not answer.partition("\n")[0].endswith('"verdict":"%s"}' % VERDICTS[status]):
             raise Stop(FILE, "%s %s: status %d without its verdict" % (self.path, command, status))
         self.answered.add(command == "judge")
         return status, answer
@@ -1031,6 +1031,8 @@ class Library(Judge):
 
     def ask(self, command, text, budget):
         name = {"draw": "potzendai_draw_part"}.get(command, "potzendai_" + command)
+        if not hasattr(self.calls, name):
+            raise Stop(FILE, "--library: it has no %s" % name)
         status, answer = self.told(name, ctypes.c_char_p(text.encode()), ctypes.c_size_t(len(text.encode())),
                                    ctypes.c_uint32(budget))
         if status > UNDECIDED:
@@ -1740,7 +1742,15 @@ def shown(run, text, report, one):
     said, few = said_report(report, one)
     said = [unmarked(line) for line in said] if run.options.cache else said
     said += [keep(run.options, ".json", text)] + ([keep(run.options, "-few.json", few + "\n")] if few else [])
-    return said + [keep(run.options, ".svg", run.program.asked("draw", text)[1])]
+    return said + [keep_made(run, "draw", ".svg", text), keep_made(run, "page", ".html", text)]
+
+
+def keep_made(run, command, ending, text):
+    """Keeps the file that the program or the library makes of a history, or says why there is none."""
+    try:
+        return keep(run.options, ending, run.program.asked(command, text)[1])
+    except Stop as stop:
+        return "file: not made: %s: %s" % (ending, stop.line)
 
 
 def refuted(run):

@@ -1550,7 +1550,7 @@ impl Program {
         match ended.code() {
             Some(status) if status <= UNDECIDED => {
                 let verdict = format!("\"verdict\":\"{}\"}}", VERDICTS[status as usize]);
-                if command == "draw" || answer.lines().next().unwrap_or("").ends_with(&verdict) {
+                if command == "draw" || command == "page" || answer.lines().next().unwrap_or("").ends_with(&verdict) {
                     self.has_answered(command).store(true, SeqCst);
                     return Ok((status, answer));
                 }
@@ -1581,6 +1581,7 @@ extern "C" {
     fn potzendai_judge(text: *const u8, size: usize, budget: u32, room: *mut u8, room_size: usize, length: *mut usize) -> u32;
     fn potzendai_explain(text: *const u8, size: usize, budget: u32, room: *mut u8, room_size: usize, length: *mut usize) -> u32;
     fn potzendai_draw_part(text: *const u8, size: usize, budget: u32, room: *mut u8, room_size: usize, length: *mut usize) -> u32;
+    fn potzendai_page(text: *const u8, size: usize, budget: u32, room: *mut u8, room_size: usize, length: *mut usize) -> u32;
     fn potzendai_follow(text: *const u8, size: usize, budget: u32, room: *mut u8, room_size: usize, length: *mut usize) -> u32;
     fn potzendai_follow_open(follower: *mut Follower, budget: u32) -> u32;
     fn potzendai_follow_event(follower: *mut Follower, lines: *const u8, size: usize) -> u32;
@@ -1626,6 +1627,7 @@ impl Program {
         let question = match command {
             "judge" => potzendai_judge,
             "explain" => potzendai_explain,
+            "page" => potzendai_page,
             _ => potzendai_draw_part,
         };
         let (text, budget) = (text.as_bytes(), budget as u32);
@@ -2468,7 +2470,7 @@ fn refuted_stream(run: &Run, program: &Program) -> Result<Vec<String>, Stop> {
     if left.is_empty() {
         said.push(format!("few calls are not shown: {}", why_not_few(report)));
     } else {
-        said.extend(shown_left(run, left, program)?);
+        said.extend(shown_left(run, left, program));
     }
     said.push(match &run.kept {
         Some(kept) => keep(run, ".jsonl", kept),
@@ -2503,20 +2505,20 @@ fn said_keys(report: &str) -> Vec<String> {
 }
 
 /// The history of the calls left at a key, and few of it that have no order. Where these are not found, the history alone is kept.
-fn shown_left(run: &Run, left: &str, program: &Program) -> Result<Vec<String>, Stop> {
+fn shown_left(run: &Run, left: &str, program: &Program) -> Vec<String> {
     let explained = match program.ask_twice("explain", left) {
         Ok((_, explained)) => explained,
-        Err(Stop(_, line)) => return Ok(vec![format!("few calls are not shown: {line}"), keep(run, ".json", left)]),
+        Err(Stop(_, line)) => return vec![format!("few calls are not shown: {line}"), keep(run, ".json", left)],
     };
     if !explained.contains("\n{\"answer\":") {
         let line = format!("few calls are not shown: they are not found within a budget of {}", program.more());
-        return Ok(vec![line, keep(run, ".json", left)]);
+        return vec![line, keep(run, ".json", left)];
     }
     let mut said = vec![ANEW.to_string()];
     let mut round = Round::read(left);
     round.note(run.report.lines().next().unwrap_or(""), &run.notes);
-    said.extend(shown(run, left, &explained, &round, program)?);
-    Ok(said)
+    said.extend(shown(run, left, &explained, &round, program));
+    said
 }
 
 /// Why a no of a stream has no history of few calls behind it.
@@ -2535,15 +2537,24 @@ fn why_not_few(report: &str) -> &'static str {
 
 /// What a report of `explain` says of a history, and the files that show it. The words and the picture have the processes and events of the
 /// first file.
-fn shown(run: &Run, text: &str, report: &str, round: &Round, program: &Program) -> Result<Vec<String>, Stop> {
+fn shown(run: &Run, text: &str, report: &str, round: &Round, program: &Program) -> Vec<String> {
     let (mut said, few) = said_report(report, round);
     if run.options.cache.is_some() {
         said.iter_mut().for_each(|line| *line = unmarked(line));
     }
     said.push(keep(run, ".json", text));
     said.extend(few.as_ref().map(|few| keep(run, "-few.json", few)));
-    said.push(keep(run, ".svg", &program.ask_twice("draw", text)?.1));
-    Ok(said)
+    said.push(keep_made(run, program, "draw", ".svg", text));
+    said.push(keep_made(run, program, "page", ".html", text));
+    said
+}
+
+/// Keeps the file that the program or the library makes of a history, or says why there is none.
+fn keep_made(run: &Run, program: &Program, command: &str, ending: &str, text: &str) -> String {
+    match program.ask_twice(command, text) {
+        Ok((_, made)) => keep(run, ending, &made),
+        Err(Stop(_, line)) => format!("file: not made: {ending}: {line}"),
+    }
 }
 
 /// A round that has no order: what shows it, and how to repeat it.
@@ -2560,7 +2571,7 @@ fn refuted<M: Map>(run: &Run, make: &dyn Fn() -> M, program: &Program) -> Result
     let text = round.text();
     let kept = keep(run, ".json", &text); // before: the part that explains may be built first
     match program.ask_twice("explain", &text) {
-        Ok((_, explained)) => said.extend(shown(run, &text, &explained, round, program)?),
+        Ok((_, explained)) => said.extend(shown(run, &text, &explained, round, program)),
         Err(Stop(_, line)) => said.extend([kept, format!("few calls are not shown: {line}")]),
     }
     said.push(format!("{AGAIN}{}", run.options.again(run.counted.rounds)));
