@@ -56,7 +56,7 @@ static inline void potzendai_tell_number(FILE *out, uint64_t number)
 }
 
 /* Why a yes of a cache says little, or nothing. */
-static inline void potzendai_tell_misses(FILE *out, const struct potzendai_counts *counts)
+static inline void potzendai_tell_misses(FILE *out, enum potzendai_cache how, const struct potzendai_counts *counts)
 {
     uint64_t gets = counts->functions_called[POTZENDAI_GET];
     if (counts->hits == 0)
@@ -66,7 +66,7 @@ static inline void potzendai_tell_misses(FILE *out, const struct potzendai_count
         potzendai_tell_number(out, gets);
         fputs(" gets: a yes says little", out);
     }
-    if (counts->losses == 0)
+    if (counts->losses == 0 && how != POTZENDAI_CACHE_LATE)
         fputs("; no key was lost: eviction was not tested", out);
     if (counts->left_out > 0)
         fprintf(out, "; %" PRIu64 " scan%s without some of the keys left out", counts->left_out, potzendai_plural(counts->left_out));
@@ -83,7 +83,7 @@ static inline void potzendai_tell_cautions(FILE *out, const struct potzendai_tes
     if (2 * counts->sayings[MAP_REFUSED] > said)
         fputs("; most calls were refused: a yes says little", out);
     if (o->cache != POTZENDAI_NO_CACHE)
-        potzendai_tell_misses(out, counts);
+        potzendai_tell_misses(out, o->cache, counts);
     else if (counts->functions_called[POTZENDAI_GET] > 0 && counts->hits == 0)
         fputs("; no get found a value: a yes says little", out);
     if ((!o->is_stream || tester->has_overlap) && counts->calls > 0 && potzendai_overlap_a_call(tester) < 0.05)
@@ -112,8 +112,11 @@ static inline void potzendai_tell_all(FILE *out, const struct potzendai_tester *
     if (tester->undecided > 0)
         fprintf(out, "; %" PRIu64 " undecided", tester->undecided);
     if (tester->options->cache != POTZENDAI_NO_CACHE)
-        fprintf(out, "; %" PRIu64 " hit%s, %" PRIu64 " miss%s, %" PRIu64 " loss%s", counts->hits, potzendai_plural(counts->hits), counts->misses,
-                counts->misses == 1 ? "" : "es", counts->losses, counts->losses == 1 ? "" : "es");
+        fprintf(out, "; %" PRIu64 " hit%s, %" PRIu64 " miss%s", counts->hits, potzendai_plural(counts->hits), counts->misses,
+                counts->misses == 1 ? "" : "es");
+    /* a late miss may be of a write that has not appeared yet, and is no loss */
+    if (tester->options->cache != POTZENDAI_NO_CACHE && tester->options->cache != POTZENDAI_CACHE_LATE)
+        fprintf(out, ", %" PRIu64 " loss%s", counts->losses, counts->losses == 1 ? "" : "es");
     if (strncmp(verdict, "no", 2) != 0)
         potzendai_tell_cautions(out, tester);
     fputc('\n', out);

@@ -1995,11 +1995,11 @@ func (r *run) summary(verdict string) string {
 	text := fmt.Sprintf("%s: %s%s in %.1f seconds, overlap %.2f a call: %s%s", verdict, rounds, counted(r.calls, "call"),
 		time.Since(r.began).Seconds(), float64(r.overlap)/math.Max(float64(r.calls), 1), strings.Join(said, ", "), undecideds)
 	if t := &r.tally; r.options.cache != "" {
-		misses := t.misses
-		if r.options.cache == "late" {
-			misses = r.called["get"] - t.hits
+		if r.options.cache == "late" { // such a miss may be of a write that has not appeared yet, and is no loss
+			text += fmt.Sprintf("; %s, %s", counted(t.hits, "hit"), counted(r.called["get"]-t.hits, "miss"))
+		} else {
+			text += fmt.Sprintf("; %s, %s, %s", counted(t.hits, "hit"), counted(t.misses, "miss"), counted(t.losses, "loss"))
 		}
-		text += fmt.Sprintf("; %s, %s, %s", counted(t.hits, "hit"), counted(misses, "miss"), counted(t.losses, "loss"))
 	}
 	if strings.HasPrefix(verdict, "no") && verdict != "not judged" {
 		return text
@@ -2024,7 +2024,7 @@ func (r *run) cautions() (said []string) {
 	case isCache && 20*t.hits < gets:
 		said = append(said, fmt.Sprintf("%s in %s gets: a yes says little", counted(t.hits, "hit"), grouped(gets)))
 	}
-	if isCache && t.losses == 0 {
+	if isCache && t.losses == 0 && r.options.cache != "late" {
 		said = append(said, "no key was lost: eviction was not tested")
 	}
 	if r.leftOut > 0 {

@@ -1645,13 +1645,16 @@ public final class Potzendai {
             List<String> parts = new ArrayList<>(List.of(String.format("%s: %s%s in %.1f seconds, overlap %.2f a call: %s%s", verdict,
                 options.isStream ? "" : counted(rounds, "round") + ", ", counted(calls, "call"), seconds(),
                 (double) overlap / Math.max(calls, 1), said, undecided > 0 ? "; " + undecided + " undecided" : "")));
-            if (options.cache != null)
-                parts.add(counted(tally.hits, "hit") + ", " + counted(options.cache.equals("late") ? gets() - tally.hits : tally.misses, "miss") + ", "
-                    + counted(tally.losses, "loss"));
+            if (isLate()) // such a miss may be of a write that has not appeared yet, and is no loss
+                parts.add(counted(tally.hits, "hit") + ", " + counted(gets() - tally.hits, "miss"));
+            else if (options.cache != null)
+                parts.add(counted(tally.hits, "hit") + ", " + counted(tally.misses, "miss") + ", " + counted(tally.losses, "loss"));
             if (!verdict.startsWith("no") || verdict.equals("not judged"))
                 parts.addAll(cautions());
             return String.join("; ", parts);
         }
+
+        private boolean isLate() { return "late".equals(options.cache); }
 
         private long gets() { return called.getOrDefault(Kind.GET, 0L); }
 
@@ -1667,7 +1670,7 @@ public final class Potzendai {
                 said.add("no get found a value: a yes says little");
             else if (isCache && 20 * tally.hits < gets())
                 said.add(counted(tally.hits, "hit") + String.format(java.util.Locale.ROOT, " in %,d gets: a yes says little", gets()));
-            if (isCache && tally.losses == 0)
+            if (isCache && tally.losses == 0 && !isLate())
                 said.add("no key was lost: eviction was not tested");
             if (leftOut > 0)
                 said.add(counted(leftOut, "scan") + " without some of the keys left out");

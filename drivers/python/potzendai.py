@@ -1290,8 +1290,10 @@ class Run:
             "".join("; " + each for each in self.said_cache() + ([] if verdict.startswith("no") else self.cautions())))
 
     def said_cache(self):
-        tally, misses = self.tally, self.called["get"] - self.tally.hits if self.options.cache == "late" else self.tally.misses
-        return [", ".join((counted(tally.hits, "hit"), counted(misses, "miss"), counted(tally.losses, "loss")))] if self.options.cache else []
+        tally = self.tally
+        if self.options.cache == "late":  # such a miss may be of a write that has not appeared yet, and is no loss
+            return [", ".join((counted(tally.hits, "hit"), counted(self.called["get"] - tally.hits, "miss")))]
+        return [", ".join((counted(tally.hits, "hit"), counted(tally.misses, "miss"), counted(tally.losses, "loss")))] if self.options.cache else []
 
     def cautions(self):
         """Why a yes of this run says little."""
@@ -1304,7 +1306,7 @@ class Run:
             said.append("no get found a value: a yes says little")
         elif options.cache and 20 * tally.hits < gets:
             said.append("%s in {:,} gets: a yes says little".format(gets) % counted(tally.hits, "hit"))
-        if options.cache and tally.losses == 0:
+        if options.cache and tally.losses == 0 and options.cache != "late":
             said.append("no key was lost: eviction was not tested")
         if self.left_out:
             said.append("%s without some of the keys left out" % counted(self.left_out, "scan"))

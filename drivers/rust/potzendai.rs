@@ -2094,16 +2094,21 @@ impl Run {
             "{verdict}: {rounds}{} in {:.1} seconds, overlap {:.2} a call: {}{undecided}",
             counted(self.counted.calls, "call"), self.began.elapsed().as_secs_f64(), self.counted.overlap as f64 / self.counted.calls.max(1) as f64, said.join(", ")
         )];
-        if self.options.cache.is_some() {
-            let tally = &self.tally;
-            let is_late = self.options.cache.as_ref().is_some_and(|how| how == "late");
-            let misses = if is_late { self.counted.called[Get as usize] - tally.hits } else { tally.misses };
-            parts.push([counted(tally.hits, "hit"), counted(misses, "miss"), counted(tally.losses, "loss")].join(", "));
+        let tally = &self.tally;
+        if self.is_late() {
+            // such a miss may be of a write that has not appeared yet, and is no loss
+            parts.push([counted(tally.hits, "hit"), counted(self.counted.called[Get as usize] - tally.hits, "miss")].join(", "));
+        } else if self.options.cache.is_some() {
+            parts.push([counted(tally.hits, "hit"), counted(tally.misses, "miss"), counted(tally.losses, "loss")].join(", "));
         }
         if !verdict.starts_with("no") || verdict == "not judged" {
             parts.extend(self.cautions());
         }
         parts.join("; ")
+    }
+
+    fn is_late(&self) -> bool {
+        self.options.cache.as_ref().is_some_and(|how| how == "late")
     }
 
     /// Why a yes of this run says little.
@@ -2119,7 +2124,7 @@ impl Run {
         } else if is_cache && 20 * tally.hits < gets {
             said.push(format!("{} in {} gets: a yes says little", counted(tally.hits, "hit"), grouped(gets)));
         }
-        if is_cache && tally.losses == 0 {
+        if is_cache && tally.losses == 0 && !self.is_late() {
             said.push("no key was lost: eviction was not tested".to_string());
         }
         if self.counted.left_out > 0 {
