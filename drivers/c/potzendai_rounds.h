@@ -176,7 +176,7 @@ static inline int potzendai_know(struct potzendai_tester *tester, uint64_t key, 
     potzendai_words(&request, &answer, row->call, words);
     if (process)
         run->recording->logs[*process].note = note;
-    run->counts.losses += process && note == RECORDING_GET_MISSED && atomic_exchange(&run->keys[key].is_held, (uint64_t)0) != 0;
+    run->counts.losses += process && note == RECORDING_GET_MISSED && atomic_exchange(&run->keys[key].held_at, (uint64_t)0) == potzendai_removals(run, key) + 1;
     if (process && (recording_add(run->recording, *process, row->call, words[0], words[1], words[2])
                     || recording_add(run->recording, *process, row->answer, answer.pair.value, 0, 0)))
         return -1;
@@ -281,12 +281,12 @@ static inline void potzendai_remember_start(struct potzendai_tester *tester)
     struct potzendai_key *keys = tester->run->keys;
     for (uint64_t key = 0; key < tester->options->keys; key++) {
         keys[key].memory = POTZENDAI_ABSENT;
-        atomic_store(&keys[key].is_held, (uint64_t)0);
+        atomic_store(&keys[key].held_at, (uint64_t)0);
     }
     for (size_t i = 0; i < tester->pairs_at_start; i++) {
         keys[tester->start[i].key].memory = POTZENDAI_PRESENT;
         keys[tester->start[i].key].value = tester->start[i].value;
-        atomic_store(&keys[tester->start[i].key].is_held, (uint64_t)1);
+        atomic_store(&keys[tester->start[i].key].held_at, potzendai_removals(tester->run, tester->start[i].key) + 1);
     }
 }
 

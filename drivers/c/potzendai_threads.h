@@ -14,10 +14,10 @@
 enum potzendai_memory { POTZENDAI_FORGOTTEN, POTZENDAI_ABSENT, POTZENDAI_PRESENT };
 
 /* What is known of a key: how many write it now, and whether two ever did; what its one writer remembers, or its lock. It is loose
- * once a write may come about at any time: then nobody knows what the next one finds. Of a cache: whether a put was answered, and no removal has
- * begun since; and how many removals began. */
+ * once a write may come about at any time: then nobody knows what the next one finds. Of a cache: how many removals began, how many of them are
+ * open, and at how many there was a put that no removal overlapped, plus 1, or 0. */
 struct potzendai_key {
-    recording_word writers, is_met, is_held, removals;
+    recording_word writers, is_met, held_at, removals, removing;
     pthread_mutex_t lock;
     enum potzendai_memory memory;
     bool is_loose;
@@ -47,7 +47,7 @@ struct potzendai_run {
     bool is_scheduled;
     struct potzendai_open open_calls[RECORDING_PROCESSES];
     recording_word open_count;
-    recording_word next_process, processes, arrived, has_begun, is_over, fault, wrongs, pops, left_out;
+    recording_word next_process, processes, arrived, has_begun, is_over, fault, wrongs, pops, popping, left_out;
     char complaint[200];
 };
 
@@ -321,8 +321,9 @@ static inline bool potzendai_has_key_of_its_own(const struct potzendai_run *run,
     return (how == POTZENDAI_VOID_OWN || how == POTZENDAI_VOID_LOCK) && potzendai_writes(function);
 }
 
-/* What was known of a cache's key before a call: whether it was put and not removed since, and how many removals had begun. */
-struct potzendai_sight { bool is_held; uint64_t removals; };
+/* What was known of a cache's key before a call: whether it was put and no removal has begun since, whether a removal was open, and how many had
+ * begun. */
+struct potzendai_sight { bool is_held, is_open; uint64_t removals; };
 
 static inline uint64_t potzendai_removals(struct potzendai_run *run, uint64_t key)
 {
@@ -333,37 +334,34 @@ static inline uint64_t potzendai_removals(struct potzendai_run *run, uint64_t ke
 static inline struct potzendai_sight potzendai_look(struct potzendai_run *run, const struct potzendai_request *request)
 {
     struct potzendai_key *key = &run->keys[request->key];
-    struct potzendai_sight sight = {false, 0};
-    if (request->function == POTZENDAI_POP_FIRST)
-        atomic_fetch_add_explicit(&run->pops, (uint64_t)1, POTZENDAI_RELAXED);
-    if (request->function == POTZENDAI_DEL) {
-        atomic_fetch_add_explicit(&key->removals, (uint64_t)1, POTZENDAI_RELAXED);
-        atomic_store_explicit(&key->is_held, (uint64_t)0, POTZENDAI_RELAXED);
+    struct potzendai_sight sight;
+    bool is_pop = request->function == POTZENDAI_POP_FIRST;
+    if (is_pop || request->function == POTZENDAI_DEL) {
+        atomic_fetch_add_explicit(is_pop ? &run->popping : &key->removing, (uint64_t)1, POTZENDAI_RELAXED);
+        atomic_fetch_add_explicit(is_pop ? &run->pops : &key->removals, (uint64_t)1, POTZENDAI_RELAXED);
     }
-    sight.is_held = atomic_load_explicit(&key->is_held, POTZENDAI_RELAXED) != 0;
     sight.removals = potzendai_removals(run, request->key);
+    sight.is_held = atomic_load_explicit(&key->held_at, POTZENDAI_RELAXED) == sight.removals + 1;
+    sight.is_open = atomic_load_explicit(&key->removing, POTZENDAI_RELAXED) != 0 || atomic_load_explicit(&run->popping, POTZENDAI_RELAXED) != 0;
     return sight;
 }
 
-/* Whether a call shows that its key was lost: none was found where a put was answered, and no removal has begun since. A count, which decides
- * nothing of the verdict. */
+/* Whether a call shows that its key was lost: none was found where a put was answered that no removal overlapped, and none has begun since. A
+ * count, which decides nothing of the verdict. */
 static inline bool potzendai_is_lost(struct potzendai_run *run, const struct potzendai_request *request, const struct potzendai_answer *answer,
                                      const struct potzendai_sight *sight)
 {
     enum potzendai_function f = request->function;
-    if (f == POTZENDAI_POP_FIRST) {
-        atomic_fetch_add_explicit(&run->pops, (uint64_t)1, POTZENDAI_RELAXED);
-        if (answer->said == MAP_TOLD && answer->pair.key < run->options->keys)
-            atomic_store_explicit(&run->keys[answer->pair.key].is_held, (uint64_t)0, POTZENDAI_RELAXED);
-    }
+    if ((f == POTZENDAI_POP_FIRST || f == POTZENDAI_DEL) && answer->said != MAP_UNKNOWN)
+        atomic_fetch_sub_explicit(f == POTZENDAI_DEL ? &run->keys[request->key].removing : &run->popping, (uint64_t)1, POTZENDAI_RELAXED);
     bool is_put = (f == POTZENDAI_PUT && answer->said <= MAP_FOUND) || (f == POTZENDAI_PUT_IF_ABSENT && answer->said == MAP_NONE);
     bool is_of_key = f == POTZENDAI_GET || f == POTZENDAI_PUT || f == POTZENDAI_REPLACE || f == POTZENDAI_PUT_IF_ABSENT;
     bool is_same = potzendai_removals(run, request->key) == sight->removals;
     struct potzendai_key *key = &run->keys[request->key];
     bool is_lost = is_of_key && answer->said == MAP_NONE && sight->is_held && is_same
-        && atomic_exchange_explicit(&key->is_held, (uint64_t)0, POTZENDAI_RELAXED) != 0;
-    if (is_put && is_same)
-        atomic_store_explicit(&key->is_held, (uint64_t)1, POTZENDAI_RELAXED);
+        && atomic_exchange_explicit(&key->held_at, (uint64_t)0, POTZENDAI_RELAXED) == sight->removals + 1;
+    if (is_put && is_same && !sight->is_open)
+        atomic_store_explicit(&key->held_at, sight->removals + 1, POTZENDAI_RELAXED);
     return is_lost;
 }
 
@@ -382,7 +380,7 @@ static inline int potzendai_make(struct potzendai_thread *t, const struct potzen
         return -1;
     bool is_locked = run->options->void_puts == POTZENDAI_VOID_LOCK
         && (request->function == POTZENDAI_PUT || request->function == POTZENDAI_DEL);
-    struct potzendai_sight sight = {false, 0};
+    struct potzendai_sight sight = {false, false, 0};
     if (is_cache)
         sight = potzendai_look(run, request);
     potzendai_reader = potzendai_writes(request->function) ? NULL : t;
