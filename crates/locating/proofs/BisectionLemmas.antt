@@ -1,15 +1,13 @@
 -- Bisection comes to one event of a history, and the judge's verdicts on it stay apart.
-use Rattle.std.proofs.Common.{◌≡◌, ℕ, ◌+◌, ◌<◌, true, false, List, [], ◌∷◌, length, take, Option, Some, None}
-use Rattle.std.proofs.Common.{inl, inr, ⊎_elim, refl, sym, subst, ◌∙◌, arith}
-use Rattle.std.specs.Prelude.{IsSomeAnd, slice_get}
-use Rattle.std.proofs.lemmas.Bool.{cases_lt, eq-eqb, eqb-true, false≢true}
+use Rattle.std.proofs.Common.{◌≡◌, ℕ, ◌<◌, List, [], ◌∷◌, length, take, Option, Some}
+use Rattle.std.proofs.Common.{inl, inr, refl, sym, subst, arith}
+use Rattle.std.specs.Prelude.{IsSomeAnd}
 use Rattle.std.proofs.lemmas.List.{take_all}
 use Rattle.std.proofs.lemmas.Option.{none-some}
 use Rattle.std.proofs.lemmas.List.Elements.{All-nil}
 use Rattle.list_laws.proofs.NumberLemmas.{IsSomeAnd-within}
 use Rattle.events.specs.declared.event.Event.{Event}
 use Rattle.events.specs.declared.operation.Operation.{Operation}
-use Rattle.events.specs.declared.operation.Response.{Response}
 use Rattle.events.specs.HistoryView.{HistoryView}
 use Rattle.events.specs.Histories.{IsHistory}
 use Rattle.events.specs.Operations.{operations}
@@ -22,7 +20,7 @@ use Rattle.judge.specs.declared.verdict.Verdict.TheVariants.{Yes, No, Undecided}
 use Rattle.judge.specs.Exact.{AreSameVerdict, IsExactVerdict}
 use Rattle.judge.specs.Laws.{OneExactVerdict}
 use Rattle.judge.specs.Shown.{IsShown}
-use Rattle.locating.specs.Bisections.{answers_at, found, spent, upper, lower}
+use Rattle.locating.specs.Bisections.{found, spent, upper, lower}
 use Rattle.locating.specs.Bisections.{IsYes, IsNo, IsUndecided, IsJudged, IsJudgedWhole, IsBisected, IsLeftOpen, IsRefutedWith, IsLostBetween}
 
 -- all first events of a history are its events
@@ -147,35 +145,6 @@ module _ (one_verdict : OneExactVerdict) (prefixes : PrefixesAreHistories) (budg
   open_but_found event (inl und) here = not_no_and_undecided here.refuted und
   open_but_found event (inr refuted) here =
       none-some event (one_bisected refuted.bisected here.bisected)
-
--- an answer of a call is at its event
-answered_there : (response : Option Response) (event : ℕ) → answers_at response event ≡ true → IsSomeAnd response (λ r. r.res ≡ event)
-answered_there None event h = absurd (false≢true h)
-answered_there (Some r) event h = eqb-true r.res event h
-
-not_answered_there : (response : Option Response) (event : ℕ) → answers_at response event ≡ false → IsSomeAnd response (λ r. r.res ≡ event)
-    → ⊥
-not_answered_there None event h is = is
-not_answered_there (Some r) event h is = false≢true (sym h ∙ eq-eqb r.res event is)
-
-module _ (events : List Event) (event number : ℕ) (a : Operation) (here : slice_get (operations events) number ≡ Some a) where
-  -- the event is the answer of the call that is found
-  pub is_answer : answers_at a.response event ≡ true → IsAnswerOf events number event
-  is_answer h =
-      subst (λ (o : Option Operation). IsSomeAnd o (λ b. IsSomeAnd b.response (λ response. response.res ≡ event))) (sym here)
-      (answered_there a.response event h)
-
-  -- and of none so far, and not of this one
-  pub is_no_answer : answers_at a.response event ≡ false → ((n : ℕ) → n < number → IsAnswerOf events n event → ⊥)
-      → (n : ℕ) → n < number + 1 → IsAnswerOf events n event → ⊥
-  is_no_answer h before n below is =
-      ⊎_elim (λ earlier. before n earlier is)
-      (λ past.
-      let same : n ≡ number = omega arith in
-      not_answered_there a.response event h
-      (subst (λ (o : Option Operation). IsSomeAnd o (λ b. IsSomeAnd b.response (λ response. response.res ≡ event))) here
-      (subst (λ (m : ℕ). IsAnswerOf events m event) same is)))
-      (cases_lt n number)
 
 -- the answer of a call is at one of the calls
 pub answer_within : (events : List Event) (number event : ℕ) → IsAnswerOf events number event → number < length (operations events)
