@@ -1,3 +1,2 @@
-mod EscapeLemmas
 mod OutcomeLemmas
 pub mod PageLemmas

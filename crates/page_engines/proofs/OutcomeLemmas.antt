@@ -7,7 +7,7 @@ use Rattle.outcomes.specs.declared.outcome.RunOutcome.TheVariants.{Answered, Mem
 use Rattle.outcomes.specs.Outcomes.{IsTextOutcome}
 use Rattle.history_engines.specs.Answers.{IsHistoryRefusal, IsJudgeAnswer}
 use Rattle.page_engines.specs.Answers.{IsExplainedText, IsLocatedText, IsPageAnswer}
-use Rattle.page_engines.specs.Pages.{page_text}
+use Rattle.page_text.specs.Pages.{page_text}
 
 -- what was read as UTF-8 is as it was
 pub utf8-same : {E : Type 0} (r : Result (Bor (List ℕ)) E) (s : Bor (List ℕ)) (bytes : List ℕ) (IsFault : E → Type 0)

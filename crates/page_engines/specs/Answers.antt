@@ -6,7 +6,7 @@ use Rattle.outcomes.specs.declared.outcome.RunOutcome.TheVariants.{Answered, Not
 use Rattle.history_engines.specs.Answers.{IsJudgeAnswer}
 use Rattle.location_engines.specs.Answers.{IsLocateAnswer}
 use Rattle.explain_engines.specs.Answers.{IsExplainAnswer}
-use Rattle.page_engines.specs.Pages.{page_text}
+use Rattle.page_text.specs.Pages.{page_text}
 
 -- what an outcome prints on standard output, with its answer
 abbrev pub printed : RunOutcome → Option (Answer × List ℕ)

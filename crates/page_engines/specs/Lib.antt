@@ -1,3 +1,2 @@
-pub mod Pages
 pub mod Answers
 pub mod Outcomes

@@ -10,13 +10,13 @@ ghost use Rattle.search.specs.Limits.{budget_limit};
 ghost use Rattle.page_engines.specs.Answers.{IsLocatedText, IsExplainedText, IsPageAnswer, printed};
 ghost use Rattle.page_engines.specs.Outcomes.{IsPageOutcome};
 
-use crate::page_text::{PageTexts, page_of};
 use explain_engines::explain_outcome;
 use history_engines::judge_outcome;
 use history_text::MAX_TEXT;
 use judge::Judge;
 use location_engines::locate_outcome;
 use outcomes::{Answer, RunOutcome, run_text};
+use page_text::{PageTexts, page_of};
 use std::alloc::Global;
 use std::str;
 use streams::{Sink, Source};

@@ -8,7 +8,7 @@ use Rattle.std.proofs.lemmas.List.Folds.{concat-append}
 use Rattle.std.proofs.lemmas.List.Sums.{split_at_first, passes_at_first, fails_before_first}
 use Rattle.std.proofs.lemmas.List.Elements.{All-nil, All-cons, All-append, All-head, All-tail}
 use Rattle.std.proofs.lemmas.Str.Pattern.{IsSplitOnceResult, split_once_first}
-use Rattle.page_engines.specs.Pages.{mark, escaped_byte, escaped, with_block, EscapedTextsHaveNoMark, UnmarkedTextsStay}
+use Rattle.page_text.specs.Pages.{mark, escaped_byte, escaped, with_block, EscapedTextsHaveNoMark, UnmarkedTextsStay}
 
 -- whether a byte is `<`
 abbrev pub is_mark : ℕ → Bool

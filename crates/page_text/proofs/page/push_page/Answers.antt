@@ -1,8 +1,8 @@
 use Rattle.std.proofs.Common.{List, ℕ, ◌++◌, ap, string_bytes}
-use Rattle.page_engines.specs.Pages.{page_text}
-use Rattle.page_engines.specs.declared.template.TheConstants.{BEFORE_HISTORY, BEFORE_JUDGE, BEFORE_LOCATE, BEFORE_EXPLAIN, BEFORE_ORDER, AFTER_ORDER}
-use Rattle.page_engines.proofs.EscapeLemmas.{five-blocks, last-part}
-use Rattle.page_engines.proofs.page_text.push_page.Goals as goal
+use Rattle.page_text.specs.Pages.{page_text}
+use Rattle.page_text.specs.declared.template.TheConstants.{BEFORE_HISTORY, BEFORE_JUDGE, BEFORE_LOCATE, BEFORE_EXPLAIN, BEFORE_ORDER, AFTER_ORDER}
+use Rattle.page_text.proofs.EscapeLemmas.{five-blocks, last-part}
+use Rattle.page_text.proofs.page.push_page.Goals as goal
 
 pub returns : goal.returns
 unfolding page_text

@@ -1,8 +1,8 @@
 use Rattle.std.proofs.Common.{rules, ◌∙◌}
 use Rattle.std.specs.Prelude.{string_bytes, ◌++◌}
-use Rattle.page_engines.specs.Pages.{escaped}
-use Rattle.page_engines.proofs.EscapeLemmas.{found, none, one-more, at-end}
-use Rattle.page_engines.proofs.page_text.push_escaped.Goals as goal
+use Rattle.page_text.specs.Pages.{escaped}
+use Rattle.page_text.proofs.EscapeLemmas.{found, none, one-more, at-end}
+use Rattle.page_text.proofs.page.push_escaped.Goals as goal
 
 pub loop-before-preserved : goal.loop-before-preserved
 loop-before-preserved c =

@@ -2,8 +2,8 @@ use Rattle.std.proofs.Common.{◌≡◌, ◌++◌, length}
 use Rattle.std.specs.Prelude.{string_bytes}
 use denote.Text.{Utf8}
 use denote.Shadow.{shadow}
-use Rattle.page_engines.specs.Pages.{escaped}
-use Rattle.page_engines.proofs.page_text.push_escaped.Given as goal
+use Rattle.page_text.specs.Pages.{escaped}
+use Rattle.page_text.proofs.page.push_escaped.Given as goal
 
 abbrev pub invariant-loop-before : goal.invariant-loop-before
 invariant-loop-before l =

@@ -1,6 +1,6 @@
 // The text of a page: the template with the texts of the program in their places.
 ghost use Rattle.std.specs.Prelude.{◌≡◌, ◌++◌, IfOk, OnOk, [], string_bytes};
-ghost use Rattle.page_engines.specs.Pages.{escaped, page_text};
+ghost use Rattle.page_text.specs.Pages.{escaped, page_text};
 
 use crate::template::{
     AFTER_ORDER, BEFORE_EXPLAIN, BEFORE_HISTORY, BEFORE_JUDGE, BEFORE_LOCATE, BEFORE_ORDER,
@@ -24,7 +24,8 @@ pub struct PageTexts<'a> {
 
 /// Returns the page that shows these texts.
 pub fn page_of(alloc: Global, texts: PageTexts<'_>) -> Result<String, AllocError>
-    ensures { IfOk result (λ page. string_bytes page ≡ page_text texts.entry.history.now texts.entry.judged.now
+    ensures { IfOk result (λ page. string_bytes page ≡ page_text texts.entry.history.now
+        texts.entry.judged.now
         texts.entry.located.now texts.entry.explained.now texts.entry.order.now) }
 {
     let mut page = String::new(alloc);
@@ -35,7 +36,8 @@ pub fn page_of(alloc: Global, texts: PageTexts<'_>) -> Result<String, AllocError
 /// Adds the page to an empty text.
 fn push_page(page: &mut String, texts: PageTexts<'_>) -> Result<(), AllocError>
     requires { string_bytes page.old ≡ [] }
-    ensures { OnOk result (string_bytes page.new ≡ page_text texts.entry.history.now texts.entry.judged.now
+    ensures { OnOk result (string_bytes page.new ≡ page_text texts.entry.history.now
+        texts.entry.judged.now
         texts.entry.located.now texts.entry.explained.now texts.entry.order.now) }
 {
     push_block(page, BEFORE_HISTORY, texts.history)?;

@@ -1,5 +1,5 @@
 // Laws of escaped texts.
-ghost use Rattle.page_engines.specs.Pages.{EscapedTextsHaveNoMark, UnmarkedTextsStay};
+ghost use Rattle.page_text.specs.Pages.{EscapedTextsHaveNoMark, UnmarkedTextsStay};
 
 /// An escaped text has no `<`, so it begins no tag and ends none.
 pub fn escaped_texts_have_no_mark()
