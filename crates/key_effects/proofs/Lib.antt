@@ -9,6 +9,7 @@ pub mod WalkLemmas
 pub mod AfterLemmas
 pub mod AboveLemmas
 pub mod MergeLemmas
+pub mod ReachedLemmas
 pub mod BelowLemmas
 pub mod ApartLemmas
 pub mod EffectLemmas
