@@ -1,4 +1,4 @@
-// `bench page`: a page that shows the verdict on the history on the input.
+// `bench page`: a page that shows the verdict on the history on standard input.
 ghost use Rattle.std.specs.Prelude.{◌≡◌, ◌<◌, ◌≤◌, Some, option_map};
 ghost use Rattle.history_engines.specs.Answers.{IsHistoryRefusal, IsJudgeAnswer};
 ghost use Rattle.history_text.specs.Limits.{text_limit};
@@ -21,9 +21,9 @@ use std::alloc::Global;
 use std::str;
 use streams::{Sink, Source};
 
-/// Reads a history text to the end of the source, or until it is too long, has it judged, and
-/// writes a page that shows it with what `judge`, `locate` and `explain` print of it. Answers the
-/// exit status, that of the verdict.
+/// Reads a history text to the end of the source, or until it is too long, and judges it. Writes a
+/// page that shows the history with what `judge`, `locate` and `explain` print of it. Returns the
+/// exit status of the verdict.
 pub fn run_page<S: Source, O: Sink, F: Sink, H: Sink, J: Judge>(
     alloc: Global,
     source: &mut S,
@@ -51,8 +51,8 @@ pub fn run_page<S: Source, O: Sink, F: Sink, H: Sink, J: Judge>(
     run_text(alloc, source, output, faults, hints, MAX_TEXT, answer)
 }
 
-/// The page that shows the history that the text spells, with what `judge`, `locate` and `explain`
-/// print of it at the judge's budget.
+/// Returns the page that shows the history that the text spells, with what `judge`, `locate` and
+/// `explain` print of it at the judge's budget.
 pub fn page_outcome<J: Judge>(alloc: Global, text: &[u8], judge: &J) -> RunOutcome
     requires { J.ready judge.now }
     ensures { IsTextOutcome (IsPageAnswer (J.budget judge.now)) IsHistoryRefusal (Some text.now)
@@ -80,7 +80,7 @@ struct JudgedText<'a> {
     judged: &'a str,
 }
 
-/// The page of a text that was judged.
+/// Returns the page of a text that was judged.
 fn located_page(alloc: Global, verdict: JudgedText<'_>) -> RunOutcome
     requires budget { (1 ≤ verdict.budget) × (verdict.budget ≤ budget_limit) }
     requires judged { IsJudgeAnswer verdict.budget verdict.text.now verdict.answer
@@ -95,7 +95,7 @@ fn located_page(alloc: Global, verdict: JudgedText<'_>) -> RunOutcome
     outcome
 }
 
-/// The page of a text that was judged, and of which `locate` prints this.
+/// Returns the page of a text that was judged, and of which `locate` prints this.
 fn explained_page(alloc: Global, verdict: JudgedText<'_>, located: &str) -> RunOutcome
     requires budget { (1 ≤ verdict.budget) × (verdict.budget ≤ budget_limit) }
     requires judged { IsJudgeAnswer verdict.budget verdict.text.now verdict.answer
@@ -111,7 +111,7 @@ fn explained_page(alloc: Global, verdict: JudgedText<'_>, located: &str) -> RunO
     outcome
 }
 
-/// The page of a text that was judged, and of which `locate` and `explain` print these.
+/// Returns the page of a text that was judged, and of which `locate` and `explain` print these.
 fn page_with(alloc: Global, verdict: JudgedText<'_>, located: &str, explained: &str) -> RunOutcome
     requires judged { IsJudgeAnswer verdict.budget verdict.text.now verdict.answer
         verdict.judged.now }
@@ -134,7 +134,7 @@ fn page_with(alloc: Global, verdict: JudgedText<'_>, located: &str, explained: &
     RunOutcome::from_answer(verdict.answer, page_of(alloc, texts))
 }
 
-/// What an outcome prints, with its answer; nothing if it is none.
+/// Returns what an outcome prints with its answer, or `None` if it is no answer.
 fn printed(outcome: &RunOutcome) -> Option<(Answer, &str)>
     ensures { option_map (λ p. (p.0, p.1.now)) result ≡ printed outcome.now }
 {

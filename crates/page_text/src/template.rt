@@ -1,6 +1,6 @@
 // The parts of a page around the texts of the program. page/join writes this file from the sources of the page.
 
-/// What stands before the history.
+/// The part of the page before the history.
 pub const BEFORE_HISTORY: &str = "\
 <!doctype html>\n<html lang=\"en\">\n  <head>\n    <meta charset=\"utf-8\" />\n    <meta http-equiv=\"Content-Security-Policy\" content=\"default-sr\
 c 'none'; script-src 'sha256-moHMfuMs3mc24QGUeemvtS346ManVGQTGMxn5sP3FFk='; style-src 'sha256-jTJquuO8Y9yyyyTmwua9GNKKHP2KBzV0BBOH9S8Jh7U='; base-ur\
@@ -123,23 +123,23 @@ noscript><p>This page draws with JavaScript. The texts of the program are in its
 ></noscript>\n    <!-- Each block has a text of the program as it is, except that each \"<\" is written \\u003c, which JSON reads as the same. -->\
 \n    <script type=\"application/json\" id=\"history\">";
 
-/// What stands between the history and the line of `judge`.
+/// The part between the history and the line of `judge`.
 pub const BEFORE_JUDGE: &str = "\
 </script>\n    <script type=\"application/json\" id=\"judge\">";
 
-/// What stands between the line of `judge` and that of `locate`.
+/// The part between the line of `judge` and that of `locate`.
 pub const BEFORE_LOCATE: &str = "\
 </script>\n    <script type=\"application/json\" id=\"locate\">";
 
-/// What stands between the line of `locate` and the lines of `explain`.
+/// The part between the line of `locate` and the lines of `explain`.
 pub const BEFORE_EXPLAIN: &str = "\
 </script>\n    <script type=\"application/json\" id=\"explain\">";
 
-/// What stands between the lines of `explain` and the line of an order.
+/// The part between the lines of `explain` and the line of an order.
 pub const BEFORE_ORDER: &str = "\
 </script>\n    <script type=\"application/json\" id=\"order\">";
 
-/// What stands after the line of an order.
+/// The part after the line of an order.
 pub const AFTER_ORDER: &str = "\
 </script>\n    <script>\n'use strict';\n\n// ---- Reading: a number stays the decimal text that it is, since keys go up to 2^64 - 1 ----\n\n// A str\
 ing of a JSON text. A number is a plain string.\nclass Word {\n  constructor(text) {\n    this.text = text;\n  }\n}\n\n// Reads one JSON value. Obje\
