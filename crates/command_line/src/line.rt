@@ -14,8 +14,9 @@ pub enum Line {
         budget: u32,
         workers: u32,
     },
-    /// It asks at which event the history on standard input stops being linearizable, where a
-    /// search at one key reaches at most `budget` positions, within the limits of `Judge`.
+    /// It asks at which event the history on standard input stops being linearizable. A verdict
+    /// searches at most `budget` configurations of each segment, and a follower reaches at most
+    /// `budget` positions in a search at one key. The limits are those of `Judge`.
     Locate {
         budget: u32,
     },

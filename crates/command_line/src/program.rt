@@ -76,7 +76,7 @@ pub(crate) static SUBCOMMANDS: [Subcommand<'static>; 10] = [
         name: "locate",
         about: "Tells at which response the history on standard input stops being linearizable",
         options: &[budget_option!(
-            "How many states (positions) each search at one key meets at most"
+            "How many states a search meets at most, of a partition or at one key"
         )],
         takes_calls: false,
     },

@@ -22,12 +22,12 @@ use crate::program::{ABOUT, NAME, SUBCOMMANDS};
 use crate::request::read_request;
 use std::alloc::Global;
 
-/// What `words` ask for, the program's name first.
+/// Returns what `words` ask for, the program's name first.
 ///
-/// The fault is `LineFault::Line`, with the text of `clap`, where the words are no line of the
-/// program or ask for help, and `LineFault::Memory` where an allocation was refused. For a value that
-/// is none of the words that its option takes the text is worded as by `clap`, which does not check
-/// it. The time grows with the number of words and with their length.
+/// The fault is `LineFault::Line`, with the text of `clap`, if the words are no line of the program
+/// or ask for help. It is `LineFault::Memory` if an allocation was refused. `clap` does not check
+/// whether a value is one of the words that its option takes. The text for such a value is worded
+/// as `clap` does it. The time grows with the number of words and with their length.
 pub fn read_line<'a>(alloc: Global, words: &'a [&'a str]) -> Result<Line, LineFault>
     ensures line { IfOk result (IsLineOf (texts words.entry.now)) }
     ensures limits { IfOk result IsWithinLimits }
