@@ -167,7 +167,7 @@ fn segment_details(
     )
 }
 
-/// Where a history with this verdict goes wrong, and few calls that show it.
+/// Finds where a history with this verdict goes wrong, and a few calls that show it.
 fn located_details(
     alloc: Global,
     history: &History,

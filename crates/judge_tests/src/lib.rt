@@ -1,8 +1,13 @@
-//! Tests of what judges histories and streams, through public calls: workers that meet and pass gates, verdicts by one thread and by
-//! many, searches turn by turn, configurations by themselves, lines of sources that are cut at odd places or fail midway; and, of what no clause says and no stream shows,
-//! at how few positions choices are found, which orders are guessed, at which place a key settles, and to what.
+//! Tests of what judges histories and streams, through public calls:
 //!
-//! Expected answers were worked out by hand. `tests/program/refused_allocations.py` runs four of the tests with each allocation refused in turn.
+//! - workers that meet and pass gates, and verdicts by one thread and by many;
+//! - searches turn by turn, and configurations on their own;
+//! - lines of sources that are cut at odd positions, or fail midway;
+//! - what no clause says and no stream shows: at how few positions choices are found, which orders
+//!   are guessed, and when a key settles, and to what.
+//!
+//! The expected answers were worked out by hand. `tests/program/refused_allocations.py` runs four
+//! of the tests with each allocation refused in turn.
 #![tactic(auto)]
 
 #[cfg(test)]

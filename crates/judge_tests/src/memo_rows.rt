@@ -1,4 +1,5 @@
-// Configurations by themselves, and a memo of them: digests, equality over other starts, and what is visited.
+// Configurations on their own, and a memo of them: digests, equality over other starts, and what is
+// visited.
 ghost use Rattle.std.specs.Prelude.{◌≡◌, [], ◌∷◌, IfOk};
 ghost use Rattle.map_object.specs.MapObject.{IsRising};
 
@@ -7,7 +8,8 @@ use memo::{Config, Memo, Places};
 use std::alloc::Global;
 use std::test::Fail;
 
-/// The configuration after the call at place 0, which leaves the second pairs, where a search begins at the first.
+/// Returns the configuration after the call at place 0 of a search that begins at the first pairs.
+/// The call leaves the second pairs.
 fn after_one(alloc: Global, first: &[(u64, u64)], second: &[(u64, u64)]) -> Result<Config, Fail>
     requires first { IsRising first.now }
     requires second { IsRising second.now }
@@ -19,7 +21,7 @@ fn after_one(alloc: Global, first: &[(u64, u64)], second: &[(u64, u64)]) -> Resu
     Ok(start.with(alloc, 0, &after)?)
 }
 
-/// The places 0, 1 and 3.
+/// Returns the places 0, 1 and 3.
 fn three_places(alloc: Global) -> Result<Places, Fail> {
     let one = Places::new(alloc).with(alloc, 0)?;
     let two = one.with(alloc, 1)?;
@@ -53,7 +55,7 @@ fn three_places_have_one_word(rt: HostRuntime) -> Result<(), Fail> {
     Ok(())
 }
 
-/// Whether the configuration was new to the memo, where memory was there.
+/// Returns whether the configuration was new to the memo, and fails if out of memory.
 fn is_new(memo: &mut Memo, config: Config) -> Option<bool> {
     match memo.visit(config) {
         Ok(new) => Some(new),

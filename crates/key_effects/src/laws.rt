@@ -1,108 +1,117 @@
-// Laws of calls as the keys see them, each the contract of a function that does nothing.
+// Laws of calls as the keys see them. Each is the contract of a function that does nothing.
 ghost use Rattle.key_effects.specs.Laws.{AboveIsNoYes, AlikeCallsDecide, AliveMayDie, AsGoodChoicesStand, BelowIsNoNo, CallsGrow, ChoicesBegin, ChoicesJudge, ChoicesStay, CutsStandAbove, CutsStandBelow, DeadChoicesGo, DeadChoicesStayDead, EffectsDecide, GrowthGoesOn, OrdersAreKeyedOrders, PartsJudge, PendingCallsDisturb, ReadsMayBeTaken, SetsOfKeysJudge, SomeKeysRefute};
 
-/// The calls of events have an order exactly where the scans are answered as scans may be, and the calls have an order as the keys see them.
+/// The calls of events have an order exactly if two things hold: each scan has an answer that a
+/// scan may have, and the calls have an order as the keys see them.
 pub fn orders_are_keyed_orders()
     ensures { OrdersAreKeyedOrders }
 {}
 
-/// With further events the calls grow.
+/// Further events make the calls grow.
 pub fn calls_grow()
     ensures { CallsGrow }
 {}
 
-/// Calls that have grown grow on.
+/// Growth continues: calls that grew from calls that had grown have grown from the first.
 pub fn growth_goes_on()
     ensures { GrowthGoesOn }
 {}
 
-/// Before any event one choice stands above and below whatever comes: no call is taken, and the keys hold what they hold at the start.
+/// Before any event, one choice stands above and below all events that may come. In it no call is
+/// taken, and the keys hold what they hold at the start.
 pub fn choices_begin()
     ensures { ChoicesBegin }
 {}
 
-/// Choices that stand above or below the calls do so with further events.
+/// Choices that stand above or below the calls do so after further events too.
 pub fn choices_stay()
     ensures { ChoicesStay }
 {}
 
-/// Where none of the choices above goes on to an order now, there is none; where one of those below does, there is one.
+/// If no choice above goes on to an order now, there is no order. If a choice below does, there is
+/// one.
 pub fn choices_judge()
     ensures { ChoicesJudge }
 {}
 
-/// What goes on to an order with further events goes on to one now.
+/// A choice that goes on to an order with further events goes on to one now.
 pub fn dead_choices_stay_dead()
     ensures { DeadChoicesStayDead }
 {}
 
-/// So a choice that goes on to no order now may go.
+/// A choice above that goes on to no order now may be dropped.
 pub fn dead_choices_go()
     ensures { DeadChoicesGo }
 {}
 
-/// Choices above may be replaced by such as are as good, and choices below by such as those are as good as.
+/// Choices above may be replaced by choices that are as good as they are. Choices below may be
+/// replaced by choices that they are as good as.
 pub fn as_good_choices_stand()
     ensures { AsGoodChoicesStand }
 {}
 
-/// A read that was answered may be taken as soon as it fits; where nothing is left of the calls that precede it, nothing is gained by that.
+/// A read that was answered may be taken as soon as it fits. If nothing is left of the calls that
+/// precede it, the choice after it is no better than the one before.
 pub fn reads_may_be_taken()
     ensures { ReadsMayBeTaken }
 {}
 
-/// At a past moment the choices above become such as cover the cut.
+/// At a past moment, choices that cover the cut may replace the choices above.
 pub fn cuts_stand_above()
     ensures { CutsStandAbove }
 {}
 
-/// And the choices below become such as are reached.
+/// At a past moment, choices that are reached may replace the choices below.
 pub fn cuts_stand_below()
     ensures { CutsStandBelow }
 {}
 
-/// What has an order has one at some keys alone: so these alone refute.
+/// Calls that have an order have one at any set of keys. So a set of keys without an order refutes.
 pub fn some_keys_refute()
     ensures { SomeKeysRefute }
 {}
 
-/// Where each call parts both sets of keys, both together judge: so a scan whose range has changes at the keys of one of both alone need not
-/// be held at one moment with the others.
+/// If each call parts a set of keys from the others, the calls have an order exactly if they have
+/// one at each of the two sets. So a scan needs no common moment if only one of the sets has
+/// changes in its range.
 pub fn sets_of_keys_judge()
     ensures { SetsOfKeysJudge }
 {}
 
-/// So do many sets of keys, each by itself.
+/// Calls that many sets of keys part have an order exactly if they have one at each set.
 pub fn parts_judge()
     ensures { PartsJudge }
 {}
 
-/// But what goes on to an order now may not with further events.
+/// A choice that goes on to an order now may go on to none with further events.
 pub fn alive_may_die()
     ensures { AliveMayDie }
 {}
 
-/// That a choice above goes on to an order is no yes.
+/// A choice above that goes on to an order gives no yes.
 pub fn above_is_no_yes()
     ensures { AboveIsNoYes }
 {}
 
-/// That no choice below goes on to one is no no.
+/// Choices below that all go on to no order give no no.
 pub fn below_is_no_no()
     ensures { BelowIsNoNo }
 {}
 
-/// Calls without effect do not matter: where the others are the same, both lists of calls have orders or none.
+/// Calls without effect do not matter: two lists with the same other calls both have orders, or
+/// none.
 pub fn effects_decide()
     ensures { EffectsDecide }
 {}
 
-/// Calls that are alike at some keys have orders where the others do, if the other keys hold nothing.
+/// If the other keys hold nothing, calls that are alike at some keys have an order exactly if the
+/// others do.
 pub fn alike_calls_decide()
     ensures { AlikeCallsDecide }
 {}
 
-/// A scan may be judged apart only where no call disturbs it, be it pending: completed calls alone do not tell.
+/// A scan may be judged apart only if no call disturbs it, completed or pending. It is not enough
+/// to look at the completed calls.
 pub fn pending_calls_disturb()
     ensures { PendingCallsDisturb }
 {}

@@ -1,8 +1,11 @@
-//! Calls as the keys see them, and what may be kept of the calls of a stream while it goes on: laws alone.
+//! Calls as the keys see them, and what of a stream's calls may stay in memory: only laws.
 //!
-//! At each key a call fits some values and leaves one; a scan reads what it was told of each key in its range. So calls in turn are legal
-//! exactly where they fit at each key. What is kept of calls that are gone is a set of choices: which calls took effect at which keys, what they
-//! found, and what the keys hold. Choices stand above the calls where no order is lost, and below them where none is gained.
+//! At each key a call fits some values and leaves one. A scan reads at each key of its range what
+//! it answered there. Calls in turn are legal exactly if they fit at each key.
+//!
+//! Calls that are dropped leave a set of choices. A choice says which calls took effect at which
+//! keys, what they found, and what the keys hold. Choices stand above the calls if they lose no
+//! order, and below the calls if they add none.
 #![tactic(auto)]
 
 mod laws;

@@ -1,4 +1,4 @@
-// The search of an event by the judge's verdicts on the first events of a history.
+// The search for an event by the judge's verdicts on the first events of a history.
 ghost use Rattle.std.specs.Prelude.{◌≡◌, ◌≤◌, IfOk, IfSome};
 ghost use Rattle.events.specs.Operations.{operations};
 ghost use Rattle.judge.specs.Exact.{IsExactVerdict};
@@ -13,10 +13,10 @@ use judge::{Verdict, judge_alone};
 use prefixes::orders_are_lost_at_answers;
 use std::alloc::Global;
 
-/// The event between `low` and `high` at which a history loses its orders, where its first `low`
-/// events have one, and its first `high` have none. It is sought by bisection: a yes on those in
-/// the middle leaves the later half, and a no the earlier one. None, where that verdict is
-/// undecided. Between no events and all that a history may have it costs 13 verdicts at most.
+/// Finds the event between `low` and `high` at which a history loses its orders. Its first `low`
+/// events have an order, and its first `high` have none. The search is by bisection: a yes on the
+/// first events up to the middle leaves the later half, and a no the earlier one. If that verdict
+/// is undecided, it returns `None`. It costs at most 13 verdicts.
 pub(crate) fn bisect(
     alloc: Global,
     history: &History,
@@ -41,7 +41,7 @@ pub(crate) fn bisect(
     }
 }
 
-/// The judge's verdict on the first events of a history, so many of them.
+/// Returns the judge's verdict on the first `count` events of a history.
 fn verdict_on_first(
     alloc: Global,
     history: &History,
@@ -59,7 +59,8 @@ fn verdict_on_first(
     judge_alone(alloc, &first, budget)
 }
 
-/// The number of the call that an event answers at which a history loses its orders.
+/// Returns the number of the call that is answered at the event at which a history loses its
+/// orders.
 pub(crate) fn number_of(history: &History, event: usize) -> usize
     requires { LosesOrderAt history.now event }
     ensures { GoesWrongAt history.now result event }
@@ -74,7 +75,7 @@ pub(crate) fn number_of(history: &History, event: usize) -> usize
     unreachable!()
 }
 
-/// Whether an event is the answer of a call.
+/// Returns whether an event is the answer of a call.
 fn is_answered_at(call: &Operation, event: usize) -> bool
     ensures { result ≡ answers_at call.now.response event }
 {

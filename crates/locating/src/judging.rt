@@ -1,4 +1,4 @@
-// Where a history goes wrong: by the judge, and where that leaves it open by a follower.
+// Where a history goes wrong: by the judge, and after an undecided verdict by a follower.
 ghost use Rattle.std.specs.Prelude.{◌≤◌, length, IfOk};
 ghost use Rattle.events.specs.Operations.{operations};
 ghost use Rattle.judge.specs.Exact.{IsExactVerdict};
@@ -15,11 +15,11 @@ use events::{History, Memory};
 use judge::{Verdict, judge_alone};
 use std::alloc::Global;
 
-/// The event at which a history goes wrong. Having an order is closed under prefixes, so that a
-/// history without order loses it at one event, which is an answer. It is sought by the judge's
-/// verdicts on first events, and where one of these is undecided at the budget, by a follower of
-/// streams. Want of memory is an error and decides nothing. It costs 14 verdicts at most, and a
-/// pass of the events through the follower.
+/// Finds the event at which a history goes wrong. If a history has an order, so do its first
+/// events. So a history without order loses it at one event, which is an answer. The judge's
+/// verdicts on first events find it. If one of these is undecided at the budget, a follower of
+/// streams looks for it. Out of memory is an error and decides nothing. It costs at most 14
+/// verdicts, and a pass of the events through the follower.
 pub fn locate(alloc: Global, history: &History, budget: u32) -> Result<Location, Memory>
     requires { (1 ≤ budget) × (budget ≤ budget_limit) }
     ensures { IfOk result (IsLocated budget history.now) }
@@ -28,7 +28,7 @@ pub fn locate(alloc: Global, history: &History, budget: u32) -> Result<Location,
     locate_from(alloc, history, &verdict, budget)
 }
 
-/// The same, where the judge's verdict on the history is known.
+/// Finds the event at which a history goes wrong, from the judge's verdict on the history.
 pub fn locate_from(
     alloc: Global,
     history: &History,
@@ -48,7 +48,7 @@ pub fn locate_from(
     }
 }
 
-/// The event at which a history goes wrong that the judge refutes.
+/// Finds the event at which a history goes wrong, if the judge refutes it.
 fn locate_refuted(alloc: Global, history: &History, budget: u32) -> Result<Location, Memory>
     requires budget { (1 ≤ budget) × (budget ≤ budget_limit) }
     requires refuted { IsJudgedWhole IsNo budget history.now }

@@ -1,12 +1,11 @@
-// Laws of locations, each the contract of a function that does nothing.
+// Laws of locations. Each is the contract of a function that does nothing.
 ghost use Rattle.locating.specs.Laws.{LocationsAgree, OneLocationWhereJudged};
 
 use judge::one_exact_verdict;
 use prefixes::{answers_have_one_call, one_event_goes_wrong, prefixes_are_histories};
 
-/// What `locate` answers of one history at any two budgets never contradicts: where one says that
-/// it goes wrong, the other says the same event of the same call, or is undecided at that event or
-/// before it.
+/// The answers of `locate` to one history at any two budgets agree. If one says that it goes wrong,
+/// the other says the same event of the same call, or is undecided at that event or before it.
 pub fn locations_agree()
     ensures { LocationsAgree }
 {
@@ -14,8 +13,8 @@ pub fn locations_agree()
     answers_have_one_call();
 }
 
-/// What `locate` answers of one history at one budget has one report, where the judge's verdicts on
-/// first events at that budget tell it.
+/// If the judge's verdicts on first events at a budget say where a history goes wrong, the answers
+/// of `locate` at that budget have one report.
 pub fn one_location_where_judged()
     ensures { OneLocationWhereJudged }
 {

@@ -1,11 +1,13 @@
-//! Where a history goes wrong: the one event at which it loses its orders; and few calls that show
-//! it. The event is found by bisection, by the judge's verdicts on first events. Where one of these
-//! is undecided, all events pass through a follower of streams. The few calls are of the events up
-//! to there, from the pairs at the start. Where none of the last calls show it, they are of what
-//! goes wrong by itself at a key, from the value that the key had before.
+//! Where a history goes wrong: the one event at which it loses its orders; and a few calls that
+//! show it.
 //!
-//! What it is to go wrong at an event stands in the definitions of `prefixes`, and what a location
-//! says in `specs/`.
+//! The event is found by bisection, by the judge's verdicts on first events. If one of these is
+//! undecided, all events pass through a follower of streams. The few calls are some of those up to
+//! the event, from the pairs at the start. If none of the last calls show it, they are of one key
+//! that goes wrong on its own, from the value that the key had before.
+//!
+//! The definitions of `prefixes` say when a history goes wrong at an event. Those in `specs/` say
+//! what a location means.
 #![tactic(auto)]
 
 mod beginning;

@@ -53,7 +53,7 @@ fn put_location(
     }
 }
 
-/// Puts the members of a no at an event, the answer of the call of this number.
+/// Puts the members of a no: the event, and the number of the call that it answers.
 fn put_no(
     members: &mut Map<String, Value>,
     alloc: Global,

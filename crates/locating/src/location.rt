@@ -1,7 +1,7 @@
 // Locations of the event at which a history goes wrong.
 use follower::{Doubt, Loss};
 
-/// Where a history goes wrong, as far as searches within a budget tell. Events and calls are
+/// Where a history goes wrong, as far as searches within a budget find. Events and calls are
 /// numbered from 0.
 #[derive(Drop)]
 pub enum Location {
@@ -13,12 +13,13 @@ pub enum Location {
         event: usize,
         number: usize,
     },
-    /// The same of the loss of a follower, where the judge's verdicts leave it open. The keys are
-    /// some at which what was kept has no order with that event.
+    /// The judge's verdicts leave it open, and a follower lost its order at an event. The events
+    /// before that one are linearizable, and with it they are not. The loss names keys at which
+    /// what was kept has no order with the event.
     Lost(Loss),
-    /// The judge's verdicts leave it open. The events before this one, the answer of the call of
-    /// this number, are linearizable. Whether they are with it a follower does not find out, for
-    /// this reason.
+    /// The judge's verdicts leave it open. This event is the answer of the call of this number, and
+    /// the events before it are linearizable. A follower did not find out whether they are with it,
+    /// for this reason.
     Undecided {
         event: usize,
         number: usize,

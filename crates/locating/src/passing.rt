@@ -23,10 +23,10 @@ pub(crate) enum Passed {
     Ended(Location),
 }
 
-/// Where a history goes wrong, if the judge's verdicts leave it open: the events go through a
-/// follower of streams one by one. The pass ends at the first answer at which the follower finds
-/// that there is no order any more, or, for `budget` positions of a search at one key, does not
-/// find out.
+/// Finds where a history goes wrong, if the judge's verdicts leave it open. The events pass through
+/// a follower of streams one by one. The pass ends at the first answer at which the follower finds
+/// that there is no order any more, or does not find out. A search at one key reaches at most
+/// `budget` positions.
 pub(crate) fn follow(alloc: Global, history: &History, budget: u32) -> Result<Location, Memory>
     requires { IsLeftOpen budget history.now }
     ensures { IfOk result (IsLocated budget history.now) }

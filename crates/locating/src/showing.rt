@@ -18,10 +18,10 @@ use follower::{Loss, OwnPart, own_part, own_parts_have_no_order};
 use map_object::SortedMap;
 use std::alloc::Global;
 
-/// Few calls that show a location. Of the events up to where the history goes wrong, or may, they
-/// are sought where short searches of the last calls show that there is no order
-/// (`explain_history`). Else they are sought of all events up to there, where the judge found it,
-/// or of what a follower lost, where that is one key with one value: as `explain_calls` finds them.
+/// Finds a few calls that show a location. First it makes short searches of the last calls up to
+/// where the history goes wrong, or may (`explain_history`). If these show no missing order, it
+/// looks among all calls up to there if the judge found the event (`explain_calls`). If a follower
+/// lost one key with one value, it looks among the calls left there.
 pub fn evidence_of(
     alloc: Global,
     history: &History,
@@ -40,7 +40,8 @@ pub fn evidence_of(
     }
 }
 
-/// Few calls that show that the events up to one have no order, which is known.
+/// Finds a few calls that show that the events up to one have no order. It is known that they have
+/// none.
 fn found_evidence(
     alloc: Global,
     history: &History,
@@ -61,7 +62,7 @@ fn found_evidence(
     }
 }
 
-/// Few of the calls of a history that has no order.
+/// Finds a few calls without order in a history that has none.
 fn explain_whole(alloc: Global, history: &History, budget: u32) -> Result<Explanation, Memory>
     requires none { IsLinearizableHistory history.now → ⊥ }
     ensures { IfOk result (IsExplanation history.now.start (operations history.now.events) budget) }
@@ -70,7 +71,7 @@ fn explain_whole(alloc: Global, history: &History, budget: u32) -> Result<Explan
     explain_calls(alloc, &start, history.calls(), budget)
 }
 
-/// Few calls that show a loss.
+/// Finds a few calls that show a loss.
 fn loss_evidence(
     alloc: Global,
     history: &History,
@@ -88,7 +89,7 @@ fn loss_evidence(
     }
 }
 
-/// Few calls of what goes wrong by itself, where something does.
+/// Finds a few calls at one key that goes wrong on its own, if there is one.
 fn own_evidence(
     alloc: Global,
     history: &History,
@@ -109,7 +110,7 @@ fn own_evidence(
     }
 }
 
-/// Few of the calls of a part that has no order.
+/// Finds a few calls without order in a part that has none.
 fn explain_part(alloc: Global, part: &OwnPart, budget: u32) -> Result<Explanation, Memory>
     requires sorted { IsRising part.now.start }
     requires rising { AllPairs (λ a b. a.inv < b.inv) part.now.calls }
@@ -121,8 +122,8 @@ fn explain_part(alloc: Global, part: &OwnPart, budget: u32) -> Result<Explanatio
     explain_calls(alloc, &start, &part.calls, budget)
 }
 
-/// Few calls that show that the events up to one have no order, where it is not known whether they
-/// have one.
+/// Finds a few calls that show that the events up to one have no order. It is not known whether
+/// they have one.
 fn doubt_evidence(
     alloc: Global,
     history: &History,

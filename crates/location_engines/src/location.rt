@@ -20,10 +20,10 @@ use outcomes::{Answer, RunOutcome, line_of, run_text};
 use std::alloc::Global;
 use streams::{Sink, Source};
 
-/// Reads a history text to the end of the source, or until it is too long, and looks for the event
-/// at which the history goes wrong: by verdicts, each by searches of at most `budget`
-/// configurations, and where one is undecided by a follower, whose search at one key reaches at
-/// most `budget` positions. It starts no thread. Answers the exit status.
+/// Reads a history text to the end of the source, or until it is too long, and finds the event at
+/// which the history goes wrong. A verdict searches at most `budget` configurations of each
+/// segment. If one is undecided, a follower looks, and a search at one key reaches at most `budget`
+/// positions. It starts no thread. Returns the exit status.
 pub fn run_locate<S: Source, O: Sink, F: Sink, H: Sink>(
     alloc: Global,
     source: &mut S,

@@ -9,7 +9,8 @@ use std::alloc::Global;
 use std::marker::Model;
 use std::rc::Rc;
 
-/// The pairs at the start of a search, which its configurations share. Where there are none, nothing is kept.
+/// The pairs at the start of a search, which its configurations share. A base without pairs takes
+/// no memory.
 #[derive(Drop)]
 pub(crate) struct Base {
     map: Option<Rc<SortedMap>>,
@@ -26,14 +27,14 @@ impl Model for Base {
 }
 
 impl Base {
-    /// No pairs. It takes no memory.
+    /// Returns a base without pairs. It takes no memory.
     pub(crate) fn new() -> Base
         ensures { result ≡ [] }
     {
         Base { map: None }
     }
 
-    /// The pairs of the map, which are copied.
+    /// Returns a base with a copy of the map's pairs.
     pub(crate) fn of(alloc: Global, map: &SortedMap) -> Result<Base, Memory>
         ensures { IfOk result (λ b. b ≡ map.now) }
     {
@@ -44,7 +45,7 @@ impl Base {
         Ok(Base { map: Some(map) })
     }
 
-    /// The same pairs again, which are not copied.
+    /// Returns a base that shares these pairs.
     pub(crate) fn share(&self) -> Result<Base, Memory>
         ensures { IfOk result (λ b. b ≡ self.now) }
     {
@@ -55,7 +56,7 @@ impl Base {
         Ok(Base { map: Some(map) })
     }
 
-    /// The pairs, by rising key.
+    /// Returns the pairs, by rising key.
     pub(crate) fn pairs(&self) -> &[(u64, u64)]
         ensures pairs { result.now ≡ self.now }
         ensures rising { IsRising self.now }
@@ -66,7 +67,7 @@ impl Base {
         }
     }
 
-    /// The value at a key, found by halves.
+    /// Returns the value at a key. It is a binary search.
     pub(crate) fn value(&self, key: u64) -> Option<u64>
         ensures value { result ≡ value_at self.now key }
         ensures rising { IsRising self.now }
@@ -74,7 +75,7 @@ impl Base {
         value_at(self.pairs(), key)
     }
 
-    /// Whether the same pairs are in both.
+    /// Returns whether both have the same pairs.
     pub(crate) fn is_same(&self, other: &Base) -> bool
         ensures { IsTrue result ↔ (self.now ≡ other.now) }
     {

@@ -12,9 +12,10 @@ use std::alloc::Global;
 use std::hash::{Hash, Hasher};
 use std::marker::Model;
 
-/// Where a search stands: the set of calls taken, each named by its place in the list of calls, and the pairs that the
-/// map then holds. Contracts see the places by rising number and the pairs by rising key. It shares the pairs
-/// at the start of the search, and keeps what differs from them.
+/// A state of a search: the set of calls taken, and the pairs that the map then holds. A call is
+/// named by its place in the list of calls. Contracts see the places by rising number, and the
+/// pairs by rising key. A configuration shares the pairs at the start of its search, and stores
+/// only what differs from them.
 #[derive(Drop)]
 pub struct Config {
     pub(crate) base: Base,
@@ -32,8 +33,8 @@ impl Model for Config {
     ghost invariant = { λ c. IsKept c.base c.form };
 }
 
-/// Two are equal exactly where the same calls are taken and the same pairs are held, whatever the starts of
-/// their searches. Digests that differ tell most others apart.
+/// Two configurations are equal exactly if they have taken the same calls and hold the same pairs.
+/// The starts of their searches do not matter. Most unequal configurations have unequal digests.
 impl PartialEq for Config {
     ghost use Rattle.std.specs.Prelude.{◌≡◌, ◌↔◌, IsTrue};
     ghost use Rattle.std.specs.Cmp.{partial_equiv_from_equiv};
@@ -73,8 +74,8 @@ impl Hash for Config {
 }
 
 impl Config {
-    /// No call taken, and the pairs of the map: where a search begins. They are copied, once for all
-    /// configurations that come of this one.
+    /// Returns the configuration at which a search begins: no call is taken, and the map holds its
+    /// pairs. They are copied once, for all configurations that follow from this one.
     pub fn start(alloc: Global, map: &SortedMap) -> Result<Config, Memory>
         ensures { IfOk result (λ c. c ≡ record { taken = []; pairs = map.now }) }
     {
@@ -83,8 +84,8 @@ impl Config {
         Ok(Config { base, form })
     }
 
-    /// The configuration after one more call, the one at `place`, which leaves the map `after`. On `Memory` there is
-    /// none. `after` is compared with the pairs at the start, so it costs as much as the maps.
+    /// Returns the configuration after one more call: the one at `place`, which leaves the map
+    /// `after`. It compares `after` with the pairs at the start, so it costs as much as these maps.
     pub fn with(&self, alloc: Global, place: u32, after: &SortedMap) -> Result<Config, Memory>
         requires { Contains self.now.taken place → ⊥ }
         ensures { IfOk result (λ c. c ≡ after_one self.now place after.now) }
@@ -94,8 +95,8 @@ impl Config {
         Ok(Config { base, form })
     }
 
-    /// The sum modulo 2^64 of what the calls taken and the pairs held mix. Equal configurations have equal
-    /// digests.
+    /// Returns the sum modulo 2^64 of the mixed numbers of the calls taken and of the pairs held.
+    /// Equal configurations have equal digests.
     pub fn digest(&self) -> u64
         ensures { result ≡ digest_of self.now }
     {
@@ -103,7 +104,7 @@ impl Config {
     }
 }
 
-/// Whether the same calls are taken and the same pairs are held.
+/// Returns whether both have taken the same calls and hold the same pairs.
 fn is_equal(a: &Config, b: &Config) -> bool
     ensures { IsTrue result ↔ (a.now ≡ b.now) }
 {
@@ -116,7 +117,7 @@ fn is_equal(a: &Config, b: &Config) -> bool
     holds_as(a, b)
 }
 
-/// Whether the same pairs are held.
+/// Returns whether both hold the same pairs.
 fn holds_as(a: &Config, b: &Config) -> bool
     ensures { IsTrue result ↔ (a.now.pairs ≡ b.now.pairs) }
 {
@@ -132,7 +133,7 @@ fn holds_as(a: &Config, b: &Config) -> bool
     agree(a, b, b.form.put())
 }
 
-/// Whether both hold the same values, or none, at the keys of these pairs.
+/// Returns whether both have the same value, or none, at each key of these pairs.
 fn agree(a: &Config, b: &Config, pairs: &[(u64, u64)]) -> bool
     ensures { IsTrue result ↔ All (λ pair. value_at a.now.pairs pair.0 ≡ value_at b.now.pairs pair.0) pairs.now }
 {

@@ -96,7 +96,7 @@ pub(crate) fn value_from(first: Option<u64>, put: Option<u64>, gone: Option<u64>
     }
 }
 
-/// The pairs that are not so in others.
+/// Returns the pairs that are not among others.
 fn unlike(
     alloc: Global,
     pairs: &[(u64, u64)],
@@ -114,7 +114,7 @@ fn unlike(
     Ok(unlike)
 }
 
-/// The pairs at whose keys others have no value.
+/// Returns the pairs at whose keys others have no value.
 fn absent(
     alloc: Global,
     pairs: &[(u64, u64)],
@@ -132,15 +132,15 @@ fn absent(
     Ok(absent)
 }
 
-/// What differs in pairs from those at the start: the pairs that are not so there, and those there whose keys
-/// have no value any more.
+/// The changes since the start of a search: the pairs that are not among those at the start, and
+/// the pairs at the start whose keys have no value any more.
 #[derive(Drop)]
 pub(crate) struct Changes {
     pub(crate) put: Vec<(u64, u64)>,
     pub(crate) gone: Vec<(u64, u64)>,
 }
 
-/// The difference of pairs from those at the start.
+/// Returns how pairs differ from those at the start.
 pub(crate) fn difference(
     alloc: Global,
     start: &[(u64, u64)],
@@ -156,7 +156,8 @@ pub(crate) fn difference(
     })
 }
 
-/// The pairs that have a difference: those at the start that are not gone, and those that are put.
+/// Returns the pairs after these changes: the pairs at the start that are not gone, and those that
+/// are put.
 pub(crate) fn pairs_from(
     alloc: Global,
     start: &[(u64, u64)],

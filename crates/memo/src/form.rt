@@ -1,4 +1,4 @@
-// The form in which a configuration is kept.
+// The form in which a configuration is stored.
 ghost use Rattle.std.specs.Prelude.{◌≡◌, ◌↔◌, [], IsTrue, IfOk, Contains};
 ghost use Rattle.memo.specs.Kept.{configuration_from, IsKept};
 ghost use Rattle.memo.specs.Taking.{after_one};
@@ -17,9 +17,10 @@ use std::alloc::Global;
 use std::hash::{Hash, Hasher};
 use std::marker::Model;
 
-/// What is kept of a configuration beside the pairs at the start of its search: the set of calls taken, the pairs
-/// held that are not so at the start, and those at the start whose keys are gone. So it takes as much
-/// memory as the calls taken and their keys, and not as the map.
+/// The part of a configuration that is stored apart from the pairs at the start of its search. It
+/// has the set of calls taken, the pairs held that are not among those at the start, and the pairs
+/// at the start whose keys are gone. Its memory grows with the calls taken and their keys, and not
+/// with the map.
 #[derive(Drop)]
 pub(crate) struct Form {
     places: Places,
@@ -41,8 +42,9 @@ impl Model for Form {
     } };
 }
 
-/// Two that differ from the same start are equal exactly where the same calls are taken and the same pairs are held.
-/// Digests that differ tell most others apart; else it costs at most the calls and the changed pairs of one of them.
+/// Two forms over the same start are equal exactly if they have taken the same calls and hold the
+/// same pairs. Most unequal forms have unequal digests, and comparing these is enough. Otherwise
+/// the cost is at most that of the calls and the changed pairs of one form.
 impl PartialEq for Form {
     ghost use Rattle.std.specs.Prelude.{◌≡◌};
     ghost use Rattle.std.specs.Cmp.{partial_equiv_from_equiv};
@@ -83,7 +85,8 @@ impl Hash for Form {
 }
 
 impl Form {
-    /// No call taken, and the pairs at the start. It takes no memory.
+    /// Returns the form in which no call is taken and no pair differs from the start. It takes no
+    /// memory.
     pub(crate) fn start(alloc: Global, base: &Base) -> Form
         ensures kept { IsKept base.now result }
         ensures is { configuration_from base.now result ≡ record { taken = []; pairs = base.now } }
@@ -96,28 +99,28 @@ impl Form {
         }
     }
 
-    /// The stored digest.
+    /// Returns the stored digest.
     pub(crate) fn digest(&self) -> u64
         ensures { result ≡ self.now.digest }
     {
         self.digest
     }
 
-    /// Whether the same calls are taken.
+    /// Returns whether both have taken the same calls.
     pub(crate) fn has_taken_as(&self, other: &Form) -> bool
         ensures { IsTrue result ↔ (self.now.taken ≡ other.now.taken) }
     {
         self.places.is_same(&other.places)
     }
 
-    /// The pairs that are not so at the start.
+    /// Returns the pairs that are not among those at the start.
     pub(crate) fn put(&self) -> &[(u64, u64)]
         ensures { result.now ≡ self.now.put }
     {
         &self.put
     }
 
-    /// The value at a key, over the pairs at the start.
+    /// Returns the value at a key, over the pairs at the start.
     pub(crate) fn value(&self, base: &Base, key: u64) -> Option<u64>
         requires { IsKept base.now self.now }
         ensures { result ≡ value_at (configuration_from base.now self.now).pairs key }
@@ -129,7 +132,8 @@ impl Form {
         )
     }
 
-    /// The form of the same configuration over other pairs at the start. It costs as much as these and the map.
+    /// Returns the form of the same configuration over other pairs at the start. It costs as much
+    /// as these and the map.
     pub(crate) fn over(&self, alloc: Global, base: &Base, other: &Base) -> Result<Form, Memory>
         requires { IsKept base.now self.now }
         ensures kept { IfOk result (IsKept other.now) }
@@ -145,8 +149,9 @@ impl Form {
         })
     }
 
-    /// The form of the configuration after one more call, the one at `place`, which leaves the map `after`. It
-    /// costs as much as the calls taken and the maps: those at the start, before and after the call.
+    /// Returns the form of the configuration after one more call: the one at `place`, which leaves
+    /// the map `after`. It costs as much as the calls taken and three maps: at the start, before
+    /// the call and after it.
     pub(crate) fn with(
         &self,
         alloc: Global,
@@ -175,9 +180,9 @@ impl Form {
         })
     }
 
-    /// The same, where the call changed no value but that of the key, where one is given. It costs as much as it
-    /// copies: the bits of the calls taken and the pairs that differ from those at the start. Only the pair that
-    /// changed is mixed anew.
+    /// Returns what `with` returns, for a call that changes the value of at most this key, or of
+    /// none if none is given. It costs as much as it copies: the bits of the calls taken, and the
+    /// pairs that differ from those at the start. Only the pair that changed is mixed again.
     pub(crate) fn with_key(
         &self,
         alloc: Global,

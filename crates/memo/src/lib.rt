@@ -1,8 +1,7 @@
-//! Configurations of a search, and the memo that tells a new one from those visited: Lowe 2017. The
-//! sets of places that they are kept by, and the numbers that tell them apart, are there for other
-//! searches too.
+//! Configurations of a search, and the memo that finds whether one is new: Lowe 2017. Other searches
+//! use its sets of places and its digests too.
 //!
-//! What a configuration is, and which are reachable, stands in `configurations`' definitions.
+//! The definitions of `configurations` say what a configuration is, and which are reachable.
 #![tactic(auto)]
 
 mod base;

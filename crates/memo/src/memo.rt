@@ -14,8 +14,8 @@ use map_object::SortedMap;
 use std::alloc::Global;
 use std::marker::Model;
 
-/// The configurations that a search has visited, each once, and the pairs at its start, from which each is told. Contracts
-/// see the configurations in the order of their first visits.
+/// The configurations that a search has visited, each once, and the pairs at its start, from which
+/// each differs. Contracts see the configurations in the order of their first visits.
 #[derive(Drop)]
 pub struct Memo {
     alloc: Global,
@@ -37,7 +37,7 @@ impl Model for Memo {
 }
 
 impl Memo {
-    /// Nothing visited. It takes no memory.
+    /// Returns a memo of no configurations. It takes no memory.
     pub fn new(alloc: Global) -> Memo
         ensures { result ≡ [] }
     {
@@ -48,9 +48,10 @@ impl Memo {
         }
     }
 
-    /// Whether the configuration is new; from now on it is not. On `Memory` it is handed back, and nothing has changed.
-    /// Where it has other pairs at the start of its search than those visited, its form is made anew over theirs. So it
-    /// costs as much as the maps. It is looked up by its digest, and compared with those visited that have the same.
+    /// Visits the configuration, and returns whether it is new. On `Memory` it is handed back, and
+    /// nothing has changed. It is compared with the visited configurations of the same digest. If
+    /// the pairs at the start of its search are others than theirs, its form is made again over
+    /// theirs. That costs as much as the maps.
     pub fn visit(&mut self, config: Config) -> Result<bool, (Config, Memory)>
         ensures new { IfOk result (λ new. IsTrue new ↔ (Contains self.old config → ⊥)) }
         ensures visited { IfOk result (λ new. self.new
@@ -77,11 +78,12 @@ impl Memo {
         }
     }
 
-    /// Whether the configuration is new to which one more call leads: from the one that was visited after `from` others, by
-    /// the call at `place`, which leaves the map `after`. From now on it is not. It answers as the configuration's `with`
-    /// and then `visit` would, but costs as much as the calls taken and the pairs that differ from those at
-    /// the start, and not as the map: of the pairs only the one that the call may change is looked at. On `Memory`
-    /// nothing has changed.
+    /// Visits the configuration after one more call, and returns whether it is new. The call is the
+    /// one at `place`. It comes after the configuration that was visited after `from` others, and
+    /// leaves the map `after`. This answers as the configuration's `with` and then `visit` would.
+    /// It looks at one pair only, the one that the call may change. So it costs as much as the
+    /// calls taken and the pairs that differ from those at the start, and not as much as the map.
+    /// On `Memory` nothing has changed.
     pub fn visit_next(
         &mut self,
         alloc: Global,
@@ -105,7 +107,7 @@ impl Memo {
         }
     }
 
-    /// How many configurations were visited.
+    /// Returns how many configurations were visited.
     pub fn len(&self) -> usize
         ensures len { result ≡ length self.now }
         ensures distinct { AreDistinct self.now }
@@ -113,7 +115,7 @@ impl Memo {
         self.visited.len()
     }
 
-    /// Whether none was visited.
+    /// Returns whether no configuration was visited.
     pub fn is_empty(&self) -> bool
         ensures { IsTrue result ↔ (self.now ≡ []) }
     {
@@ -121,7 +123,7 @@ impl Memo {
     }
 }
 
-/// The configurations visited before any call: the one at the map.
+/// Returns a memo of one configuration: no call is taken, and the map holds its pairs.
 pub fn visited_at_start(alloc: Global, map: &SortedMap) -> Result<Memo, Memory>
     ensures { IfOk result (λ visited. visited ≡ record { taken = []; pairs = map.now } ∷ []) }
 {
@@ -132,7 +134,7 @@ pub fn visited_at_start(alloc: Global, map: &SortedMap) -> Result<Memo, Memory>
     }
 }
 
-/// The key whose value a call may change.
+/// Returns the key whose value a call may change.
 fn key_changed(call: &Call) -> Option<u64>
     ensures { result ≡ key_changed call.now }
 {
@@ -142,7 +144,7 @@ fn key_changed(call: &Call) -> Option<u64>
     }
 }
 
-/// Whether the form is new; from now on it is not. Where memory is wanting it is handed back.
+/// Inserts the form, and returns whether it is new. If out of memory, it is handed back.
 fn insert(visited: &mut IndexSet<Form>, form: Form) -> Result<bool, Form>
     ensures new { IfOk result (λ new. IsTrue new ↔ (Contains visited.old.keys form → ⊥)) }
     ensures visited { IfOk result (λ new. visited.new.keys
@@ -156,7 +158,8 @@ fn insert(visited: &mut IndexSet<Form>, form: Form) -> Result<bool, Form>
     }
 }
 
-/// Whether forms over these pairs may be among those visited: these are over the same, or there are none.
+/// Returns whether a form over the other pairs can be added as it is: those visited are over the
+/// same pairs, or there are none.
 fn may_share(visited: &IndexSet<Form>, base: &Base, other: &Base) -> bool
     ensures { IsTrue result ↔ ((visited.now.keys ≡ []) ⊎ (base.now ≡ other.now)) }
 {

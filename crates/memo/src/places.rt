@@ -9,9 +9,9 @@ use events::Memory;
 use std::alloc::Global;
 use std::marker::Model;
 
-/// A set of places of calls: the least one that is not in it, and the bits of those above that one. The last word of
-/// bits is not 0. Contracts see the places by rising number. So it takes as much memory as the places behind the first
-/// that is missing.
+/// A set of places of calls: the least place that is not in it, and a bit for each place above that
+/// one. The last word of bits is not 0. Contracts see the places by rising number. Only the places
+/// above the first missing one take memory.
 #[derive(Drop)]
 pub struct Places {
     least: usize,
@@ -30,7 +30,7 @@ impl Model for Places {
 }
 
 impl Places {
-    /// No place. It takes no memory.
+    /// Returns a set of no places. It takes no memory.
     pub fn new(alloc: Global) -> Places
         ensures { result ≡ [] }
     {
@@ -40,7 +40,7 @@ impl Places {
         }
     }
 
-    /// The same places again.
+    /// Returns a copy of the set.
     pub(crate) fn copy(&self, alloc: Global) -> Result<Places, Memory>
         ensures { IfOk result (λ p. p ≡ self.now) }
     {
@@ -51,14 +51,14 @@ impl Places {
         })
     }
 
-    /// Whether the same places are in both sets.
+    /// Returns whether both sets have the same places.
     pub fn is_same(&self, other: &Places) -> bool
         ensures { IsTrue result ↔ (self.now ≡ other.now) }
     {
         self.least == other.least && self.words == other.words
     }
 
-    /// Whether a place is in the set. It costs the same for each.
+    /// Returns whether a place is in the set. It costs the same for each place.
     pub fn contains(&self, place: usize) -> bool
         ensures { IsTrue result ↔ Contains self.now place }
     {
@@ -68,7 +68,7 @@ impl Places {
         place > self.least && is_set(&self.words, place - (self.least + 1))
     }
 
-    /// The least place that is not in the set.
+    /// Returns the least place that is not in the set.
     pub fn least_missing(&self) -> usize
         ensures below { (n : ℕ) → n < result → Contains self.now n }
         ensures missing { Contains self.now result → ⊥ }
@@ -76,7 +76,8 @@ impl Places {
         self.least
     }
 
-    /// The bits of the places above that one, in words of 64 bits. The last word is not 0, so a set has these words alone.
+    /// Returns the bits of the places above the least missing one, in words of 64 bits. The last
+    /// word is not 0, so each set has one such list of words.
     pub fn words(&self) -> &[u64]
         ensures told { (least : ℕ) × (places_of least result.now ≡ self.now) }
         ensures trimmed { IsTrimmed result.now }
@@ -84,7 +85,7 @@ impl Places {
         &self.words
     }
 
-    /// The set with one more place, or `Memory` where there is none. It costs as much as the bits that it copies.
+    /// Returns the set with one more place. It costs as much as the bits that it copies.
     pub fn with(&self, alloc: Global, place: usize) -> Result<Places, Memory>
         requires new { Contains self.now place → ⊥ }
         requires small { place < 2 ^ 64 - 1 }

@@ -1,9 +1,8 @@
-//! The library: a history's text is judged, the event at which it goes wrong is located, or its
-//! verdict is explained, drawn or shown as a page, and a stream's text is followed, by calls that a
-//! program in C makes.
+//! The library: calls for programs in C. They judge a history's text, locate the event at which it
+//! goes wrong, explain or draw the verdict, show it as a page, and follow a stream's text.
 //!
-//! A call starts no thread, waits for nobody, and keeps nothing but what a follower holds, to which
-//! a stream's lines are handed over as they come. What it answers stands in room of the caller's.
+//! A call starts no thread and waits for nobody. Only a follower stays in memory between calls. It
+//! takes the lines of a stream as they come. A call writes its answer into room of the caller's.
 #![tactic(auto)]
 
 mod by_lines;

@@ -1,4 +1,5 @@
-// Laws of answers that tell less and of caches, each the contract of a function that does nothing.
+// Laws of answers that tell less, and of caches. Each is the contract of a function that does
+// nothing.
 ghost use Rattle.telling.specs.CacheLaws.{EvictedKeysAreNoLostWrites, HistoriesOfCachesHaveRecordings, LostWritesAreRefuted, RecordedCachesAreLossyMaps};
 ghost use Rattle.telling.specs.FoundAfterOther.{FoundAfterOtherIsMissed};
 ghost use Rattle.telling.specs.Laws.{AnswersDoCalls, AnswersThatTellLess, OrdersAreThoseOfToldCalls};
@@ -8,41 +9,45 @@ pub fn answers_do_calls()
     ensures { AnswersDoCalls }
 {}
 
-/// `done` is legal at each call; `found` exactly where a value is at the key of a call that names one; `other` exactly at a
-/// replace where another value than the expected one is at its key, or none.
+/// `done` is legal at each call; `found` exactly where a value is at the key of a call that names
+/// one; `other` exactly at a replace where another value than the expected one is at its key, or
+/// none.
 pub fn answers_that_tell_less()
     ensures { AnswersThatTellLess }
 {}
 
-/// Calls whose answers tell less have an order exactly where they have it with some whole answers in their place.
+/// Calls whose answers tell less have an order exactly where they have it with some whole answers
+/// in their place.
 pub fn orders_are_those_of_told_calls()
     ensures { OrdersAreThoseOfToldCalls }
 {}
 
-/// A cache that loses keys, and nothing else, is never refuted: if its calls are linearizable over the lossy map, the
-/// recorded calls are linearizable.
+/// A cache that loses keys, and nothing else, is never refuted: if its calls are linearizable over
+/// the lossy map, the recorded calls are linearizable.
 pub fn evicted_keys_are_no_lost_writes()
     ensures { EvictedKeysAreNoLostWrites }
 {}
 
-/// A cache that loses more than keys is always refuted: if the recorded calls are linearizable, its calls are linearizable
-/// over the lossy map.
+/// A cache that loses more than keys is always refuted: if the recorded calls are linearizable, its
+/// calls are linearizable over the lossy map.
 pub fn lost_writes_are_refuted()
     ensures { LostWritesAreRefuted }
 {}
 
-/// A history of a cache is linearizable over the lossy map exactly if its recording is linearizable.
+/// A history of a cache is linearizable over the lossy map exactly if its recording is
+/// linearizable.
 pub fn recorded_caches_are_lossy_maps()
     ensures { RecordedCachesAreLossyMaps }
 {}
 
-/// Each history of a cache has a recording: event by event, with removes next to scans by processes of their own.
+/// Each history of a cache has a recording: event by event, with removes next to scans by processes
+/// of their own.
 pub fn histories_of_caches_have_recordings()
     ensures { HistoriesOfCachesHaveRecordings }
 {}
 
-/// If a replace was answered `other` and a call of its key `found`, a recording may be linearizable although the history is
-/// not linearizable over the lossy map.
+/// If a replace was answered `other` and a call of its key `found`, a recording may be linearizable
+/// although the history is not linearizable over the lossy map.
 pub fn found_after_other_is_missed()
     ensures { FoundAfterOtherIsMissed }
 {}
