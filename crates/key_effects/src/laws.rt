@@ -12,7 +12,7 @@ pub fn calls_grow()
     ensures { CallsGrow }
 {}
 
-/// Growth continues: calls that grew from calls that had grown have grown from the first.
+/// Growth in two steps is growth.
 pub fn growth_goes_on()
     ensures { GrowthGoesOn }
 {}
@@ -72,8 +72,8 @@ pub fn some_keys_refute()
 {}
 
 /// If each call parts a set of keys from the others, the calls have an order exactly if they have
-/// one at each of the two sets. So a scan needs no common moment if only one of the sets has
-/// changes in its range.
+/// one at each of the two sets. So a scan over both needs no common moment if only one of them has
+/// changes in its range while it runs.
 pub fn sets_of_keys_judge()
     ensures { SetsOfKeysJudge }
 {}
