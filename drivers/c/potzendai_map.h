@@ -5,6 +5,7 @@
 #include "potzendai_schedule.h"
 #include "streaming.h"
 #include <inttypes.h>
+#include <stdlib.h>
 #include <time.h>
 
 /* What a function of the map says. */
@@ -43,6 +44,12 @@ struct potzendai_map {
     void (*end)(void *opened);     /* closes it for good */
     void *(*reopen)(void *opened); /* closes it, at rest, and opens it again, with what it held: the same pointer, or another one */
 };
+
+/* Under `--kill` the folder in which `begin` opens its store, with what it held; NULL else. `end` is not called then. */
+static inline const char *potzendai_store(void)
+{
+    return getenv("POTZENDAI_STORE");
+}
 
 enum potzendai_function {
     POTZENDAI_GET, POTZENDAI_PUT, POTZENDAI_DEL, POTZENDAI_SCAN, POTZENDAI_REPLACE, POTZENDAI_PUT_IF_ABSENT, POTZENDAI_FLOOR,

@@ -48,6 +48,9 @@ struct potzendai_waiting { struct potzendai_told told; struct potzendai_counts c
 
 struct potzendai_plan;
 
+/* What was counted of kills: the calls that were open at one, what the verdict says of writes, and of a store that does not open. */
+struct potzendai_kills { uint64_t open; char counted[160], ending[120]; };
+
 /* A run with what comes of it. `given` is the map of the program, `opened` the one of it that is tested now. `connection` is of the thread that
  * runs all of it. Where it is quiet, a no is not told. */
 struct potzendai_tester {
@@ -64,6 +67,7 @@ struct potzendai_tester {
     bool has_terminal, has_overlap, is_quiet, is_connected;
     struct potzendai_plan *plan; /* of a scheduled run */
     const char *ending;          /* how its last round ended, where that has no recording */
+    struct potzendai_kills kills;
     struct potzendai_waiting waiting[POTZENDAI_BATCH];
     size_t waiting_count;
 };

@@ -22,6 +22,7 @@
 #define _POSIX_C_SOURCE 200809L
 #endif
 #include "potzendai_follow.h"
+#include "potzendai_kill.h"
 #include "potzendai_scheduled.h"
 #include <signal.h>
 
@@ -99,7 +100,9 @@ static inline void potzendai_tell_all(FILE *out, const struct potzendai_tester *
     const struct potzendai_counts *counts = &tester->run->counts;
     uint64_t calls = counts->calls;
     fprintf(out, "%s: ", verdict);
-    if (!tester->options->is_stream)
+    if (tester->options->kill > 0)
+        fprintf(out, "%" PRIu64 " %s, ", tester->rounds, tester->rounds == 1 ? "life" : "lives");
+    else if (!tester->options->is_stream)
         fprintf(out, "%" PRIu64 " round%s, ", tester->rounds, potzendai_plural(tester->rounds));
     fprintf(out, "%" PRIu64 " call%s in %.1f seconds", calls, potzendai_plural(calls), potzendai_now() - tester->began);
     if (!tester->options->is_stream || tester->has_overlap)
@@ -109,6 +112,8 @@ static inline void potzendai_tell_all(FILE *out, const struct potzendai_tester *
             fprintf(out, "%s%" PRIu64 " %s", comma, counts->sayings[said], potzendai_sayings[said]);
             comma = ", ";
         }
+    if (tester->options->kill > 0)
+        fprintf(out, "; %" PRIu64 " open at a kill%s", tester->kills.open, tester->kills.counted);
     if (tester->undecided > 0)
         fprintf(out, "; %" PRIu64 " undecided", tester->undecided);
     if (tester->options->cache != POTZENDAI_NO_CACHE)
@@ -117,7 +122,7 @@ static inline void potzendai_tell_all(FILE *out, const struct potzendai_tester *
     /* a late miss may be of a write that has not appeared yet, and is no loss */
     if (tester->options->cache != POTZENDAI_NO_CACHE && tester->options->cache != POTZENDAI_CACHE_LATE)
         fprintf(out, ", %" PRIu64 " loss%s", counts->losses, counts->losses == 1 ? "" : "es");
-    if (strncmp(verdict, "no", 2) != 0)
+    if (strncmp(verdict, "no", 2) != 0 && strncmp(verdict, "does", 4) != 0)
         potzendai_tell_cautions(out, tester);
     fputc('\n', out);
 }
@@ -216,6 +221,8 @@ static inline int potzendai_open_tester(struct potzendai_tester *tester, const s
 /* Begins with a map, runs rounds or a stream, and ends the map that there is then. */
 static inline int potzendai_run_all(struct potzendai_tester *tester)
 {
+    if (tester->options->kill > 0)
+        return potzendai_store() ? potzendai_live(tester) : potzendai_kill_lives(tester);
     int status = potzendai_begin_map(tester);
     if (status == 0)
         status = tester->options->is_stream ? potzendai_stream(tester)
@@ -292,16 +299,20 @@ static inline int potzendai_test_main(int argc, char **argv, const struct potzen
     struct potzendai_options options;
     if (potzendai_asks_help(argc, argv))
         return potzendai_help(argv[0]);
+    if (potzendai_store())
+        return potzendai_read_life(&options, argc, argv, map) ? POTZENDAI_BAD_WORDS : potzendai_test(&options, argv[0], map, false);
     int status = potzendai_read_words(&options, argc, argv, map);
     if (status)
         return status;
+    if (potzendai_is_unjudged(&options) && options.kill > 0)
+        return potzendai_complain("--kill", "each life is judged, and nobody judges here");
     if (potzendai_is_unjudged(&options) && options.broken == POTZENDAI_EACH_BREAK)
         return potzendai_complain("--break", "all: each is judged, and nobody judges here");
     if (potzendai_is_unjudged(&options) || options.bench)
         signal(SIGPIPE, SIG_IGN);
 #ifdef POTZENDAI_NO_LIBRARY
     if (!potzendai_is_unjudged(&options))
-        status = potzendai_open_bench(options.bench, options.is_stream);
+        status = potzendai_open_bench(options.bench, options.is_stream || options.kill > 0);
     if (status)
         return status;
 #endif

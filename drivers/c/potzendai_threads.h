@@ -45,6 +45,7 @@ struct potzendai_run {
     uint64_t puts[1024], values_from;
     struct potzendai_counts counts;
     bool is_scheduled;
+    int events; /* of a process that is killed: where its events go, or 0 */
     struct potzendai_open open_calls[RECORDING_PROCESSES];
     recording_word open_count;
     recording_word next_process, processes, arrived, has_begun, is_over, fault, wrongs, pops, popping, left_out;
@@ -79,7 +80,7 @@ __attribute__((weak)) void potzendai_taken(void)
     struct potzendai_thread *t = potzendai_reader;
     if (t && t->run->stream)
         streaming_taken(t->run->stream, t->process);
-    else if (t)
+    else if (t && !t->run->events)
         recording_taken(t->run->recording, t->process);
 }
 
@@ -126,14 +127,30 @@ static inline int potzendai_note_drop(struct potzendai_run *run, unsigned p)
     return run->stream ? streaming_drop(run->stream, p) : recording_drop(run->recording, p);
 }
 
+/* Writes an event as a line, which is there as a whole or not at all. */
+static inline int potzendai_note_line(struct potzendai_run *run, unsigned p, enum recording_kind kind, const uint64_t words[3],
+                                      const struct recording_pair *pairs)
+{
+    char text[RECORDING_EVENT_TEXT + (POTZENDAI_SPAN + 1) * RECORDING_PAIR_TEXT];
+    struct recording_event event = {0, {words[0], words[1], words[2]}, kind, p, RECORDING_AS_MADE};
+    char *end = recording_put_event(text, &event, pairs);
+    *end++ = '\n';
+    return write(run->events, text, (size_t)(end - text)) == end - text ? 0 : -1;
+}
+
 static inline int potzendai_note_call(struct potzendai_run *run, unsigned p, enum recording_kind call, const uint64_t words[3])
 {
+    if (run->events)
+        return potzendai_note_line(run, p, call, words, NULL);
     return run->stream ? streaming_invoke(run->stream, p, call, words[0], words[1], words[2])
                        : recording_add(run->recording, p, call, words[0], words[1], words[2]);
 }
 
 static inline int potzendai_note_pairs(struct potzendai_run *run, unsigned p, const struct recording_pair *pairs, size_t count)
 {
+    const uint64_t words[3] = {0, count, 0};
+    if (run->events)
+        return potzendai_note_line(run, p, RECORDING_LIST, words, pairs);
     return run->stream ? streaming_answer_pairs(run->stream, p, pairs, count) : recording_answer_pairs(run->recording, p, pairs, count);
 }
 
@@ -146,6 +163,9 @@ static inline int potzendai_note_answer(struct potzendai_run *run, unsigned p, e
                    : potzendai_note_pairs(run, p, &answer->pair, answer->said == MAP_TOLD);
     bool is_done_replace = request->function == POTZENDAI_REPLACE && answer->said == MAP_DONE;
     uint64_t value = is_done_replace ? request->other : answer->pair.value;
+    const uint64_t words[3] = {value, 0, 0};
+    if (run->events)
+        return potzendai_note_line(run, p, kind, words, NULL);
     return run->stream ? streaming_respond(run->stream, p, kind, value, 0) : recording_add(run->recording, p, kind, value, 0, 0);
 }
 
@@ -369,7 +389,7 @@ static inline bool potzendai_is_lost(struct potzendai_run *run, const struct pot
 static inline int potzendai_make(struct potzendai_thread *t, const struct potzendai_request *request, struct potzendai_answer *answer)
 {
     struct potzendai_run *run = t->run;
-    bool is_cache = run->options->cache != POTZENDAI_NO_CACHE, is_held = !run->stream || is_cache || potzendai_is_held(request->function);
+    bool is_cache = run->options->cache != POTZENDAI_NO_CACHE, is_held = (!run->stream && !run->events) || is_cache || potzendai_is_held(request->function);
     uint64_t words[3];
     memset(answer, 0, sizeof *answer);
     answer->pairs = t->pairs;

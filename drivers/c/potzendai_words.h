@@ -50,7 +50,10 @@ struct potzendai_options {
     enum potzendai_void void_puts;
     enum potzendai_break broken;
     enum potzendai_cache cache;
-    bool is_steps, is_stream, has_mix, has_void, has_seed, is_reopened;
+    bool is_steps, is_stream, has_mix, has_void, has_seed, is_reopened, is_killed_at_write, has_power;
+    double kill;          /* seconds, or 0 */
+    bool is_reading;      /* of a process that is killed: whether it reads the keys, */
+    uint64_t life;        /* or which life it is of */
     struct potzendai_schedule_words schedule;
     const char *out, *bench;
 };
@@ -81,6 +84,9 @@ static const char potzendai_usage[] =
     "                    appear later\n"
     "  --fresh N         a new map after each so many rounds (one map)\n"
     "  --reopen          the map is closed and opened again after each round\n"
+    "  --kill SECONDS    a process makes the calls of a round, and is killed 0.5 to 1.5 times as long after its first call\n"
+    "  --kill-at-write   it is killed before a drawn write of its store\n"
+    "  --power           after a kill each file has what it had at its last sync\n"
     "  --stream          one stream that is followed, in the place of rounds\n"
     "  --schedule HOW    the scheduler says which thread runs: mix, pos, pct or walk; with 12 calls and 4 keys\n"
     "  --depth N         of pct: at N - 1 drawn points a priority changes (3)\n"
@@ -235,10 +241,30 @@ static inline int potzendai_read_schedule_word(struct potzendai_schedule_words *
     return is_right ? 0 : potzendai_complain(word, "none of its names or numbers; --help has them");
 }
 
+/* Reads a word of kills that has none after it: -1 where it is none of these. */
+static inline int potzendai_read_kill_flag(struct potzendai_options *o, const char *word)
+{
+    bool is_power = strcmp(word, "--power") == 0;
+    if (!is_power && strcmp(word, "--kill-at-write") != 0)
+        return -1;
+    o->has_power = o->has_power || is_power;
+    o->is_killed_at_write = o->is_killed_at_write || !is_power;
+    return 0;
+}
+
+/* Reads the seconds after which a process is killed. */
+static inline int potzendai_read_kill(struct potzendai_options *o, const char *text)
+{
+    char *end = NULL;
+    o->kill = text ? strtod(text, &end) : 0;
+    bool is_number = end && end > text && *end == 0 && o->kill >= 0.001 && o->kill <= 1e6;
+    return is_number ? 0 : potzendai_complain("--kill", "seconds from 0.001 to 1000000");
+}
+
 static inline int potzendai_read_word(struct potzendai_options *o, char **words, int *at)
 {
     const char *word = words[*at];
-    if (potzendai_read_schedule_flag(&o->schedule, word) == 0)
+    if (potzendai_read_schedule_flag(&o->schedule, word) == 0 || potzendai_read_kill_flag(o, word) == 0)
         return 0;
     o->has_seed = o->has_seed || strcmp(word, "--seed") == 0;
     if (strcmp(word, "--stream") == 0 || strcmp(word, "--reopen") == 0) {
@@ -253,6 +279,8 @@ static inline int potzendai_read_word(struct potzendai_options *o, char **words,
         return 0;
     }
     const char *text = words[++*at];
+    if (strcmp(word, "--kill") == 0)
+        return potzendai_read_kill(o, text);
     if (strcmp(word, "--mix") == 0)
         return text ? potzendai_read_mix(o, text) : potzendai_complain(word, "shares, as get=50,put=30,del=10,scan=10");
     if (strcmp(word, "--out") == 0) {
@@ -280,6 +308,8 @@ static inline void potzendai_take_shares(struct potzendai_options *o, const stru
         o->shares[f] = potzendai_has(map, (enum potzendai_function)f) ? usual[f] : 0;
     if (has_keys_of_its_own)
         o->shares[POTZENDAI_POP_FIRST] = 0;
+    for (int f = POTZENDAI_PUT_IF_ABSENT; o->kill > 0 && f < POTZENDAI_FUNCTIONS; f++)
+        o->shares[f] = 0;
     if (o->is_steps)
         o->shares[POTZENDAI_SCAN] = usual[POTZENDAI_SCAN];
 }
@@ -334,6 +364,26 @@ static inline int potzendai_check_maps(const struct potzendai_options *o, const 
     return o->is_reopened && !map->reopen ? potzendai_complain("--reopen", "the map has no function reopen") : 0;
 }
 
+/* Whether the words let a store be killed. */
+static inline int potzendai_check_kill(const struct potzendai_options *o, const struct potzendai_map *map)
+{
+    const char *other = o->is_stream ? "--stream" : o->schedule.way != POTZENDAI_FREE ? "--schedule" : o->fresh ? "--fresh"
+                      : o->is_reopened ? "--reopen" : o->broken != POTZENDAI_UNBROKEN ? "--break" : o->cache != POTZENDAI_NO_CACHE ? "--cache"
+                      : o->is_steps ? "--scan steps" : o->void_puts > POTZENDAI_VOID_TOLD ? "--void own or lock" : NULL;
+    if (o->kill == 0)
+        return o->has_power || o->is_killed_at_write ? potzendai_complain(o->has_power ? "--power" : "--kill-at-write", "only with --kill") : 0;
+    if (!map->begin)
+        return potzendai_complain("--kill", "the map has no function begin, which opens its store");
+    if (other) {
+        fprintf(stderr, "--kill: not with %s\n", other);
+        return POTZENDAI_BAD_WORDS;
+    }
+    for (int f = POTZENDAI_PUT_IF_ABSENT; f < POTZENDAI_FUNCTIONS; f++)
+        if (o->shares[f] > 0)
+            return potzendai_complain(potzendai_functions[f], "not with --kill, since only its answer says which call it was");
+    return 0;
+}
+
 /* How many calls a process may make in a round: those of a thread, or the last gets of all keys. */
 static inline uint64_t potzendai_calls_each(const struct potzendai_options *o)
 {
@@ -372,6 +422,8 @@ static inline int potzendai_check_sizes(struct potzendai_options *o)
         return potzendai_complain("--hot", "more than there are keys");
     if (o->void_puts == POTZENDAI_VOID_OWN && o->keys < o->threads)
         return potzendai_complain("--void", "own: each thread needs a key");
+    if (o->kill > 0)
+        return 0;
     if (o->is_stream)
         return o->rounds > 0 ? potzendai_complain("--rounds", "a stream has none; --seconds, or --calls of each thread") : 0;
     if (o->calls == 0)
@@ -474,6 +526,8 @@ static inline int potzendai_read_words(struct potzendai_options *o, int argc, ch
     }
     if (o->bench && !o->out)
         o->out = ".";
+    if (potzendai_store() && o->kill == 0)
+        o->kill = 1;
     potzendai_take_schedule_sizes(o);
     if (o->keys == 0)
         o->keys = o->is_stream ? POTZENDAI_STREAM_KEYS : POTZENDAI_KEYS;
@@ -487,9 +541,10 @@ static inline int potzendai_read_words(struct potzendai_options *o, int argc, ch
     status = status ? status : potzendai_check_shares(o, map);
     status = status ? status : potzendai_check_break(o);
     status = status ? status : potzendai_check_maps(o, map);
+    status = status ? status : potzendai_check_kill(o, map);
     status = status ? status : potzendai_check_sizes(o);
     o->span = potzendai_span(o);
-    return status ? status : potzendai_check_out(o);
+    return status || potzendai_store() ? status : potzendai_check_out(o);
 }
 
 /* Writes the words that make a scheduled round again. */
@@ -532,6 +587,8 @@ static inline void potzendai_write_words(FILE *out, const struct potzendai_optio
         fprintf(out, " --fresh %" PRIu64, o->fresh);
     if (o->is_reopened)
         fputs(" --reopen", out);
+    if (o->kill > 0)
+        fprintf(out, " --kill %g%s%s", o->kill, o->is_killed_at_write ? " --kill-at-write" : "", o->has_power ? " --power" : "");
     if (o->broken != POTZENDAI_UNBROKEN)
         fprintf(out, " --break %s", potzendai_breaks[o->broken]);
     if (o->schedule.way != POTZENDAI_FREE)

@@ -329,7 +329,7 @@ class Run:
 
     def lose_power(self):
         """Leaves each file of the store what it held when it was last synced."""
-        copies = set(os.listdir(self.shadow))
+        copies, used = set(os.listdir(self.shadow)), set()
         for folder, _, names in os.walk(self.store):
             for name in names:
                 path = os.path.join(folder, name)
@@ -340,10 +340,10 @@ class Run:
                     with open(os.path.join(self.shadow, copy), "rb") as kept, open(path, "r+b") as file:
                         shutil.copyfileobj(kept, file)
                         file.truncate()
-                    copies.discard(copy)
+                    used.add(copy)
                 else:
                     os.truncate(path, 0)
-        for copy in copies:
+        for copy in copies - used:
             os.unlink(os.path.join(self.shadow, copy))
 
     # Verdicts
