@@ -1,9 +1,8 @@
 // A std::map under a lock; WAY says which, since each kind of lock waits in another way.
-#include "potzendai_test.hpp"
+#include "locked_map.hpp"
 #include <atomic>
 #include <chrono>
 #include <condition_variable>
-#include <map>
 #include <memory>
 #include <mutex>
 #include <semaphore.h>
@@ -151,45 +150,8 @@ struct Lock {
 #endif
 };
 
-class Map {
-    Lock lock;
-    std::map<uint64_t, uint64_t> pairs;
-
-    map_said look(uint64_t key, uint64_t &found) const
-    {
-        auto at = pairs.find(key);
-        if (at == pairs.end())
-            return MAP_NONE;
-        found = at->second;
-        return MAP_TOLD;
-    }
-
-public:
-    map_said get(uint64_t key, uint64_t &found)
-    {
-        std::lock_guard<Lock> guard(lock);
-        return look(key, found);
-    }
-
-    map_said put(uint64_t key, uint64_t value, uint64_t &found)
-    {
-        std::lock_guard<Lock> guard(lock);
-        map_said said = look(key, found);
-        pairs[key] = value;
-        return said;
-    }
-
-    map_said del(uint64_t key, uint64_t &found)
-    {
-        std::lock_guard<Lock> guard(lock);
-        map_said said = look(key, found);
-        pairs.erase(key);
-        return said;
-    }
-};
-
 int main(int argc, char **argv)
 {
-    Map map;
+    LockedMap<Lock> map;
     return potzendai::test_main(argc, argv, map, "ways");
 }
