@@ -84,7 +84,7 @@ static inline int potzendai_build_library(struct potzendai_killing *k)
     const char *const words[] = {"cc", "-std=c11", "-O2", "-shared", "-fPIC", "-o", k->library, source, "-ldl", "-lpthread", NULL};
     if (access(source, R_OK) == 0 && potzendai_execute(words) == 0)
         return 0;
-    return potzendai_fail(k->tester->run, POTZENDAI_BAD_WORDS, "--kill-at-write and --power need cc, and at run time %.120s", source);
+    return potzendai_fail(k->tester->run, POTZENDAI_BAD_WORDS, "--kill-at-write and --power need cc and %.90s: run where it was compiled", source);
 }
 
 /* Makes a folder in the one for files, and has its path without links. */
