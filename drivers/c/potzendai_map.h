@@ -50,7 +50,7 @@ enum potzendai_function {
 };
 
 static const char *const potzendai_functions[] = {
-    "get", "put", "del", "scan", "replace", "put_if_absent", "floor", "ceiling", "pop_first"
+    "get", "put", "del", "scan", "replace", "put_if_absent", "floor", "ceiling", "pop_first", NULL
 };
 
 static const char *const potzendai_sayings[] = {"told", "none", "done", "found", "other", "refused", "unknown"};

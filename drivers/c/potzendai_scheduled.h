@@ -76,6 +76,12 @@ static inline int potzendai_make_one(struct potzendai_plan *plan, const struct p
     return 0;
 }
 
+/* Whether the round ended well, so that it has a recording. */
+static inline bool potzendai_is_whole(const struct potzendai_shared *shared)
+{
+    return shared->ending == POTZENDAI_ENDED && shared->made.outcome == POTZENDAI_FINISHED;
+}
+
 /* ---- The rounds before the first. */
 
 static inline int potzendai_make_first_one(struct potzendai_plan *plan, enum potzendai_points points, uint64_t number)
@@ -102,9 +108,10 @@ static inline uint64_t potzendai_make_first(struct potzendai_plan *plan, enum po
     for (uint64_t i = 0; i < rounds; i++) {
         if (potzendai_make_first_one(plan, points, i))
             return 0;
-        bool is_whole = shared->ending == POTZENDAI_ENDED && shared->made.outcome == POTZENDAI_FINISHED;
-        steps += is_whole ? shared->made.steps : 0;
-        ended += is_whole;
+        if (potzendai_is_whole(shared)) {
+            steps += shared->made.steps;
+            ended++;
+        }
         if (shared->ending == POTZENDAI_OUTSIDE)
             break; /* each takes seconds */
     }
@@ -150,11 +157,6 @@ static inline int potzendai_copy_text(const struct potzendai_shared *shared, str
     memcpy(told->text, shared->text, shared->length);
     told->length = shared->length;
     return 0;
-}
-
-static inline bool potzendai_is_whole(const struct potzendai_shared *shared)
-{
-    return shared->ending == POTZENDAI_ENDED && shared->made.outcome == POTZENDAI_FINISHED;
 }
 
 /* The word for how a round ended that has no recording; the last line begins with it. */

@@ -314,13 +314,6 @@ static inline void potzendai_see(struct potzendai_thread *t, const struct potzen
         t->seen[request->key] = answer->pair.value;
 }
 
-/* Whether nobody else may write the key of the call meanwhile. */
-static inline bool potzendai_has_key_of_its_own(const struct potzendai_run *run, enum potzendai_function function)
-{
-    enum potzendai_void how = run->options->void_puts;
-    return (how == POTZENDAI_VOID_OWN || how == POTZENDAI_VOID_LOCK) && potzendai_writes(function);
-}
-
 /* What was known of a cache's key before a call: whether it was put and no removal has begun since, whether a removal was open, and how many had
  * begun. */
 struct potzendai_sight { bool is_held, is_open; uint64_t removals; };
@@ -391,7 +384,7 @@ static inline int potzendai_make(struct potzendai_thread *t, const struct potzen
     potzendai_reader = NULL;
     if (is_cache)
         t->losses += potzendai_is_lost(run, request, answer, &sight);
-    if (answer->said == MAP_UNKNOWN && potzendai_has_key_of_its_own(run, request->function))
+    if (answer->said == MAP_UNKNOWN && potzendai_has_one_writer(run->options) && potzendai_writes(request->function))
         run->keys[request->key].is_loose = true;
     if (run->options->void_puts == POTZENDAI_VOID_OWN && potzendai_writes(request->function))
         potzendai_remember(&run->keys[request->key], request, answer);

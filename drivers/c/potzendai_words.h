@@ -35,6 +35,9 @@ enum potzendai_way { POTZENDAI_FREE, POTZENDAI_MIX, POTZENDAI_ONLY_POS, POTZENDA
 
 static const char *const potzendai_ways[] = {"free", "mix", "pos", "pct", "walk", NULL};
 
+/* By `enum potzendai_points`; no word asks for those that learn. */
+static const char *const potzendai_point_names[] = {"all", "atomics", "", "learned", NULL};
+
 /* What the words say of schedules. Learned points are those of every second round. */
 struct potzendai_schedule_words {
     enum potzendai_way way;
@@ -135,12 +138,11 @@ static inline int potzendai_place(const char *const *names, const char *word, si
 
 static inline int potzendai_read_mix(struct potzendai_options *o, const char *text)
 {
-    static const char *const names[] = {"get", "put", "del", "scan", "replace", "put_if_absent", "floor", "ceiling", "pop_first", NULL};
     memset(o->shares, 0, sizeof o->shares);
     o->has_mix = true;
     for (;;) {
         const char *is = strchr(text, '=');
-        int function = is ? potzendai_place(names, text, (size_t)(is - text)) : -1;
+        int function = is ? potzendai_place(potzendai_functions, text, (size_t)(is - text)) : -1;
         uint64_t share = 0;
         size_t digits = is ? strspn(is + 1, "0123456789") : 0;
         if (function < 0 || digits < 1 || digits > 6 || (is[digits + 1] && is[digits + 1] != ','))
@@ -155,9 +157,9 @@ static inline int potzendai_read_mix(struct potzendai_options *o, const char *te
 }
 
 struct potzendai_numbered { const char *name; uint64_t least, most, *to; };
-struct potzendai_named { const char *name; const char *const *names; int place; };
+struct potzendai_named { const char *name; const char *const *names; };
 
-/* Reads a word with a number behind it: 1 where it is none of these. */
+/* Reads a word that a number follows; -1 if it is none of these. */
 static inline int potzendai_read_numbered(struct potzendai_options *o, const char *word, const char *text)
 {
     const struct potzendai_numbered all[] = {
@@ -176,10 +178,10 @@ static inline int potzendai_read_numbered(struct potzendai_options *o, const cha
     return -1;
 }
 
-/* Reads a word with a name behind it: -1 where it is none of these. */
+/* Reads a word that a name follows; -1 if it is none of these. */
 static inline int potzendai_read_named(struct potzendai_options *o, const char *word, const char *text)
 {
-    const struct potzendai_named all[] = {{"--void", potzendai_voids, 0}, {"--break", potzendai_breaks, 0}, {"--scan", potzendai_scans, 0}};
+    const struct potzendai_named all[] = {{"--void", potzendai_voids}, {"--break", potzendai_breaks}, {"--scan", potzendai_scans}};
     for (size_t i = 0; i < sizeof all / sizeof *all; i++)
         if (strcmp(word, all[i].name) == 0) {
             int place = text ? potzendai_place(all[i].names, text, strlen(text)) : -1;
@@ -197,7 +199,7 @@ static inline int potzendai_read_named(struct potzendai_options *o, const char *
     return -1;
 }
 
-/* Reads a word of schedules that has none behind it: -1 where it is none of these. */
+/* Reads a word of schedules that stands on its own; -1 if it is none of these. */
 static inline int potzendai_read_schedule_flag(struct potzendai_schedule_words *s, const char *word)
 {
     bool is_buffers = strcmp(word, "--tso") == 0;
@@ -209,10 +211,9 @@ static inline int potzendai_read_schedule_flag(struct potzendai_schedule_words *
     return 0;
 }
 
-/* Reads a word of schedules that has a name or a number behind it: -1 where it is none of these. */
+/* Reads a word of schedules that a name or a number follows; -1 if it is none of these. */
 static inline int potzendai_read_schedule_word(struct potzendai_schedule_words *s, const char *word, const char *text)
 {
-    static const char *const points[] = {"all", "atomics", "", "learned", NULL};
     const char *found = text ? text : "";
     bool is_way = strcmp(word, "--schedule") == 0, is_right;
     if (is_way) {
@@ -220,7 +221,7 @@ static inline int potzendai_read_schedule_word(struct potzendai_schedule_words *
         is_right = way > POTZENDAI_FREE;
         s->way = is_right ? (enum potzendai_way)way : s->way;
     } else if (strcmp(word, "--points") == 0) {
-        int place = *found ? potzendai_place(points, found, strlen(found)) : -1;
+        int place = *found ? potzendai_place(potzendai_point_names, found, strlen(found)) : -1;
         is_right = place >= 0;
         s->points = is_right ? (enum potzendai_points)place : s->points;
     } else if (strcmp(word, "--depth") == 0)
@@ -271,14 +272,19 @@ static inline int potzendai_read_word(struct potzendai_options *o, char **words,
     return status < 0 ? potzendai_complain(word, "no such word; --help has them") : status;
 }
 
-/* Shares where none are given: of the functions that there are. */
+/* Whether at most one thread at a time writes a key. */
+static inline bool potzendai_has_one_writer(const struct potzendai_options *o)
+{
+    return o->void_puts == POTZENDAI_VOID_OWN || o->void_puts == POTZENDAI_VOID_LOCK;
+}
+
+/* The usual shares of the functions that the map has, if no shares are given. */
 static inline void potzendai_take_shares(struct potzendai_options *o, const struct potzendai_map *map)
 {
     static const unsigned usual[POTZENDAI_FUNCTIONS] = {40, 30, 10, 5, 10, 5, 3, 3, 2};
-    bool has_keys_of_its_own = o->void_puts == POTZENDAI_VOID_OWN || o->void_puts == POTZENDAI_VOID_LOCK;
     for (int f = 0; f < POTZENDAI_FUNCTIONS; f++)
         o->shares[f] = potzendai_has(map, (enum potzendai_function)f) ? usual[f] : 0;
-    if (has_keys_of_its_own)
+    if (potzendai_has_one_writer(o))
         o->shares[POTZENDAI_POP_FIRST] = 0;
     if (o->is_steps)
         o->shares[POTZENDAI_SCAN] = usual[POTZENDAI_SCAN];
@@ -298,7 +304,7 @@ static inline int potzendai_check_shares(const struct potzendai_options *o, cons
     }
     if (total == 0)
         return potzendai_complain("--mix", "no share");
-    if (o->shares[POTZENDAI_POP_FIRST] > 0 && (o->void_puts == POTZENDAI_VOID_OWN || o->void_puts == POTZENDAI_VOID_LOCK))
+    if (o->shares[POTZENDAI_POP_FIRST] > 0 && potzendai_has_one_writer(o))
         return potzendai_complain("pop_first", "takes keys of others, so not with --void own or lock");
     return 0;
 }
@@ -495,12 +501,11 @@ static inline int potzendai_read_words(struct potzendai_options *o, int argc, ch
 /* Writes the words that make a scheduled round again. */
 static inline void potzendai_write_schedule_words(FILE *out, const struct potzendai_schedule_words *s, uint64_t round)
 {
-    static const char *const points[] = {"all", "atomics", "", "learned"};
     fprintf(out, " --schedule %s", potzendai_ways[s->way]);
     if (s->depth != 3)
         fprintf(out, " --depth %" PRIu64, s->depth);
     if (s->points != POTZENDAI_LEARNED)
-        fprintf(out, " --points %s", points[s->points]);
+        fprintf(out, " --points %s", potzendai_point_names[s->points]);
     fputs(s->has_buffers ? " --tso" : "", out);
     fputs(s->has_kernel_threads ? " --kernel-threads" : "", out);
     fprintf(out, " --replay %" PRIu64, round);
