@@ -14,8 +14,8 @@ enum potzendai_status {
     POTZENDAI_BAD_FILE
 };
 
-/* How a put or a del that says `done` is recorded: as that; not at all, since the value before is to be told; as of one that alone
- * writes its key, and remembers; or by a get in front of it, under a lock of the key's own. */
+/* How a put or a del that answers `done` is recorded: as done; not at all, since it has to say the value before; with what the one writer of its
+ * key remembers; or with what a get found before it, under the key's own lock. */
 enum potzendai_void { POTZENDAI_VOID_DONE, POTZENDAI_VOID_TOLD, POTZENDAI_VOID_OWN, POTZENDAI_VOID_LOCK };
 
 enum potzendai_break {
@@ -23,14 +23,14 @@ enum potzendai_break {
     POTZENDAI_EACH_BREAK, POTZENDAI_UNBROKEN
 };
 
-/* Whether the map is a cache, which may lose any key at any time; late: and a miss says nothing. */
+/* Whether the map is a cache, which may lose any key at any time. Of a late one, a miss says nothing. */
 enum potzendai_cache { POTZENDAI_NO_CACHE, POTZENDAI_CACHE, POTZENDAI_CACHE_LATE };
 
 static const char *const potzendai_voids[] = {"done", "told", "own", "lock", NULL};
 static const char *const potzendai_breaks[] = {"drop", "race", "replay", "stale", "zombie", "torn", "cas", "all", NULL};
 static const char *const potzendai_scans[] = {"snapshot", "steps", NULL};
 
-/* Which strategies the rounds have under --schedule: none, all of them in turn, or one. */
+/* Which strategy rounds have: none, all of them in turn, or one. */
 enum potzendai_way { POTZENDAI_FREE, POTZENDAI_MIX, POTZENDAI_ONLY_POS, POTZENDAI_ONLY_PCT, POTZENDAI_ONLY_WALK };
 
 static const char *const potzendai_ways[] = {"free", "mix", "pos", "pct", "walk", NULL};
@@ -38,7 +38,7 @@ static const char *const potzendai_ways[] = {"free", "mix", "pos", "pct", "walk"
 /* By `enum potzendai_points`; no word asks for those that learn. */
 static const char *const potzendai_point_names[] = {"all", "atomics", "", "learned", NULL};
 
-/* What the words say of schedules. Learned points are those of every second round. */
+/* What the words say of schedules. Learned points are used in every second round. */
 struct potzendai_schedule_words {
     enum potzendai_way way;
     uint64_t depth, jobs, replay;
@@ -58,12 +58,12 @@ struct potzendai_options {
     const char *out, *bench;
 };
 
-/* Of a range of a scan, the most keys. Where no number is given: the calls of a thread in a round, and the keys. Of a stream they are
- * more, since its follower searches what is left of a key, and that is the less the fewer calls overlap there. */
+/* The most keys in the range of a scan; and the usual numbers: calls of a thread in a round, and keys. A stream has more keys. Its follower searches
+ * the calls that are left of a key, and there are fewer of these the fewer overlap. */
 enum { POTZENDAI_SPAN = 16, POTZENDAI_CALLS = 200, POTZENDAI_KEYS = 16, POTZENDAI_STREAM_KEYS = 1000 };
 enum { POTZENDAI_SCHEDULED_CALLS = 12, POTZENDAI_SCHEDULED_KEYS = 4 };
 
-/* The most bytes of a path; the budget of a search where no number is given, and the greatest. */
+/* The most bytes of a path; the usual and the greatest budget of a search. */
 enum { POTZENDAI_PATH = 4096, POTZENDAI_USUAL = 100000, POTZENDAI_MOST = 1000000 };
 
 static const char potzendai_usage[] =
@@ -107,13 +107,13 @@ static inline int potzendai_complain(const char *word, const char *what)
     return POTZENDAI_BAD_WORDS;
 }
 
-/* What stands behind a noun, of which there are so many. */
+/* The ending of a noun after a number. */
 static inline const char *potzendai_plural(uint64_t count)
 {
     return count == 1 ? "" : "s";
 }
 
-/* Reads a number up to a limit; -1 where the text is none. */
+/* Reads a number up to a limit; -1 if the text is none. */
 static inline int potzendai_read_number(const char *text, uint64_t most, uint64_t *number)
 {
     *number = 0;
@@ -127,7 +127,7 @@ static inline int potzendai_read_number(const char *text, uint64_t most, uint64_
     return *number <= most ? 0 : -1;
 }
 
-/* The place of a word in a list of names that NULL ends; -1 where it is none of them. */
+/* The place of a word in a list of names that NULL ends; -1 if it is none of them. */
 static inline int potzendai_place(const char *const *names, const char *word, size_t length)
 {
     for (int i = 0; names[i]; i++)
@@ -290,7 +290,7 @@ static inline void potzendai_take_shares(struct potzendai_options *o, const stru
         o->shares[POTZENDAI_SCAN] = usual[POTZENDAI_SCAN];
 }
 
-/* Whether each function that has a share is there, and may be called under these words. */
+/* Whether the map has each function that has a share, and these words allow it. */
 static inline int potzendai_check_shares(const struct potzendai_options *o, const struct potzendai_map *map)
 {
     uint64_t total = 0;
@@ -309,7 +309,7 @@ static inline int potzendai_check_shares(const struct potzendai_options *o, cons
     return 0;
 }
 
-/* Whether what a broken map makes wrong is called. */
+/* Whether a function is called that this way to break the map makes wrong. */
 static inline bool potzendai_is_called(const struct potzendai_options *o, enum potzendai_break how)
 {
     static const enum potzendai_function needed[] = {
@@ -318,7 +318,7 @@ static inline bool potzendai_is_called(const struct potzendai_options *o, enum p
     return o->shares[needed[how]] > 0 && !(how == POTZENDAI_TORN && o->is_steps);
 }
 
-/* Whether what is to be broken is called at all; in each of the ways, whether what one of them makes wrong is. */
+/* Whether a function is called that --break makes wrong; of all ways in turn, that one of them does. */
 static inline int potzendai_check_break(const struct potzendai_options *o)
 {
     if (o->broken == POTZENDAI_UNBROKEN)
@@ -330,7 +330,7 @@ static inline int potzendai_check_break(const struct potzendai_options *o)
     return potzendai_complain("--break", "what it makes wrong is not called");
 }
 
-/* Whether there can be new maps, and maps that are opened again. */
+/* Whether the map can be made anew and opened again, as the words ask. */
 static inline int potzendai_check_maps(const struct potzendai_options *o, const struct potzendai_map *map)
 {
     if (o->is_stream && (o->fresh || o->is_reopened))
@@ -340,20 +340,20 @@ static inline int potzendai_check_maps(const struct potzendai_options *o, const 
     return o->is_reopened && !map->reopen ? potzendai_complain("--reopen", "the map has no function reopen") : 0;
 }
 
-/* How many calls a process may make in a round: those of a thread, or the last gets of all keys. */
+/* The most calls of a process in a round: those of a thread, or the last gets of all keys. */
 static inline uint64_t potzendai_calls_each(const struct potzendai_options *o)
 {
     return o->calls > o->keys ? o->calls : o->keys;
 }
 
-/* The calls of a thread in a round where no number is given: what has room, with spare processes. */
+/* The calls of a thread in a round if no number is given: as many as have room with spare processes. */
 static inline uint64_t potzendai_calls_where_none(const struct potzendai_options *o)
 {
     uint64_t calls = RECORDING_CALLS / (o->threads + 2);
     return calls < POTZENDAI_CALLS ? calls : (uint64_t)POTZENDAI_CALLS;
 }
 
-/* Complains of a number that has no room in a round, which is as large as its recording. */
+/* Complains of a number that is too large for a round, whose recording has a limit. */
 static inline int potzendai_complain_of_round(const struct potzendai_options *o, const char *word, const char *behind)
 {
     char text[160];
@@ -362,7 +362,7 @@ static inline int potzendai_complain_of_round(const struct potzendai_options *o,
     return potzendai_complain(word, text);
 }
 
-/* The most keys of a range. Of a cache each key that a scan does not have takes a process of its own. */
+/* The most keys in the range of a scan. In the recording of a cache, each key that a scan does not have takes a process of its own. */
 static inline uint64_t potzendai_span(const struct potzendai_options *o)
 {
     uint64_t span = (RECORDING_PROCESSES - 1 - o->threads % RECORDING_PROCESSES) / (o->threads ? o->threads : 1);
@@ -389,7 +389,7 @@ static inline int potzendai_check_sizes(struct potzendai_options *o)
     return o->calls > RECORDING_CALLS / (o->threads + 1) ? potzendai_complain_of_round(o, "--calls", "") : 0;
 }
 
-/* Whether a file can be put into the folder for files: one of a name that none has yet is put there, and taken away. */
+/* Whether the folder for files takes a file: one with a new name is made there, and removed. */
 static inline int potzendai_check_out(const struct potzendai_options *o)
 {
     char path[POTZENDAI_PATH];
@@ -407,7 +407,7 @@ static inline int potzendai_check_out(const struct potzendai_options *o)
     return POTZENDAI_BAD_FILE;
 }
 
-/* Whether the words of schedules fit each other, the others, and the program. */
+/* Whether the words of schedules fit each other, the other words, and the program. */
 static inline int potzendai_check_schedule(const struct potzendai_options *o)
 {
     const struct potzendai_schedule_words *s = &o->schedule;
@@ -428,7 +428,7 @@ static inline int potzendai_check_schedule(const struct potzendai_options *o)
     return 0;
 }
 
-/* The sizes of scheduled rounds where no number is given: what goes wrong is shrunk, so they are as large as finds the most. */
+/* The sizes of scheduled rounds if no number is given: those that find the most, since what goes wrong is shrunk. */
 static inline void potzendai_take_schedule_sizes(struct potzendai_options *o)
 {
     struct potzendai_schedule_words *s = &o->schedule;
@@ -449,7 +449,7 @@ static inline bool potzendai_asks_help(int argc, char **argv)
     return false;
 }
 
-/* Prints it: 0, or the status of standard output that has no room. */
+/* Prints the help: 0, or a status if standard output does not take it. */
 static inline int potzendai_help(const char *program)
 {
     printf("usage: %s [WORDS]\n%s", program, potzendai_usage);
@@ -459,7 +459,7 @@ static inline int potzendai_help(const char *program)
     return POTZENDAI_BAD_FILE;
 }
 
-/* Reads all words. 0, or the status of what is wrong with them. */
+/* Reads all words: 0, or the status of what is wrong with them. */
 static inline int potzendai_read_words(struct potzendai_options *o, int argc, char **argv, const struct potzendai_map *map)
 {
     struct timespec now;
@@ -511,7 +511,7 @@ static inline void potzendai_write_schedule_words(FILE *out, const struct potzen
     fprintf(out, " --replay %" PRIu64, round);
 }
 
-/* Writes the words that repeat the draws of a run of so many rounds; of a scheduled run, of its last round. */
+/* Writes the words that draw the calls of a run of so many rounds again; of a scheduled run, those of its last round. */
 static inline void potzendai_write_words(FILE *out, const struct potzendai_options *o, const char *program, uint64_t rounds)
 {
     const char *comma = "";
