@@ -5,7 +5,7 @@
 #include "potzendai_break.h"
 #include "potzendai_verdict.h"
 
-/* A round that failed is made again so often, with less of something, and for so many seconds in all. Values of fewer bits may repeat. */
+/* A smaller round is tried so often, and all of them for so many seconds. Values of fewer bits may repeat. */
 enum { POTZENDAI_TRIES = 8, POTZENDAI_TRIES_SECONDS = 5, POTZENDAI_BITS = 40 };
 
 /* Opens the calls of earlier rounds that have no answer: each may still take effect. */

@@ -157,7 +157,7 @@ static inline void potzendai_tell_switch(FILE *out, const struct potzendai_switc
     fputc('\n', out);
 }
 
-/* Prints where each thread is that is within a call, in a round that did not end well. */
+/* Prints where the threads within calls are, in a round that did not end well. */
 static inline void potzendai_tell_places(FILE *out, const struct potzendai_shared *shared)
 {
     for (unsigned i = 0; i < shared->asked.threads; i++) {
@@ -198,7 +198,7 @@ static inline void potzendai_close_shrinking(struct potzendai_shrinking *s)
     free(s->all);
 }
 
-/* Makes the round that the run is at again, shrinks it, and shows its switches. `told` becomes the recording of the smallest round. If the round did
+/* Makes the present round of the run again, shrinks it, and shows its switches. `told` becomes the recording of the smallest round. If the round did
  * not end well, `told` stays empty. */
 static inline void potzendai_tell_schedule(struct potzendai_plan *plan, struct potzendai_told *told)
 {

@@ -330,7 +330,7 @@ static inline int potzendai_check_break(const struct potzendai_options *o)
     return potzendai_complain("--break", "what it makes wrong is not called");
 }
 
-/* Whether the map can be made anew and opened again, as the words ask. */
+/* Whether the map has the functions that --fresh and --reopen need. */
 static inline int potzendai_check_maps(const struct potzendai_options *o, const struct potzendai_map *map)
 {
     if (o->is_stream && (o->fresh || o->is_reopened))
