@@ -1,13 +1,14 @@
-/* Rounds: each is recorded, and judged once its threads rest. Included by potzendai_test.h. */
+/* Rounds: each is recorded, and judged after its threads have ended. Included by potzendai_test.h. */
 #ifndef POTZENDAI_ROUNDS_H
 #define POTZENDAI_ROUNDS_H
 
 #include "potzendai_break.h"
 #include "potzendai_verdict.h"
 
+/* A smaller round is tried so often, and all of them for so many seconds. Values of fewer bits may repeat. */
 enum { POTZENDAI_TRIES = 8, POTZENDAI_TRIES_SECONDS = 5, POTZENDAI_BITS = 40 };
 
-/* Calls of rounds before, of which nobody knows whether they were done, are open from the beginning: each may yet come about. */
+/* Opens the calls of earlier rounds that have no answer: each may still take effect. */
 static inline int potzendai_carry_on(struct potzendai_run *run)
 {
     uint64_t count = atomic_load(&run->open_count);
@@ -22,7 +23,7 @@ static inline int potzendai_carry_on(struct potzendai_run *run)
     return 0;
 }
 
-/* Whether an answer tells a value. */
+/* Whether an answer contains a value. */
 static inline bool potzendai_tells_value(const struct recording_log *log, const struct recording_event *event, uint64_t value)
 {
     if (event->kind == RECORDING_VALUE)
@@ -33,7 +34,7 @@ static inline bool potzendai_tells_value(const struct recording_log *log, const 
     return false;
 }
 
-/* Whether an answer of the round tells what this call puts: then it was done. No other call puts this value where there are enough. */
+/* Whether an answer of the round has the value that this call puts: then it was done. No other call puts that value unless values repeat. */
 static inline bool potzendai_is_seen(const struct potzendai_run *run, const struct potzendai_open *open)
 {
     uint64_t value = open->call == RECORDING_REPLACE ? open->words[2] : open->words[1];
@@ -47,7 +48,7 @@ static inline bool potzendai_is_seen(const struct potzendai_run *run, const stru
     return false;
 }
 
-/* Lets go of the calls without an answer that were done, by the end of a round. */
+/* Drops the calls without an answer that were done by the end of a round. */
 static inline void potzendai_settle(struct potzendai_run *run)
 {
     uint64_t kept = 0, count = atomic_load(&run->open_count);
@@ -57,13 +58,13 @@ static inline void potzendai_settle(struct potzendai_run *run)
     atomic_store(&run->open_count, kept);
 }
 
-/* The most pairs that a call may be answered by. */
+/* The most pairs in the answer of a call. */
 static inline size_t potzendai_pairs_of_a_call(const struct potzendai_options *o)
 {
     return o->shares[POTZENDAI_SCAN] > 0 ? (size_t)POTZENDAI_SPAN + 1 : (size_t)1;
 }
 
-/* Opens a recording with room for the threads, for those that go on as others, and for the last gets. */
+/* Opens a recording with room for the threads, for the processes as which they go on after an unknown answer, and for the last gets. */
 static inline int potzendai_open_recording(struct potzendai_tester *tester)
 {
     struct potzendai_run *run = tester->run;
@@ -79,8 +80,8 @@ static inline int potzendai_open_recording(struct potzendai_tester *tester)
     return 0;
 }
 
-/* How many other calls were open at the invocations of a recording, all added up; `kinds` has a byte for each stamp. A call that has no answer
- * is not open for others: nobody makes it any more. */
+/* How many other calls were open at each invocation of a recording, added up; `kinds` has a byte for each stamp. A call without an answer does
+ * not count as open: nobody makes it any more. */
 static inline uint64_t potzendai_count_overlap(const struct recording *r, char *kinds, size_t stamps)
 {
     uint64_t overlap = 0, open = 0;
@@ -107,7 +108,7 @@ static inline int potzendai_add_overlap(struct potzendai_tester *tester)
     return 0;
 }
 
-/* Writes the recording into memory, of which there may be none left at the end though the stream closes well. */
+/* Writes the recording into memory. Memory may run out even if the stream closes without an error. */
 static inline int potzendai_text_of(struct potzendai_tester *tester, struct potzendai_told *told)
 {
     FILE *out = open_memstream(&told->text, &told->length);
@@ -121,7 +122,7 @@ static inline int potzendai_text_of(struct potzendai_tester *tester, struct potz
     return 0;
 }
 
-/* Has the threads make the calls of a round, and all keys be got behind it. -1 where the run fails. */
+/* Lets the threads make the calls of a round, and then gets all keys. Returns -1 if the run fails. */
 static inline int potzendai_make_round(struct potzendai_tester *tester)
 {
     struct potzendai_run *run = tester->run;
@@ -139,7 +140,7 @@ static inline int potzendai_make_round(struct potzendai_tester *tester)
     return 0;
 }
 
-/* Records one round, which the pairs that were read start, as a text. */
+/* Records one round as a text. It starts from the pairs that were read. */
 static inline int potzendai_record(struct potzendai_tester *tester, struct potzendai_told *told)
 {
     if (potzendai_open_recording(tester))
@@ -158,7 +159,7 @@ static inline double potzendai_overlap_a_call(const struct potzendai_tester *tes
     return tester->options->is_stream ? tester->overlap_a_call : (double)counts->overlap / (double)(counts->calls ? counts->calls : 1);
 }
 
-/* Says each second how far this is, where somebody looks. */
+/* Prints once a second how far the run is, if standard error is a terminal. */
 static inline void potzendai_progress(struct potzendai_tester *tester)
 {
     double now = potzendai_now(), seconds = now - tester->began;
@@ -175,7 +176,7 @@ static inline void potzendai_progress(struct potzendai_tester *tester)
     tester->told = now;
 }
 
-/* Nobody judges: the history is written. Of files the last line but one tells. */
+/* Writes a history that nobody judges. The files are named in the line before the last. */
 static inline int potzendai_write_round(struct potzendai_tester *tester, const struct potzendai_told *told)
 {
     char path[POTZENDAI_PATH];
@@ -188,7 +189,7 @@ static inline int potzendai_write_round(struct potzendai_tester *tester, const s
     return potzendai_fail(tester->run, POTZENDAI_BAD_FILE, "a history was not written");
 }
 
-/* Records the round once more, as large as the run now says, and answers whether it has no order. What it says is in `told`. */
+/* Records the round again, in the size that the run has now. Returns whether it has no order; then `told` has its text and report. */
 static inline bool potzendai_fails_again(struct potzendai_tester *tester, struct potzendai_told *told)
 {
     memset(told, 0, sizeof *told);
@@ -200,7 +201,7 @@ static inline bool potzendai_fails_again(struct potzendai_tester *tester, struct
     return fails;
 }
 
-/* Halves the calls or the keys, or takes a thread away: 0 where that can be done. */
+/* Halves the calls or the keys, or takes a thread away: 0, or -1 if that cannot be done. */
 static inline int potzendai_lessen(struct potzendai_run *run, int how)
 {
     uint64_t least_keys = run->options->void_puts == POTZENDAI_VOID_OWN ? run->threads : 1;
@@ -212,7 +213,7 @@ static inline int potzendai_lessen(struct potzendai_run *run, int how)
     return 0;
 }
 
-/* Whether the round fails once more where it has less of one of these, in some tries; else it is as large as it was. */
+/* Whether a round with less of one of these fails again, in some tries. If not, the size is as before. */
 static inline bool potzendai_fails_with_less(struct potzendai_tester *tester, int how, struct potzendai_told *told, double until)
 {
     struct potzendai_run *run = tester->run;
@@ -234,8 +235,8 @@ static inline bool potzendai_fails_with_less(struct potzendai_tester *tester, in
     return fails;
 }
 
-/* Runs a round that fails again, with fewer calls, keys and threads as long as it fails, and keeps the smallest recording. Threads
- * interleave as they will, so it may not fail again though it could. */
+/* Makes a failed round again with fewer calls, keys and threads as long as it fails, and keeps the smallest recording. Threads interleave freely,
+ * so a smaller round may pass by chance. */
 static inline void potzendai_smaller(struct potzendai_tester *tester, struct potzendai_told *told)
 {
     double until = potzendai_now() + (double)POTZENDAI_TRIES_SECONDS;
@@ -247,7 +248,7 @@ static inline void potzendai_smaller(struct potzendai_tester *tester, struct pot
     }
 }
 
-/* A round that has no order: shows it, and how to draw its calls again. */
+/* Shows a round that has no order, and how to draw its calls again. */
 static inline int potzendai_refuted(struct potzendai_tester *tester, struct potzendai_told *told)
 {
     struct potzendai_run *run = tester->run;
@@ -262,10 +263,10 @@ static inline int potzendai_refuted(struct potzendai_tester *tester, struct potz
     return POTZENDAI_IS_NO;
 }
 
-/* The same of a scheduled round: potzendai_scheduled.h. */
+/* Shows a scheduled round that has no order: potzendai_shrink.h. */
 static inline int potzendai_refuted_by_schedule(struct potzendai_tester *tester, struct potzendai_told *told);
 
-/* The verdict on a round, and what follows of it. */
+/* Takes the verdict on a round: 0 if the run goes on, the status that ends it, or -1 if it fails. */
 static inline int potzendai_take_round(struct potzendai_tester *tester, struct potzendai_told *told)
 {
     enum potzendai_status status = potzendai_judged(tester->options, told);
@@ -283,7 +284,7 @@ static inline int potzendai_take_round(struct potzendai_tester *tester, struct p
     }
 }
 
-/* What the next round starts from is what this one has found last. */
+/* Lets the next round start from the pairs that this one found last. */
 static inline void potzendai_go_on(struct potzendai_tester *tester)
 {
     struct recording_pair *start = tester->start;
@@ -293,8 +294,8 @@ static inline void potzendai_go_on(struct potzendai_tester *tester)
     tester->rounds++;
 }
 
-/* The verdict on all that wait, as one history: yes, or any other, which says nothing of each. `is_in` says which of them it has; those that it
- * does not have are judged on their own. */
+/* The verdict on all rounds that wait, as one history. Any other than yes says nothing of a single round. `is_in` says which rounds the history
+ * has; the others are judged on their own. */
 static inline enum potzendai_status potzendai_judge_together(struct potzendai_tester *tester, bool is_in[POTZENDAI_BATCH])
 {
     struct potzendai_batch batch;
@@ -316,7 +317,7 @@ static inline enum potzendai_status potzendai_judge_together(struct potzendai_te
     return status;
 }
 
-/* Judges one that waits. What was counted is that up to its end, where it is the last one that counts. */
+/* Judges one round that waits. If it ends the run, the counts are those up to its end. */
 static inline int potzendai_take_waiting(struct potzendai_tester *tester, struct potzendai_waiting *waiting)
 {
     struct potzendai_counts counts = tester->run->counts;
@@ -339,7 +340,7 @@ static inline void potzendai_forget_waiting(struct potzendai_tester *tester)
     tester->waiting_count = 0;
 }
 
-/* Judges all rounds that wait: together, and one by one unless that is a yes, so that the first of them that has no order is named. */
+/* Judges all rounds that wait together. Unless that is a yes, judges them one by one, and names the first that has no order. */
 static inline int potzendai_judge_waiting(struct potzendai_tester *tester)
 {
     bool is_in[POTZENDAI_BATCH] = {false};
@@ -354,7 +355,7 @@ static inline int potzendai_judge_waiting(struct potzendai_tester *tester)
     return status;
 }
 
-/* Takes a round, whose text is the batch's from now on. All that wait are judged where one more may have no room, or after a second. */
+/* Takes a round, whose text then belongs to the batch. All rounds that wait are judged once another may have no room, or after a second. */
 static inline int potzendai_await(struct potzendai_tester *tester, struct potzendai_told *told)
 {
     const struct potzendai_options *o = tester->options;
@@ -375,7 +376,7 @@ static inline int potzendai_await(struct potzendai_tester *tester, struct potzen
     return potzendai_judge_waiting(tester);
 }
 
-/* Whether the words ask for one round more. */
+/* Whether the words ask for another round. */
 static inline bool potzendai_is_more(const struct potzendai_tester *tester)
 {
     const struct potzendai_options *o = tester->options;
@@ -384,7 +385,7 @@ static inline bool potzendai_is_more(const struct potzendai_tester *tester)
         && !potzendai_is_interrupted();
 }
 
-/* Round after round, until one has no order, the time is over, or the run fails, which answers -1. */
+/* Makes rounds until one has no order, the time is over, or the run fails. Returns the status, or -1 if the run fails. */
 static inline int potzendai_rounds(struct potzendai_tester *tester)
 {
     int status = potzendai_read_start(tester);

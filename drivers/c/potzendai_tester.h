@@ -6,10 +6,10 @@
 #include "potzendai_threads.h"
 #include <signal.h>
 
-/* How often a map is asked at rest where it refuses. */
+/* How often a map that refuses is asked at rest. */
 enum { POTZENDAI_GETS = 1000 };
 
-/* Whether the run is interrupted, as by Ctrl-C: it ends with what is recorded by then. A second time ends the program. */
+/* Whether the run was interrupted, as by Ctrl-C: then it ends with what is recorded. A second Ctrl-C ends the program. */
 static recording_word potzendai_interrupted;
 
 static inline bool potzendai_is_interrupted(void)
@@ -23,7 +23,7 @@ static inline void potzendai_interrupt(int number)
     atomic_store(&potzendai_interrupted, (uint64_t)1);
 }
 
-/* Has Ctrl-C end the run, unless the program that tests its map has another use for it. */
+/* Lets Ctrl-C end the run, unless the program has a handler of its own. */
 static inline void potzendai_await_interrupt(void)
 {
     struct sigaction action;
@@ -34,19 +34,24 @@ static inline void potzendai_await_interrupt(void)
     sigaction(SIGINT, &action, NULL);
 }
 
-/* A recording as a text, and what the library, or the program, says of it. */
+/* A recording as a text, and the report of the library or the program on it. `is_left`: it is what a follower still had of a stream. */
 struct potzendai_told { char *text, *report; size_t length, room; bool is_left; };
 
-/* A round that is recorded and not judged yet, with its number and what was counted up to its end. */
+/* A recorded round that waits for its verdict: its number, and what was counted up to its end. */
 struct potzendai_waiting { struct potzendai_told told; struct potzendai_counts counts; uint64_t round; };
 
 struct potzendai_plan;
 
+<<<<<<< HEAD
 /* What was counted of kills: the calls that were open at one, what the verdict says of writes, and of a store that does not open. */
 struct potzendai_kills { uint64_t open; char counted[160], ending[120]; };
 
 /* A run with what comes of it. `given` is the map of the program, `opened` the one of it that is tested now. `connection` is of the thread that
  * runs all of it. Where it is quiet, a no is not told. */
+=======
+/* A run and its results. `given` is the map of the program, and `opened` the one made of it that is tested now. `connection` belongs to the thread
+ * that runs the test. A quiet run does not show a no. */
+>>>>>>> 2eec1a4f045f24cc54591230b4c9503d46f843b8
 struct potzendai_tester {
     struct potzendai_run *run;
     const struct potzendai_map *given;
@@ -60,8 +65,12 @@ struct potzendai_tester {
     double began, told, overlap_a_call, waits_since;
     bool has_terminal, has_overlap, is_quiet, is_connected;
     struct potzendai_plan *plan; /* of a scheduled run */
+<<<<<<< HEAD
     const char *ending;          /* how its last round ended, where that has no recording */
     struct potzendai_kills kills;
+=======
+    const char *ending;          /* how its last round ended, if that round has no recording */
+>>>>>>> 2eec1a4f045f24cc54591230b4c9503d46f843b8
     struct potzendai_waiting waiting[POTZENDAI_BATCH];
     size_t waiting_count;
 };
@@ -88,7 +97,7 @@ static inline void potzendai_disconnect(struct potzendai_tester *tester)
     tester->is_connected = false;
 }
 
-/* Takes a map that was made or opened again: none, and the run ends, where that failed. */
+/* Tests a map from now on that was made or opened again. NULL, which means that this failed, ends the run. */
 static inline int potzendai_take_map(struct potzendai_tester *tester, void *map, const char *how)
 {
     tester->opened.map = map;
@@ -99,7 +108,7 @@ static inline int potzendai_take_map(struct potzendai_tester *tester, void *map,
     return potzendai_connect(tester);
 }
 
-/* Begins with a map: a new one, where the program makes such. */
+/* Begins with a map: a new one, if the program makes new ones. */
 static inline int potzendai_begin_map(struct potzendai_tester *tester)
 {
     errno = 0;
@@ -121,7 +130,7 @@ static inline int potzendai_reopen_map(struct potzendai_tester *tester)
     return potzendai_take_map(tester, tester->given->reopen(tester->opened.map), "reopen");
 }
 
-/* Asks the map that is not made wrong, at rest: again where it refuses. A get may be asked again where nobody knows, too. */
+/* Calls the map itself, not the one made wrong, at rest: again while it refuses. A get is called again also while its answer is unknown. */
 static inline void potzendai_ask_at_rest(struct potzendai_tester *tester, const struct potzendai_request *request, struct potzendai_answer *answer)
 {
     bool is_get = request->function == POTZENDAI_GET;
@@ -132,7 +141,7 @@ static inline void potzendai_ask_at_rest(struct potzendai_tester *tester, const 
     }
 }
 
-/* The write by which is known what a key holds, where gets do not tell: a put of a new value or, at every second key, a del. The map has one. */
+/* The write after which it is known what a key holds, if gets do not say: a put of a new value or, at every second key, a del. */
 static inline void potzendai_write_at_rest(struct potzendai_run *run, uint64_t key, struct potzendai_request *request)
 {
     bool is_del = run->truly->del && (!run->truly->put || (key + run->round) % 2 == 1);
@@ -142,14 +151,14 @@ static inline void potzendai_write_at_rest(struct potzendai_run *run, uint64_t k
     request->other = 0;
 }
 
-/* Whether what was said at rest says what the key holds, or that a write was done. */
+/* Whether an answer at rest says what the key holds, or that a write was done. */
 static inline bool potzendai_is_known(const struct potzendai_options *o, const struct potzendai_request *request, enum map_said said)
 {
     bool is_get = request->function == POTZENDAI_GET, is_none = said == MAP_NONE && !(is_get && o->cache == POTZENDAI_CACHE_LATE);
     return said == MAP_TOLD || is_none || (!is_get && (said == MAP_DONE || said == MAP_FOUND));
 }
 
-/* Has a key known at rest: by a get, or by a write where the get does not tell. As calls of a process, where it is one of the recording. */
+/* Finds out at rest what a key holds: by a get, or by a write if the get does not say. Unless `process` is NULL, these are its calls. */
 static inline int potzendai_know(struct potzendai_tester *tester, uint64_t key, const unsigned *process, struct recording_pair *pair, bool *is_there)
 {
     struct potzendai_run *run = tester->run;
@@ -174,7 +183,8 @@ static inline int potzendai_know(struct potzendai_tester *tester, uint64_t key, 
     potzendai_words(&request, &answer, row->call, words);
     if (process)
         run->recording->logs[*process].note = note;
-    run->counts.losses += process && note == RECORDING_GET_MISSED && atomic_exchange(&run->keys[key].held_at, (uint64_t)0) == potzendai_removals(run, key) + 1;
+    run->counts.losses += process && note == RECORDING_GET_MISSED
+        && atomic_exchange(&run->keys[key].held_at, (uint64_t)0) == potzendai_removals(run, key) + 1;
     if (process && (recording_add(run->recording, *process, row->call, words[0], words[1], words[2])
                     || recording_add(run->recording, *process, row->answer, answer.pair.value, 0, 0)))
         return -1;
@@ -184,7 +194,7 @@ static inline int potzendai_know(struct potzendai_tester *tester, uint64_t key, 
     return 0;
 }
 
-/* Reads all keys at rest, for what a recording starts from. */
+/* Reads all keys at rest: the pairs that a recording starts from. */
 static inline int potzendai_read_start(struct potzendai_tester *tester)
 {
     tester->pairs_at_start = 0;
@@ -200,7 +210,7 @@ static inline int potzendai_read_start(struct potzendai_tester *tester)
     return 0;
 }
 
-/* The last calls of a round: one process gets all keys. What it finds is what the next round starts from. */
+/* The last calls of a round: one process gets all keys. The next round starts from the pairs that it finds. */
 static inline int potzendai_get_all(struct potzendai_tester *tester, unsigned p)
 {
     tester->pairs_next = 0;
@@ -213,7 +223,7 @@ static inline int potzendai_get_all(struct potzendai_tester *tester, unsigned p)
     return 0;
 }
 
-/* A new map in the place of the one before, whose calls without an answer cannot come about in it. */
+/* Replaces the map by a new one. Calls of the old map that have no answer cannot take effect in it. */
 static inline int potzendai_renew(struct potzendai_tester *tester)
 {
     potzendai_end_map(tester);
@@ -223,7 +233,7 @@ static inline int potzendai_renew(struct potzendai_tester *tester)
     return potzendai_begin_map(tester) || potzendai_read_start(tester) ? -1 : 0;
 }
 
-/* Sets what the writers remember to what a round starts from. */
+/* Lets the writers remember the pairs that a round starts from. */
 static inline void potzendai_remember_start(struct potzendai_tester *tester)
 {
     struct potzendai_key *keys = tester->run->keys;

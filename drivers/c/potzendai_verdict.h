@@ -10,7 +10,7 @@
 #include "potzendai.h"
 #endif
 
-/* Whether histories or the stream are written for others to judge. A reader that has gone is then told by a write that fails. */
+/* Whether histories or the stream are only written, for others to judge. Then a write fails once the reader has gone. */
 static inline bool potzendai_is_unjudged(const struct potzendai_options *o)
 {
 #ifdef POTZENDAI_NO_LIBRARY
@@ -20,7 +20,7 @@ static inline bool potzendai_is_unjudged(const struct potzendai_options *o)
     return strcmp(o->out, "-") == 0;
 }
 
-/* The path of a file of this run: 0, or -1 where it is too long. */
+/* Writes the path of a file of this run: 0, or -1 if it is too long. */
 static inline int potzendai_path(const struct potzendai_tester *tester, char path[POTZENDAI_PATH], const char *ending)
 {
     int length = snprintf(path, POTZENDAI_PATH, "%s/%s-%" PRIu64 "-%" PRIu64 "%s", tester->options->out, tester->run->truly->name,
@@ -28,7 +28,7 @@ static inline int potzendai_path(const struct potzendai_tester *tester, char pat
     return length > 0 && length < POTZENDAI_PATH ? 0 : -1;
 }
 
-/* Writes a text to a file of this run, whose path it answers too: 0, or -1 where that fails. */
+/* Writes a text to a file of this run, and the path of that file: 0, or -1 if that fails. */
 static inline int potzendai_write_file(const struct potzendai_tester *tester, const char *ending, const char *text, size_t length,
                                        char path[POTZENDAI_PATH])
 {
@@ -39,7 +39,7 @@ static inline int potzendai_write_file(const struct potzendai_tester *tester, co
     return is_kept ? 0 : -1;
 }
 
-/* Keeps a text as a file of this run, and says its path. Where that fails it is told. */
+/* Saves a text as a file of this run, and prints its path, or that it was not written. */
 static inline int potzendai_keep(const struct potzendai_tester *tester, const char *ending, const char *text, size_t length)
 {
     char path[POTZENDAI_PATH];
@@ -50,7 +50,7 @@ static inline int potzendai_keep(const struct potzendai_tester *tester, const ch
 
 typedef uint32_t potzendai_question(const char *, size_t, uint32_t, char *, size_t, size_t *);
 
-/* Asks the library, or the program, in a room that grows as the answer needs. The status, and NO_MEMORY where the room cannot grow. */
+/* Asks the library or the program. The room for its answer grows as needed. Returns the status, or NO_MEMORY if the room cannot grow. */
 static inline enum potzendai_status potzendai_ask_once(potzendai_question *question, const char *text, size_t length, uint32_t budget,
                                                        char **report, size_t *room)
 {
@@ -69,13 +69,13 @@ static inline enum potzendai_status potzendai_ask_once(potzendai_question *quest
     }
 }
 
-/* The budget of what is asked again. */
+/* The budget of a question that is asked again. */
 static inline uint32_t potzendai_more(const struct potzendai_options *o)
 {
     return (uint32_t)(o->budget > POTZENDAI_MOST / 10 ? (uint64_t)POTZENDAI_MOST : 10 * o->budget);
 }
 
-/* Asks, and once more at ten times the budget where it is undecided. */
+/* Asks, and if that is undecided asks once more at ten times the budget. */
 static inline enum potzendai_status potzendai_ask_twice(const struct potzendai_options *o, potzendai_question *question, const char *text,
                                                         size_t length, char **report, size_t *room)
 {
@@ -83,19 +83,19 @@ static inline enum potzendai_status potzendai_ask_twice(const struct potzendai_o
     return status == POTZENDAI_IS_UNDECIDED ? potzendai_ask_once(question, text, length, potzendai_more(o), report, room) : status;
 }
 
-/* The verdict on many rounds at once. What is no yes is asked again, of each. */
+/* The verdict on many rounds at once. Unless it is yes, each round is judged again on its own. */
 static inline enum potzendai_status potzendai_judged_once(const struct potzendai_options *o, struct potzendai_told *told)
 {
     return potzendai_ask_once(potzendai_judge, told->text, told->length, (uint32_t)o->budget, &told->report, &told->room);
 }
 
-/* The verdict on a recording, with few calls that show a no. */
+/* The verdict on a recording, with a few calls that show a no. */
 static inline enum potzendai_status potzendai_explained(const struct potzendai_options *o, struct potzendai_told *told)
 {
     return potzendai_ask_twice(o, potzendai_explain, told->text, told->length, &told->report, &told->room);
 }
 
-/* The verdict, at the least cost: the program's part that judges alone is built first, and what it leaves undecided the other may decide. */
+/* The verdict at the least cost. The part of the program that only judges is built first. If it is undecided, the part that explains may decide. */
 static inline enum potzendai_status potzendai_judged(const struct potzendai_options *o, struct potzendai_told *told)
 {
 #ifdef POTZENDAI_NO_LIBRARY
@@ -109,7 +109,7 @@ static inline enum potzendai_status potzendai_judged(const struct potzendai_opti
 #endif
 }
 
-/* Keeps the file that the library or the program makes of a history, or says why there is none. */
+/* Saves the file that the library or the program makes of a history, or says why there is none. */
 static inline void potzendai_keep_made(struct potzendai_tester *tester, potzendai_question *question, const char *ending, const char *text,
                                        size_t length)
 {
@@ -122,7 +122,7 @@ static inline void potzendai_keep_made(struct potzendai_tester *tester, potzenda
     free(made);
 }
 
-/* Says why few calls are not shown, by what comes of asking for them. */
+/* Says why few calls are not shown: by the answer to the question for them. */
 static inline void potzendai_tell_unexplained(const struct potzendai_options *o, enum potzendai_status status, const char *report)
 {
     if (status <= POTZENDAI_IS_UNDECIDED)
@@ -133,7 +133,7 @@ static inline void potzendai_tell_unexplained(const struct potzendai_options *o,
         fprintf(stderr, "few calls are not shown: %.*s\n", (int)strcspn(report, "\n"), report);
 }
 
-/* Tells a no: in words, and by files. The words and the picture have the processes and events of the recording, which may be kept already. */
+/* Shows a no in words and by files. The words and the picture have the processes and events of the recording. `is_kept`: that is saved already. */
 static inline void potzendai_tell_no(struct potzendai_tester *tester, const struct potzendai_told *told, bool is_kept)
 {
     const char *few = potzendai_tell(stderr, told->text, told->report, told->is_left);
@@ -145,7 +145,7 @@ static inline void potzendai_tell_no(struct potzendai_tester *tester, const stru
     potzendai_keep_made(tester, potzendai_page, ".html", told->text, told->length);
 }
 
-/* The words that draw the same calls again, of a run of so many rounds. */
+/* Prints the words that draw the same calls again, of a run of so many rounds. */
 static inline void potzendai_tell_again(const struct potzendai_tester *tester, uint64_t rounds)
 {
     bool is_same = tester->run->is_scheduled && potzendai_scheduler->is_pinned();
@@ -153,7 +153,8 @@ static inline void potzendai_tell_again(const struct potzendai_tester *tester, u
     potzendai_write_words(stderr, tester->options, tester->program, rounds);
 }
 
-/* Tells a no of a round. The program is asked for few calls now: as its part that has them may be built first, the recording is kept before. */
+/* Shows a no of a round. Only now is the program asked for few calls. Its part that finds them may be built first, so the recording is saved
+ * before. */
 static inline void potzendai_tell_round(struct potzendai_tester *tester, struct potzendai_told *told)
 {
 #ifdef POTZENDAI_NO_LIBRARY

@@ -1,4 +1,4 @@
-// A std::map under a lock; WAY says which, since each kind of lock waits in another way.
+// A std::map under a lock. WAY says which: each kind of lock waits in another way.
 #include "locked_map.hpp"
 #include <atomic>
 #include <chrono>
@@ -56,7 +56,7 @@ struct Lock {
             zero = 0;
     }
     void unlock() { __atomic_store_n(&word, 0, __ATOMIC_SEQ_CST); }
-#elif WAY == 5 // the same, by fetch_or and fetch_and
+#elif WAY == 5 // atomics of 16 bytes, by fetch_or and fetch_and
     __extension__ typedef unsigned __int128 Word;
     Word word = 0;
     void lock()
@@ -118,12 +118,12 @@ struct Lock {
             none = nullptr;
     }
     void unlock() { held.store(nullptr); }
-#elif WAY == 12 // C11's
+#elif WAY == 12 // a lock of C11
     mtx_t mutex;
     Lock() { mtx_init(&mutex, mtx_plain); }
     void lock() { mtx_lock(&mutex); }
     void unlock() { mtx_unlock(&mutex); }
-#elif WAY == 13 // for readers and writers, which both write here
+#elif WAY == 13 // a lock for readers and writers, held as by a writer
     std::shared_timed_mutex mutex;
     void lock() { mutex.lock(); }
     void unlock() { mutex.unlock(); }
