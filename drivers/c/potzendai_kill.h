@@ -140,7 +140,9 @@ static inline int potzendai_start_child(struct potzendai_killing *k, const char 
     k->child.process = fork();
     if (k->child.process == 0) {
         setsid();
-        bool is_set = !setenv("POTZENDAI_STORE", k->store, 1) && (!*k->library || (!setenv("LD_PRELOAD", k->library, 1) && !setenv("POTZENDAI_KILL_AT", at, 1)));
+        bool is_set = setenv("POTZENDAI_STORE", k->store, 1) == 0 && setenv("POTZENDAI_KILL_AT", at, 1) == 0;
+        if (*k->library)
+            is_set = is_set && setenv("LD_PRELOAD", k->library, 1) == 0;
         close(ends[0]);
         if (is_set && dup2(ends[1], 1) == 1 && close(ends[1]) == 0)
             execv("/proc/self/exe", k->words);

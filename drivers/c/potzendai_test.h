@@ -88,14 +88,9 @@ static inline void potzendai_tell_cautions(FILE *out, const struct potzendai_tes
     else if (counts->functions_called[POTZENDAI_GET] > 0 && counts->hits == 0)
         fputs("; no get found a value: a yes says little", out);
     if ((!o->is_stream || tester->has_overlap) && counts->calls > 0 && potzendai_overlap_a_call(tester) < 0.05)
-<<<<<<< HEAD
-        fputs("; overlap below 0.05: the threads hardly met, and a yes says little: call potzendai_point() in the map, and run with --yield 200", out);
-    if (o->yields > 0 && counts->points == 0 && counts->calls > 0 && o->kill == 0)
-=======
         fputs("; overlap below 0.05: the threads hardly met, and a yes says little: call potzendai_point() in the map, and run with --yield 200",
               out);
-    if (o->yields > 0 && counts->points == 0 && counts->calls > 0)
->>>>>>> 2eec1a4f045f24cc54591230b4c9503d46f843b8
+    if (o->yields > 0 && counts->points == 0 && counts->calls > 0 && o->kill == 0)
         fputs("; --yield acted only between calls, since the map called no potzendai_point()", out);
 }
 

@@ -42,16 +42,11 @@ struct potzendai_waiting { struct potzendai_told told; struct potzendai_counts c
 
 struct potzendai_plan;
 
-<<<<<<< HEAD
 /* What was counted of kills: the calls that were open at one, what the verdict says of writes, and of a store that does not open. */
 struct potzendai_kills { uint64_t open; char counted[160], ending[120]; };
 
-/* A run with what comes of it. `given` is the map of the program, `opened` the one of it that is tested now. `connection` is of the thread that
- * runs all of it. Where it is quiet, a no is not told. */
-=======
 /* A run and its results. `given` is the map of the program, and `opened` the one made of it that is tested now. `connection` belongs to the thread
  * that runs the test. A quiet run does not show a no. */
->>>>>>> 2eec1a4f045f24cc54591230b4c9503d46f843b8
 struct potzendai_tester {
     struct potzendai_run *run;
     const struct potzendai_map *given;
@@ -65,12 +60,8 @@ struct potzendai_tester {
     double began, told, overlap_a_call, waits_since;
     bool has_terminal, has_overlap, is_quiet, is_connected;
     struct potzendai_plan *plan; /* of a scheduled run */
-<<<<<<< HEAD
-    const char *ending;          /* how its last round ended, where that has no recording */
-    struct potzendai_kills kills;
-=======
     const char *ending;          /* how its last round ended, if that round has no recording */
->>>>>>> 2eec1a4f045f24cc54591230b4c9503d46f843b8
+    struct potzendai_kills kills;
     struct potzendai_waiting waiting[POTZENDAI_BATCH];
     size_t waiting_count;
 };

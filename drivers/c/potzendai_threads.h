@@ -383,7 +383,8 @@ static inline bool potzendai_is_lost(struct potzendai_run *run, const struct pot
 static inline int potzendai_make(struct potzendai_thread *t, const struct potzendai_request *request, struct potzendai_answer *answer)
 {
     struct potzendai_run *run = t->run;
-    bool is_cache = run->options->cache != POTZENDAI_NO_CACHE, is_held = (!run->stream && !run->events) || is_cache || potzendai_is_held(request->function);
+    bool is_cache = run->options->cache != POTZENDAI_NO_CACHE, is_round = !run->stream && !run->events;
+    bool is_held = is_round || is_cache || potzendai_is_held(request->function);
     uint64_t words[3];
     memset(answer, 0, sizeof *answer);
     answer->pairs = t->pairs;
