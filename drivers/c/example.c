@@ -1,10 +1,10 @@
 /* A map under a lock, tested: README.md says how it is built and run. */
 #include "potzendai_test.h"
 
-static uint64_t values[16384]; /* at each key, 0 where there is none */
+static uint64_t values[16384]; /* by key; 0 if there is none */
 static pthread_mutex_t lock = PTHREAD_MUTEX_INITIALIZER;
 
-/* Tells what is at a key, and puts a value there where it has the old one, or where any will do. */
+/* Finds the value of a key. A put then stores one, if the key has the value `old`, or without `old` in any case. */
 static enum map_said change(uint64_t key, bool is_put, const uint64_t *old, uint64_t value, uint64_t *found)
 {
     pthread_mutex_lock(&lock);

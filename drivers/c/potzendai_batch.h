@@ -6,13 +6,13 @@
 
 #include "recording.h"
 
-/* The most rounds of a batch; and how many times longer a text may become as its keys are moved up: a key, of two bytes with its comma at
- * least, becomes one of 20 digits at most, and five bytes of a pair are the shortest text with one key. */
+/* The most rounds of a batch; and how many times longer a text may become as its keys are moved up. A key becomes one of at most 20 digits. The
+ * shortest text with one key is a pair of five bytes. */
 enum { POTZENDAI_BATCH = 64, POTZENDAI_BATCH_GROWS = 5 };
 
 struct potzendai_list { char *text; size_t length, room; };
 
-/* The events and the starting pairs of so many rounds, each list without its brackets, and of which version a text of them is. */
+/* The events and the starting pairs of so many rounds, each list without its brackets, and the version of their text. */
 struct potzendai_batch {
     struct potzendai_list events, start;
     unsigned version;
@@ -20,7 +20,7 @@ struct potzendai_batch {
     uint64_t by;
 };
 
-/* What is moved: where in a round's text this is, how far its keys go up, how many keys it may have, and whether it has no others. */
+/* How far moving has come in a round's text: how far its keys go up, how many keys it may have, and whether it has no others. */
 struct potzendai_moved {
     const char *at;
     char *to;
@@ -36,7 +36,7 @@ static inline void potzendai_close_batch(struct potzendai_batch *b)
     memset(b, 0, sizeof *b);
 }
 
-/* Makes room for so many bytes more. Returns -1 where memory is refused. */
+/* Makes room for so many more bytes: 0, or -1 if memory is refused. */
 static inline int potzendai_make_room(struct potzendai_list *list, size_t length)
 {
     size_t room = list->room ? list->room : (size_t)1 << 16;
@@ -68,7 +68,7 @@ static inline void potzendai_move_key(struct potzendai_moved *m, bool is_end)
     m->to = recording_put_number(m->to, key + m->by);
 }
 
-/* Moves the keys of a list of pairs up, from its first pair to its closing bracket, which is left where it is. */
+/* Moves up the keys of a list of pairs, from its first pair to its closing bracket, which is not copied. */
 static inline void potzendai_move_pairs(struct potzendai_moved *m)
 {
     while (*m->at == '[') {
@@ -80,7 +80,7 @@ static inline void potzendai_move_pairs(struct potzendai_moved *m)
     }
 }
 
-/* Moves the keys of an event up. */
+/* Moves up the keys of an event. */
 static inline void potzendai_move_event(struct potzendai_moved *m)
 {
     bool is_call = strncmp(m->at, "{\"invoke\":", 10) == 0, is_scan = strncmp(m->at + 10, "[\"scan\"", 7) == 0;
@@ -102,8 +102,8 @@ static inline void potzendai_move_event(struct potzendai_moved *m)
     potzendai_copy(m, strcspn(m->at, "}") + 1);
 }
 
-/* Adds a round, which is a history as recording_write writes it, of keys below `keys`. Returns 0 where it is added; 1 where it is not, since it
- * has other keys or a call without an answer, or since the batch has no room for it; and -1 where memory is refused. */
+/* Adds a round: a history as recording_write writes it, of keys below `keys`. Returns 0 if it is added, and -1 if memory is refused. Returns 1 if the
+ * round has other keys or a call without an answer, or if the batch has no room for it. */
 static inline int potzendai_add_round(struct potzendai_batch *b, const char *text, uint64_t keys)
 {
     static const char begin[] = "{\"events\":[", start[] = "],\"start\":[", version[] = "],\"version\":";
@@ -142,7 +142,7 @@ static inline int potzendai_add_round(struct potzendai_batch *b, const char *tex
     return 0;
 }
 
-/* The text of all rounds of the batch, to be freed; NULL where memory is refused. */
+/* The text of all rounds of the batch, to be freed; NULL if memory is refused. */
 static inline char *potzendai_text_of_batch(const struct potzendai_batch *b, size_t *length)
 {
     size_t room = b->events.length + b->start.length + RECORDING_EVENT_TEXT;

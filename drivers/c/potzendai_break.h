@@ -7,7 +7,7 @@
 /* One call in so many goes wrong. */
 enum { POTZENDAI_SELDOM = 20 };
 
-/* What is broken, and how. `round` is that of the run: a thread's wrong calls are others in each. `wrongs` counts what was made wrong. */
+/* What is broken, and how. `round` is the run's: a thread has other wrong calls in each round. `wrongs` counts what was made wrong. */
 struct potzendai_broken {
     struct potzendai_map map;
     const struct potzendai_map *truly;
@@ -17,10 +17,10 @@ struct potzendai_broken {
     recording_word *wrongs;
 };
 
-/* What was once got at a key. */
+/* What a get once found at a key. */
 struct potzendai_once { bool is_there; enum map_said said; uint64_t found; };
 
-/* A connection of the broken map: that of the true one, a put that still comes, and what the puts of the true map say. */
+/* A connection of the broken map: the connection of the true one, a put that is still to come, and what the puts of the true map answer. */
 struct potzendai_wrong {
     struct potzendai_broken *broken;
     void *connection;
@@ -82,7 +82,7 @@ static inline enum map_said potzendai_true_put(struct potzendai_wrong *w, uint64
     return said;
 }
 
-/* Does the put that still comes, soon. */
+/* Does the put that is still to come, in half of the calls. */
 static inline struct potzendai_wrong *potzendai_catch_up(void *connection)
 {
     struct potzendai_wrong *w = (struct potzendai_wrong *)connection;
@@ -120,14 +120,14 @@ static inline enum map_said potzendai_wrong_get(void *connection, uint64_t key, 
     return said;
 }
 
-/* What the put of the map would say where a get says this. */
+/* What a put of the map would answer, by what a get has answered. */
 static inline enum map_said potzendai_in_style(const struct potzendai_wrong *w, enum map_said got)
 {
     return w->style == MAP_DONE ? MAP_DONE : got == MAP_TOLD ? w->style : got;
 }
 
-/* A put after a get, as if they were one: of the key itself where the put tells what it found, else of the key beside it, which is put
- * back as it was got. */
+/* A put that follows a get as if they were one call. The get is of the key itself if the put answers the value before. Else it is of a neighbour,
+ * which is put back as it was found. */
 static inline enum map_said potzendai_race(struct potzendai_wrong *w, uint64_t key, uint64_t value, uint64_t *found)
 {
     const struct potzendai_map *truly = w->broken->truly;
@@ -226,7 +226,7 @@ static inline enum map_said potzendai_wrong_pop_first(void *connection, struct r
     return w->broken->truly->pop_first(w->connection, pair);
 }
 
-/* The map to call: the broken one has the functions that the true one has. */
+/* Makes the map to call. The broken one has the functions that the true one has. */
 static inline const struct potzendai_map *potzendai_break_map(struct potzendai_broken *broken, const struct potzendai_map *truly,
                                                               const struct potzendai_options *options, const uint64_t *round,
                                                               recording_word *wrongs)

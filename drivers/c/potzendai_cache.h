@@ -1,17 +1,16 @@
-/* A cache, which may lose any key at any time. What it does not find is recorded so that the key is gone from then on: so the recording has an
- * order exactly if the calls have one in which keys may be lost between any two steps. Of a cache whose writes appear later a miss says
- * nothing. Included by potzendai_test.h. */
+/* A cache, which may lose any key at any time. A miss is recorded as a removal of its key. So the recording has an order exactly if the calls have
+ * one in which keys may be lost between any two steps. If the writes of a cache appear later, a miss says nothing. Included by potzendai_test.h. */
 #ifndef POTZENDAI_CACHE_H
 #define POTZENDAI_CACHE_H
 
 #include "potzendai_words.h"
 
-/* What is recorded of a call that finds nothing: that its key is gone, or that it put its value; of a replace that finds another value, that it
- * has a new value which nobody puts; or nothing. */
+/* What is recorded of a call that finds nothing: that its key is gone, or that its value was put, or nothing. A replace that finds another value is
+ * recorded with a new value that nobody puts. */
 static const struct potzendai_row potzendai_gone = POTZENDAI_ROW(REMOVE, DONE), potzendai_put_there = POTZENDAI_ROW(INSERT, DONE),
                                   potzendai_replaced = POTZENDAI_ROW(REPLACE, DONE), potzendai_no_word = POTZENDAI_OUT;
 
-/* What a cache's call is recorded as, where `row` is what it is of other maps; and how it was made, where that is another call. */
+/* How a cache's call is recorded, and a note of how it was made if that differs. `row` is how the same call of other maps is recorded. */
 static inline const struct potzendai_row *potzendai_row_of_cache(enum potzendai_cache how, enum potzendai_function function, enum map_said said,
                                                                  const struct potzendai_row *row, enum recording_note *note)
 {
@@ -34,7 +33,7 @@ static inline const struct potzendai_row *potzendai_row_of_cache(enum potzendai_
     return &potzendai_gone;
 }
 
-/* The words of a call that is recorded as another one. */
+/* Sets the words of a call that is recorded as another one. */
 static inline void potzendai_words_of_cache(const struct potzendai_request *request, enum recording_note note, uint64_t words[3])
 {
     if (note != RECORDING_REPLACE_MISSED && note != RECORDING_REPLACE_OTHER)
@@ -52,7 +51,7 @@ static inline bool potzendai_lists(const struct recording_pair *pairs, size_t co
     return false;
 }
 
-/* How many of the keys from `low` to `high`, which are below `keys`, a list does not have. */
+/* How many keys a list does not have, of those from `low` to `high` that are below `keys`. */
 static inline size_t potzendai_missing(const struct recording_pair *pairs, size_t count, uint64_t low, uint64_t high, uint64_t keys)
 {
     size_t missing = 0;
@@ -61,8 +60,8 @@ static inline size_t potzendai_missing(const struct recording_pair *pairs, size_
     return missing;
 }
 
-/* A recording of a cache that is written: which processes are free to make calls beside the scans, of each process those that do so for its
- * open scan, or that this is left out, and how many calls there are, and were left out. */
+/* The recording of a cache while it is written. The processes in `free` have no calls of their own: they make those added to scans. Those in
+ * `beside` do so for the open scan of each process. `is_out`: that scan is left out. `left_out` counts such scans, but for those that say nothing. */
 struct potzendai_cached {
     const struct recording *recording;
     FILE *out;
@@ -79,7 +78,7 @@ static inline void potzendai_put_cached(struct potzendai_cached *c, const struct
     c->is_written = true;
 }
 
-/* A process that is free, for a call beside the open one of another; the least that there is. */
+/* Takes the lowest free process, for a call that is added to the open scan of another. */
 static inline unsigned potzendai_take_free(struct potzendai_cached *c, unsigned process)
 {
     unsigned p = 0;
@@ -99,8 +98,8 @@ static inline size_t potzendai_count_free(uint64_t free)
     return count;
 }
 
-/* Begins a scan, with a remove of each key that it does not have; or, where a miss says nothing, gets of those that it has in its place. Where
- * there are no processes for these, or there would be too many calls, it is left out. */
+/* Begins a scan, with a remove of each key that it does not have. If a miss says nothing, gets of the keys that it has replace the scan. It is left
+ * out if there are too few processes for these calls, or would be too many calls. */
 static inline void potzendai_begin_scan(struct potzendai_cached *c, const struct recording_event *scan)
 {
     const struct recording_pair *pairs = c->recording->logs[scan->process].pairs + scan[1].words[0];
@@ -129,7 +128,7 @@ static inline void potzendai_begin_scan(struct potzendai_cached *c, const struct
         }
 }
 
-/* Answers a scan and the calls beside it. */
+/* Answers a scan and the calls added to it. */
 static inline void potzendai_end_scan(struct potzendai_cached *c, const struct recording_event *list)
 {
     const struct recording_pair *pairs = c->recording->logs[list->process].pairs + list->words[0];
@@ -153,7 +152,7 @@ static inline void potzendai_end_scan(struct potzendai_cached *c, const struct r
     c->beside[list->process] = 0;
 }
 
-/* Writes the events by rising stamp, with those beside scans. */
+/* Writes the events by rising stamp, with those added to scans. */
 static inline void potzendai_write_events(struct potzendai_cached *c, const struct recording_event **by_stamp, size_t stamps)
 {
     for (unsigned p = 0; p < RECORDING_PROCESSES; p++) {
@@ -174,7 +173,7 @@ static inline void potzendai_write_events(struct potzendai_cached *c, const stru
     }
 }
 
-/* Writes the recording of a cache as a history, as recording_write does of other maps: each of its scans was answered. */
+/* Writes the recording of a cache as a history, as recording_write does for other maps. Each of its scans has an answer. */
 static inline int potzendai_write_cached(const struct recording *r, FILE *out, uint64_t keys, bool is_late, uint64_t *left_out)
 {
     size_t stamps = (size_t)atomic_load(&r->stamps);

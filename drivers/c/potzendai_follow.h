@@ -1,18 +1,18 @@
-/* One stream, which is followed while the threads run. Included by potzendai_test.h. */
+/* A stream that is followed while the threads run. Included by potzendai_test.h. */
 #ifndef POTZENDAI_FOLLOW_H
 #define POTZENDAI_FOLLOW_H
 
 #include "potzendai_rounds.h"
 
-/* Slots of the stream, processes for threads that go on as others, characters of the report of one without order, the most bytes of a stream
- * that are kept for a file, and for how many of them there is room at first. */
+/* Slots of the stream; processes as which threads go on after an unknown answer; characters of a report that are shown; the most bytes of a stream
+ * that are kept for a file, and the first room for them. */
 enum { POTZENDAI_SLOTS = 8192, POTZENDAI_OTHERS = 4096, POTZENDAI_SHOWN = 1000, POTZENDAI_KEPT = 1 << 26, POTZENDAI_KEPT_FIRST = 1 << 16 };
 
-/* How calls of a stream meet: how many there are, how many are open, and how many others were open at their invocations, all added up. Of each
- * process that has an open call it has how many calls there were with that one, and 0 of the others. */
+/* How calls of a stream meet: how many there are, how many are open, and how many others were open at each invocation, added up. `with` has for each
+ * process with an open call how many calls there were up to that one, and 0 for other processes. */
 struct potzendai_meetings { uint64_t calls, open, overlap, *with, processes; };
 
-/* A stream, who takes its lines, and how far it is. */
+/* A stream, its follower, and how far it is. */
 struct potzendai_following {
     struct potzendai_tester *tester;
     struct potzendai_thread *threads;
@@ -38,7 +38,7 @@ static inline void potzendai_count_calls(struct potzendai_following *f)
     }
 }
 
-/* Counts the events of these lines, each of which ends with its process. */
+/* Counts the events of some lines. Each line ends with its process. */
 static inline void potzendai_meet(struct potzendai_meetings *m, const char *text, size_t length)
 {
     for (const char *line = text, *end; (end = (const char *)memchr(line, '\n', (size_t)(text + length - line))) != NULL; line = end + 1) {
@@ -56,7 +56,7 @@ static inline void potzendai_meet(struct potzendai_meetings *m, const char *text
     }
 }
 
-/* How many other calls were open at an invocation, on average. A call that has no answer is not open for others: nobody makes it any more. */
+/* How many other calls were open at an invocation, on average. A call without an answer does not count as open: nobody makes it any more. */
 static inline double potzendai_met_a_call(const struct potzendai_meetings *m)
 {
     uint64_t overlap = m->overlap;
@@ -65,7 +65,7 @@ static inline double potzendai_met_a_call(const struct potzendai_meetings *m)
     return (double)overlap / (double)(m->calls ? m->calls : 1);
 }
 
-/* How far it is. */
+/* Prints once a second how far the stream is, if standard error is a terminal. */
 static inline void potzendai_follow_progress(struct potzendai_following *f)
 {
     if (!f->tester->has_terminal || potzendai_now() - f->tester->told < 1)
@@ -76,7 +76,7 @@ static inline void potzendai_follow_progress(struct potzendai_following *f)
     potzendai_progress(f->tester);
 }
 
-/* Makes room for so many bytes more of the stream: false where they are too many to be kept, or where memory is refused. */
+/* Makes room for so many more bytes of the stream: false if they are too many to be kept, or if memory is refused. */
 static inline bool potzendai_grow_kept(struct potzendai_following *f, size_t length)
 {
     size_t room = f->kept_room ? f->kept_room : (size_t)POTZENDAI_KEPT_FIRST;
@@ -93,7 +93,7 @@ static inline bool potzendai_grow_kept(struct potzendai_following *f, size_t len
     return true;
 }
 
-/* Keeps lines of the stream for a file, or nothing of it any more where there is no room: it is followed all the same. */
+/* Keeps lines of the stream for a file. If there is no room, drops all that was kept; the stream is still followed. */
 static inline void potzendai_keep_lines(struct potzendai_following *f, const char *text, size_t length)
 {
     if (f->is_unkept)
@@ -108,7 +108,7 @@ static inline void potzendai_keep_lines(struct potzendai_following *f, const cha
     f->kept_length += length;
 }
 
-/* Takes lines: other than 0 where the stream is no yes any more. */
+/* Takes lines: 0 as long as the verdict may be yes. */
 static inline int potzendai_take_lines(void *to, const char *text, size_t length)
 {
     struct potzendai_following *f = (struct potzendai_following *)to;
@@ -119,7 +119,7 @@ static inline int potzendai_take_lines(void *to, const char *text, size_t length
     return status == POTZENDAI_IS_YES ? 0 : -1;
 }
 
-/* The verdict with all that is shown of it. */
+/* The verdict on the stream, with its whole report. */
 static inline enum potzendai_status potzendai_stream_verdict(struct potzendai_following *f)
 {
     size_t length = 0;
@@ -135,10 +135,10 @@ static inline enum potzendai_status potzendai_stream_verdict(struct potzendai_fo
     return status;
 }
 
-/* A line of the stream that is kept, and which event it is of; of the first line, none. */
+/* A kept line of the stream, and the number of its event; the first line has none. */
 struct potzendai_kept { const char *line, *end; uint64_t event; };
 
-/* Writes the line of an event into room for one; nothing where it is not kept. From lines before it this goes on where it was. */
+/* Copies the line of an event; nothing if it is not kept. For a later event than last time, the search goes on from there. */
 static inline void potzendai_find_kept(const struct potzendai_following *f, struct potzendai_kept *k, uint64_t event, char room[RECORDING_EVENT_TEXT])
 {
     if (!k->line || event < k->event) {
@@ -167,7 +167,7 @@ static inline size_t potzendai_count_text(const char *text, const char *what)
     return count;
 }
 
-/* The history of the calls left at a key with the notes that the stream has of them; NULL where it has none, or not all of these calls. */
+/* The history of the calls left at a key, with the notes that the stream has of them; NULL if the stream has no notes, or not all of these calls. */
 static inline char *potzendai_note_left(const struct potzendai_following *f, const char *text)
 {
     const char *invoked = potzendai_member(f->told.report, "\"invoked\":["), *from = text;
@@ -196,7 +196,7 @@ static inline char *potzendai_note_left(const struct potzendai_following *f, con
     return noted;
 }
 
-/* The history of the calls left at a key, and few of it that have no order. Where these are not found, the history alone is kept. */
+/* Shows few of the calls left at a key that have no order, and saves the history of all. If no few calls are found, saves only that history. */
 static inline void potzendai_tell_left(struct potzendai_following *f, const char *text)
 {
     struct potzendai_told left;
@@ -218,8 +218,8 @@ static inline void potzendai_tell_left(struct potzendai_following *f, const char
     potzendai_forget(&left);
 }
 
-/* A stream without order: the calls left at a key are a history, where that says it all, which is explained; else it is said why not. Kept is
- * the stream so far, unless it is long, and of the report what is not shown, or all where nothing else is kept. */
+/* Shows a stream that has no order. If the calls left at a key say why, they are a history, which is explained; if not, a line says so. Saves the
+ * stream so far, unless it is long. Saves the report if not all of it is shown, or if nothing else is saved. */
 static inline void potzendai_tell_stream(struct potzendai_following *f)
 {
     const char *left = potzendai_next_line(f->told.report);
@@ -239,7 +239,7 @@ static inline void potzendai_tell_stream(struct potzendai_following *f)
     potzendai_tell_again(f->tester, 0);
 }
 
-/* What the follower says at the end. A stream that was cut off has no yes. */
+/* The verdict of the follower at the end. A stream that was cut off gets no yes. */
 static inline int potzendai_end_stream(struct potzendai_following *f)
 {
     struct potzendai_run *run = f->tester->run;
@@ -268,7 +268,7 @@ static inline void potzendai_close_follower(struct potzendai_following *f)
     potzendai_forget(&f->told);
 }
 
-/* The thread that writes: to the follower, which opens and stays here, or to standard output. */
+/* The thread that writes the stream: to the follower, which only this thread uses, or to standard output or a file. */
 static inline void *potzendai_write_stream(void *own)
 {
     struct potzendai_following *f = (struct potzendai_following *)own;
@@ -296,11 +296,12 @@ static inline void potzendai_wait(struct potzendai_following *f)
     struct potzendai_run *run = f->tester->run;
     double until = f->tester->began + (double)f->tester->options->seconds;
     struct timespec some_time = {0, 10000000};
-    while (potzendai_now() < until && !potzendai_is_interrupted() && !atomic_load(&run->fault) && !atomic_load(&f->is_done) && atomic_load(&run->arrived))
+    while (potzendai_now() < until && !potzendai_is_interrupted() && !atomic_load(&run->fault) && !atomic_load(&f->is_done)
+           && atomic_load(&run->arrived))
         nanosleep(&some_time, NULL);
 }
 
-/* Where nobody follows, the stream goes to standard output or to a file. */
+/* Opens a stream that nobody follows: to standard output, or to a file. */
 static inline int potzendai_open_unjudged(struct potzendai_following *f)
 {
     const struct potzendai_options *o = f->tester->options;
@@ -360,7 +361,7 @@ static inline int potzendai_run_stream(struct potzendai_following *f)
     return (int)(intptr_t)status;
 }
 
-/* One stream: the status of its verdict, or -1 where the run fails. */
+/* Runs one stream: the status of its verdict, or -1 if the run fails. */
 static inline int potzendai_stream(struct potzendai_tester *tester)
 {
     struct potzendai_following *f = (struct potzendai_following *)calloc(1, sizeof *f);

@@ -1,7 +1,7 @@
 /* Rounds that are processes of their own. Included by potzendai_scheduled.h.
  *
- * A process that does nothing else forks them, so each begins with the map, the heap and the addresses that there were when the run began, and
- * needs no round before it. What it was is left in memory that the processes share. A deadlock or a crash is the end of one round. */
+ * A process that does nothing else forks them. So each round begins with the map, the heap and the addresses of the run's beginning, and needs no
+ * round before it. Its results are in memory that the processes share. A deadlock or a crash ends only one round. */
 #ifndef POTZENDAI_FORKED_H
 #define POTZENDAI_FORKED_H
 
@@ -13,21 +13,21 @@
 #include <sys/resource.h>
 #include <sys/wait.h>
 
-/* A text has at most 4,096 calls with 17 pairs each. Of calls that are left out a bit each, by threads. */
+/* Room for a text: at most 4,096 calls with 17 pairs each. Words with a bit for each call that is left out, by threads. */
 enum { POTZENDAI_TEXT_ROOM = 8 << 20, POTZENDAI_BITS_LEFT_OUT = RECORDING_CALLS / 64 + POTZENDAI_SCHEDULED };
 
-/* So many times, each a second, a round is looked at without progress before it is ended. */
+/* A round is ended after so many seconds without progress. */
 enum { POTZENDAI_LOOKS = 2 };
 
-/* What ends a round from outside, beside the outcomes that the scheduler knows. */
+/* How a round ends, beyond the outcomes that the scheduler knows. */
 enum potzendai_ending {
     POTZENDAI_ENDED,     /* as its outcome says */
-    POTZENDAI_CRASHED,   /* by a signal, or by an exit of the map's own */
-    POTZENDAI_OUTSIDE,   /* it came to no point any more: it waits or loops where the scheduler is not asked */
-    POTZENDAI_NO_PROCESS /* it could not be made */
+    POTZENDAI_CRASHED,   /* by a signal, or because the map ended the process */
+    POTZENDAI_OUTSIDE,   /* it reached no point any more: it waits or loops where the scheduler is not asked */
+    POTZENDAI_NO_PROCESS /* no process could be made */
 };
 
-/* What a round is to be, and what it was: shared by the run, the process that forks rounds, and the round's own. */
+/* What a round is to be, and what it was: shared by the run, the process that forks rounds, and the process of the round. */
 struct potzendai_shared {
     struct potzendai_schedule asked;
     bool is_silent;
@@ -43,7 +43,7 @@ struct potzendai_shared {
     char text[POTZENDAI_TEXT_ROOM];
 };
 
-/* A process that forks rounds, one at a time: a byte asks for one, and a byte says that it is over. */
+/* A process that forks rounds, one at a time: a byte asks for a round, and a byte says that it is over. */
 struct potzendai_forker { struct potzendai_shared *shared; pid_t process; int orders, answers; bool is_busy; };
 
 /* ---- In the round's own process. */
@@ -55,7 +55,7 @@ static inline void potzendai_be_silent(void)
         dup2(nothing, 2);
 }
 
-/* Runs the round, and leaves its text and its counts. */
+/* Runs the round, and writes its text and counts into the shared memory. */
 static inline void potzendai_run_scheduled(struct potzendai_tester *tester, struct potzendai_shared *shared)
 {
     struct potzendai_run *run = tester->run;
@@ -80,7 +80,7 @@ static inline void potzendai_run_scheduled(struct potzendai_tester *tester, stru
 
 /* ---- In the process that forks rounds. */
 
-/* Waits until the round's process has ended, which closes its end of a pipe. Answers whether it came to points all the while. */
+/* Waits until the round's process has ended, which closes its end of a pipe. Returns whether it reached points all the while. */
 static inline bool potzendai_watch(const struct potzendai_shared *shared, int alive)
 {
     struct pollfd wanted = {alive, POLLIN, 0};
@@ -131,7 +131,7 @@ static inline void potzendai_fork_round(struct potzendai_tester *tester, struct 
     close(alive[0]);
 }
 
-/* Forks a round for each byte, until the run has ended. It ends with the run, and Ctrl-C is the run's. */
+/* Forks a round for each byte, until the run has ended. Ctrl-C is left to the run. */
 static inline void potzendai_fork_rounds(struct potzendai_tester *tester, struct potzendai_shared *shared, int orders, int answers)
 {
     struct rlimit no_core = {0, 0};
@@ -139,7 +139,7 @@ static inline void potzendai_fork_rounds(struct potzendai_tester *tester, struct
     prctl(PR_SET_PDEATHSIG, SIGKILL);
     signal(SIGINT, SIG_IGN);
     signal(SIGPIPE, SIG_IGN);
-    signal(SIGCHLD, SIG_DFL); /* else nobody could wait for a round */
+    signal(SIGCHLD, SIG_DFL); /* otherwise nobody could wait for a round */
     setrlimit(RLIMIT_CORE, &no_core);
     while (read(orders, &byte, 1) == 1) {
         potzendai_fork_round(tester, shared);
@@ -151,7 +151,7 @@ static inline void potzendai_fork_rounds(struct potzendai_tester *tester, struct
 
 /* ---- In the run's own process. */
 
-/* Closes what it has, and waits for its process. */
+/* Closes a forker, and waits for its process. */
 static inline void potzendai_close_forker(struct potzendai_forker *f)
 {
     if (f->process > 0) {
@@ -165,7 +165,7 @@ static inline void potzendai_close_forker(struct potzendai_forker *f)
     memset(f, 0, sizeof *f);
 }
 
-/* Makes the process: 0, or -1. Those that were made before have ends of pipes that it does not keep open. */
+/* Makes the process of a forker: 0, or -1. It closes the pipes of the forkers made before it. */
 static inline int potzendai_open_forker(struct potzendai_tester *tester, struct potzendai_forker *all, size_t number)
 {
     struct potzendai_forker *f = &all[number];
@@ -196,7 +196,7 @@ static inline int potzendai_open_forker(struct potzendai_tester *tester, struct 
     return f->process > 0 ? 0 : -1;
 }
 
-/* Waits for the round: 0, or -1 where the process that forks is no more. */
+/* Waits for the round: 0, or -1 if the process that forks has ended. */
 static inline int potzendai_receive(struct potzendai_forker *f)
 {
     char byte;
@@ -208,8 +208,8 @@ static inline int potzendai_receive(struct potzendai_forker *f)
     return some == 1 ? 0 : -1;
 }
 
-/* Has a round be made, as `asked` says, with the switches and the calls left out that are in the shared memory. One that is still being made is
- * of no use any more. */
+/* Asks for a round as `asked` says, with the switches and the calls left out that are in the shared memory. Returns 0, or -1 if that fails. A round
+ * that is still being made is waited for and dropped. */
 static inline int potzendai_order(struct potzendai_forker *f, const struct potzendai_schedule *asked, bool is_silent)
 {
     struct potzendai_shared *shared = f->shared;

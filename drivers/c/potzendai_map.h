@@ -1,18 +1,19 @@
-/* A map that is tested: its functions, what they may say, and which events of a history that makes. Included by potzendai_test.h. */
+/* A map that is tested: its functions, their answers, and how a history records them. Included by potzendai_test.h. */
 #ifndef POTZENDAI_MAP_H
 #define POTZENDAI_MAP_H
 
 #include "potzendai_schedule.h"
 #include "streaming.h"
 #include <inttypes.h>
+#include <stdlib.h>
 #include <time.h>
 
-/* What a function of the map says. */
+/* What a function of the map answers. */
 enum map_said {
-    MAP_TOLD,    /* there was a value, which is told: of a put, del or replace the one before; of a floor, ceiling or pop_first a pair */
+    MAP_TOLD,    /* there was a value, which is given: of a put, del or replace the one before; of a floor, ceiling or pop_first a pair */
     MAP_NONE,    /* there was none */
-    MAP_DONE,    /* it was done, and nothing is told; of a replace: the old value was there, and is replaced */
-    MAP_FOUND,   /* there was a value, which is not told; of a floor, ceiling or pop_first its key is */
+    MAP_DONE,    /* it was done, and what it found is not said; of a replace: the old value was there, and is replaced */
+    MAP_FOUND,   /* there was a value, which is not given; of a floor, ceiling or pop_first its key is */
     MAP_OTHER,   /* of a replace: the old value was not there, and nothing has changed */
     MAP_REFUSED, /* nothing has changed, as of a transaction that was rolled back */
     MAP_UNKNOWN  /* nobody knows whether it was done, as of a request that timed out */
@@ -20,15 +21,15 @@ enum map_said {
 
 enum { POTZENDAI_SAYINGS = 7 };
 
-/* Any function but `get` and `put` may be NULL: it is not called then. Keys are from 0 up; the map holds no others. With `begin` the run makes
- * its maps itself, one after another, and `map` is what they are made of: anything, or NULL. */
+/* Any function but `get` and `put` may be NULL: then it is not called. Keys are from 0 up; the map holds no others. With `begin` the run makes
+ * its maps itself, one after another. It makes them from `map`, which may be anything, or NULL. */
 struct potzendai_map {
     const char *name;
     void *map;
     unsigned value_bits; /* how many bits a value may have, or 0 for 64: values from 1 up are put */
-    void *(*open)(void *map, unsigned thread); /* in the thread itself, its own handle on the map, as a connection; NULL where it fails, with
-                                                  errno ENOMEM where that is for want of memory. The run has one too, for gets at
-                                                  rest, behind the last thread's number. Or no function: it is the map */
+    void *(*open)(void *map, unsigned thread); /* called in each thread: its own connection to the map, or NULL if that fails, with errno
+                                                  ENOMEM if memory is refused. The run opens one too, for gets at rest; its number comes
+                                                  after those of the threads. Without this function, the connection is `map` */
     void (*close)(void *connection);
     enum map_said (*get)(void *connection, uint64_t key, uint64_t *found);
     enum map_said (*put)(void *connection, uint64_t key, uint64_t value, uint64_t *found);
@@ -39,10 +40,16 @@ struct potzendai_map {
     enum map_said (*floor)(void *connection, uint64_t key, struct recording_pair *pair);
     enum map_said (*ceiling)(void *connection, uint64_t key, struct recording_pair *pair);
     enum map_said (*pop_first)(void *connection, struct recording_pair *pair);
-    void *(*begin)(void *map);     /* makes a new map, which is given to `open`, or to the functions; NULL where it fails, as of `open` */
-    void (*end)(void *opened);     /* closes it for good */
-    void *(*reopen)(void *opened); /* closes it, at rest, and opens it again, with what it held: the same pointer, or another one */
+    void *(*begin)(void *map);     /* makes a new map for `open`, or for the functions; NULL if that fails, with errno as of `open` */
+    void (*end)(void *opened);     /* closes it at the end */
+    void *(*reopen)(void *opened); /* closes it, at rest, and opens it again with its pairs; returns the same pointer or another */
 };
+
+/* Under `--kill` the folder in which `begin` opens its store, with what it held; NULL else. `end` is not called then. */
+static inline const char *potzendai_store(void)
+{
+    return getenv("POTZENDAI_STORE");
+}
 
 enum potzendai_function {
     POTZENDAI_GET, POTZENDAI_PUT, POTZENDAI_DEL, POTZENDAI_SCAN, POTZENDAI_REPLACE, POTZENDAI_PUT_IF_ABSENT, POTZENDAI_FLOOR,
@@ -50,7 +57,7 @@ enum potzendai_function {
 };
 
 static const char *const potzendai_functions[] = {
-    "get", "put", "del", "scan", "replace", "put_if_absent", "floor", "ceiling", "pop_first"
+    "get", "put", "del", "scan", "replace", "put_if_absent", "floor", "ceiling", "pop_first", NULL
 };
 
 static const char *const potzendai_sayings[] = {"told", "none", "done", "found", "other", "refused", "unknown"};
@@ -58,7 +65,7 @@ static const char *const potzendai_sayings[] = {"told", "none", "done", "found",
 /* A call: `other` is the old value of a replace, and the high key of a scan. */
 struct potzendai_request { enum potzendai_function function; uint64_t key, value, other; };
 
-/* What the map said to it: the value or the pair that was told; `pairs`, with room for so many, are those of a scan. */
+/* The answer to a call: the value or the pair that was found; `pairs`, with room for so many, are those of a scan. */
 struct potzendai_answer {
     enum map_said said;
     struct recording_pair pair;
@@ -82,7 +89,7 @@ static inline bool potzendai_has(const struct potzendai_map *map, enum potzendai
     }
 }
 
-/* Whether it may change the map. */
+/* Whether a function may change the map. */
 static inline bool potzendai_writes(enum potzendai_function function)
 {
     return function == POTZENDAI_PUT || function == POTZENDAI_DEL || function == POTZENDAI_REPLACE || function == POTZENDAI_PUT_IF_ABSENT
@@ -93,7 +100,7 @@ static inline bool potzendai_writes(enum potzendai_function function)
 extern "C" {
 #endif
 
-/* None, where the program is linked without one. */
+/* The scheduler; NULL if the program is linked without one. */
 __attribute__((weak)) const struct potzendai_scheduler *potzendai_scheduler;
 
 #ifdef __cplusplus
@@ -106,11 +113,11 @@ __attribute__((weak)) const struct potzendai_scheduler *potzendai_scheduler;
 #define POTZENDAI_OF_THREAD static _Thread_local
 #endif
 
-/* Of a thread that calls the map: of a thousand points, how many give way to other threads; and what draws them. */
+/* Of each thread that calls the map: how many of a thousand points give way to other threads, and the state of the generator that draws them. */
 POTZENDAI_OF_THREAD unsigned potzendai_yields;
 POTZENDAI_OF_THREAD uint64_t potzendai_yield_state;
 
-/* Of such a thread: whether it is within a call, and how many points it has reached within calls under `--yield`. */
+/* Of each such thread: whether it is within a call, and how many points it has reached within calls under `--yield`. */
 POTZENDAI_OF_THREAD bool potzendai_is_calling;
 POTZENDAI_OF_THREAD uint64_t potzendai_points;
 
@@ -141,8 +148,8 @@ static inline void potzendai_ask(const struct potzendai_map *map, void *connecti
     potzendai_is_calling = false;
 }
 
-/* What becomes of a call: it does not fit what was said, is left out since it tells nothing, stays without an answer, or is a call
- * and an answer of a history. */
+/* What becomes of a call: its answer does not fit it; it is left out, since it says nothing; it stays without an answer; or it is a call and an
+ * answer of a history. */
 enum potzendai_fate { POTZENDAI_UNFIT, POTZENDAI_LEFT_OUT, POTZENDAI_STAYS_OPEN, POTZENDAI_ANSWERED };
 
 struct potzendai_row { enum potzendai_fate fate; enum recording_kind call, answer; };
@@ -152,7 +159,7 @@ struct potzendai_row { enum potzendai_fate fate; enum recording_kind call, answe
 #define POTZENDAI_OUT {POTZENDAI_LEFT_OUT, RECORDING_GET, RECORDING_REFUSED}
 #define POTZENDAI_OPEN(call) {POTZENDAI_STAYS_OPEN, RECORDING_##call, RECORDING_NONE}
 
-/* By function and by what it said, in the order of the two enumerations. */
+/* By function and answer, in the order of the two enumerations. */
 static const struct potzendai_row potzendai_rows[POTZENDAI_FUNCTIONS][POTZENDAI_SAYINGS] = {
     {POTZENDAI_ROW(GET, VALUE), POTZENDAI_ROW(GET, NONE), POTZENDAI_OUT, POTZENDAI_ROW(GET, FOUND), POTZENDAI_NO_ROW, POTZENDAI_OUT,
      POTZENDAI_OUT},
@@ -174,13 +181,13 @@ static const struct potzendai_row potzendai_rows[POTZENDAI_FUNCTIONS][POTZENDAI_
      POTZENDAI_OUT, POTZENDAI_NO_ROW}
 };
 
-/* Whether a call of the history is known only by the answer. */
+/* Whether only its answer says which call of the history it was. */
 static inline bool potzendai_is_held(enum potzendai_function function)
 {
     return function >= POTZENDAI_PUT_IF_ABSENT;
 }
 
-/* Where the scan ends that a ceiling or a floor is: at the pair that it told, if that lies where it may. */
+/* The high key of the scan as which a ceiling or a floor is recorded: that of the pair it found, if that lies in its range. */
 static inline uint64_t potzendai_high(const struct potzendai_request *request, const struct potzendai_answer *answer)
 {
     bool is_told = answer->said == MAP_TOLD;
@@ -215,7 +222,7 @@ static inline void potzendai_words(const struct potzendai_request *request, cons
     }
 }
 
-/* A generator of numbers: Steele, Lea and Flood's SplitMix. Its states may be any. */
+/* A generator of numbers: SplitMix (Steele, Lea and Flood, 2014). Its state may be any number. */
 static inline uint64_t potzendai_mix(uint64_t *state)
 {
     uint64_t z = *state += 0x9e3779b97f4a7c15u;
@@ -230,7 +237,7 @@ static inline uint64_t potzendai_draw_below(uint64_t *state, uint64_t limit)
     return potzendai_mix(state) % limit;
 }
 
-/* The time, also where a scheduler shows the map another one. */
+/* The true time, also if a scheduler shows the map another one. */
 static inline void potzendai_clock(clockid_t clock, struct timespec *now)
 {
     if (potzendai_scheduler)
@@ -259,8 +266,8 @@ static inline void potzendai_pause(void)
 extern "C" {
 #endif
 
-/* A map's functions may call this where another thread should get in between: under `--yield` it sometimes does. Sources of their own
- * declare it: void potzendai_point(void); */
+/* A map's functions may call this where another thread should get in: under `--yield` one sometimes does. A source that does not include this file
+ * declares it: void potzendai_point(void); */
 __attribute__((weak)) void potzendai_point(void);
 __attribute__((weak)) void potzendai_point(void)
 {

@@ -1,5 +1,5 @@
-/* The program `bench` in the place of the library: each question is asked of a process of its own, and a stream is handed to one by a pipe. What
- * stands here has the names of potzendai.h, whose statuses and texts are the program's. Included by potzendai_test.h. */
+/* The program `bench` in place of the library: a process of its own answers each question, and one reads a stream from a pipe. The functions have the
+ * names of those in potzendai.h, with the same statuses and texts. Included by potzendai_test.h. */
 #ifndef POTZENDAI_PROGRAM_H
 #define POTZENDAI_PROGRAM_H
 
@@ -20,17 +20,17 @@ extern char **environ;
 }
 #endif
 
-/* The path of the program, as --bench has it. */
+/* The path of the program: the argument of --bench. */
 static const char *potzendai_bench;
 
-/* A process of the program, what it writes, and its exit status, or 128 and the signal that has ended it; below 0 what was in its way. What it
- * says on standard error stays there until the program is built, which takes minutes and tells how far it is; later only a fault is told. */
+/* A process of the program, what it writes, and its exit status, or 128 and the signal that has ended it; below 0 an errno of what failed. Until the
+ * program is built its standard error is that of the run, since a build takes minutes and says how far it is. Later only faults are shown. */
 struct potzendai_asked { const char *command; pid_t process; FILE *out, *said; int status; };
 
-/* A stream that is followed: where `to` leads until the program has ended, and how many calls were handed over. */
+/* A stream that is followed: `to` is written to until the program has ended; and how many calls were written. */
 struct potzendai_follower { struct potzendai_asked asked; int to; uint64_t calls; };
 
-/* Whether `judge`, and whether what else there is, was answered once: behind the script `bench` of the repository what does it is built then. */
+/* Whether `judge` has answered once, and whether another subcommand has. If --bench is the repository's script, the program is built then. */
 static bool potzendai_has_judged, potzendai_has_told;
 
 static inline bool *potzendai_has_done(const char *command)
@@ -38,8 +38,7 @@ static inline bool *potzendai_has_done(const char *command)
     return strcmp(command, "judge") == 0 ? &potzendai_has_judged : &potzendai_has_told;
 }
 
-/* The program that does what is asked: behind that script the last that it has built, since it takes as long as ten rounds to see that nothing
- * has changed. */
+/* The program to start. For that script it is the last one that it built: the script takes as long as ten rounds to see that nothing has changed. */
 static inline const char *potzendai_find_bench(const char *command, char path[POTZENDAI_PATH])
 {
     static const char *const names[] = {"history_bench", "judge_bench", "bench"};
@@ -61,7 +60,7 @@ static inline const char *potzendai_find_bench(const char *command, char path[PO
     return path;
 }
 
-/* Opens the files for what the program writes: 0, or what was in the way. */
+/* Opens the files for what the program writes: 0, or an errno below 0. */
 static inline int potzendai_open_asked(struct potzendai_asked *asked, const char *command)
 {
     asked->command = command;
@@ -74,7 +73,7 @@ static inline int potzendai_open_asked(struct potzendai_asked *asked, const char
     return asked->status;
 }
 
-/* Spawns the program. Ctrl-C does not end it once it is built, since the run that asks it ends with its answer. */
+/* Spawns the program. Once it is built, Ctrl-C does not end it: the run ends with its answer. */
 static inline int potzendai_spawn(struct potzendai_asked *asked, const posix_spawn_file_actions_t *ends, char **words)
 {
     posix_spawnattr_t how;
@@ -93,7 +92,7 @@ static inline int potzendai_spawn(struct potzendai_asked *asked, const posix_spa
     return fault;
 }
 
-/* Starts the program with this for its standard input. */
+/* Starts the program with this standard input. */
 static inline void potzendai_start_bench(struct potzendai_asked *asked, uint32_t budget, int input)
 {
     char number[16], path[POTZENDAI_PATH];
@@ -113,7 +112,7 @@ static inline void potzendai_start_bench(struct potzendai_asked *asked, uint32_t
     asked->status = -fault;
 }
 
-/* Waits for it to end. */
+/* Waits until the program has ended. */
 static inline void potzendai_wait_for(struct potzendai_asked *asked)
 {
     int ended = 0;
@@ -135,7 +134,7 @@ static inline void potzendai_close_asked(struct potzendai_asked *asked)
         fclose(asked->said);
 }
 
-/* Reads what was written to a file from its begin, as a call of the library leaves a text in a room: with its length. */
+/* Reads a whole file as a call of the library writes a text: into a room, with its length. */
 static inline void potzendai_read_answer(FILE *out, char *room, size_t room_length, size_t *length)
 {
     long end = fseek(out, 0, SEEK_END) ? -1 : ftell(out);
@@ -155,7 +154,7 @@ static inline bool potzendai_has_verdict(const char *report, int status)
     return length >= end && memcmp(report + length - end, ends[status], end) == 0;
 }
 
-/* Tells that the program gave no verdict, and why: its status with the first line that it said, or what was in its way. */
+/* Writes that the program gave no verdict, and why: its status with its first line of standard error, or what failed. */
 static inline uint32_t potzendai_no_answer(struct potzendai_asked *asked, const char *why, char *room, size_t room_length, size_t *length)
 {
     char said[160] = "", number[32] = "";
@@ -171,7 +170,7 @@ static inline uint32_t potzendai_no_answer(struct potzendai_asked *asked, const 
     return asked->status > POTZENDAI_IS_UNDECIDED && asked->status < POTZENDAI_BAD_FILE ? (uint32_t)asked->status : (uint32_t)POTZENDAI_BAD_FILE;
 }
 
-/* What the program has answered: the status of a verdict with its report, or, also where it has none, what is in its way. */
+/* What the program has answered: the status of a verdict with its report, or why there is none. */
 static inline uint32_t potzendai_take_answer(struct potzendai_asked *asked, char *room, size_t room_length, size_t *length)
 {
     if (asked->status < POTZENDAI_IS_YES || asked->status > POTZENDAI_IS_UNDECIDED)
@@ -184,7 +183,7 @@ static inline uint32_t potzendai_take_answer(struct potzendai_asked *asked, char
     return (uint32_t)asked->status;
 }
 
-/* Asks the program of a history, as a call of the library does. */
+/* Asks the program about a history, as a call of the library does. */
 static inline uint32_t potzendai_ask_bench(const char *command, const char *text, size_t text_length, uint32_t budget, char *room,
                                            size_t room_length, size_t *length)
 {
@@ -224,7 +223,7 @@ static inline uint32_t potzendai_page(const char *text, size_t text_length, uint
     return potzendai_ask_bench("page", text, text_length, budget, room, room_length, length);
 }
 
-/* Has what is closed of standard input, output and error be nothing, so that no file of the program's is taken for it. */
+/* Opens those of standard input, output and error that are closed, so that no other file gets their numbers. */
 static inline void potzendai_hold_standard(void)
 {
     FILE *nothing = fopen("/dev/null", "r");
@@ -234,8 +233,8 @@ static inline void potzendai_hold_standard(void)
         fclose(nothing);
 }
 
-/* Asks the program of no calls at all, so that it is there, and has been built, before a run begins: 0, or the status of what is in its way. It
- * is waited for, which nobody can where SIGCHLD is ignored. */
+/* Asks the program about no calls at all, so that it is built before a run begins: 0, or the status of what failed. The program is waited for, which
+ * is impossible while SIGCHLD is ignored. */
 static inline int potzendai_open_bench(const char *path, bool is_stream)
 {
     char room[POTZENDAI_REPORT];
@@ -252,7 +251,7 @@ static inline int potzendai_open_bench(const char *path, bool is_stream)
     return (int)status;
 }
 
-/* Ends the stream, and waits for what the program makes of it. */
+/* Ends the stream, and waits until the program has answered. */
 static inline void potzendai_end_lines(struct potzendai_follower *follower)
 {
     if (follower->to < 0)
@@ -262,7 +261,7 @@ static inline void potzendai_end_lines(struct potzendai_follower *follower)
     potzendai_wait_for(&follower->asked);
 }
 
-/* Begins a stream. Whether the program was there, the verdict says. */
+/* Begins a stream. If the program is not found, the verdict says so. */
 static inline uint32_t potzendai_follow_open(struct potzendai_follower *follower, uint32_t budget)
 {
     int ends[2];
@@ -272,7 +271,7 @@ static inline uint32_t potzendai_follow_open(struct potzendai_follower *follower
         follower->asked.status = follower->asked.status ? follower->asked.status : -errno;
         return POTZENDAI_NO_MEMORY;
     }
-    ioctl(ends[1], FIOCLEX); /* the program does not hold the end to which its own input leads */
+    ioctl(ends[1], FIOCLEX); /* the program does not keep the writing end of its own input open */
     potzendai_start_bench(&follower->asked, budget, ends[0]);
     close(ends[0]);
     follower->to = ends[1];
@@ -291,7 +290,7 @@ static inline uint64_t potzendai_count_invoked(const char *lines, size_t length)
     return count;
 }
 
-/* Hands lines over: other than 0 where the program takes no more. It has ended then. */
+/* Writes lines to the program: 0, or 1 if it takes no more. Then it has ended. */
 static inline uint32_t potzendai_follow_event(struct potzendai_follower *follower, const char *lines, size_t length)
 {
     follower->calls += potzendai_count_invoked(lines, length);
@@ -307,7 +306,7 @@ static inline uint32_t potzendai_follow_event(struct potzendai_follower *followe
     return length > 0;
 }
 
-/* What the program says of the stream, which has ended with this. A yes is one of all calls that were handed over. */
+/* Ends the stream, and returns the verdict of the program. A yes has to be of all calls that were written. */
 static inline uint32_t potzendai_follow_verdict(struct potzendai_follower *follower, char *room, size_t room_length, size_t *length)
 {
     char calls[32];

@@ -1,7 +1,7 @@
-/* A scheduler in the place of ThreadSanitizer's runtime: it decides which thread of a test runs, at each access of memory that threads share.
+/* A scheduler in place of ThreadSanitizer's runtime. It decides which thread of a test runs, at each access of memory that threads share.
  *
- * Compile the map with -fsanitize=thread -c, which has the compiler call the functions named __tsan_* at each access, and link it with this
- * file, without -fsanitize=thread:
+ * Compile the map with -fsanitize=thread -c: then the compiler calls the functions named __tsan_* at each access. Link it with this file, without
+ * -fsanitize=thread:
  *
  *     cc -std=c11 -O2 -g -pthread -DPOTZENDAI_NO_LIBRARY -Ic -fsanitize=thread -c mine.c
  *     cc -O2 -pthread -o mine mine.o c/potzendai_schedule.c -ldl
@@ -24,7 +24,7 @@
 #error "compile potzendai_schedule.c without -fsanitize=thread: it stands in the place of what that links"
 #endif
 #endif
-#undef _FORTIFY_SOURCE /* under which memcpy is an inline function of string.h; here it is defined */
+#undef _FORTIFY_SOURCE /* otherwise memcpy is an inline function of string.h; here it is defined */
 #ifndef _GNU_SOURCE
 #define _GNU_SOURCE
 #endif
@@ -63,7 +63,7 @@
 #include "schedule_pinned.h"
 #include "schedule_places.h"
 
-/* ---- What the driver calls, in the order of a round. The round has a process of its own, so all is zero before. */
+/* ---- What the driver calls, in the order of a round. Each round has its own process, so all is zero before. */
 
 static void *share(size_t size)
 {
@@ -90,7 +90,7 @@ static void begin(const struct potzendai_schedule *schedule, struct potzendai_sc
         change_points[i] = 1 + draw() % (schedule->steps_expected ? schedule->steps_expected : 1);
 }
 
-/* Nothing here takes memory: which part of the heap a thread gets would depend on which of them comes first. */
+/* Nothing here takes memory: otherwise the part of the heap that a thread gets would depend on which thread comes first. */
 static void enter(unsigned number)
 {
     struct thread *t = &threads[number];
@@ -128,7 +128,7 @@ static void run(void)
     wait_for(&main_has_turn);
 }
 
-/* A thread begins the next of the calls that it draws. Its steps are numbered from here, so that they stay the same without other calls. */
+/* Begins the next of the calls that a thread draws. Its steps are numbered from here, so they stay the same if other calls are left out. */
 static bool call(uint32_t function, uint64_t key)
 {
     struct thread *t = me;
@@ -182,14 +182,14 @@ static void leave(void)
         go_to(t, next);
     else
         give_turn_to_main(t);
-    for (;;) /* by kernel threads; the stack of a fiber is never gone back to */
+    for (;;) /* by kernel threads; a fiber never returns to its stack */
         pause();
 }
 
 static const struct potzendai_scheduler scheduler = {is_pinned, real_clock, share, begin, enter, ready, run, call, in, out, leave, locate};
 const struct potzendai_scheduler *potzendai_scheduler = &scheduler;
 
-/* A point that a map names itself. */
+/* A point that the map itself marks. */
 void potzendai_point(void);
 void potzendai_point(void)
 {

@@ -1,4 +1,4 @@
-/* Scheduled rounds: potzendai_schedule.c says which thread runs at each point. Included by potzendai_test.h. */
+/* Scheduled rounds: potzendai_schedule.c decides which thread runs at each point. Included by potzendai_test.h. */
 #ifndef POTZENDAI_SCHEDULED_H
 #define POTZENDAI_SCHEDULED_H
 
@@ -7,8 +7,8 @@
 #ifdef __linux__
 #include "potzendai_forked.h"
 
-/* Rounds that are made before the first, and always are the same: of the one the words at which threads meet are learned, of the others how many
- * steps a round has with these points. Their numbers are above those of all others. */
+/* Rounds that are made before the first, and are the same in each run. From the learning ones come the words at which threads meet, from the counting
+ * ones how many steps a round has. Their numbers are above those of all other rounds. */
 enum { POTZENDAI_LEARNING_ROUNDS = 50, POTZENDAI_COUNTING_ROUNDS = 10 };
 
 /* A scheduled run. */
@@ -19,12 +19,12 @@ struct potzendai_plan {
     uint64_t steps_of_all, steps_of_learned; /* how many a round is expected to have */
 };
 
-/* How a finding of a scheduled round is shown: potzendai_shrink.h. */
+/* Shows the schedule of a round that went wrong: potzendai_shrink.h. */
 static inline void potzendai_tell_schedule(struct potzendai_plan *plan, struct potzendai_told *told);
 
 /* ---- What a round is. */
 
-/* Every second round of those with one strategy has learned points. */
+/* Whether a round has learned points: every second round of each strategy has. */
 static inline bool potzendai_is_learned(const struct potzendai_schedule_words *s, uint64_t round)
 {
     return s->points == POTZENDAI_LEARNED && (s->way == POTZENDAI_MIX ? round / 4 + round : round) % 2 == 0;
@@ -55,7 +55,7 @@ static inline struct potzendai_schedule potzendai_any_schedule(const struct potz
     return asked;
 }
 
-/* The schedule of a round: of the words, the seed and its number only. */
+/* The schedule of a round. It depends only on the words, the seed and the number of the round. */
 static inline struct potzendai_schedule potzendai_schedule_of(const struct potzendai_plan *plan, uint64_t round)
 {
     const struct potzendai_schedule_words *s = &plan->tester->options->schedule;
@@ -67,13 +67,19 @@ static inline struct potzendai_schedule potzendai_schedule_of(const struct potze
     return asked;
 }
 
-/* Makes one round by the first forker: 0, or -1 where it cannot be made. */
+/* Makes one round by the first forker: 0, or -1 if it cannot be made. */
 static inline int potzendai_make_one(struct potzendai_plan *plan, const struct potzendai_schedule *asked, bool is_silent)
 {
     struct potzendai_forker *f = &plan->forkers[0];
     if (potzendai_order(f, asked, is_silent) || potzendai_receive(f) || f->shared->ending == POTZENDAI_NO_PROCESS)
         return potzendai_fail(plan->tester->run, POTZENDAI_NO_MEMORY, "memory: no process for a round");
     return 0;
+}
+
+/* Whether the round ended well, so that it has a recording. */
+static inline bool potzendai_is_whole(const struct potzendai_shared *shared)
+{
+    return shared->ending == POTZENDAI_ENDED && shared->made.outcome == POTZENDAI_FINISHED;
 }
 
 /* ---- The rounds before the first. */
@@ -93,8 +99,8 @@ static inline int potzendai_make_first_one(struct potzendai_plan *plan, enum pot
                           "--schedule: no scheduling point in the first round: compile the map with -fsanitize=thread -c");
 }
 
-/* Makes so many rounds by random walks with these points. Answers a quarter more than the steps that those have on average which end well, or 0
- * where one cannot be made. What goes wrong in them is left to the rounds that count. */
+/* Makes so many rounds by random walks with these points. Returns a quarter more than the average steps of those that end well, or 0 if one cannot be
+ * made. What goes wrong in these rounds is not reported. */
 static inline uint64_t potzendai_make_first(struct potzendai_plan *plan, enum potzendai_points points, uint64_t rounds)
 {
     const struct potzendai_shared *shared = plan->forkers[0].shared;
@@ -102,9 +108,10 @@ static inline uint64_t potzendai_make_first(struct potzendai_plan *plan, enum po
     for (uint64_t i = 0; i < rounds; i++) {
         if (potzendai_make_first_one(plan, points, i))
             return 0;
-        bool is_whole = shared->ending == POTZENDAI_ENDED && shared->made.outcome == POTZENDAI_FINISHED;
-        steps += is_whole ? shared->made.steps : 0;
-        ended += is_whole;
+        if (potzendai_is_whole(shared)) {
+            steps += shared->made.steps;
+            ended++;
+        }
         if (shared->ending == POTZENDAI_OUTSIDE)
             break; /* each takes seconds */
     }
@@ -140,7 +147,7 @@ static inline void potzendai_add_counts(struct potzendai_counts *all, const stru
         all->functions_called[f] += some->functions_called[f];
 }
 
-/* Copies the text of a round: 0, or -1 where memory is refused. */
+/* Copies the text of a round: 0, or -1 if memory is refused. */
 static inline int potzendai_copy_text(const struct potzendai_shared *shared, struct potzendai_told *told)
 {
     memset(told, 0, sizeof *told);
@@ -152,12 +159,7 @@ static inline int potzendai_copy_text(const struct potzendai_shared *shared, str
     return 0;
 }
 
-static inline bool potzendai_is_whole(const struct potzendai_shared *shared)
-{
-    return shared->ending == POTZENDAI_ENDED && shared->made.outcome == POTZENDAI_FINISHED;
-}
-
-/* The word for how a round ended that has no recording; the last line begins with it. */
+/* The word for the end of a round that has no recording. The last line begins with it. */
 static inline const char *potzendai_ending_of(const struct potzendai_shared *shared)
 {
     if (shared->ending == POTZENDAI_CRASHED)
@@ -167,7 +169,7 @@ static inline const char *potzendai_ending_of(const struct potzendai_shared *sha
     return shared->made.outcome == POTZENDAI_DEADLOCK ? "deadlock" : "endless";
 }
 
-/* Says how it ended, in a line of its own. */
+/* Prints how a round ended, in a line of its own. */
 static inline void potzendai_tell_ending(uint64_t round, const struct potzendai_shared *shared)
 {
     fprintf(stderr, "round %" PRIu64 ": %s: ", round, potzendai_ending_of(shared));
@@ -185,7 +187,7 @@ static inline void potzendai_tell_ending(uint64_t round, const struct potzendai_
         fputs("no call ended in 200,000 steps\n", stderr);
 }
 
-/* A round that did not end well: those before it are judged first. Its status is that of a no, or where the scheduler was not asked undecided. */
+/* Takes a round that did not end well, after those before it are judged. The status is no, or undecided if it left what can be scheduled. */
 static inline int potzendai_take_ending(struct potzendai_plan *plan, const struct potzendai_shared *shared)
 {
     struct potzendai_tester *tester = plan->tester;
@@ -207,7 +209,7 @@ static inline int potzendai_take_ending(struct potzendai_plan *plan, const struc
     return is_outside ? POTZENDAI_IS_UNDECIDED : POTZENDAI_IS_NO;
 }
 
-/* Says each second how far this is, where somebody looks. */
+/* Prints once a second how far the run is, if standard error is a terminal. */
 static inline void potzendai_scheduled_progress(struct potzendai_tester *tester)
 {
     double now = potzendai_now();
@@ -241,8 +243,8 @@ static inline int potzendai_take_scheduled(struct potzendai_plan *plan, const st
 
 /* ---- The run. */
 
-/* Round after round, as many at a time as there are forkers. They are taken in the order of their numbers, so what is found does not depend on how
- * many run side by side. */
+/* Makes rounds, as many at a time as there are forkers. They are taken in the order of their numbers, so what is found does not depend on how many
+ * run side by side. */
 static inline int potzendai_run_plan(struct potzendai_plan *plan)
 {
     struct potzendai_tester *tester = plan->tester;
@@ -272,7 +274,7 @@ static inline int potzendai_replay(struct potzendai_plan *plan)
     return status ? status : potzendai_judge_waiting(plan->tester);
 }
 
-/* Makes what the run shares with others, and the processes that fork rounds. All of it first: each of them has the same heap then. */
+/* Makes the shared memory, and then the processes that fork rounds. In this order each of these has the same heap. */
 static inline int potzendai_open_plan(struct potzendai_plan *plan, struct potzendai_tester *tester)
 {
     uint64_t jobs = tester->options->schedule.jobs;
@@ -297,7 +299,7 @@ static inline void potzendai_close_plan(struct potzendai_plan *plan)
         munmap(plan->words, POTZENDAI_LEARNED_WORDS * sizeof *plan->words);
 }
 
-/* Scheduled rounds until one has no order or ends otherwise, the time is over, or the run fails, which answers -1. */
+/* Makes scheduled rounds until one has no order or does not end well, the time is over, or the run fails: then -1. */
 static inline int potzendai_schedule_rounds(struct potzendai_tester *tester)
 {
     struct potzendai_plan plan;
@@ -319,7 +321,7 @@ static inline int potzendai_schedule_rounds(struct potzendai_tester *tester)
 
 #include "potzendai_shrink.h"
 
-#else /* nothing is scheduled here, since there is no scheduler: the words say so before */
+#else /* there is no scheduler here, so --schedule was refused before */
 
 static inline int potzendai_schedule_rounds(struct potzendai_tester *tester) { (void)tester; return -1; }
 static inline int potzendai_refuted_by_schedule(struct potzendai_tester *tester, struct potzendai_told *told)

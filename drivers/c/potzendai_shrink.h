@@ -1,4 +1,4 @@
-/* Takes calls and switches away from a scheduled round while it still goes wrong, and shows what is left. Included by potzendai_scheduled.h. */
+/* Removes calls and switches of a scheduled round while it still goes wrong, and shows what is left. Included by potzendai_scheduled.h. */
 #ifndef POTZENDAI_SHRINK_H
 #define POTZENDAI_SHRINK_H
 
@@ -6,11 +6,11 @@
 
 enum { POTZENDAI_SHRINK_SECONDS = 60 };
 
-/* Things of which as many as can be are taken away: numbers of calls or of switches. */
+/* Items of which as many as possible are removed: numbers of calls or of switches. */
 struct potzendai_items { uint32_t *numbers; size_t count; };
 
-/* A round that goes wrong as `ending` says, or has no order where that is NULL; and what is kept of it. `all` are the switches that numbers speak
- * of, and `told` is the last recording without an order. */
+/* A round that goes wrong as `ending` says, or has no order if that is NULL; and its calls and switches that are left. Numbers of switches are places
+ * in `all`. `told` is the last recording without an order. */
 struct potzendai_shrinking {
     struct potzendai_plan *plan;
     struct potzendai_schedule asked;
@@ -21,7 +21,7 @@ struct potzendai_shrinking {
     double until;
 };
 
-/* The numbers of things but for some of them. */
+/* Items without some of them: `some` items from place `from` on. */
 struct potzendai_without { const struct potzendai_items *items; size_t from, some; };
 
 static inline bool potzendai_has_item(const struct potzendai_without *w, const struct potzendai_items *items, size_t at)
@@ -29,7 +29,7 @@ static inline bool potzendai_has_item(const struct potzendai_without *w, const s
     return w->items != items || at < w->from || at >= w->from + w->some;
 }
 
-/* Writes which switches and which calls a try has into the memory that the round's process sees. */
+/* Writes the switches and the calls of a try into the memory that is shared with the round's process. */
 static inline void potzendai_prepare_try(struct potzendai_shrinking *s, const struct potzendai_without *without)
 {
     struct potzendai_shared *shared = s->plan->forkers[0].shared;
@@ -49,7 +49,7 @@ static inline void potzendai_prepare_try(struct potzendai_shrinking *s, const st
     s->asked.calls_left_out = shared->calls_left_out;
 }
 
-/* Whether the round that was made has no order. Its recording is kept then. */
+/* Whether the round that was made has no order. If so, its recording is kept. */
 static inline bool potzendai_has_no_order(struct potzendai_shrinking *s, const struct potzendai_shared *shared)
 {
     struct potzendai_told told;
@@ -64,7 +64,7 @@ static inline bool potzendai_has_no_order(struct potzendai_shrinking *s, const s
     return has_none;
 }
 
-/* Whether the round goes wrong in the same way without these. */
+/* Whether the round goes wrong in the same way without these items. */
 static inline bool potzendai_still_fails(struct potzendai_shrinking *s, const struct potzendai_without *without)
 {
     const struct potzendai_shared *shared = s->plan->forkers[0].shared;
@@ -82,7 +82,7 @@ static inline void potzendai_drop_items(struct potzendai_items *items, size_t fr
     items->count -= some;
 }
 
-/* Takes things away, halves first and then ever fewer at a time (delta debugging: Zeller and Hildebrandt, 2002). */
+/* Removes items, halves first and then ever fewer at a time (delta debugging: Zeller and Hildebrandt, 2002). */
 static inline void potzendai_take_away(struct potzendai_shrinking *s, struct potzendai_items *items)
 {
     bool is_less = true;
@@ -99,7 +99,7 @@ static inline void potzendai_take_away(struct potzendai_shrinking *s, struct pot
     }
 }
 
-/* The switches of the round that was made last are those to take away from now on. */
+/* Takes the switches of the round that was made last as those that are left. */
 static inline void potzendai_take_switches(struct potzendai_shrinking *s)
 {
     const struct potzendai_scheduled *made = &s->plan->forkers[0].shared->made;
@@ -109,7 +109,7 @@ static inline void potzendai_take_switches(struct potzendai_shrinking *s)
         s->switches.numbers[i] = i;
 }
 
-/* Takes away calls, and switches, as long as there are fewer of both. Answers whether the round fails by its list of switches at all. */
+/* Removes calls and switches as long as that leaves fewer. Returns whether the round fails by its list of switches. */
 static inline bool potzendai_shrink(struct potzendai_shrinking *s)
 {
     const struct potzendai_without nothing = {NULL, 0, 0};
@@ -157,7 +157,7 @@ static inline void potzendai_tell_switch(FILE *out, const struct potzendai_switc
     fputc('\n', out);
 }
 
-/* Where each thread is that has not made all its calls, in a round that did not end well. */
+/* Prints where the threads within calls are, in a round that did not end well. */
 static inline void potzendai_tell_places(FILE *out, const struct potzendai_shared *shared)
 {
     for (unsigned i = 0; i < shared->asked.threads; i++) {
@@ -178,7 +178,7 @@ static inline void potzendai_tell_kept(const struct potzendai_shrinking *s)
         potzendai_tell_switch(stderr, &s->all[s->switches.numbers[i]]);
 }
 
-/* Memory for what is taken away, and all calls: -1 where it is refused. */
+/* Takes memory for the items, which are all calls at first: 0, or -1 if it is refused. */
 static inline int potzendai_open_shrinking(struct potzendai_shrinking *s)
 {
     const struct potzendai_options *o = s->plan->tester->options;
@@ -198,8 +198,8 @@ static inline void potzendai_close_shrinking(struct potzendai_shrinking *s)
     free(s->all);
 }
 
-/* Makes the run's present round again, shrinks it, and shows its switches. `told` is its recording, which becomes that of the smallest round; for
- * one that did not end well it stays empty. */
+/* Makes the present round of the run again, shrinks it, and shows its switches. `told` becomes the recording of the smallest round. If the round did
+ * not end well, `told` stays empty. */
 static inline void potzendai_tell_schedule(struct potzendai_plan *plan, struct potzendai_told *told)
 {
     struct potzendai_tester *tester = plan->tester;
@@ -223,7 +223,7 @@ static inline void potzendai_tell_schedule(struct potzendai_plan *plan, struct p
     potzendai_close_shrinking(&s);
 }
 
-/* A scheduled round that has no order: shows it as small as it becomes, with its switches. */
+/* Shows a scheduled round that has no order, as small as it becomes, with its switches. */
 static inline int potzendai_refuted_by_schedule(struct potzendai_tester *tester, struct potzendai_told *told)
 {
     fprintf(stderr, "round %" PRIu64 " has no order\n", tester->run->round);

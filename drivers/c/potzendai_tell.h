@@ -1,4 +1,4 @@
-/* Tells in words what the library explains. It writes its lines in the compact form of docs/FORMATS.md. Included by potzendai_test.h. */
+/* Shows in words what `explain` reports, in lines of the compact form of docs/FORMATS.md. Included by potzendai_test.h. */
 #ifndef POTZENDAI_TELL_H
 #define POTZENDAI_TELL_H
 
@@ -9,10 +9,10 @@
 #include <stdlib.h>
 #include <string.h>
 
-/* Of the other calls that were open, so many are shown. */
+/* How many of the other open calls are shown. */
 enum { POTZENDAI_OPEN_SHOWN = 6 };
 
-/* What stands behind a member's name in a line, or NULL. */
+/* What follows the name of a member in a line; NULL if the line has no such member. */
 static inline const char *potzendai_member(const char *line, const char *name)
 {
     const char *end = strchr(line, '\n');
@@ -39,7 +39,7 @@ static inline const char *potzendai_behind_number(const char *at)
     return at + strspn(at, "0123456789");
 }
 
-/* Whether the calls are those of a cache, of which the driver puts values from 2^63 on into a recording that no call puts. */
+/* Whether the map is a cache. Its recordings have values from 2^63 on, which the driver makes up and no call puts. */
 static bool potzendai_has_own_values;
 
 /* Writes a value in words. */
@@ -50,7 +50,7 @@ static inline void potzendai_tell_value(FILE *out, const char *at)
     fprintf(out, "%.*s", is_own ? (int)strlen("a value that no call puts") : digits, is_own ? "a value that no call puts" : at);
 }
 
-/* Writes pairs in words and answers where their text ends. */
+/* Writes pairs in words. Returns where their text ends. */
 static inline const char *potzendai_tell_pairs(FILE *out, const char *at)
 {
     const char *comma = "";
@@ -66,7 +66,7 @@ static inline const char *potzendai_tell_pairs(FILE *out, const char *at)
     return at;
 }
 
-/* Writes what a call was answered, or would be. */
+/* Writes the answer of a call, or the one that it would get. */
 static inline void potzendai_tell_answer(FILE *out, const char *at)
 {
     static const char *const names[][2] = {
@@ -84,7 +84,7 @@ static inline void potzendai_tell_answer(FILE *out, const char *at)
         potzendai_tell_value(out, at);
 }
 
-/* Writes a call in words, from its text as ["insert",5,7]. */
+/* Writes a call in words, from a text such as ["insert",5,7]. */
 static inline void potzendai_tell_call(FILE *out, const char *at)
 {
     char name[9] = "", numbers[3][21] = {"", "", ""};
@@ -99,7 +99,7 @@ static inline void potzendai_tell_call(FILE *out, const char *at)
         fprintf(out, "%s %s", name, numbers[0]);
 }
 
-/* The first event of a history's text from here on, or NULL. */
+/* The first event in a history's text from here on, or NULL. */
 static inline const char *potzendai_event_from(const char *at)
 {
     while (at && strncmp(at, "{\"invoke\":", 10) != 0 && strncmp(at, "{\"answer\":", 10) != 0)
@@ -107,7 +107,7 @@ static inline const char *potzendai_event_from(const char *at)
     return at;
 }
 
-/* The note of an event, which says how its call was made where that is recorded as another one; or NULL. */
+/* The note of an event, or NULL. It says how a call was made that is recorded as another one. */
 static inline const char *potzendai_note_of(const char *event)
 {
     const char *note = event ? strstr(event, "\"note\":\"") : NULL;
@@ -123,7 +123,7 @@ static inline const char *potzendai_event_at(const char *text, uint64_t event)
     return at;
 }
 
-/* Writes a call in words as it was made: that of an event, of which this is the text of its call. */
+/* Writes the call of an event in words, as it was made. `call` is the text of the call. */
 static inline void potzendai_tell_made(FILE *out, const char *event, const char *call)
 {
     const char *note = potzendai_note_of(event);
@@ -133,14 +133,14 @@ static inline void potzendai_tell_made(FILE *out, const char *event, const char 
         potzendai_tell_call(out, call);
 }
 
-/* Writes what a call found, of which that is noted. */
+/* Writes what a call found, if its event has a note of that. */
 static inline void potzendai_tell_found(FILE *out, const char *event)
 {
     const char *note = potzendai_note_of(event), *found = note ? note + strcspn(note, ",\"") : "\"";
     fprintf(out, "%.*s", (int)strcspn(found, "\""), found);
 }
 
-/* Writes the events of a call: that of its invocation by a process, and that of its answer, where it has one. */
+/* Writes the events of a call: its invocation by a process, and its answer if it has one. */
 static inline void potzendai_tell_events(FILE *out, const char *text, uint64_t invoked, uint64_t process)
 {
     char events[64];
@@ -154,7 +154,7 @@ static inline void potzendai_tell_events(FILE *out, const char *text, uint64_t i
     fprintf(out, "  %-19s process %-3" PRIu64 " ", events, process);
 }
 
-/* Whether a value is in a pair that the history starts from. */
+/* Whether a pair that the history starts from has this value. */
 static inline bool potzendai_is_at_start(const char *text, const char *value, size_t digits)
 {
     const char *start = strstr(text, "\"start\":[");
@@ -164,8 +164,8 @@ static inline bool potzendai_is_at_start(const char *text, const char *value, si
     return false;
 }
 
-/* When what a history starts from was there, and who put a value that none of its calls puts: of the history of a round, or of what a
- * follower still had of a stream. */
+/* When the starting pairs were there, and who put a value that no call puts: in the history of a round, or in what a follower still had of a
+ * stream. */
 static inline const char *potzendai_at_start(bool is_left)
 {
     return is_left ? "was there before these calls" : "was there at the start";
@@ -176,7 +176,7 @@ static inline const char *potzendai_nobody(bool is_left)
     return is_left ? "what none of these calls put" : "what nobody put";
 }
 
-/* Writes who put a value, where one event of the history says that: `text` is the whole history. */
+/* Writes who put a value. `text` is the whole history. */
 static inline void potzendai_tell_writer(FILE *out, const char *text, const char *value, bool is_left)
 {
     size_t digits = strspn(value, "0123456789");
@@ -198,7 +198,7 @@ static inline void potzendai_tell_writer(FILE *out, const char *text, const char
         fprintf(out, "; %.*s is %s", (int)digits, value, potzendai_nobody(is_left));
 }
 
-/* Writes what the call of a line was answered, and who put that, or that its answer is left out of the line. */
+/* Writes the answer of a line's call and who put that value, or that the line leaves the answer out. */
 static inline void potzendai_tell_answered(FILE *out, const char *text, const char *answer, bool is_left)
 {
     if (strncmp(answer, "\"left out\"", 10) == 0) {
@@ -227,7 +227,7 @@ static inline void potzendai_tell_origin(FILE *out, const char *line, bool is_le
     fprintf(out, "%s\n", *comma ? "" : potzendai_nobody(is_left));
 }
 
-/* Writes from which value of a key the few calls have no order: the line stands behind an undecided alone. */
+/* Writes from which value of a key the few calls have no order. Only an undecided report has this line. */
 static inline void potzendai_tell_from(FILE *out, const char *line)
 {
     const char *value = line + strlen("{\"from\":"), *put = potzendai_member(line, "\"put\":{");
@@ -241,7 +241,7 @@ static inline void potzendai_tell_from(FILE *out, const char *line)
     fputs("\n", out);
 }
 
-/* Writes which calls one misses: they stand where `at` is, or it is NULL. */
+/* Writes which calls one misses: `at` is the text of their list, or NULL. */
 static inline void potzendai_tell_missed(FILE *out, const char *text, const char *at)
 {
     for (; at && *at == '{'; at = strchr(at, '}') + 1, at += *at == ',') {
@@ -256,7 +256,7 @@ static inline void potzendai_tell_missed(FILE *out, const char *text, const char
     }
 }
 
-/* How far an order of the few calls gets, and what the map would answer to each call that could come next. */
+/* Writes how far an order of the few calls gets, and what the map would answer to each call that could come next. */
 static inline void potzendai_tell_front(FILE *out, const char *text, const char *line, bool is_left)
 {
     const char *front = potzendai_member(line, "\"front\":["), *holds = potzendai_member(line, "\"holds\":");
@@ -281,7 +281,7 @@ static inline void potzendai_tell_front(FILE *out, const char *text, const char 
     }
 }
 
-/* Why a no of a stream has no history of few calls behind it. */
+/* Why the report of a stream without order has no history of few calls. */
 static inline const char *potzendai_why_not_few(const char *report)
 {
     const char *first = potzendai_member(report, "\"key\":"), *values = potzendai_member(report, "\"values\":[");
@@ -296,7 +296,7 @@ static inline const char *potzendai_why_not_few(const char *report)
     return "the calls \"invoked\" fit no history: they are too many, or too many are open at once";
 }
 
-/* Where a report is shown, how many characters more, and whether it was cut. */
+/* Where a report is shown, how many more characters may be, and whether it was cut. */
 struct potzendai_shown { FILE *out; size_t room; bool is_cut; };
 
 static inline void potzendai_show(struct potzendai_shown *shown, const char *text, size_t length)
@@ -309,7 +309,7 @@ static inline void potzendai_show(struct potzendai_shown *shown, const char *tex
     shown->is_cut = some < length;
 }
 
-/* Whether a key of a report, of which this is what stands behind its calls, is among those from `keys` up to `end` with the same values. */
+/* Whether a key of a report is among those from `keys` up to `end` with the same values. `key` is its text after its calls. */
 static inline bool potzendai_is_shown(const char *keys, const char *end, const char *key)
 {
     size_t length = strcspn(key, "}") + 1;
@@ -319,8 +319,8 @@ static inline bool potzendai_is_shown(const char *keys, const char *end, const c
     return false;
 }
 
-/* Writes the report of a stream without order: of ways in which scans may have taken effect each key once with its values, and no more than so
- * many characters. Answers whether that is all of it. */
+/* Writes the report of a stream without order, up to so many characters. Of several ways in which scans may have taken effect, each key is shown once
+ * with its values. Returns whether that is the whole report. */
 static inline bool potzendai_tell_keys(FILE *out, const char *report, size_t most)
 {
     struct potzendai_shown shown = {out, most, false};
@@ -339,7 +339,7 @@ static inline bool potzendai_tell_keys(FILE *out, const char *report, size_t mos
     return told == all && !shown.is_cut;
 }
 
-/* Writes the first line of a report, and of a long list of calls only that it stands there. */
+/* Writes the first line of a report; a long list of calls in it as "..". */
 static inline void potzendai_tell_verdict(FILE *out, const char *report)
 {
     size_t length = strcspn(report, "\n");
@@ -350,10 +350,10 @@ static inline void potzendai_tell_verdict(FILE *out, const char *report)
         fprintf(out, "%.*s\n", (int)length, report);
 }
 
-/* An event of a history: where it stands, its process, and of an invocation which event its answer is, or as many as there are events. */
+/* An event of a history: its text and its process. `answered` is the number of an invocation's answer, or of all events if it has none. */
 struct potzendai_event { const char *at; uint64_t process; size_t answered; bool is_shown, is_late; };
 
-/* The keys of a call, of the text of its event. */
+/* The least and the greatest key of a call, by the text of its event. */
 static inline void potzendai_keys_of(const char *at, uint64_t keys[2])
 {
     const char *words = at + strcspn(at, ",]");
@@ -363,7 +363,7 @@ static inline void potzendai_keys_of(const char *at, uint64_t keys[2])
         keys[1] = strtoull(end + 1, NULL, 10);
 }
 
-/* Whether two calls were open at once, and have a key in common. */
+/* Whether two calls were open at once and have a key in common. */
 static inline bool potzendai_meets(const struct potzendai_event *events, size_t one, size_t other)
 {
     uint64_t a[2], b[2];
@@ -374,7 +374,7 @@ static inline bool potzendai_meets(const struct potzendai_event *events, size_t 
     return a[0] <= b[1] && b[0] <= a[1];
 }
 
-/* Takes the events of a history apart; NULL where memory is refused. */
+/* Lists the events of a history; NULL if memory is refused. */
 static inline struct potzendai_event *potzendai_events_of(const char *text, size_t *count)
 {
     size_t open[64] = {0};
@@ -396,7 +396,7 @@ static inline struct potzendai_event *potzendai_events_of(const char *text, size
     return events;
 }
 
-/* Marks the events of calls that a report shows, and of those that could come next, or else of the last that is shown. */
+/* Marks the calls that a report shows as shown. Marks those that could come next, or else the last one shown, as late. */
 static inline void potzendai_mark_events(struct potzendai_event *events, size_t count, const char *report)
 {
     size_t last = count;
@@ -418,7 +418,7 @@ static inline void potzendai_mark_events(struct potzendai_event *events, size_t 
         events[last].is_late = true;
 }
 
-/* Writes which other calls were open meanwhile on the keys of those that could come next: some of them, and how many more there are. */
+/* Writes which other calls were open meanwhile on the keys of the late ones: some of them, and how many more there are. */
 static inline void potzendai_tell_open(FILE *out, const char *text, const char *report)
 {
     size_t count, told = 0;
@@ -449,8 +449,8 @@ static inline void potzendai_tell_open(FILE *out, const char *text, const char *
     free(events);
 }
 
-/* Writes a report of `explain` in words; `text` is the history, of a round or of what a follower still had. Behind an undecided `locate` has a
- * line, which is passed over. Answers the line that is the few calls' history, or NULL. */
+/* Writes a report of `explain` in words. `text` is the history of a round, or of what a follower still had. If `explain` is
+ * undecided, a line with the verdict of `locate` may follow, which is skipped. Returns the line that is the history of the few calls, or NULL. */
 static inline const char *potzendai_tell(FILE *out, const char *text, const char *report, bool is_left)
 {
     const char *few = NULL, *line = potzendai_next_line(report);
@@ -471,7 +471,7 @@ static inline const char *potzendai_tell(FILE *out, const char *text, const char
         else if (strncmp(line, "{\"key\"", 6) == 0)
             potzendai_tell_origin(out, line, is_left);
         else if (answer && call) {
-            /* The calls that it misses stand before its own process. */
+            /* the missed calls come before its own process in the line */
             const char *missed = potzendai_member(line, "\"misses\":["), *behind = missed ? strstr(missed, "}],") : line;
             potzendai_tell_events(out, text, potzendai_number(line, "\"event\":"), behind ? potzendai_number(behind, "\"process\":") : 0);
             const char *event = potzendai_event_at(text, potzendai_number(line, "\"event\":"));

@@ -1,6 +1,6 @@
-/* Tests an ordered map of one's own: threads call its functions, what they do is recorded, and each recording is judged.
+/* Tests your ordered map: threads call its functions, their calls are recorded, and each recording is judged.
  *
- * C11 or C++11, POSIX threads, and libpotzendai.a with potzendai.h: copy the headers of this folder. Include this one first in the one
+ * It needs C11 or C++11, POSIX threads, and libpotzendai.a with potzendai.h. Copy the headers of this folder, and include this one first in the
  * source that has `main`:
  *
  *     #include "potzendai_test.h"
@@ -12,9 +12,9 @@
  *         return potzendai_test_main(argc, argv, &map);
  *     }
  *
- * README.md says what the words and the statuses are. With the macro POTZENDAI_NO_LIBRARY the archive is not needed: the word --bench names
- * the program that judges, or histories are written to files or to standard output, and so is a stream. What is proved is the verdict on a
- * text; that these headers record the map is tested. */
+ * README.md describes the words and the statuses. With the macro POTZENDAI_NO_LIBRARY the archive is not needed: --bench names the program that
+ * judges. Without --bench, histories or a stream are only written. The verdict on a text is proved; that these headers record the map correctly is
+ * tested. */
 #ifndef POTZENDAI_TEST_H
 #define POTZENDAI_TEST_H
 
@@ -22,12 +22,13 @@
 #define _POSIX_C_SOURCE 200809L
 #endif
 #include "potzendai_follow.h"
+#include "potzendai_kill.h"
 #include "potzendai_scheduled.h"
 #include <signal.h>
 
 static const char *const potzendai_verdicts[] = {"yes", "no", "undecided"};
 
-/* The line before the last: how often each function of the map was called, and which it does not have. */
+/* Writes the line before the last: how often each function of the map was called, and which it does not have. */
 static inline void potzendai_tell_calls(FILE *out, const struct potzendai_run *run)
 {
     const char *comma = "calls: ";
@@ -55,7 +56,7 @@ static inline void potzendai_tell_number(FILE *out, uint64_t number)
         fprintf(out, "%" PRIu64, number);
 }
 
-/* Why a yes of a cache says little, or nothing. */
+/* Writes why a yes of a cache says little, or nothing. */
 static inline void potzendai_tell_misses(FILE *out, enum potzendai_cache how, const struct potzendai_counts *counts)
 {
     uint64_t gets = counts->functions_called[POTZENDAI_GET];
@@ -72,7 +73,7 @@ static inline void potzendai_tell_misses(FILE *out, enum potzendai_cache how, co
         fprintf(out, "; %" PRIu64 " scan%s without some of the keys left out", counts->left_out, potzendai_plural(counts->left_out));
 }
 
-/* Why a yes of this run says little. */
+/* Writes why a yes of this run says little. */
 static inline void potzendai_tell_cautions(FILE *out, const struct potzendai_tester *tester)
 {
     const struct potzendai_options *o = tester->options;
@@ -87,19 +88,22 @@ static inline void potzendai_tell_cautions(FILE *out, const struct potzendai_tes
     else if (counts->functions_called[POTZENDAI_GET] > 0 && counts->hits == 0)
         fputs("; no get found a value: a yes says little", out);
     if ((!o->is_stream || tester->has_overlap) && counts->calls > 0 && potzendai_overlap_a_call(tester) < 0.05)
-        fputs("; overlap below 0.05: the threads hardly met, and a yes says little: call potzendai_point() in the map, and run with --yield 200", out);
-    if (o->yields > 0 && counts->points == 0 && counts->calls > 0)
+        fputs("; overlap below 0.05: the threads hardly met, and a yes says little: call potzendai_point() in the map, and run with --yield 200",
+              out);
+    if (o->yields > 0 && counts->points == 0 && counts->calls > 0 && o->kill == 0)
         fputs("; --yield acted only between calls, since the map called no potzendai_point()", out);
 }
 
-/* The last line: the verdict, and what it rests on. */
+/* Writes the last line: the verdict, and what it rests on. */
 static inline void potzendai_tell_all(FILE *out, const struct potzendai_tester *tester, const char *verdict)
 {
     const char *comma = ": ";
     const struct potzendai_counts *counts = &tester->run->counts;
     uint64_t calls = counts->calls;
     fprintf(out, "%s: ", verdict);
-    if (!tester->options->is_stream)
+    if (tester->options->kill > 0)
+        fprintf(out, "%" PRIu64 " %s, ", tester->rounds, tester->rounds == 1 ? "life" : "lives");
+    else if (!tester->options->is_stream)
         fprintf(out, "%" PRIu64 " round%s, ", tester->rounds, potzendai_plural(tester->rounds));
     fprintf(out, "%" PRIu64 " call%s in %.1f seconds", calls, potzendai_plural(calls), potzendai_now() - tester->began);
     if (!tester->options->is_stream || tester->has_overlap)
@@ -109,20 +113,22 @@ static inline void potzendai_tell_all(FILE *out, const struct potzendai_tester *
             fprintf(out, "%s%" PRIu64 " %s", comma, counts->sayings[said], potzendai_sayings[said]);
             comma = ", ";
         }
+    if (tester->options->kill > 0)
+        fprintf(out, "; %" PRIu64 " open at a kill%s", tester->kills.open, tester->kills.counted);
     if (tester->undecided > 0)
         fprintf(out, "; %" PRIu64 " undecided", tester->undecided);
     if (tester->options->cache != POTZENDAI_NO_CACHE)
         fprintf(out, "; %" PRIu64 " hit%s, %" PRIu64 " miss%s", counts->hits, potzendai_plural(counts->hits), counts->misses,
                 counts->misses == 1 ? "" : "es");
-    /* a late miss may be of a write that has not appeared yet, and is no loss */
+    /* a late miss is no loss: its write may not have appeared yet */
     if (tester->options->cache != POTZENDAI_NO_CACHE && tester->options->cache != POTZENDAI_CACHE_LATE)
         fprintf(out, ", %" PRIu64 " loss%s", counts->losses, counts->losses == 1 ? "" : "es");
-    if (strncmp(verdict, "no", 2) != 0)
+    if (strncmp(verdict, "no", 2) != 0 && strncmp(verdict, "does", 4) != 0)
         potzendai_tell_cautions(out, tester);
     fputc('\n', out);
 }
 
-/* Where nobody judges here: which files were written. That of a stream was told as it was opened. */
+/* Prints which files of rounds were written, if nobody judges here. The file of a stream was named as it was opened. */
 static inline void potzendai_tell_files(const struct potzendai_tester *tester)
 {
     const struct potzendai_options *o = tester->options;
@@ -134,7 +140,7 @@ static inline void potzendai_tell_files(const struct potzendai_tester *tester)
     fputs(", each for one bench judge\n", stderr);
 }
 
-/* Says how it went, and answers the status of the program. */
+/* Prints how the run went. Returns the status of the program. */
 static inline int potzendai_finish(const struct potzendai_tester *tester, int status)
 {
     struct potzendai_run *run = tester->run;
@@ -148,7 +154,8 @@ static inline int potzendai_finish(const struct potzendai_tester *tester, int st
         return status;
     }
     potzendai_tell_calls(stderr, run);
-    if (status == POTZENDAI_IS_YES && tester->options->cache != POTZENDAI_NO_CACHE && run->counts.hits == 0 && !potzendai_is_unjudged(tester->options))
+    if (status == POTZENDAI_IS_YES && tester->options->cache != POTZENDAI_NO_CACHE && run->counts.hits == 0
+        && !potzendai_is_unjudged(tester->options))
         status = POTZENDAI_IS_UNDECIDED;
     if (potzendai_is_unjudged(tester->options)) {
         potzendai_tell_files(tester);
@@ -168,8 +175,8 @@ static inline int potzendai_finish(const struct potzendai_tester *tester, int st
     return status == POTZENDAI_IS_YES ? POTZENDAI_BAD_FILE : status;
 }
 
-/* The same of one way to be wrong among others: a line of the verdict, or of what was in its way. A no of a map that was not made wrong refutes
- * nothing: then the status is that of a yes. */
+/* Prints in one line how a run went that is one of several ways to be wrong. Returns its status. A no of a map that was not made wrong refutes
+ * nothing: then the status is yes. */
 static inline int potzendai_finish_quietly(const struct potzendai_tester *tester, int status)
 {
     struct potzendai_run *run = tester->run;
@@ -196,7 +203,7 @@ static inline void potzendai_close_tester(struct potzendai_tester *tester)
     free(tester->next_start);
 }
 
-/* Memory for a run: -1 where it is wanting. */
+/* Takes memory for a run: 0, or -1 if it is refused. */
 static inline int potzendai_open_tester(struct potzendai_tester *tester, const struct potzendai_options *o)
 {
     struct potzendai_run *run = (struct potzendai_run *)calloc(1, sizeof *run);
@@ -213,9 +220,11 @@ static inline int potzendai_open_tester(struct potzendai_tester *tester, const s
     return run && run->recording && run->keys && tester->start && tester->next_start ? 0 : -1;
 }
 
-/* Begins with a map, runs rounds or a stream, and ends the map that there is then. */
+/* Makes the map if needed, runs rounds or a stream, and ends the map. */
 static inline int potzendai_run_all(struct potzendai_tester *tester)
 {
+    if (tester->options->kill > 0)
+        return potzendai_store() ? potzendai_live(tester) : potzendai_kill_lives(tester);
     int status = potzendai_begin_map(tester);
     if (status == 0)
         status = tester->options->is_stream ? potzendai_stream(tester)
@@ -224,7 +233,7 @@ static inline int potzendai_run_all(struct potzendai_tester *tester)
     return status;
 }
 
-/* Tests the map by these words: the status, of which a quiet run says the verdict alone. */
+/* Tests the map by these words, and returns the status. A quiet run only prints the verdict. */
 static inline int potzendai_test(const struct potzendai_options *options, const char *program, const struct potzendai_map *map, bool is_quiet)
 {
     struct potzendai_broken broken;
@@ -255,7 +264,7 @@ static inline int potzendai_test(const struct potzendai_options *options, const 
     return status;
 }
 
-/* Each way to go wrong that the drawn calls can show has to be refuted: then the status is that of a no. */
+/* Tests the map made wrong in each way that the drawn calls can show. If each was refuted, the status is no. */
 static inline int potzendai_test_each(const struct potzendai_options *options, const char *program, const struct potzendai_map *map)
 {
     struct potzendai_options one = *options;
@@ -285,23 +294,27 @@ static inline int potzendai_test_each(const struct potzendai_options *options, c
     return missed > 0 ? POTZENDAI_IS_YES : POTZENDAI_IS_NO;
 }
 
-/* A whole program: reads the words, tests the map, says the verdict, and answers the status. The map is at rest before, and holds no
- * other keys than those from 0 on. */
+/* The whole program: reads the words, tests the map, prints the verdict, and returns the status. The map has to be at rest, and to hold only keys
+ * below the number of keys. */
 static inline int potzendai_test_main(int argc, char **argv, const struct potzendai_map *map)
 {
     struct potzendai_options options;
     if (potzendai_asks_help(argc, argv))
         return potzendai_help(argv[0]);
+    if (potzendai_store())
+        return potzendai_read_life(&options, argc, argv, map) ? POTZENDAI_BAD_WORDS : potzendai_test(&options, argv[0], map, false);
     int status = potzendai_read_words(&options, argc, argv, map);
     if (status)
         return status;
+    if (potzendai_is_unjudged(&options) && options.kill > 0)
+        return potzendai_complain("--kill", "each life is judged, and nobody judges here");
     if (potzendai_is_unjudged(&options) && options.broken == POTZENDAI_EACH_BREAK)
         return potzendai_complain("--break", "all: each is judged, and nobody judges here");
     if (potzendai_is_unjudged(&options) || options.bench)
         signal(SIGPIPE, SIG_IGN);
 #ifdef POTZENDAI_NO_LIBRARY
     if (!potzendai_is_unjudged(&options))
-        status = potzendai_open_bench(options.bench, options.is_stream);
+        status = potzendai_open_bench(options.bench, options.is_stream || options.kill > 0);
     if (status)
         return status;
 #endif

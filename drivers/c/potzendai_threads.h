@@ -13,9 +13,9 @@
 
 enum potzendai_memory { POTZENDAI_FORGOTTEN, POTZENDAI_ABSENT, POTZENDAI_PRESENT };
 
-/* What is known of a key: how many write it now, and whether two ever did; what its one writer remembers, or its lock. It is loose
- * once a write may come about at any time: then nobody knows what the next one finds. Of a cache: how many removals began, how many of them are
- * open, and at how many there was a put that no removal overlapped, plus 1, or 0. */
+/* What is known of a key: how many threads write it now, and whether two ever did; what its one writer remembers, or its lock. It is loose once a
+ * write without an answer may take effect at any time: then nobody knows what the next write finds. Of a cache also: how many removals began, and
+ * how many of them are open. `held_at` is 1 more than the number of removals at a put that no removal overlapped, or 0. */
 struct potzendai_key {
     recording_word writers, is_met, held_at, removals, removing;
     pthread_mutex_t lock;
@@ -27,14 +27,15 @@ struct potzendai_key {
 /* A call of which nobody knows whether it was done, as it is recorded. */
 struct potzendai_open { enum recording_kind call; uint64_t words[3]; };
 
-/* What was counted of a run: its calls, how many others were open at their invocations, what was said to them, and what was called; how many
- * gets found a value and how many found none, how many keys were lost and how many scans of a cache were left out, how many points were reached within calls, and how often a map that is made wrong was. */
+/* What was counted of a run: its calls, how many others were open at their invocations, the answers, and the functions called. Then how many gets
+ * found a value or none, how many keys were lost, how many scans of a cache were left out, how many points were reached within calls, and how
+ * often a map that is made wrong was wrong. */
 struct potzendai_counts {
     uint64_t calls, overlap, sayings[POTZENDAI_SAYINGS], functions_called[POTZENDAI_FUNCTIONS];
     uint64_t hits, misses, losses, left_out, points, wrongs;
 };
 
-/* What the threads share. `truly` is the map that was given, `map` the one that is called, which may be made wrong. */
+/* What the threads share. `truly` is the map itself; `map` is the one that is called, which may be made wrong. */
 struct potzendai_run {
     const struct potzendai_options *options;
     const struct potzendai_map *map, *truly;
@@ -45,13 +46,14 @@ struct potzendai_run {
     uint64_t puts[1024], values_from;
     struct potzendai_counts counts;
     bool is_scheduled;
+    int events; /* of a process that is killed: where its events go, or 0 */
     struct potzendai_open open_calls[RECORDING_PROCESSES];
     recording_word open_count;
     recording_word next_process, processes, arrived, has_begun, is_over, fault, wrongs, pops, popping, left_out;
     char complaint[200];
 };
 
-/* What a thread alone uses, but for the number of its calls. */
+/* What only one thread uses. Others read the numbers of its calls and of those refused. */
 struct potzendai_thread {
     struct potzendai_run *run;
     unsigned number, process;
@@ -64,22 +66,22 @@ struct potzendai_thread {
     char apart[128];
 };
 
-/* Of a thread that makes a call which only reads: itself. */
+/* The thread itself while it makes a call that only reads; else NULL. */
 POTZENDAI_OF_THREAD struct potzendai_thread *potzendai_reader;
 
 #ifdef __cplusplus
 extern "C" {
 #endif
 
-/* A read of the map may call this once it has taken its snapshot: it counts as answered at this moment, and its pairs may be read later. Of
- * several such moments the last one counts. Sources of their own declare it: void potzendai_taken(void); */
+/* A read of the map may call this once it has taken its snapshot: it counts as answered at this moment, and may read its pairs later. If it is
+ * called several times, the last one counts. A source that does not include this file declares it: void potzendai_taken(void); */
 __attribute__((weak)) void potzendai_taken(void);
 __attribute__((weak)) void potzendai_taken(void)
 {
     struct potzendai_thread *t = potzendai_reader;
     if (t && t->run->stream)
         streaming_taken(t->run->stream, t->process);
-    else if (t)
+    else if (t && !t->run->events)
         recording_taken(t->run->recording, t->process);
 }
 
@@ -87,7 +89,7 @@ __attribute__((weak)) void potzendai_taken(void)
 }
 #endif
 
-/* Ends the run with a status, and says why: the first that is wrong. */
+/* Ends the run with a status and a reason. The first call decides. Returns -1. */
 __attribute__((format(printf, 3, 4)))
 static inline int potzendai_fail(struct potzendai_run *run, enum potzendai_status status, const char *format, ...)
 {
@@ -102,7 +104,7 @@ static inline int potzendai_fail(struct potzendai_run *run, enum potzendai_statu
     return -1;
 }
 
-/* The connection of a thread: none, and the run ends, where it cannot be opened. */
+/* Opens the connection of a thread; if that fails, the run ends. */
 static inline void *potzendai_open_connection(struct potzendai_run *run, const struct potzendai_map *map, unsigned thread)
 {
     if (!map->open)
@@ -126,14 +128,30 @@ static inline int potzendai_note_drop(struct potzendai_run *run, unsigned p)
     return run->stream ? streaming_drop(run->stream, p) : recording_drop(run->recording, p);
 }
 
+/* Writes an event as a line, which is there as a whole or not at all. */
+static inline int potzendai_note_line(struct potzendai_run *run, unsigned p, enum recording_kind kind, const uint64_t words[3],
+                                      const struct recording_pair *pairs)
+{
+    char text[RECORDING_EVENT_TEXT + (POTZENDAI_SPAN + 1) * RECORDING_PAIR_TEXT];
+    struct recording_event event = {0, {words[0], words[1], words[2]}, kind, p, RECORDING_AS_MADE};
+    char *end = recording_put_event(text, &event, pairs);
+    *end++ = '\n';
+    return write(run->events, text, (size_t)(end - text)) == end - text ? 0 : -1;
+}
+
 static inline int potzendai_note_call(struct potzendai_run *run, unsigned p, enum recording_kind call, const uint64_t words[3])
 {
+    if (run->events)
+        return potzendai_note_line(run, p, call, words, NULL);
     return run->stream ? streaming_invoke(run->stream, p, call, words[0], words[1], words[2])
                        : recording_add(run->recording, p, call, words[0], words[1], words[2]);
 }
 
 static inline int potzendai_note_pairs(struct potzendai_run *run, unsigned p, const struct recording_pair *pairs, size_t count)
 {
+    const uint64_t words[3] = {0, count, 0};
+    if (run->events)
+        return potzendai_note_line(run, p, RECORDING_LIST, words, pairs);
     return run->stream ? streaming_answer_pairs(run->stream, p, pairs, count) : recording_answer_pairs(run->recording, p, pairs, count);
 }
 
@@ -146,10 +164,13 @@ static inline int potzendai_note_answer(struct potzendai_run *run, unsigned p, e
                    : potzendai_note_pairs(run, p, &answer->pair, answer->said == MAP_TOLD);
     bool is_done_replace = request->function == POTZENDAI_REPLACE && answer->said == MAP_DONE;
     uint64_t value = is_done_replace ? request->other : answer->pair.value;
+    const uint64_t words[3] = {value, 0, 0};
+    if (run->events)
+        return potzendai_note_line(run, p, kind, words, NULL);
     return run->stream ? streaming_respond(run->stream, p, kind, value, 0) : recording_add(run->recording, p, kind, value, 0, 0);
 }
 
-/* Whether an answer tells a value that the driver uses itself where the map is a cache. */
+/* Whether an answer has a value that the driver needs for its own use if the map is a cache. */
 static inline bool potzendai_tells_own(const struct potzendai_request *request, const struct potzendai_answer *answer)
 {
     if (answer->said != MAP_TOLD)
@@ -160,7 +181,7 @@ static inline bool potzendai_tells_own(const struct potzendai_request *request, 
     return request->function != POTZENDAI_SCAN && answer->pair.value >= RECORDING_NOBODY;
 }
 
-/* Which event was answered by which saying; NULL, and the run ends, where the saying does not fit its function. */
+/* How a call with this answer is recorded. If the answer does not fit the function, the run ends, and this is NULL. */
 static inline const struct potzendai_row *potzendai_row_of(struct potzendai_run *run, const struct potzendai_request *request,
                                                            const struct potzendai_answer *answer)
 {
@@ -186,7 +207,7 @@ static inline const struct potzendai_row *potzendai_row_of(struct potzendai_run 
     return NULL;
 }
 
-/* Keeps a call that may come about at any time: the rounds behind this one have it too. */
+/* Keeps a call that may take effect at any time: later rounds have it too. */
 static inline void potzendai_keep_open(struct potzendai_run *run, enum recording_kind call, const uint64_t words[3])
 {
     uint64_t place = atomic_fetch_add(&run->open_count, (uint64_t)1);
@@ -196,7 +217,7 @@ static inline void potzendai_keep_open(struct potzendai_run *run, enum recording
     memcpy(run->open_calls[place].words, words, sizeof run->open_calls[place].words);
 }
 
-/* The next call of a process was made in another way than it is recorded. */
+/* Notes that the next call of a process was made in another way than it is recorded. */
 static inline void potzendai_note_made(struct potzendai_run *run, unsigned p, enum recording_note note)
 {
     if (run->stream)
@@ -205,7 +226,7 @@ static inline void potzendai_note_made(struct potzendai_run *run, unsigned p, en
         run->recording->logs[p].note = note;
 }
 
-/* Whether a scan of a cache is left out: in a stream, where it does not have all keys of its range. Of a round they are gone with it. */
+/* Whether a scan of a cache is left out: in a stream, if it does not have all keys of its range. In a round, these keys are recorded as lost. */
 static inline bool potzendai_is_scan_left_out(const struct potzendai_run *run, const struct potzendai_request *request,
                                               const struct potzendai_answer *answer, const struct potzendai_row *row)
 {
@@ -217,7 +238,7 @@ static inline bool potzendai_is_scan_left_out(const struct potzendai_run *run, c
     return potzendai_missing(pairs, count, potzendai_low(request, answer), potzendai_high(request, answer), run->options->keys) > 0;
 }
 
-/* Records the call and what was said to it, once it is over. In a stream a call that is known before is there already. */
+/* Records a call and its answer, once it is over. In a stream, a call that is known before its answer is recorded already. */
 static inline int potzendai_note(struct potzendai_thread *t, const struct potzendai_request *request,
                                  const struct potzendai_answer *answer, bool is_held)
 {
@@ -250,7 +271,7 @@ static inline int potzendai_note(struct potzendai_thread *t, const struct potzen
     return t->process < atomic_load(&run->processes) ? 0 : -1;
 }
 
-/* What the one writer of a key remembers: it tells what a put or del that said `done` found. */
+/* Updates what the one writer of a key remembers. From that memory, fills in what a put or del that answered `done` found. */
 static inline void potzendai_remember(struct potzendai_key *key, const struct potzendai_request *request, struct potzendai_answer *answer)
 {
     enum map_said said = answer->said;
@@ -276,7 +297,7 @@ static inline void potzendai_remember(struct potzendai_key *key, const struct po
     answer->pair.value = value_before;
 }
 
-/* Calls a function, and counts that and what it said. */
+/* Calls a function, and counts the call and its answer. */
 static inline void potzendai_ask_and_count(struct potzendai_thread *t, const struct potzendai_request *request,
                                            struct potzendai_answer *answer)
 {
@@ -288,8 +309,8 @@ static inline void potzendai_ask_and_count(struct potzendai_thread *t, const str
         t->sayings[answer->said]++;
 }
 
-/* Asks for the value, and then writes, under a lock of the key's own: what the get found is what the write found, unless the key may be lost in
- * between, as of a cache. */
+/* Gets the value and then writes, under the key's own lock: the write found what the get found. Of a cache this does not hold, since the key may be
+ * lost in between. */
 static inline void potzendai_ask_locked(struct potzendai_thread *t, const struct potzendai_request *request,
                                         struct potzendai_answer *answer)
 {
@@ -304,7 +325,7 @@ static inline void potzendai_ask_locked(struct potzendai_thread *t, const struct
     }
 }
 
-/* The last value that the thread saw at a key, for a replace to expect. */
+/* Remembers the last value that the thread saw at a key, for a replace to expect. */
 static inline void potzendai_see(struct potzendai_thread *t, const struct potzendai_request *request, const struct potzendai_answer *answer)
 {
     bool is_put = request->function == POTZENDAI_PUT || (request->function == POTZENDAI_REPLACE && answer->said == MAP_DONE);
@@ -314,15 +335,8 @@ static inline void potzendai_see(struct potzendai_thread *t, const struct potzen
         t->seen[request->key] = answer->pair.value;
 }
 
-/* Whether nobody else may write the key of the call meanwhile. */
-static inline bool potzendai_has_key_of_its_own(const struct potzendai_run *run, enum potzendai_function function)
-{
-    enum potzendai_void how = run->options->void_puts;
-    return (how == POTZENDAI_VOID_OWN || how == POTZENDAI_VOID_LOCK) && potzendai_writes(function);
-}
-
-/* What was known of a cache's key before a call: whether it was put and no removal has begun since, whether a removal was open, and how many had
- * begun. */
+/* What was known of a cache's key before a call: whether it was put and no removal has begun since, whether a removal was open, and how many
+ * removals had begun. */
 struct potzendai_sight { bool is_held, is_open; uint64_t removals; };
 
 static inline uint64_t potzendai_removals(struct potzendai_run *run, uint64_t key)
@@ -330,7 +344,7 @@ static inline uint64_t potzendai_removals(struct potzendai_run *run, uint64_t ke
     return atomic_load_explicit(&run->keys[key].removals, POTZENDAI_RELAXED) + atomic_load_explicit(&run->pops, POTZENDAI_RELAXED);
 }
 
-/* Looks before a call, and notes that a removal begins. */
+/* Notes before a call what is known of its key, and that a removal begins. */
 static inline struct potzendai_sight potzendai_look(struct potzendai_run *run, const struct potzendai_request *request)
 {
     struct potzendai_key *key = &run->keys[request->key];
@@ -346,8 +360,8 @@ static inline struct potzendai_sight potzendai_look(struct potzendai_run *run, c
     return sight;
 }
 
-/* Whether a call shows that its key was lost: none was found where a put was answered that no removal overlapped, and none has begun since. A
- * count, which decides nothing of the verdict. */
+/* Whether a call shows that its key was lost: it found no value, after the answer of a put that no removal overlapped, and no removal has begun
+ * since. This is only counted; no verdict depends on it. */
 static inline bool potzendai_is_lost(struct potzendai_run *run, const struct potzendai_request *request, const struct potzendai_answer *answer,
                                      const struct potzendai_sight *sight)
 {
@@ -365,11 +379,12 @@ static inline bool potzendai_is_lost(struct potzendai_run *run, const struct pot
     return is_lost;
 }
 
-/* Makes a call and records it: -1 where the thread has to stop. */
+/* Makes a call and records it: 0, or -1 if the thread has to stop. */
 static inline int potzendai_make(struct potzendai_thread *t, const struct potzendai_request *request, struct potzendai_answer *answer)
 {
     struct potzendai_run *run = t->run;
-    bool is_cache = run->options->cache != POTZENDAI_NO_CACHE, is_held = !run->stream || is_cache || potzendai_is_held(request->function);
+    bool is_cache = run->options->cache != POTZENDAI_NO_CACHE, is_round = !run->stream && !run->events;
+    bool is_held = is_round || is_cache || potzendai_is_held(request->function);
     uint64_t words[3];
     memset(answer, 0, sizeof *answer);
     answer->pairs = t->pairs;
@@ -391,7 +406,7 @@ static inline int potzendai_make(struct potzendai_thread *t, const struct potzen
     potzendai_reader = NULL;
     if (is_cache)
         t->losses += potzendai_is_lost(run, request, answer, &sight);
-    if (answer->said == MAP_UNKNOWN && potzendai_has_key_of_its_own(run, request->function))
+    if (answer->said == MAP_UNKNOWN && potzendai_has_one_writer(run->options) && potzendai_writes(request->function))
         run->keys[request->key].is_loose = true;
     if (run->options->void_puts == POTZENDAI_VOID_OWN && potzendai_writes(request->function))
         potzendai_remember(&run->keys[request->key], request, answer);
@@ -402,7 +417,7 @@ static inline int potzendai_make(struct potzendai_thread *t, const struct potzen
     return potzendai_note(t, request, answer, is_held);
 }
 
-/* Makes a call that writes a key: notes where two meet, and takes the key's lock where that is wanted. */
+/* Makes a call that writes a key: notes if two writers meet, and takes the key's lock under --void lock. */
 static inline int potzendai_write_key(struct potzendai_thread *t, const struct potzendai_request *request, struct potzendai_answer *answer)
 {
     struct potzendai_key *key = &t->run->keys[request->key];
@@ -418,14 +433,14 @@ static inline int potzendai_write_key(struct potzendai_thread *t, const struct p
     return status;
 }
 
-/* Whether the thread may make one call more. */
+/* Whether the thread may make another call. */
 static inline bool potzendai_may_call(const struct potzendai_thread *t)
 {
     return (t->run->calls == 0 || t->made < t->run->calls) && !atomic_load_explicit(&t->run->is_over, POTZENDAI_RELAXED)
         && !atomic_load_explicit(&t->run->fault, POTZENDAI_RELAXED);
 }
 
-/* A range by steps: each asks for the first pair from a key on. */
+/* Reads a range by steps: each asks for the first pair from a key on. */
 static inline int potzendai_make_steps(struct potzendai_thread *t, uint64_t low, uint64_t high)
 {
     struct potzendai_answer answer;
@@ -440,7 +455,7 @@ static inline int potzendai_make_steps(struct potzendai_thread *t, uint64_t low,
     return status;
 }
 
-/* Each put of a thread has a value of its own, which was not in the map before, as far as there are enough of them. */
+/* A value for a put: no other put has it, and it was not in the map before, unless the values run out. */
 static inline uint64_t potzendai_new_value(struct potzendai_run *run, unsigned thread)
 {
     unsigned bits = run->truly->value_bits;
@@ -499,7 +514,8 @@ static inline int potzendai_draw_and_make(struct potzendai_thread *t)
     return potzendai_make(t, &request, &answer);
 }
 
-/* What a thread does. Its calls are those of the seed, of the round and of its number, as far as answers decide nothing. */
+/* What a thread does. Its calls depend on the seed, the round and its number. Answers decide only what a replace expects, and how many steps a range
+ * takes. */
 static inline void *potzendai_thread_body(void *own)
 {
     struct potzendai_thread *t = (struct potzendai_thread *)own;
@@ -527,7 +543,7 @@ static inline void *potzendai_thread_body(void *own)
     return NULL;
 }
 
-/* Gives back what the threads had. */
+/* Frees the memory of the threads. */
 static inline void potzendai_free_threads(struct potzendai_thread *threads, uint64_t count)
 {
     for (uint64_t i = 0; threads && i < count; i++) {
@@ -537,7 +553,7 @@ static inline void potzendai_free_threads(struct potzendai_thread *threads, uint
     free(threads);
 }
 
-/* Memory for so many threads; NULL where it is wanting. */
+/* Memory for the threads of a run; NULL if it is refused. */
 static inline struct potzendai_thread *potzendai_new_threads(struct potzendai_run *run)
 {
     struct potzendai_thread *threads = (struct potzendai_thread *)calloc((size_t)run->threads, sizeof *threads);
@@ -557,8 +573,7 @@ static inline struct potzendai_thread *potzendai_new_threads(struct potzendai_ru
     return threads;
 }
 
-/* Starts the threads, lets them all begin at once where `begins` says when, and answers how many there are. Where one cannot be started
- * the run fails. */
+/* Starts the threads, lets them all begin at once, and returns how many there are. If one cannot be started, the run fails. */
 static inline uint64_t potzendai_start_threads(struct potzendai_run *run, struct potzendai_thread *threads)
 {
     uint64_t started = 0;
@@ -570,7 +585,7 @@ static inline uint64_t potzendai_start_threads(struct potzendai_run *run, struct
     if (started < run->threads)
         potzendai_fail(run, POTZENDAI_NO_MEMORY, "memory: thread %" PRIu64 " was not started", started);
     if (run->is_scheduled) {
-        if (started < run->threads) /* those that were started wait for the others, which never come */
+        if (started < run->threads) /* the started ones wait for the others, which never come */
             _exit(POTZENDAI_NO_MEMORY);
         potzendai_scheduler->run();
         return started;
@@ -581,11 +596,11 @@ static inline uint64_t potzendai_start_threads(struct potzendai_run *run, struct
     return started;
 }
 
-/* Waits for all, and adds up what they called and what was said to them. */
+/* Waits for all threads, and adds up their calls and answers. */
 static inline void potzendai_join_threads(struct potzendai_run *run, struct potzendai_thread *threads, uint64_t started)
 {
     for (uint64_t i = 0; i < started; i++) {
-        if (!run->is_scheduled) /* those have left, and end with their process */
+        if (!run->is_scheduled) /* scheduled threads have left, and end with their process */
             pthread_join(threads[i].id, NULL);
         for (int said = 0; said < POTZENDAI_SAYINGS; said++)
             run->counts.sayings[said] += threads[i].sayings[said];

@@ -14,8 +14,8 @@ enum potzendai_status {
     POTZENDAI_BAD_FILE
 };
 
-/* How a put or a del that says `done` is recorded: as that; not at all, since the value before is to be told; as of one that alone
- * writes its key, and remembers; or by a get in front of it, under a lock of the key's own. */
+/* How a put or a del that answers `done` is recorded: as done; not at all, since it has to say the value before; with what the one writer of its
+ * key remembers; or with what a get found before it, under the key's own lock. */
 enum potzendai_void { POTZENDAI_VOID_DONE, POTZENDAI_VOID_TOLD, POTZENDAI_VOID_OWN, POTZENDAI_VOID_LOCK };
 
 enum potzendai_break {
@@ -23,19 +23,22 @@ enum potzendai_break {
     POTZENDAI_EACH_BREAK, POTZENDAI_UNBROKEN
 };
 
-/* Whether the map is a cache, which may lose any key at any time; late: and a miss says nothing. */
+/* Whether the map is a cache, which may lose any key at any time. Of a late one, a miss says nothing. */
 enum potzendai_cache { POTZENDAI_NO_CACHE, POTZENDAI_CACHE, POTZENDAI_CACHE_LATE };
 
 static const char *const potzendai_voids[] = {"done", "told", "own", "lock", NULL};
 static const char *const potzendai_breaks[] = {"drop", "race", "replay", "stale", "zombie", "torn", "cas", "all", NULL};
 static const char *const potzendai_scans[] = {"snapshot", "steps", NULL};
 
-/* Which strategies the rounds have under --schedule: none, all of them in turn, or one. */
+/* Which strategy rounds have: none, all of them in turn, or one. */
 enum potzendai_way { POTZENDAI_FREE, POTZENDAI_MIX, POTZENDAI_ONLY_POS, POTZENDAI_ONLY_PCT, POTZENDAI_ONLY_WALK };
 
 static const char *const potzendai_ways[] = {"free", "mix", "pos", "pct", "walk", NULL};
 
-/* What the words say of schedules. Learned points are those of every second round. */
+/* By `enum potzendai_points`; no word asks for those that learn. */
+static const char *const potzendai_point_names[] = {"all", "atomics", "", "learned", NULL};
+
+/* What the words say of schedules. Learned points are used in every second round. */
 struct potzendai_schedule_words {
     enum potzendai_way way;
     uint64_t depth, jobs, replay;
@@ -50,17 +53,20 @@ struct potzendai_options {
     enum potzendai_void void_puts;
     enum potzendai_break broken;
     enum potzendai_cache cache;
-    bool is_steps, is_stream, has_mix, has_void, has_seed, is_reopened;
+    bool is_steps, is_stream, has_mix, has_void, has_seed, is_reopened, is_killed_at_write, has_power;
+    double kill;          /* seconds, or 0 */
+    bool is_reading;      /* of a process that is killed: whether it reads the keys, */
+    uint64_t life;        /* or which life it is of */
     struct potzendai_schedule_words schedule;
     const char *out, *bench;
 };
 
-/* Of a range of a scan, the most keys. Where no number is given: the calls of a thread in a round, and the keys. Of a stream they are
- * more, since its follower searches what is left of a key, and that is the less the fewer calls overlap there. */
+/* The most keys in the range of a scan; and the usual numbers: calls of a thread in a round, and keys. A stream has more keys. Its follower searches
+ * the calls that are left of a key, and there are fewer of these the fewer overlap. */
 enum { POTZENDAI_SPAN = 16, POTZENDAI_CALLS = 200, POTZENDAI_KEYS = 16, POTZENDAI_STREAM_KEYS = 1000 };
 enum { POTZENDAI_SCHEDULED_CALLS = 12, POTZENDAI_SCHEDULED_KEYS = 4 };
 
-/* The most bytes of a path; the budget of a search where no number is given, and the greatest. */
+/* The most bytes of a path; the usual and the greatest budget of a search. */
 enum { POTZENDAI_PATH = 4096, POTZENDAI_USUAL = 100000, POTZENDAI_MOST = 1000000 };
 
 static const char potzendai_usage[] =
@@ -81,6 +87,9 @@ static const char potzendai_usage[] =
     "                    appear later\n"
     "  --fresh N         a new map after each so many rounds (one map)\n"
     "  --reopen          the map is closed and opened again after each round\n"
+    "  --kill SECONDS    a process makes the calls of a round, and is killed 0.5 to 1.5 times as long after its first call\n"
+    "  --kill-at-write   it is killed before a drawn write of its store\n"
+    "  --power           after a kill each file has what it had at its last sync\n"
     "  --stream          one stream that is followed, in the place of rounds\n"
     "  --schedule HOW    the scheduler says which thread runs: mix, pos, pct or walk; with 12 calls and 4 keys\n"
     "  --depth N         of pct: at N - 1 drawn points a priority changes (3)\n"
@@ -104,13 +113,13 @@ static inline int potzendai_complain(const char *word, const char *what)
     return POTZENDAI_BAD_WORDS;
 }
 
-/* What stands behind a noun, of which there are so many. */
+/* The ending of a noun after a number. */
 static inline const char *potzendai_plural(uint64_t count)
 {
     return count == 1 ? "" : "s";
 }
 
-/* Reads a number up to a limit; -1 where the text is none. */
+/* Reads a number up to a limit; -1 if the text is none. */
 static inline int potzendai_read_number(const char *text, uint64_t most, uint64_t *number)
 {
     *number = 0;
@@ -124,7 +133,7 @@ static inline int potzendai_read_number(const char *text, uint64_t most, uint64_
     return *number <= most ? 0 : -1;
 }
 
-/* The place of a word in a list of names that NULL ends; -1 where it is none of them. */
+/* The place of a word in a list of names that NULL ends; -1 if it is none of them. */
 static inline int potzendai_place(const char *const *names, const char *word, size_t length)
 {
     for (int i = 0; names[i]; i++)
@@ -135,12 +144,11 @@ static inline int potzendai_place(const char *const *names, const char *word, si
 
 static inline int potzendai_read_mix(struct potzendai_options *o, const char *text)
 {
-    static const char *const names[] = {"get", "put", "del", "scan", "replace", "put_if_absent", "floor", "ceiling", "pop_first", NULL};
     memset(o->shares, 0, sizeof o->shares);
     o->has_mix = true;
     for (;;) {
         const char *is = strchr(text, '=');
-        int function = is ? potzendai_place(names, text, (size_t)(is - text)) : -1;
+        int function = is ? potzendai_place(potzendai_functions, text, (size_t)(is - text)) : -1;
         uint64_t share = 0;
         size_t digits = is ? strspn(is + 1, "0123456789") : 0;
         if (function < 0 || digits < 1 || digits > 6 || (is[digits + 1] && is[digits + 1] != ','))
@@ -155,9 +163,9 @@ static inline int potzendai_read_mix(struct potzendai_options *o, const char *te
 }
 
 struct potzendai_numbered { const char *name; uint64_t least, most, *to; };
-struct potzendai_named { const char *name; const char *const *names; int place; };
+struct potzendai_named { const char *name; const char *const *names; };
 
-/* Reads a word with a number behind it: 1 where it is none of these. */
+/* Reads a word that a number follows; -1 if it is none of these. */
 static inline int potzendai_read_numbered(struct potzendai_options *o, const char *word, const char *text)
 {
     const struct potzendai_numbered all[] = {
@@ -176,10 +184,10 @@ static inline int potzendai_read_numbered(struct potzendai_options *o, const cha
     return -1;
 }
 
-/* Reads a word with a name behind it: -1 where it is none of these. */
+/* Reads a word that a name follows; -1 if it is none of these. */
 static inline int potzendai_read_named(struct potzendai_options *o, const char *word, const char *text)
 {
-    const struct potzendai_named all[] = {{"--void", potzendai_voids, 0}, {"--break", potzendai_breaks, 0}, {"--scan", potzendai_scans, 0}};
+    const struct potzendai_named all[] = {{"--void", potzendai_voids}, {"--break", potzendai_breaks}, {"--scan", potzendai_scans}};
     for (size_t i = 0; i < sizeof all / sizeof *all; i++)
         if (strcmp(word, all[i].name) == 0) {
             int place = text ? potzendai_place(all[i].names, text, strlen(text)) : -1;
@@ -197,7 +205,7 @@ static inline int potzendai_read_named(struct potzendai_options *o, const char *
     return -1;
 }
 
-/* Reads a word of schedules that has none behind it: -1 where it is none of these. */
+/* Reads a word of schedules that stands on its own; -1 if it is none of these. */
 static inline int potzendai_read_schedule_flag(struct potzendai_schedule_words *s, const char *word)
 {
     bool is_buffers = strcmp(word, "--tso") == 0;
@@ -209,10 +217,9 @@ static inline int potzendai_read_schedule_flag(struct potzendai_schedule_words *
     return 0;
 }
 
-/* Reads a word of schedules that has a name or a number behind it: -1 where it is none of these. */
+/* Reads a word of schedules that a name or a number follows; -1 if it is none of these. */
 static inline int potzendai_read_schedule_word(struct potzendai_schedule_words *s, const char *word, const char *text)
 {
-    static const char *const points[] = {"all", "atomics", "", "learned", NULL};
     const char *found = text ? text : "";
     bool is_way = strcmp(word, "--schedule") == 0, is_right;
     if (is_way) {
@@ -220,7 +227,7 @@ static inline int potzendai_read_schedule_word(struct potzendai_schedule_words *
         is_right = way > POTZENDAI_FREE;
         s->way = is_right ? (enum potzendai_way)way : s->way;
     } else if (strcmp(word, "--points") == 0) {
-        int place = *found ? potzendai_place(points, found, strlen(found)) : -1;
+        int place = *found ? potzendai_place(potzendai_point_names, found, strlen(found)) : -1;
         is_right = place >= 0;
         s->points = is_right ? (enum potzendai_points)place : s->points;
     } else if (strcmp(word, "--depth") == 0)
@@ -235,10 +242,30 @@ static inline int potzendai_read_schedule_word(struct potzendai_schedule_words *
     return is_right ? 0 : potzendai_complain(word, "none of its names or numbers; --help has them");
 }
 
+/* Reads a word of kills that has none after it: -1 where it is none of these. */
+static inline int potzendai_read_kill_flag(struct potzendai_options *o, const char *word)
+{
+    bool is_power = strcmp(word, "--power") == 0;
+    if (!is_power && strcmp(word, "--kill-at-write") != 0)
+        return -1;
+    o->has_power = o->has_power || is_power;
+    o->is_killed_at_write = o->is_killed_at_write || !is_power;
+    return 0;
+}
+
+/* Reads the seconds after which a process is killed. */
+static inline int potzendai_read_kill(struct potzendai_options *o, const char *text)
+{
+    char *end = NULL;
+    o->kill = text ? strtod(text, &end) : 0;
+    bool is_number = end && end > text && *end == 0 && o->kill >= 0.001 && o->kill <= 1e6;
+    return is_number ? 0 : potzendai_complain("--kill", "seconds from 0.001 to 1000000");
+}
+
 static inline int potzendai_read_word(struct potzendai_options *o, char **words, int *at)
 {
     const char *word = words[*at];
-    if (potzendai_read_schedule_flag(&o->schedule, word) == 0)
+    if (potzendai_read_schedule_flag(&o->schedule, word) == 0 || potzendai_read_kill_flag(o, word) == 0)
         return 0;
     o->has_seed = o->has_seed || strcmp(word, "--seed") == 0;
     if (strcmp(word, "--stream") == 0 || strcmp(word, "--reopen") == 0) {
@@ -253,6 +280,8 @@ static inline int potzendai_read_word(struct potzendai_options *o, char **words,
         return 0;
     }
     const char *text = words[++*at];
+    if (strcmp(word, "--kill") == 0)
+        return potzendai_read_kill(o, text);
     if (strcmp(word, "--mix") == 0)
         return text ? potzendai_read_mix(o, text) : potzendai_complain(word, "shares, as get=50,put=30,del=10,scan=10");
     if (strcmp(word, "--out") == 0) {
@@ -271,20 +300,27 @@ static inline int potzendai_read_word(struct potzendai_options *o, char **words,
     return status < 0 ? potzendai_complain(word, "no such word; --help has them") : status;
 }
 
-/* Shares where none are given: of the functions that there are. */
+/* Whether at most one thread at a time writes a key. */
+static inline bool potzendai_has_one_writer(const struct potzendai_options *o)
+{
+    return o->void_puts == POTZENDAI_VOID_OWN || o->void_puts == POTZENDAI_VOID_LOCK;
+}
+
+/* The usual shares of the functions that the map has, if no shares are given. */
 static inline void potzendai_take_shares(struct potzendai_options *o, const struct potzendai_map *map)
 {
     static const unsigned usual[POTZENDAI_FUNCTIONS] = {40, 30, 10, 5, 10, 5, 3, 3, 2};
-    bool has_keys_of_its_own = o->void_puts == POTZENDAI_VOID_OWN || o->void_puts == POTZENDAI_VOID_LOCK;
     for (int f = 0; f < POTZENDAI_FUNCTIONS; f++)
         o->shares[f] = potzendai_has(map, (enum potzendai_function)f) ? usual[f] : 0;
-    if (has_keys_of_its_own)
+    if (potzendai_has_one_writer(o))
         o->shares[POTZENDAI_POP_FIRST] = 0;
+    for (int f = POTZENDAI_PUT_IF_ABSENT; o->kill > 0 && f < POTZENDAI_FUNCTIONS; f++)
+        o->shares[f] = 0;
     if (o->is_steps)
         o->shares[POTZENDAI_SCAN] = usual[POTZENDAI_SCAN];
 }
 
-/* Whether each function that has a share is there, and may be called under these words. */
+/* Whether the map has each function that has a share, and these words allow it. */
 static inline int potzendai_check_shares(const struct potzendai_options *o, const struct potzendai_map *map)
 {
     uint64_t total = 0;
@@ -298,12 +334,12 @@ static inline int potzendai_check_shares(const struct potzendai_options *o, cons
     }
     if (total == 0)
         return potzendai_complain("--mix", "no share");
-    if (o->shares[POTZENDAI_POP_FIRST] > 0 && (o->void_puts == POTZENDAI_VOID_OWN || o->void_puts == POTZENDAI_VOID_LOCK))
+    if (o->shares[POTZENDAI_POP_FIRST] > 0 && potzendai_has_one_writer(o))
         return potzendai_complain("pop_first", "takes keys of others, so not with --void own or lock");
     return 0;
 }
 
-/* Whether what a broken map makes wrong is called. */
+/* Whether a function is called that this way to break the map makes wrong. */
 static inline bool potzendai_is_called(const struct potzendai_options *o, enum potzendai_break how)
 {
     static const enum potzendai_function needed[] = {
@@ -312,7 +348,7 @@ static inline bool potzendai_is_called(const struct potzendai_options *o, enum p
     return o->shares[needed[how]] > 0 && !(how == POTZENDAI_TORN && o->is_steps);
 }
 
-/* Whether what is to be broken is called at all; in each of the ways, whether what one of them makes wrong is. */
+/* Whether a function is called that --break makes wrong; of all ways in turn, that one of them does. */
 static inline int potzendai_check_break(const struct potzendai_options *o)
 {
     if (o->broken == POTZENDAI_UNBROKEN)
@@ -324,7 +360,7 @@ static inline int potzendai_check_break(const struct potzendai_options *o)
     return potzendai_complain("--break", "what it makes wrong is not called");
 }
 
-/* Whether there can be new maps, and maps that are opened again. */
+/* Whether the map has the functions that --fresh and --reopen need. */
 static inline int potzendai_check_maps(const struct potzendai_options *o, const struct potzendai_map *map)
 {
     if (o->is_stream && (o->fresh || o->is_reopened))
@@ -334,20 +370,40 @@ static inline int potzendai_check_maps(const struct potzendai_options *o, const 
     return o->is_reopened && !map->reopen ? potzendai_complain("--reopen", "the map has no function reopen") : 0;
 }
 
-/* How many calls a process may make in a round: those of a thread, or the last gets of all keys. */
+/* Whether the words let a store be killed. */
+static inline int potzendai_check_kill(const struct potzendai_options *o, const struct potzendai_map *map)
+{
+    const char *other = o->is_stream ? "--stream" : o->schedule.way != POTZENDAI_FREE ? "--schedule" : o->fresh ? "--fresh"
+                      : o->is_reopened ? "--reopen" : o->broken != POTZENDAI_UNBROKEN ? "--break" : o->cache != POTZENDAI_NO_CACHE ? "--cache"
+                      : o->is_steps ? "--scan steps" : potzendai_has_one_writer(o) ? "--void own or lock" : NULL;
+    if (o->kill == 0)
+        return o->has_power || o->is_killed_at_write ? potzendai_complain(o->has_power ? "--power" : "--kill-at-write", "only with --kill") : 0;
+    if (!map->begin)
+        return potzendai_complain("--kill", "the map has no function begin, which opens its store");
+    if (other) {
+        fprintf(stderr, "--kill: not with %s\n", other);
+        return POTZENDAI_BAD_WORDS;
+    }
+    for (int f = POTZENDAI_PUT_IF_ABSENT; f < POTZENDAI_FUNCTIONS; f++)
+        if (o->shares[f] > 0)
+            return potzendai_complain(potzendai_functions[f], "not with --kill, since only its answer says which call it was");
+    return 0;
+}
+
+/* The most calls of a process in a round: those of a thread, or the last gets of all keys. */
 static inline uint64_t potzendai_calls_each(const struct potzendai_options *o)
 {
     return o->calls > o->keys ? o->calls : o->keys;
 }
 
-/* The calls of a thread in a round where no number is given: what has room, with spare processes. */
+/* The calls of a thread in a round if no number is given: as many as have room with spare processes. */
 static inline uint64_t potzendai_calls_where_none(const struct potzendai_options *o)
 {
     uint64_t calls = RECORDING_CALLS / (o->threads + 2);
     return calls < POTZENDAI_CALLS ? calls : (uint64_t)POTZENDAI_CALLS;
 }
 
-/* Complains of a number that has no room in a round, which is as large as its recording. */
+/* Complains of a number that is too large for a round, whose recording has a limit. */
 static inline int potzendai_complain_of_round(const struct potzendai_options *o, const char *word, const char *behind)
 {
     char text[160];
@@ -356,7 +412,7 @@ static inline int potzendai_complain_of_round(const struct potzendai_options *o,
     return potzendai_complain(word, text);
 }
 
-/* The most keys of a range. Of a cache each key that a scan does not have takes a process of its own. */
+/* The most keys in the range of a scan. In the recording of a cache, each key that a scan does not have takes a process of its own. */
 static inline uint64_t potzendai_span(const struct potzendai_options *o)
 {
     uint64_t span = (RECORDING_PROCESSES - 1 - o->threads % RECORDING_PROCESSES) / (o->threads ? o->threads : 1);
@@ -372,6 +428,8 @@ static inline int potzendai_check_sizes(struct potzendai_options *o)
         return potzendai_complain("--hot", "more than there are keys");
     if (o->void_puts == POTZENDAI_VOID_OWN && o->keys < o->threads)
         return potzendai_complain("--void", "own: each thread needs a key");
+    if (o->kill > 0)
+        return 0;
     if (o->is_stream)
         return o->rounds > 0 ? potzendai_complain("--rounds", "a stream has none; --seconds, or --calls of each thread") : 0;
     if (o->calls == 0)
@@ -383,7 +441,7 @@ static inline int potzendai_check_sizes(struct potzendai_options *o)
     return o->calls > RECORDING_CALLS / (o->threads + 1) ? potzendai_complain_of_round(o, "--calls", "") : 0;
 }
 
-/* Whether a file can be put into the folder for files: one of a name that none has yet is put there, and taken away. */
+/* Whether the folder for files takes a file: one with a new name is made there, and removed. */
 static inline int potzendai_check_out(const struct potzendai_options *o)
 {
     char path[POTZENDAI_PATH];
@@ -401,7 +459,7 @@ static inline int potzendai_check_out(const struct potzendai_options *o)
     return POTZENDAI_BAD_FILE;
 }
 
-/* Whether the words of schedules fit each other, the others, and the program. */
+/* Whether the words of schedules fit each other, the other words, and the program. */
 static inline int potzendai_check_schedule(const struct potzendai_options *o)
 {
     const struct potzendai_schedule_words *s = &o->schedule;
@@ -422,7 +480,7 @@ static inline int potzendai_check_schedule(const struct potzendai_options *o)
     return 0;
 }
 
-/* The sizes of scheduled rounds where no number is given: what goes wrong is shrunk, so they are as large as finds the most. */
+/* The sizes of scheduled rounds if no number is given: those that find the most, since what goes wrong is shrunk. */
 static inline void potzendai_take_schedule_sizes(struct potzendai_options *o)
 {
     struct potzendai_schedule_words *s = &o->schedule;
@@ -443,7 +501,7 @@ static inline bool potzendai_asks_help(int argc, char **argv)
     return false;
 }
 
-/* Prints it: 0, or the status of standard output that has no room. */
+/* Prints the help: 0, or a status if standard output does not take it. */
 static inline int potzendai_help(const char *program)
 {
     printf("usage: %s [WORDS]\n%s", program, potzendai_usage);
@@ -453,7 +511,7 @@ static inline int potzendai_help(const char *program)
     return POTZENDAI_BAD_FILE;
 }
 
-/* Reads all words. 0, or the status of what is wrong with them. */
+/* Reads all words: 0, or the status of what is wrong with them. */
 static inline int potzendai_read_words(struct potzendai_options *o, int argc, char **argv, const struct potzendai_map *map)
 {
     struct timespec now;
@@ -474,6 +532,8 @@ static inline int potzendai_read_words(struct potzendai_options *o, int argc, ch
     }
     if (o->bench && !o->out)
         o->out = ".";
+    if (potzendai_store() && o->kill == 0)
+        o->kill = 1;
     potzendai_take_schedule_sizes(o);
     if (o->keys == 0)
         o->keys = o->is_stream ? POTZENDAI_STREAM_KEYS : POTZENDAI_KEYS;
@@ -487,26 +547,26 @@ static inline int potzendai_read_words(struct potzendai_options *o, int argc, ch
     status = status ? status : potzendai_check_shares(o, map);
     status = status ? status : potzendai_check_break(o);
     status = status ? status : potzendai_check_maps(o, map);
+    status = status ? status : potzendai_check_kill(o, map);
     status = status ? status : potzendai_check_sizes(o);
     o->span = potzendai_span(o);
-    return status ? status : potzendai_check_out(o);
+    return status || potzendai_store() ? status : potzendai_check_out(o);
 }
 
 /* Writes the words that make a scheduled round again. */
 static inline void potzendai_write_schedule_words(FILE *out, const struct potzendai_schedule_words *s, uint64_t round)
 {
-    static const char *const points[] = {"all", "atomics", "", "learned"};
     fprintf(out, " --schedule %s", potzendai_ways[s->way]);
     if (s->depth != 3)
         fprintf(out, " --depth %" PRIu64, s->depth);
     if (s->points != POTZENDAI_LEARNED)
-        fprintf(out, " --points %s", points[s->points]);
+        fprintf(out, " --points %s", potzendai_point_names[s->points]);
     fputs(s->has_buffers ? " --tso" : "", out);
     fputs(s->has_kernel_threads ? " --kernel-threads" : "", out);
     fprintf(out, " --replay %" PRIu64, round);
 }
 
-/* Writes the words that repeat the draws of a run of so many rounds; of a scheduled run, of its last round. */
+/* Writes the words that draw the calls of a run of so many rounds again; of a scheduled run, those of its last round. */
 static inline void potzendai_write_words(FILE *out, const struct potzendai_options *o, const char *program, uint64_t rounds)
 {
     const char *comma = "";
@@ -532,6 +592,8 @@ static inline void potzendai_write_words(FILE *out, const struct potzendai_optio
         fprintf(out, " --fresh %" PRIu64, o->fresh);
     if (o->is_reopened)
         fputs(" --reopen", out);
+    if (o->kill > 0)
+        fprintf(out, " --kill %g%s%s", o->kill, o->is_killed_at_write ? " --kill-at-write" : "", o->has_power ? " --power" : "");
     if (o->broken != POTZENDAI_UNBROKEN)
         fprintf(out, " --break %s", potzendai_breaks[o->broken]);
     if (o->schedule.way != POTZENDAI_FREE)

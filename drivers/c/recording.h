@@ -1,7 +1,7 @@
 /* Records what the threads of a program do at an ordered map, and writes it as a history for `bench judge`.
  *
- * Copy this header: C11 or C++11 and the C library are all that it needs. While it records it takes no lock and no memory. An
- * event is one atomic fetch_add, which draws its stamp, and one entry in the log of its process, which no other thread touches.
+ * Copy this header: it needs only C11 or C++11 and the C library. While it records, it takes no lock and no memory. An event is one
+ * atomic fetch_add, which draws its stamp, and one entry in the log of its process, which no other thread touches.
  *
  *     struct recording r;
  *     recording_open(&r, 4, 1000, 0);               // 4 processes, up to 1,000 calls each, no room for scans
@@ -13,25 +13,25 @@
  *     recording_write(&r, stdout);                  // once all threads are joined
  *     recording_close(&r);
  *
- * Each process is one thread, or what one thread at a time does, and makes one call at a time. Its calls go through its own
- * number p, from 0. A call answers 0, or -1 where it refused: then nothing is recorded and no stamp is drawn. A process
- * whose answer was refused has to stop: its call stays without an answer, which is always true to say of it.
+ * A process is one thread, or what one thread at a time does. It makes one call at a time, under its own number p, from 0. These
+ * functions return 0, or -1 if they refuse: then nothing is recorded and no stamp is drawn. A process whose answer was refused
+ * has to stop. Its call stays without an answer, which is never wrong.
  *
- * Where only the answer tells which of these calls it was, as with an insert that leaves a present key as it was:
+ * Sometimes only the answer shows which call it was, as with an insert that leaves a present key as it was:
  *
  *     recording_hold(&r, p);                        // before the call does anything
  *     found = map_insert_if_absent(map, key, value, &old);
  *     if (found) recording_invoke_get(&r, p, key); else recording_invoke_insert(&r, p, key, value);
  *     recording_answer(&r, p, found, old);
  *
- * And where it tells less than the value, the answer says so much:
+ * If the answer does not give the value, say as much as it does:
  *
  *     recording_invoke_insert(&r, p, key, value);
- *     map_put(map, key, value);                     // tells nothing of what it found
+ *     map_put(map, key, value);                     // does not say what it found
  *     recording_answer_done(&r, p);                 // or _found: there was a value; or _other: a replace found another one
  *
- * docs/RECORDING.md says what has to hold of a recording for its verdict to mean something. streaming.h hands the events on
- * while the program runs.
+ * docs/RECORDING.md says what has to hold of a recording for its verdict to mean something. streaming.h writes the events out while
+ * the program runs.
  */
 #ifndef RECORDING_H
 #define RECORDING_H
@@ -63,22 +63,22 @@ enum recording_kind { /* calls, then answers */
     RECORDING_NONE, RECORDING_VALUE, RECORDING_LIST, RECORDING_REFUSED, RECORDING_DONE, RECORDING_FOUND, RECORDING_OTHER
 };
 
-/* How a call of a cache was made that is recorded as another one: a call of one key that found none, or of a cache whose misses say nothing a put or
- * a remove that did, a replace that found another value, and a scan which did not have a key, or had it. Such a call's words are the key, and those of the call that was made: of a replace the old value and
- * the new one, of a scan its ends. */
+/* How a call of a cache was made that is recorded as another one. It found no value, or it is a put or a remove that did so of a cache whose misses
+ * say nothing; or a replace found another value; or a scan did not have a key, or had it. The words of its event are the key, then those of the call
+ * that was made: the old and the new value of a replace, the ends of a scan. */
 enum recording_note {
     RECORDING_AS_MADE, RECORDING_GET_MISSED, RECORDING_PUT_MISSED, RECORDING_REMOVE_MISSED, RECORDING_REPLACE_MISSED, RECORDING_PUT_LATE,
     RECORDING_REMOVE_LATE, RECORDING_REPLACE_OTHER,
     RECORDING_SCAN_MISSED, RECORDING_SCAN_LISTED
 };
 
-/* Of a replace that found another value, which is recorded with a new value that nobody puts: this more than its own. */
+/* A replace that found another value is recorded with a new value that nobody puts: its own with this bit. */
 #define RECORDING_NOBODY ((uint64_t)1 << 63)
 
-/* An event: its words are those of the call, the value, or where a list of pairs begins and how many they are. */
+/* An event. Its words are those of the call; or the value; or where a list of pairs begins, and how many they are. */
 struct recording_event { uint64_t stamp, words[3]; enum recording_kind kind; unsigned process; enum recording_note note; };
 
-/* What one process has recorded. The logs of two processes share no line of a cache. */
+/* What one process has recorded. The logs of two processes share no cache line. */
 struct recording_log {
     struct recording_event *events;
     struct recording_pair *pairs;
@@ -98,7 +98,7 @@ struct recording {
     struct recording_log logs[RECORDING_PROCESSES];
 };
 
-/* Gives all memory back. */
+/* Frees all memory. */
 static inline void recording_close(struct recording *r)
 {
     for (unsigned p = 0; p < r->processes; p++) {
@@ -108,8 +108,8 @@ static inline void recording_close(struct recording *r)
     r->processes = 0;
 }
 
-/* Opens a recording of so many processes (1 to 64), with at most so many calls each (4,096 for all together), and room for
- * so many pairs in the answers of each process's scans. */
+/* Opens a recording of so many processes (1 to 64), with at most so many calls each (4,096 in all), and room for so many pairs in
+ * the answers of each process's scans. */
 static inline int recording_open(struct recording *r, unsigned processes, unsigned calls_each, size_t pairs_each)
 {
     r->processes = 0;
@@ -134,8 +134,8 @@ static inline int recording_open(struct recording *r, unsigned processes, unsign
     return 0;
 }
 
-/* Says what the map holds before the first call: pairs by rising key, which have to stay where they are until the history
- * is written. */
+/* Says what the map holds before the first call: pairs by rising key. They are not copied, and have to stay until the history is
+ * written. */
 static inline int recording_start(struct recording *r, const struct recording_pair *pairs, size_t count)
 {
     if (count > RECORDING_PAIRS)
@@ -148,7 +148,7 @@ static inline int recording_start(struct recording *r, const struct recording_pa
     return 0;
 }
 
-/* Invocations and answers take turns, so an even length says that no call is open. */
+/* Invocations and answers alternate, so no call is open if the length is even. */
 static inline bool recording_may(const struct recording *r, unsigned p, bool answer)
 {
     return p < r->processes && r->logs[p].length < 2 * (size_t)r->calls_each && r->logs[p].length % 2 == answer;
@@ -178,8 +178,8 @@ static inline int recording_add(struct recording *r, unsigned p, enum recording_
     return 0;
 }
 
-/* Process p begins a call, of which its answer tells which one it was: the next invocation of p says so, and has the stamp that
- * is drawn here. To be noted before the call does anything. */
+/* Process p begins a call of which only the answer shows which one it was. The next invocation of p says so, under the stamp that is
+ * drawn here. Call this before the call does anything. */
 static inline int recording_hold(struct recording *r, unsigned p)
 {
     if (!recording_may(r, p, false) || r->logs[p].is_held)
@@ -189,8 +189,8 @@ static inline int recording_hold(struct recording *r, unsigned p)
     return 0;
 }
 
-/* The call of process p, which it holds or has open and which only reads, has taken its snapshot: it is answered by what is there at this
- * moment, under the stamp that is drawn here, though its answer is noted later. Of several such moments the last one counts. */
+/* The call that process p holds or has open only reads, and has taken its snapshot: its answer is of this moment, under the stamp that is drawn
+ * here, though it is noted later. If this is called several times, the last one counts. */
 static inline int recording_taken(struct recording *r, unsigned p)
 {
     if (!recording_may(r, p, true) && !(recording_may(r, p, false) && r->logs[p].is_held))
@@ -209,7 +209,7 @@ static inline int recording_drop(struct recording *r, unsigned p)
     return 0;
 }
 
-/* Process p begins a call: to be noted before the call does anything. */
+/* Process p begins a call. Call this before the call does anything. */
 static inline int recording_invoke_get(struct recording *r, unsigned p, uint64_t key)
 {
     return recording_add(r, p, RECORDING_GET, key, 0, 0);
@@ -231,14 +231,14 @@ static inline int recording_invoke_scan(struct recording *r, unsigned p, uint64_
     return low > high ? -1 : recording_add(r, p, RECORDING_SCAN, low, high, 0);
 }
 
-/* The key holds `new_value` where it held `old`; else nothing changes. */
+/* If the key holds `old`, it holds `new_value` from then on; else nothing changes. */
 static inline int recording_invoke_replace(struct recording *r, unsigned p, uint64_t key, uint64_t old, uint64_t new_value)
 {
     return recording_add(r, p, RECORDING_REPLACE, key, old, new_value);
 }
 
-/* The open call of process p was answered by the value that had been at its key, or found none there: to be noted after all
- * that the call does. */
+/* The open call of process p was answered by the value that had been at its key, or found none there. Call this after all that the
+ * call does. */
 static inline int recording_answer(struct recording *r, unsigned p, bool found, uint64_t value)
 {
     return recording_add(r, p, found ? RECORDING_VALUE : RECORDING_NONE, value, 0, 0);
@@ -263,25 +263,25 @@ static inline int recording_answer_refused(struct recording *r, unsigned p)
     return recording_add(r, p, RECORDING_REFUSED, 0, 0, 0);
 }
 
-/* The open call was done; what it found is not told. */
+/* The open call was done; what it found is not said. */
 static inline int recording_answer_done(struct recording *r, unsigned p)
 {
     return recording_add(r, p, RECORDING_DONE, 0, 0, 0);
 }
 
-/* The open call was done, and there was a value at its key; which one is not told. Of a scan it is refused. */
+/* The open call was done, and there was a value at its key; which one is not said. Not for a scan. */
 static inline int recording_answer_found(struct recording *r, unsigned p)
 {
     return recording_is_open(r, p, RECORDING_SCAN) ? -1 : recording_add(r, p, RECORDING_FOUND, 0, 0, 0);
 }
 
-/* The open replace found another value than `old`, or none, and changed nothing. Of any other call it is refused. */
+/* The open replace found another value than `old`, or none, and changed nothing. Only for a replace. */
 static inline int recording_answer_other(struct recording *r, unsigned p)
 {
     return recording_is_open(r, p, RECORDING_REPLACE) ? recording_add(r, p, RECORDING_OTHER, 0, 0, 0) : -1;
 }
 
-/* These write into room that suffices, and answer where their text ends. */
+/* Each of these writes into room that suffices, and returns where its text ends. */
 static inline char *recording_put(char *to, const char *text)
 {
     size_t length = strlen(text);
@@ -370,13 +370,13 @@ static inline char *recording_put_event(char *to, const struct recording_event *
     return to;
 }
 
-/* The least version of a history that has such an event, and else is of this one. */
+/* The version of a history with this event, if that of its other events is `version`. */
 static inline unsigned recording_version(unsigned version, enum recording_kind kind)
 {
     return kind > RECORDING_REFUSED ? 3 : kind == RECORDING_REPLACE && version < 2 ? 2 : version;
 }
 
-/* Writes the history, with room for the text of an event, and for an event of each stamp: those of calls left out have none. */
+/* Writes the history into given room: for the text of an event, and for an event of each stamp. Stamps of calls left out have no event. */
 static inline void recording_write_all(const struct recording *r, FILE *out, char *text, const struct recording_event **by_stamp)
 {
     size_t count = (size_t)atomic_load(&r->stamps);
@@ -406,8 +406,8 @@ static inline void recording_write_all(const struct recording *r, FILE *out, cha
     fprintf(out, ",\"version\":%u}\n", version);
 }
 
-/* Writes the history. To be called once no thread records any more. Answers -1 where a process holds a call that was neither told
- * nor left out, memory is wanted, or a write fails. */
+/* Writes the history. Call this once no thread records any more. Returns -1 if a process holds a call that was neither made known nor
+ * left out, if memory is refused, or if a write fails. */
 static inline int recording_write(const struct recording *r, FILE *out)
 {
     for (unsigned p = 0; p < r->processes; p++)

@@ -1,11 +1,11 @@
 /* What the compiler calls at accesses of memory under -fsanitize=thread. Part of potzendai_schedule.c.
  *
- * One scheduled thread runs at a time, so each access is done in one piece. In a thread that is not scheduled the same functions are plain
- * accesses and atomic ones. */
+ * One scheduled thread runs at a time, so each access is done in one piece. In a thread that is not scheduled, the same functions do plain and
+ * atomic accesses. */
 #ifndef SCHEDULE_ACCESSES_H
 #define SCHEDULE_ACCESSES_H
 
-/* Where the function that asks this was called. */
+/* Where the function that uses this was called. */
 #define HERE ((uintptr_t)__builtin_return_address(0))
 
 static bool is_own_stack(const struct thread *t, uintptr_t address)
@@ -13,7 +13,7 @@ static bool is_own_stack(const struct thread *t, uintptr_t address)
     return address >= t->stack_low && address < t->stack_high;
 }
 
-/* An access of the map, also one that a function of the C library does for it. */
+/* An access of the map, or of a function of the C library for it. */
 static void access_word(const volatile void *at, bool is_write, size_t size, bool looks, uintptr_t code)
 {
     struct thread *t = in_map();
@@ -29,7 +29,7 @@ static void access_word(const volatile void *at, bool is_write, size_t size, boo
     drain_for(t, e.address, size);
 }
 
-/* An access that the compiler tells of. That there are some shows that the map is compiled for it. */
+/* An access that the compiler reports. If there is one, the map is compiled for the scheduler. */
 static void access_plain(const volatile void *at, bool is_write, size_t size, bool looks, uintptr_t code)
 {
     struct thread *t = in_map();
@@ -57,7 +57,7 @@ static void note_change(struct thread *t, bool is_changed)
 
 void __tsan_init(void) {}
 
-/* Where functions were called: a point in a library's function is shown as the line of the map that called it. */
+/* Notes where functions were called: a point in a library's function is shown as the line of the map that called it. */
 void __tsan_func_entry(void *code)
 {
     struct thread *t = in_map();
@@ -103,7 +103,7 @@ PLAIN_OF(16)
 void __tsan_vptr_read(void **at) { access_plain(at, false, sizeof *at, false, HERE); }
 void __tsan_vptr_update(void **at, void *to) { (void)to; access_plain(at, true, sizeof *at, false, HERE); }
 
-/* A struct that is copied whole: gcc calls these before it does, so each word is a point, and the copy itself comes after the last. */
+/* gcc calls these before it copies a whole struct: each word is a point, and the copy itself comes after the last. */
 static void access_range(const char *at, size_t size, bool is_write, uintptr_t code)
 {
     for (size_t done = 0; done < size; done += 8)
@@ -113,20 +113,20 @@ static void access_range(const char *at, size_t size, bool is_write, uintptr_t c
 void __tsan_read_range(void *at, unsigned long size) { access_range((const char *)at, size, false, HERE); }
 void __tsan_write_range(void *at, unsigned long size) { access_range((const char *)at, size, true, HERE); }
 
-/* ---- memcpy and its like, by words. */
+/* ---- memcpy and similar functions, by words. */
 
 static void *(*real_memcpy)(void *, const void *, size_t);
 static void *(*real_memmove)(void *, const void *, size_t);
 static void *(*real_memset)(void *, int, size_t);
 
-/* How many bytes come next: up to the end of a word at the destination. */
+/* How many bytes to copy next: up to the end of a word at the destination. */
 static size_t next_word(const char *to, size_t left)
 {
     size_t word = 8 - (uintptr_t)to % 8;
     return left < word ? left : word;
 }
 
-/* Copies bytes one by one; the compiler shall not make a memcpy of it again. */
+/* Copies bytes one by one, in a way of which the compiler makes no memcpy. */
 static void copy_bytes(char *to, const char *from, size_t size)
 {
     for (size_t i = 0; i < size; i++)
@@ -139,7 +139,7 @@ static void copy_bytes_down(char *to, const char *from, size_t size)
         ((volatile char *)to)[size] = from[size];
 }
 
-/* Copies a word after the points of both accesses: of one that overlaps, by a copy in between. */
+/* Copies a word after the points of both accesses. The two may overlap, so it is copied through a buffer. */
 static void copy_word(char *to, const char *from, size_t size, uintptr_t code)
 {
     char word[8];
@@ -194,7 +194,7 @@ static void *fill(void *to, int byte, size_t size, uintptr_t code)
     return to;
 }
 
-/* Those that the C library has: found before main. Until then nothing is scheduled. */
+/* The functions of the C library, found before main. Until then nothing is scheduled. */
 __attribute__((constructor(101))) static void find_real_copies(void)
 {
     *(void **)&real_memcpy = dlsym(RTLD_NEXT, "memcpy");
@@ -206,7 +206,7 @@ void *memcpy(void *restrict to, const void *restrict from, size_t size) { return
 void *memmove(void *to, const void *from, size_t size) { return copy(to, from, size, real_memmove, HERE); }
 void *memset(void *to, int byte, size_t size) { return fill(to, byte, size, HERE); }
 
-/* The same under _FORTIFY_SOURCE, which knows how much room there is. */
+/* The same functions under _FORTIFY_SOURCE, which passes the room at the destination. */
 static void check_room(size_t size, size_t room)
 {
     if (size > room)
@@ -322,7 +322,7 @@ ATOMICS(16, uint16_t)
 ATOMICS(32, uint32_t)
 ATOMICS(64, uint64_t)
 
-/* ---- Those of 16 bytes: no instruction that all machines have does these, so threads that are not scheduled take turns by a lock. */
+/* ---- Atomic accesses of 16 bytes: not all machines have an instruction for them, so threads that are not scheduled take a lock. */
 
 __extension__ typedef unsigned __int128 uint128;
 static atomic_flag is_in_16 = ATOMIC_FLAG_INIT;
@@ -397,7 +397,7 @@ void __tsan_atomic_thread_fence(int order)
 
 void __tsan_atomic_signal_fence(int order) { (void)order; }
 
-/* ---- What libraries tell ThreadSanitizer when they see that they are compiled for it. */
+/* ---- What libraries call if they are compiled for ThreadSanitizer. */
 
 void __tsan_acquire(void *at) { (void)at; }
 void __tsan_release(void *at) { (void)at; }

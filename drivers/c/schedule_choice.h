@@ -15,7 +15,7 @@ static struct choice find_ready(const struct thread *but)
     return choice;
 }
 
-/* Time passes once nobody else can run: the first thread that waits for a time may run then. NULL where there is none. */
+/* Time passes once no other thread can run: then the first thread that waits for a time may run. NULL if there is none. */
 static struct thread *let_time_pass(void)
 {
     for (unsigned i = 0; i < count; i++)
@@ -26,13 +26,13 @@ static struct thread *let_time_pass(void)
     return NULL;
 }
 
-/* Whether a listed switch is of a moment before this one of its thread: where calls were left out some never come. */
+/* Whether a listed switch is of an earlier moment of its thread. Some switches never come, if calls were left out. */
 static bool is_before(const struct potzendai_switch *listed, const struct thread *t)
 {
     return listed->call < t->call || (listed->call == t->call && listed->step < t->step);
 }
 
-/* What the list has for this step of the thread, or NULL: of its switches those before are passed over. */
+/* The switch listed for this step of the thread, or NULL. Earlier ones of the thread are skipped. */
 static const struct potzendai_switch *find_listed(struct thread *t)
 {
     for (; t->next_listed < asked->listed_count; t->next_listed++) {
@@ -67,13 +67,13 @@ static struct thread *choose_highest(const struct choice *choice)
     return best;
 }
 
-/* Whether a schedule by priorities takes so long that threads may wait for one that never runs: from then on any may run. */
+/* Whether a schedule by priorities takes so long that threads may wait for one that never runs. From then on any thread may run. */
 static bool is_long(void)
 {
     return asked->steps_expected > 0 && made->steps > 10 * asked->steps_expected + 1000;
 }
 
-/* Which thread runs after this one, which may go on unless it gives way. NULL where none can. */
+/* Which thread runs next; NULL if none can. This one may go on unless it gives way. */
 static struct thread *choose(struct thread *now, bool gives_way)
 {
     struct choice choice = find_ready(gives_way ? now : NULL);
@@ -104,7 +104,7 @@ static void note_switch(const struct thread *t, uint32_t to)
         s->codes[i] = at->codes[i];
 }
 
-/* Hands the turn on, if to another thread, and notes that. */
+/* Passes the turn on, and notes that if it goes to another thread. */
 static void go_to(struct thread *t, struct thread *next)
 {
     if (next == t)
@@ -113,7 +113,7 @@ static void go_to(struct thread *t, struct thread *next)
     give_turn(t, next);
 }
 
-/* What PCT's change points and POS make of a thread's priority at a point. */
+/* Changes a thread's priority at a point: at the change points of PCT, and under POS. */
 static void set_priority(struct thread *t, bool gives_way)
 {
     if (gives_way)
@@ -125,7 +125,7 @@ static void set_priority(struct thread *t, bool gives_way)
             t->priority = changed_priority + asked->depth - i;
 }
 
-/* POS: the event of this thread happens now, so the events that race with it get new priorities. */
+/* Under POS, gives new priorities to the events that race with the one of this thread, which happens now. */
 static void draw_racing(const struct thread *t)
 {
     for (unsigned i = 0; i < count; i++) {

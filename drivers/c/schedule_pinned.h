@@ -1,6 +1,6 @@
-/* What has to be the same in each process, so that a round is the same again: addresses, times, and random bytes. Part of potzendai_schedule.c.
+/* What has to be the same in each process, so that a round can be made again: addresses, times, and random bytes. Part of potzendai_schedule.c.
  *
- * They are pinned only where the program's words ask for schedules. */
+ * They are pinned only if the program's words ask for schedules. */
 #ifndef SCHEDULE_PINNED_H
 #define SCHEDULE_PINNED_H
 
@@ -22,8 +22,8 @@ static void add_strings(struct strings *all, char **strings)
     }
 }
 
-/* A variable that makes the strings and the pointers to them as large as they are in other environments, since the first stack begins below
- * them. NULL where they are larger than that, and the stack begins elsewhere. */
+/* A variable that pads the strings and the pointers to them to one size in all environments, since the first stack begins below them. NULL if they
+ * are larger than that: then the stack begins elsewhere. */
 static char *pad_environment(char **arguments, char **environment)
 {
     struct strings all = {0, 0};
@@ -42,7 +42,7 @@ static char *pad_environment(char **arguments, char **environment)
     return text;
 }
 
-/* Starts the program again, with a padded environment; returns where that fails. */
+/* Starts the program again with a padded environment. Returns only if that fails. */
 static void start_again(char **arguments, char **environment)
 {
     size_t variables = 0;
@@ -59,7 +59,7 @@ static void start_again(char **arguments, char **environment)
     free(padding);
 }
 
-/* Before main: arguments and environment are handed to constructors by the C library. */
+/* Runs before main: the C library passes arguments and environment to constructors. */
 __attribute__((constructor(102))) static void pin_addresses(int words, char **arguments, char **environment)
 {
     for (int i = 1; i < words; i++)
@@ -80,7 +80,7 @@ static bool is_pinned(void)
     return has_same_addresses;
 }
 
-/* ---- Time passes by the steps of a round. */
+/* ---- Times: they pass by the steps of a round. */
 
 REAL(clock_gettime)
 REAL(gettimeofday)
@@ -123,7 +123,7 @@ time_t time(time_t *to)
     return now;
 }
 
-/* ---- Random bytes, of a generator that each process starts alike; and the number of the processor. */
+/* ---- Random bytes, from a generator that starts in the same state in each process; and the number of the processor. */
 
 REAL(getrandom)
 REAL(getentropy)
@@ -174,7 +174,7 @@ unsigned _ZNSt13random_device9_M_getvalEv(void *device)
     return value;
 }
 
-/* ---- Memory that is freed: the thread's own stores to it come first. */
+/* ---- Freed memory: the stores to it that the thread still buffers come first. */
 
 #ifdef __GLIBC__
 extern void __libc_free(void *);

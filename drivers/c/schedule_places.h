@@ -1,16 +1,16 @@
-/* Where an instruction is in the source: addr2line says it. Part of potzendai_schedule.c. */
+/* Where an instruction is in the source, by addr2line. Part of potzendai_schedule.c. */
 #ifndef SCHEDULE_PLACES_H
 #define SCHEDULE_PLACES_H
 
-/* Whether a line of addr2line is of the map, and not of what the compiler and the driver bring along. */
+/* Whether a line of addr2line is in the map, and not in a header of the compiler or the driver. */
 static bool is_of_map(const char *line)
 {
     return line[0] != '?' && !strstr(line, "/c++/") && !strstr(line, "/lib/gcc/") && !strstr(line, "/lib/clang/")
         && !strstr(line, "/potzendai_") && !strstr(line, "/recording.h");
 }
 
-/* Takes the first line that is of the map, else the last: they are those of functions that are inlined in each other, from within. Answers
- * whether it is of the map. */
+/* Takes the first line that is in the map, else the last. The lines are of functions inlined in each other, the innermost first. Returns whether it
+ * is in the map. */
 static bool read_line(FILE *lines, char *text, size_t room)
 {
     char line[1024];
@@ -25,8 +25,8 @@ static bool read_line(FILE *lines, char *text, size_t room)
     return is_found;
 }
 
-/* Writes a source line, as mine.c:113; and where nobody knows it, as without -g, the file and the number of the instruction in it. Answers whether
- * it is a line of the map. */
+/* Writes a source line, such as mine.c:113. If it is not known, as without -g, writes the file and the number of the instruction in it. Returns
+ * whether it is a line of the map. */
 static bool locate_one(uintptr_t code, char *text, size_t room)
 {
     bool is_found = false;
@@ -51,7 +51,7 @@ static bool locate_one(uintptr_t code, char *text, size_t room)
     return is_found;
 }
 
-/* The first of these places that is a line of the map, else the first. */
+/* Writes the first of these places that is a line of the map, else the first. */
 static void locate(const uintptr_t codes[POTZENDAI_CODES], char *text, size_t room)
 {
     char caller[256];

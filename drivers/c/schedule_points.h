@@ -1,8 +1,8 @@
-/* Points: where a thread hands on the turn, waits, or wakes others. Part of potzendai_schedule.c. */
+/* Points: where a thread passes the turn on, waits, or wakes others. Part of potzendai_schedule.c. */
 #ifndef SCHEDULE_POINTS_H
 #define SCHEDULE_POINTS_H
 
-/* ---- Store buffers: a store below seq_cst is seen by its own thread first, as on x86 (total store order). */
+/* ---- Store buffers: its own thread sees a store below seq_cst first, as on x86 (total store order). */
 
 /* The store that is so many after the oldest. */
 static struct store *store_at(struct thread *t, unsigned number)
@@ -25,7 +25,7 @@ static void drain(struct thread *t)
         drain_one(t);
 }
 
-/* Drains before memory is used otherwise than by atomic accesses of the same size. */
+/* Drains the buffer before memory is used in another way than by atomic accesses of the same size. */
 static void drain_for(struct thread *t, uintptr_t address, size_t size)
 {
     for (unsigned i = 0; i < t->stored; i++) {
@@ -37,7 +37,7 @@ static void drain_for(struct thread *t, uintptr_t address, size_t size)
     }
 }
 
-/* The last store of the thread's own to this address, or NULL. */
+/* The last buffered store of the thread to this address, or NULL. */
 static const struct store *find_store(struct thread *t, uintptr_t address, unsigned size)
 {
     for (unsigned i = t->stored; i-- > 0;)
@@ -57,7 +57,7 @@ static void keep_store(struct thread *t, uintptr_t address, uint64_t value, unsi
     has_changed(t);
 }
 
-/* At a point the oldest store reaches the memory, one time in eight, or where the list says so. */
+/* At a point, lets the oldest store reach the memory one time in eight, or if the list says so. */
 static void drain_by_chance(struct thread *t)
 {
     const struct potzendai_switch *listed;
@@ -78,7 +78,7 @@ static void drain_by_chance(struct thread *t)
 
 /* ---- Words at which threads meet. */
 
-/* The entry of a word, or a free one for it; NULL where there is no room. */
+/* The entry of a word, or a free one for it; NULL if there is no room. */
 static struct potzendai_word *find_word(uintptr_t address)
 {
     uintptr_t word = address / 8;
@@ -100,7 +100,7 @@ static void learn(const struct thread *t, const struct event *e)
         word->written |= (uint64_t)1 << t->id;
 }
 
-/* Whether learning has seen two threads at this word, of which one wrote. Where it saw nobody, atomics may be where threads meet. */
+/* Whether learning has seen two threads at this word, of which one wrote. Of a word that it has not seen, only atomic accesses count. */
 static bool may_meet(const struct event *e, bool is_atomic)
 {
     const struct potzendai_word *word = find_word(e->address);
@@ -109,7 +109,7 @@ static bool may_meet(const struct event *e, bool is_atomic)
     return (word->touched & (word->touched - 1)) != 0 && word->written != 0;
 }
 
-/* Whether an access is a point. One that is none becomes one where the thread looks there again and again: it may wait for another thread. */
+/* Whether an access is a point. It becomes one if the thread looks there again and again: it may wait for another thread. */
 static bool is_point(struct thread *t, struct event *e, bool is_atomic)
 {
     bool is_one = true;
@@ -144,8 +144,8 @@ static void count_step(struct thread *t)
         end_round(POTZENDAI_ENDLESS);
 }
 
-/* The scheduler's own code is not the map's: a compiler may make a memcpy of its loops, which is a function of this file. Answers whether the thread
- * was in the map. */
+/* Enters the scheduler, whose own accesses are not the map's: a compiler may make a memcpy of its loops, which is a function of this file. Returns
+ * whether the thread was in the map. */
 static bool leave_map(struct thread *t)
 {
     bool was_in_map = t->is_in_map;
@@ -153,8 +153,7 @@ static bool leave_map(struct thread *t)
     return was_in_map;
 }
 
-/* A point: before the event another thread may go on. One that yields, or waits for another thread as far as can be seen, runs after all
- * others. */
+/* A point: before the event another thread may go on. A thread that yields, or seems to wait for another thread, runs after all others. */
 static void point(struct thread *t, struct event e)
 {
     bool was_in_map = leave_map(t);
@@ -175,7 +174,7 @@ static void point(struct thread *t, struct event e)
     t->is_in_map = was_in_map;
 }
 
-/* A point of no access: in and out of a call, and where a map says potzendai_point(). */
+/* A point without an access: as a call begins and ends, and at potzendai_point(). */
 static void point_without_access(struct thread *t, uintptr_t code)
 {
     point(t, (struct event){0, code, false, false, false});
@@ -188,14 +187,14 @@ static void give_way(struct thread *t, uintptr_t code)
     point(t, (struct event){0, code, false, true, false});
 }
 
-/* A lock or its like, which a thread tries to take. */
+/* A point at which a thread tries to take a lock or the like. */
 static void point_at_lock(struct thread *t, const void *lock, uintptr_t code)
 {
     point(t, (struct event){(uintptr_t)lock, code, true, false, true});
     drain(t);
 }
 
-/* The thread waits until it is woken, or its time comes if there is one. Answers whether it was woken. */
+/* Waits until the thread is woken, or until its time if it has one. Returns whether it was woken. */
 static bool block(struct thread *t, const void *on, bool is_timed)
 {
     bool was_in_map = leave_map(t);
@@ -215,7 +214,7 @@ static bool block(struct thread *t, const void *on, bool is_timed)
     return t->was_woken;
 }
 
-/* Wakes so many threads that wait for this, and answers how many there were. */
+/* Wakes at most so many threads that wait for this. Returns how many were woken. */
 static unsigned wake(const void *on, unsigned most)
 {
     unsigned woken = 0;

@@ -12,11 +12,11 @@ enum thread_state {
 
 /* The limits of a round. */
 enum {
-    LOOKS_MOST = 12,          /* so often a thread looks at a word without having changed anything: then it waits for another thread */
-    LOOKS_LEFT_OUT = 100,     /* after so many looks a word that is no point becomes one */
+    LOOKS_MOST = 12,          /* a thread that looks at a word so often without a change of its own waits for another thread */
+    LOOKS_LEFT_OUT = 100,     /* after so many looks, a word that is no point becomes one */
     STEPS_WITHOUT_CHANGE = 2000,
-    STEPS_WITHOUT_END = 200000, /* in so many steps, during which no call ends, a round is taken to be endless */
-    WAYS_GIVEN_UNTIL_TIME = 256, /* where threads spin, those that wait for a time get it after so many spins */
+    STEPS_WITHOUT_END = 200000, /* a round counts as endless after so many steps in which no call ends */
+    WAYS_GIVEN_UNTIL_TIME = 256, /* while threads spin, those that wait for a time get it after so many spins */
     PARK_STACK = 16384
 };
 enum { LOOKED_AT = 64, STORES = 16, CHANGES = 128, FRAMES = 64 };
@@ -46,7 +46,7 @@ struct thread {
     struct look looks[LOOKED_AT];
     struct store stores[STORES];        /* a ring: the oldest is that number `oldest` */
     unsigned oldest, stored;
-    void *stack_pointer;                /* of a fiber that does not run: where it goes on, and its thread-locals */
+    void *stack_pointer;                /* of a fiber that does not run: where it continues, and its thread-locals */
     uintptr_t thread_locals;
     char park_stack[PARK_STACK] __attribute__((aligned(64)));
 };
@@ -60,13 +60,13 @@ static uint64_t change_points[CHANGES];
 static size_t stack_size;
 static bool has_fibers;
 
-/* The thread that this code runs in; NULL in those that are not scheduled. */
+/* The thread that this code runs in; NULL if it is not scheduled. */
 static __thread struct thread *me;
 
-/* Priorities: those that are drawn are above those of PCT's change points, and these above those of threads that wait. */
+/* Priorities: drawn ones are above those of PCT's change points, and these are above those of threads that wait. */
 static const uint64_t drawn_priority = (uint64_t)1 << 40, changed_priority = (uint64_t)1 << 31, waiting_priority = (uint64_t)1 << 30;
 
-/* Steele, Lea and Flood's SplitMix. */
+/* SplitMix (Steele, Lea and Flood, 2014). */
 static uint64_t draw(void)
 {
     uint64_t z = random_state += 0x9e3779b97f4a7c15u;
@@ -80,21 +80,21 @@ static uint64_t draw_priority(void)
     return (draw() >> 2) + drawn_priority;
 }
 
-/* Ends the round, and with it its process. */
+/* Ends the round and its process. */
 static void end_round(enum potzendai_outcome outcome)
 {
     made->outcome = outcome;
     _exit(0);
 }
 
-/* The scheduled thread whose call of the map this is, or NULL. */
+/* The scheduled thread, if it is in a call of the map; else NULL. */
 static struct thread *in_map(void)
 {
     struct thread *t = me;
     return t && t->is_in_map ? t : NULL;
 }
 
-/* The scheduled thread that this is, or NULL also while it opens its connection. */
+/* The scheduled thread; NULL if there is none, or while it opens its connection. */
 static struct thread *scheduled(void)
 {
     struct thread *t = me;
@@ -107,7 +107,7 @@ static void has_changed(struct thread *t)
     t->changes++;
 }
 
-/* Counts a look at an address, and answers how many there were since the thread last changed something. */
+/* Counts a look at an address. Returns how many there were since the thread last changed something. */
 static uint32_t look_at(struct thread *t, uintptr_t address)
 {
     struct look *look = &t->looks[(address >> 2 ^ address >> 8) % LOOKED_AT];

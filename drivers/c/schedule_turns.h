@@ -1,14 +1,14 @@
-/* The one turn, which a thread hands to another. Part of potzendai_schedule.c.
+/* The one turn, which a thread passes to another. Part of potzendai_schedule.c.
  *
- * By kernel threads each waits at a word of its own (a futex). By fibers one kernel thread, the carrier, runs all: it takes over the stack and
- * the thread-locals (the FS base) of each, whose own kernel thread is parked on another stack meanwhile. So `thread_local`, pthread_self and the
- * owners of locks are those of the thread, and a switch needs no system call. Both hand on the turn at the same points to the same threads. */
+ * As kernel threads, each thread waits at a word of its own (a futex). As fibers, one kernel thread, the carrier, runs all of them. It takes over the
+ * stack and the thread-locals (the FS base) of each, whose own kernel thread is parked on another stack meanwhile. So `thread_local`, pthread_self
+ * and the owners of locks are those of the thread, and a switch needs no system call. Both pass the turn at the same points to the same threads. */
 #ifndef SCHEDULE_TURNS_H
 #define SCHEDULE_TURNS_H
 
 static _Atomic int main_has_turn, arrived;
 
-/* The kernel's call itself: the C library's is one that is scheduled. */
+/* The system call itself: the function of the C library is scheduled. */
 static long futex(_Atomic int *word, int operation, int value)
 {
 #ifdef __x86_64__
@@ -39,7 +39,7 @@ static void wake_up(_Atomic int *word)
     futex(word, FUTEX_WAKE_PRIVATE, 1);
 }
 
-/* A thread has come to where it waits for its first turn. */
+/* Notes that a thread waits for its first turn. */
 static void arrive(void)
 {
     if (atomic_fetch_add(&arrived, 1) + 1 == (int)count)
@@ -48,26 +48,26 @@ static void arrive(void)
 
 #ifdef __x86_64__
 
-/* The thread that made the others, while the carrier, which is that thread, is another one. */
+/* The thread that made the others. It is the carrier, which runs as another thread meanwhile. */
 static struct thread carrier;
 
 #define SAVE_REGISTERS "push %rbp\n push %rbx\n push %r12\n push %r13\n push %r14\n push %r15\n mov %rsp,(%rdi)\n"
 #define LOAD_REGISTERS "pop %r15\n pop %r14\n pop %r13\n pop %r12\n pop %rbx\n pop %rbp\n ret"
 
-/* Leaves one stack, and goes on where another one was left, with the thread-locals that belong to it. */
+/* Leaves one stack, and continues where another one was left, with its thread-locals. */
 __attribute__((naked, noinline)) static void change_stack(__attribute__((unused)) void **left, __attribute__((unused)) void *stack_pointer,
                                                           __attribute__((unused)) uintptr_t thread_locals)
 {
     __asm__ volatile(SAVE_REGISTERS "wrfsbase %rdx\n mov %rsi,%rsp\n" LOAD_REGISTERS);
 }
 
-/* Leaves a stack to the carrier for good: the kernel thread that owns it waits on another one until the process ends. */
+/* Leaves a stack to the carrier: the kernel thread that owns it waits on another one until the process ends. */
 __attribute__((naked, noinline)) static void park(__attribute__((unused)) void **left, __attribute__((unused)) void *park_stack)
 {
     __asm__ volatile(SAVE_REGISTERS "mov %rsi,%rsp\n call schedule_wait_parked\n");
 }
 
-/* Called by that code only. */
+/* Called only by that code. */
 __attribute__((used, noinline)) void schedule_wait_parked(void);
 void schedule_wait_parked(void)
 {
@@ -84,7 +84,7 @@ static uintptr_t read_thread_locals(void)
     return base;
 }
 
-/* Whether the system lets a program set the base of thread-locals. */
+/* Whether the system allows a program to set the base of thread-locals. */
 static bool may_have_fibers(void)
 {
     return (getauxval(AT_HWCAP2) & 2) != 0;
@@ -95,7 +95,7 @@ static void give_fiber_turn(struct thread *from, struct thread *to)
     change_stack(&from->stack_pointer, to->stack_pointer, to->thread_locals);
 }
 
-/* The stack on which a thread is parked takes no signal: it is small. */
+/* Blocks signals: the stack on which a thread is parked is too small for them. */
 static void enter_fiber(struct thread *t)
 {
     sigset_t all;
@@ -126,7 +126,8 @@ static void leave_fibers(struct thread *from) { (void)from; }
 
 #endif
 
-/* Gives the turn to another thread, and returns when it comes back: to one that is done it does not, and returns at once by kernel threads. */
+/* Gives the turn to another thread, and returns when it comes back. It never comes back to a thread that is done; as a kernel thread, that one
+ * returns at once. */
 static void give_turn(struct thread *from, struct thread *to)
 {
     if (to == from)
@@ -140,7 +141,7 @@ static void give_turn(struct thread *from, struct thread *to)
         wait_for(&from->has_turn);
 }
 
-/* The last thread gives the turn back to where the threads were made. */
+/* Gives the turn of the last thread back to where the threads were made. */
 static void give_turn_to_main(struct thread *from)
 {
     if (has_fibers)
@@ -149,7 +150,7 @@ static void give_turn_to_main(struct thread *from)
         wake_up(&main_has_turn);
 }
 
-/* A thread waits for its first turn. */
+/* Waits for the first turn of a thread. */
 static void wait_for_first_turn(struct thread *t)
 {
     if (has_fibers) {

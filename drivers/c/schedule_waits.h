@@ -1,6 +1,6 @@
 /* What waits: locks, conditions, semaphores, futexes, initialisers, yields and sleeps. Part of potzendai_schedule.c.
  *
- * Each stands in the place of the C library's function of its name, which a thread that is not scheduled gets. */
+ * Each replaces the C library's function of its name. A thread that is not scheduled gets the function of the C library. */
 #ifndef SCHEDULE_WAITS_H
 #define SCHEDULE_WAITS_H
 
@@ -14,7 +14,7 @@
         return found; \
     }
 
-/* ---- Locks: one that is taken is tried again once it was given back. */
+/* ---- Locks: a thread tries again once a lock that was taken is released. */
 
 static int take(struct thread *t, void *lock, int (*try_once)(void *), bool is_timed, uintptr_t code)
 {
@@ -86,7 +86,7 @@ TIMED_LOCKS(mutex, pthread_mutex_t, pthread_mutex_timedlock, pthread_mutex_clock
 TIMED_LOCKS(read, pthread_rwlock_t, pthread_rwlock_timedrdlock, pthread_rwlock_clockrdlock)
 TIMED_LOCKS(write, pthread_rwlock_t, pthread_rwlock_timedwrlock, pthread_rwlock_clockwrlock)
 
-/* ---- Conditions: nothing comes between the unlock and the wait. */
+/* ---- Conditions: nothing happens between the unlock and the wait. */
 
 REAL(pthread_cond_wait)
 REAL(pthread_cond_timedwait)
@@ -183,7 +183,7 @@ int sem_post(sem_t *s)
     return status;
 }
 
-/* ---- C11's names for the same, which the C library does not call by these. */
+/* ---- C11's names for the same: in the C library they do not call the functions above. */
 
 static int as_c11(int status)
 {
@@ -205,7 +205,7 @@ int cnd_timedwait(cnd_t *restrict c, mtx_t *restrict m, const struct timespec *r
 int cnd_signal(cnd_t *c) { return as_c11(pthread_cond_signal((pthread_cond_t *)c)); }
 int cnd_broadcast(cnd_t *c) { return as_c11(pthread_cond_broadcast((pthread_cond_t *)c)); }
 
-/* ---- Yields and sleeps: all others that can run do so first. */
+/* ---- Yields and sleeps: all other threads that can run do so first. */
 
 REAL(sched_yield)
 REAL(usleep)
@@ -337,7 +337,7 @@ int pthread_once(pthread_once_t *once, void (*initialise)(void))
 
 void call_once(once_flag *once, void (*initialise)(void)) { pthread_once((pthread_once_t *)once, initialise); }
 
-/* ---- A thread that the map starts would run beside the one that has the turn. */
+/* ---- A thread that the map starts would run at the same time as the one that has the turn. */
 
 REAL(pthread_create)
 

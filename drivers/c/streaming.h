@@ -1,7 +1,7 @@
-/* Records what the threads of a program do at an ordered map, and hands it on while they run, as a stream for `bench follow`.
+/* Records what the threads of a program do at an ordered map, and writes it while they run, as a stream for `bench follow`.
  *
- * Copy this header and recording.h, which stands beside it: C11 or C++11, their library and POSIX are all that they need. A run may
- * go on without end, in memory that is taken before it. An event is one atomic fetch_add, which draws its stamp, and one slot.
+ * Copy this header and recording.h: they need only C11 or C++11, the C library and POSIX. A run may go on without end. All memory is
+ * taken before it. An event is one atomic fetch_add, which draws its stamp, and one slot.
  *
  *     struct streaming s;
  *     streaming_open(&s, 4, 65536, 0, 1);           // 4 processes, 65,536 slots, no room for scans, to descriptor 1
@@ -13,26 +13,26 @@
  *     streaming_end(&s);                            // once all threads that record are joined; then the one that writes is joined
  *     streaming_close(&s);
  *
- * Each process is one thread, or what one thread at a time does, and makes one call at a time, through its own number p, from 0. A
- * call answers 0, or -1 where it refused: then nothing is recorded, and the process has to stop. Its call stays without an answer,
- * as that of a thread that dies does: neither holds anything up. streaming_hold, _drop and _taken are as in recording.h, and so are
- * streaming_answer_done, _found and _other, once streaming_tell_less has said that the stream is of version 3.
+ * A process is one thread, or what one thread at a time does. It makes one call at a time, under its own number p, from 0. These
+ * functions return 0, or -1 if they refuse: then nothing is recorded, and the process has to stop. Its call stays without an answer,
+ * as does that of a thread that dies. Neither makes others wait. streaming_hold, _drop and _taken are as in recording.h, and so are
+ * streaming_answer_done, _found and _other after streaming_tell_less, which makes the stream one of version 3.
  *
- * Nothing is lost: where all slots are taken, whoever records waits for the writer, and so for who reads the stream. If a write
- * fails, the stream ends there, streaming_write answers -1 with errno, and all that would record is refused from then on. Where the
- * reader has gone, SIGPIPE ends the program at that write, unless it ignores the signal.
+ * Nothing is lost: if all slots are taken, a thread that records waits for the writer, and so for the reader of the stream. If a
+ * write fails, the stream ends there, streaming_write returns -1 with errno, and nothing more is recorded. If the reader has ended,
+ * SIGPIPE ends the program at that write, unless it ignores the signal.
  *
- * Why the lines stand by rising stamp, and none is left out. Stamps are the numbers from 0, each drawn once: that of an invocation
- * before its call does anything, that of an answer after all that it does. The event of stamp n goes to slot n modulo their number,
- * and the writer takes slot after slot. It waits at the first stamp whose event is not there yet. That is the horizon: no thread can
- * draw a stamp below it any more, and all that were drawn below it are written. A process that is idle, or within a call, has no
- * stamp whose event is still to come, so it does not keep the horizon where it is; one that holds a call does, until it tells it, and so
- * does one whose call has taken its snapshot, until it is answered.
+ * Why the lines come by rising stamp, and none is left out. Stamps are the numbers from 0, each drawn once: that of an invocation
+ * before its call does anything, that of an answer after all that the call does. The event of stamp n goes to slot n modulo the
+ * number of slots, and the writer takes slot after slot. It waits at the first stamp whose event has not come yet. That stamp is the
+ * horizon: no thread can draw a lower stamp any more, and all events of lower stamps are written. A process that is idle, or within a
+ * call, has no stamp whose event is still to come, so it does not stop the horizon. A process that holds a call stops it until the
+ * call is known. A process whose call has taken its snapshot stops it until the call is answered.
  *
- * Why it does not stand still. Nobody waits between the draw of a stamp and its event but for the slot, which the event of a lower
- * stamp takes. The least stamp that is not written has its slot free. So its event comes, the writer takes it, and the next one has
- * its slot free. A process waits for room for a list before it draws a stamp. While a call is held, others may wait until it is
- * told: it must not wait, in its call, for calls that others have yet to begin.
+ * Why the stream does not stop. Between drawing a stamp and storing its event, a process waits only for the slot, which the event of a
+ * lower stamp may have. The slot of the least stamp that is not written is free. So its event comes, the writer takes it, and the slot
+ * of the next one is free. A process waits for room for a list before it draws a stamp. While a call is held, others may wait until it
+ * is known. So a held call must not wait for calls that others have yet to begin.
  */
 #ifndef STREAMING_H
 #define STREAMING_H
@@ -43,20 +43,20 @@
 #include <sched.h>
 #include <unistd.h>
 
-/* A line has at most 1,048,576 bytes, and so many pairs in it. */
+/* So many pairs fit in a line, which has at most 1,048,576 bytes. */
 enum { STREAMING_PROCESSES = 65536, STREAMING_PAIRS = 23000, STREAMING_LINE = 1048576, STREAMING_BATCH = 65536 };
 
 enum streaming_state { STREAMING_IDLE, STREAMING_HELD, STREAMING_OPEN };
 
-/* The slot of stamp n has turn n where it is free, n + 1 where the event stands in it, and n + room once that is written. The event
- * of a call left out has a stamp, and no line. */
+/* The slot of stamp n has turn n while it is free, n + 1 while it holds the event, and n + room once that is written. The event of a
+ * call left out has a stamp, and no line. */
 struct streaming_slot {
     recording_word turn;
     struct recording_event event;
     bool is_left_out;
 };
 
-/* What a process alone reads and writes, but for how far its lists are written: each stands in a ring of twice the room for one. */
+/* What only one process reads and writes, but for how far its lists are written. The lists are in a ring of twice the room for one. */
 struct streaming_process {
     enum streaming_state state;
     enum recording_kind call;
@@ -84,7 +84,7 @@ struct streaming {
     void *to;
 };
 
-/* Gives all memory back. */
+/* Frees all memory. */
 static inline void streaming_close(struct streaming *s)
 {
     for (unsigned p = 0; p < s->count; p++)
@@ -98,8 +98,8 @@ static inline void streaming_close(struct streaming *s)
     s->count = 0;
 }
 
-/* Opens a stream of so many processes (1 to 65,536) to a descriptor, with so many slots (2 at least: some 10,000 keep threads from
- * waiting for one another), and lists of at most so many pairs (23,000). */
+/* Opens a stream of so many processes (1 to 65,536) to a descriptor, with so many slots and lists of at most so many pairs (23,000).
+ * There are at least 2 slots; with some 10,000, threads hardly wait for one another. */
 static inline int streaming_open(struct streaming *s, unsigned processes, size_t slots, size_t pairs_each, int descriptor)
 {
     s->count = 0;
@@ -137,8 +137,8 @@ static inline int streaming_open(struct streaming *s, unsigned processes, size_t
     return 0;
 }
 
-/* Says what the map holds before the first call: at most 23,000 pairs by rising key, which have to stay where they are until they
- * are written. To be called before streaming_write. */
+/* Says what the map holds before the first call: at most 23,000 pairs by rising key. They are not copied, and have to stay until they
+ * are written. Call this before streaming_write. */
 static inline int streaming_start(struct streaming *s, const struct recording_pair *pairs, size_t count)
 {
     if (count > STREAMING_PAIRS)
@@ -151,22 +151,22 @@ static inline int streaming_start(struct streaming *s, const struct recording_pa
     return 0;
 }
 
-/* Lets calls be answered by less than the value: done, found or other, which are refused without it. The stream is then of version
- * 3. To be called before streaming_write and the first call. */
+/* Allows the answers done, found and other, which do not give the value. The stream is then of version 3. Call this before
+ * streaming_write and the first call. */
 static inline void streaming_tell_less(struct streaming *s)
 {
     s->version = 3;
 }
 
-/* Hands the lines to a function in the place of the descriptor: some at a time, each with its line feed. Where it answers other
- * than 0, that is as a write that fails. To be called before streaming_write. */
+/* Passes the lines to a function in place of the descriptor: some at a time, each with its line feed. If it returns other than 0, that
+ * counts as a write that fails. Call this before streaming_write. */
 static inline void streaming_hand(struct streaming *s, int (*hand)(void *to, const char *text, size_t length), void *to)
 {
     s->hand = hand;
     s->to = to;
 }
 
-/* Lets other threads go on: most times at once, sometimes for a millisecond. */
+/* Lets other threads run: mostly by a yield, sometimes by a sleep of a millisecond. */
 static inline void streaming_rest(unsigned *times)
 {
     if (++*times % 64)
@@ -210,7 +210,7 @@ static inline int streaming_invoke(struct streaming *s, unsigned p, enum recordi
     return streaming_put(s, &event, false);
 }
 
-/* Process p begins a call: to be noted before the call does anything. */
+/* Process p begins a call. Call this before the call does anything. */
 static inline int streaming_invoke_get(struct streaming *s, unsigned p, uint64_t key)
 {
     return streaming_invoke(s, p, RECORDING_GET, key, 0, 0);
@@ -232,14 +232,14 @@ static inline int streaming_invoke_scan(struct streaming *s, unsigned p, uint64_
     return low > high ? -1 : streaming_invoke(s, p, RECORDING_SCAN, low, high, 0);
 }
 
-/* The key holds `new_value` where it held `old`; else nothing changes. */
+/* If the key holds `old`, it holds `new_value` from then on; else nothing changes. */
 static inline int streaming_invoke_replace(struct streaming *s, unsigned p, uint64_t key, uint64_t old, uint64_t new_value)
 {
     return streaming_invoke(s, p, RECORDING_REPLACE, key, old, new_value);
 }
 
-/* Process p begins a call, of which its answer tells which one it was: the next invocation of p says so, under the stamp that is
- * drawn here. To be noted before the call does anything. Where the thread dies in it, another one says what it may have been. */
+/* Process p begins a call of which only the answer shows which one it was. The next invocation of p says so, under the stamp that is
+ * drawn here. Call this before the call does anything. If the thread dies in it, another one has to say what the call may have been. */
 static inline int streaming_hold(struct streaming *s, unsigned p)
 {
     if (!streaming_may(s, p, STREAMING_IDLE))
@@ -259,9 +259,9 @@ static inline int streaming_drop(struct streaming *s, unsigned p)
     return streaming_put(s, &event, true);
 }
 
-/* The open call of process p, which only reads, has taken its snapshot: it is answered by what is there at this moment, under the stamp that is
- * drawn here, though its answer is noted later. Of several such moments the last one counts. A call that is held is answered as it is noted: its
- * own stamp has no event yet, so none of a later one may wait for room. As where a call is held, others may wait until it is answered. */
+/* The open call of process p only reads, and has taken its snapshot: its answer is of this moment, under the stamp that is drawn here, though it is
+ * noted later. If this is called several times, the last one counts. It does nothing for a call that is held: its own stamp has no event yet, so no
+ * later event of it may wait for room. Others may wait until the call is answered. */
 static inline int streaming_taken(struct streaming *s, unsigned p)
 {
     if (streaming_may(s, p, STREAMING_HELD))
@@ -287,8 +287,8 @@ static inline int streaming_respond(struct streaming *s, unsigned p, enum record
     return streaming_put(s, &event, false);
 }
 
-/* The open call of process p was answered by the value that had been at its key, or found none there: to be noted after all that
- * the call does. */
+/* The open call of process p was answered by the value that had been at its key, or found none there. Call this after all that the
+ * call does. */
 static inline int streaming_answer(struct streaming *s, unsigned p, bool found, uint64_t value)
 {
     return streaming_respond(s, p, found ? RECORDING_VALUE : RECORDING_NONE, value, 0);
@@ -319,13 +319,13 @@ static inline int streaming_answer_refused(struct streaming *s, unsigned p)
     return streaming_respond(s, p, RECORDING_REFUSED, 0, 0);
 }
 
-/* The open call was done; what it found is not told. */
+/* The open call was done; what it found is not said. */
 static inline int streaming_answer_done(struct streaming *s, unsigned p)
 {
     return s->version < 3 ? -1 : streaming_respond(s, p, RECORDING_DONE, 0, 0);
 }
 
-/* The open call was done, and there was a value at its key; which one is not told. Of a scan it is refused. */
+/* The open call was done, and there was a value at its key; which one is not said. Not for a scan. */
 static inline int streaming_answer_found(struct streaming *s, unsigned p)
 {
     if (s->version < 3 || !streaming_may(s, p, STREAMING_OPEN) || s->processes[p].call == RECORDING_SCAN)
@@ -333,7 +333,7 @@ static inline int streaming_answer_found(struct streaming *s, unsigned p)
     return streaming_respond(s, p, RECORDING_FOUND, 0, 0);
 }
 
-/* The open replace found another value than `old`, or none, and changed nothing. Of any other call it is refused. */
+/* The open replace found another value than `old`, or none, and changed nothing. Only for a replace. */
 static inline int streaming_answer_other(struct streaming *s, unsigned p)
 {
     if (s->version < 3 || !streaming_may(s, p, STREAMING_OPEN) || s->processes[p].call != RECORDING_REPLACE)
@@ -341,7 +341,7 @@ static inline int streaming_answer_other(struct streaming *s, unsigned p)
     return streaming_respond(s, p, RECORDING_OTHER, 0, 0);
 }
 
-/* No process records any more: to be called once the threads that do are joined, or dead. */
+/* Says that no process records any more. Call this once the threads that do are joined, or dead. */
 static inline void streaming_end(struct streaming *s)
 {
     atomic_store(&s->is_ended, (uint64_t)1);
@@ -362,7 +362,7 @@ static inline int streaming_flush(struct streaming *s)
     return 0;
 }
 
-/* Puts the event of a slot behind the lines that wait, and lets go of what it takes. */
+/* Adds the event of a slot to the lines that wait, and frees the slot and the room of its list. */
 static inline void streaming_take(struct streaming *s, struct streaming_slot *slot)
 {
     const struct recording_event *event = &slot->event;
@@ -405,8 +405,8 @@ static inline int streaming_write_lines(struct streaming *s)
     }
 }
 
-/* Writes the stream, and answers 0 once it has ended and all is written; or -1 where a write failed, or at the end a process holds
- * a call that was neither told nor left out: then the stream ends in front of it. To be called once, by a thread of its own. */
+/* Writes the stream. Returns 0 once it has ended and all is written, or -1 if a write failed. If a process still holds a call at the
+ * end, the stream ends before that call, and this returns -1 too. Call this once, in a thread of its own. */
 static inline int streaming_write(struct streaming *s)
 {
     int status = streaming_write_lines(s);

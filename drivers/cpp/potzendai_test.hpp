@@ -1,6 +1,6 @@
-/* Tests an ordered map of one's own in C++: threads call its methods, what they do is recorded, and each recording is judged.
+/* Tests your ordered map in C++: threads call its methods, their calls are recorded, and each recording is judged.
  *
- * C++11, over the headers in C of the folder beside this one: copy both folders. Include this first in the one source that has `main`:
+ * It is C++11 and uses the headers in the folder `c`: copy both folders. Include this first in the source that has `main`:
  *
  *     struct Mine {
  *         map_said get(uint64_t key, uint64_t &found);                   // MAP_TOLD and the value, or MAP_NONE
@@ -12,7 +12,7 @@
  *         return potzendai::test_main(argc, argv, mine, "mine");
  *     }
  *
- * What else the object may have, each method as it is here or not at all (a member so named of another type is an error):
+ * The object may also have these methods. A member of such a name with another type is an error:
  *
  *     map_said del(uint64_t key, uint64_t &found);
  *     map_said scan(uint64_t low, uint64_t high, std::vector<recording_pair> &pairs);
@@ -22,13 +22,13 @@
  *     map_said ceiling(uint64_t key, recording_pair &pair);
  *     map_said pop_first(recording_pair &pair);
  *
- *     void reopen();                                                     // for --reopen: closes it at rest, and opens it with what it held
+ *     void reopen();                                                     // for --reopen: closes it at rest, and opens it with its pairs
  *
- * In the place of the object may be what makes new ones, for --fresh: [] { return std::unique_ptr<Mine>(new Mine); }.
+ * Instead of the object you may give what makes new ones, as --fresh needs: [] { return std::unique_ptr<Mine>(new Mine); }.
  *
- * Where it has a nested type `connection`, made of the object and the thread's number, each thread makes one of its own, and calls its
- * methods.
- * A method that throws has said MAP_UNKNOWN: nobody knows whether it was done. README.md says what the words and the statuses are. */
+ * If the object has a nested type `connection`, made from the object and the number of a thread, each thread makes one and calls its methods.
+ *
+ * A method that throws has answered MAP_UNKNOWN: nobody knows whether it was done. README.md describes the words and the statuses. */
 #ifndef POTZENDAI_TEST_HPP
 #define POTZENDAI_TEST_HPP
 
@@ -41,14 +41,14 @@
 
 namespace potzendai {
 
-/* What a member of the map may be named, to find one of any type: a name that a class and this one both have is ambiguous in what derives
- * from both. None is found in a final class. */
+/* Finds members of any type by their names: a name that a class and this one both have is ambiguous in a class that derives from both. In a final
+ * class none is found. */
 struct member_names { int get, put, del, scan, replace, put_if_absent, floor, ceiling, pop_first; };
 struct no_class {};
 template <class S> struct with_names : std::conditional<__is_final(S), no_class, S>::type, member_names {};
 
-/* Whether S has a method that fits: it is called with these, and tells by a reference what was found. A member of that name which does not
- * fit is not taken for none. */
+/* Whether S has a method that fits: it is called with these arguments, and sets what it found by a reference. A member of that name that does not
+ * fit is an error. */
 #define POTZENDAI_FITS(name, asked, told, type) \
     template <class S, class Told> auto name##_takes(int) -> std::is_convertible<decltype(std::declval<S &>().name asked), map_said>; \
     template <class S, class Told> auto name##_takes(long) -> std::false_type; \
@@ -59,8 +59,8 @@ template <class S> struct with_names : std::conditional<__is_final(S), no_class,
         static_assert(name##_fits::value || decltype(name##_is_no_name<S>(0))::value, "the map's " #name " has to be public, and: " type); \
     };
 
-/* Of a method its function over a connection of type S, or null where S has none: what it takes, what it is asked for by and tells, how it is
- * called, and its type. */
+/* Defines the function of a method over a connection of type S, or null if S has no such method. The macro takes the parameters of the function, the
+ * arguments and the result by which a method fits, the arguments of the call, and the type that an error shows. */
 #define POTZENDAI_METHOD(name, parameters, asked, told, called, type) \
     POTZENDAI_FITS(name, asked, told, type) \
     template <class S> auto name##_of(std::true_type) -> map_said (*) parameters \
@@ -107,7 +107,7 @@ POTZENDAI_FITS(scan, (POTZENDAI_NUMBER, POTZENDAI_NUMBER, POTZENDAI_TOLD), std::
 
 typedef map_said (*scan_function)(void *connection, uint64_t low, uint64_t high, recording_pair *pairs, size_t room, size_t *count);
 
-/* A scan whose pairs come in a vector: as many as have room are copied, and all are counted. */
+/* Scans into a vector, copies as many pairs as have room, and counts all. */
 template <class S> map_said scan_pairs(void *connection, uint64_t low, uint64_t high, recording_pair *pairs, size_t room, size_t *count)
 {
     try {
@@ -132,11 +132,11 @@ template <class S> scan_function scan_of(std::false_type)
     return nullptr;
 }
 
-/* What opens and closes the connections of a map that has such. */
-template <class Map> void *open_connection(void *map, unsigned thread)
+/* Returns what `make` returns, or null if it throws: with errno ENOMEM if memory was refused. */
+template <class Make> void *made_or_null(Make make)
 {
     try {
-        return new typename Map::connection(*static_cast<Map *>(map), thread);
+        return make();
     } catch (const std::bad_alloc &) {
         errno = ENOMEM;
         return nullptr;
@@ -145,12 +145,17 @@ template <class Map> void *open_connection(void *map, unsigned thread)
     }
 }
 
+template <class Map> void *open_connection(void *map, unsigned thread)
+{
+    return made_or_null([=] { return new typename Map::connection(*static_cast<Map *>(map), thread); });
+}
+
 template <class Map> void close_connection(void *connection)
 {
     delete static_cast<typename Map::connection *>(connection);
 }
 
-/* The functions of a type S: a connection, or the map itself. */
+/* Takes the functions of a type S: of a connection, or of the map itself. */
 template <class S> void take_methods(potzendai_map &functions)
 {
     functions.get = get_of<S>(std::integral_constant<bool, get_fits<S>::value>());
@@ -176,29 +181,24 @@ template <class Map> void take_map(potzendai_map &functions, ...)
     take_methods<Map>(functions);
 }
 
-/* What closes a map at rest and opens it again, where it has such a method: one that throws has failed. */
+/* Takes the function that closes a map at rest and opens it again, if the map has it. */
 template <class Map> auto take_reopen(potzendai_map &functions, int) -> decltype(std::declval<Map &>().reopen(), void())
 {
-    functions.reopen = [](void *opened) -> void * {
-        try {
+    functions.reopen = [](void *opened) {
+        return made_or_null([=] {
             static_cast<Map *>(opened)->reopen();
             return opened;
-        } catch (const std::bad_alloc &) {
-            errno = ENOMEM;
-            return nullptr;
-        } catch (...) {
-            return nullptr;
-        }
+        });
     };
 }
 
 template <class Map> void take_reopen(potzendai_map &, long) {}
 
-/* The map that a factory returns, by a pointer that owns it. */
+/* A pointer to the map that a factory has made. The run owns it. */
 template <class Map> Map *owned(Map *made) { return made; }
 template <class Map> Map *owned(std::unique_ptr<Map> &&made) { return made.release(); }
 
-/* Tests the maps of a factory, which is called for each, and copied before. */
+/* Tests the maps that a copy of a factory makes. */
 template <class Factory>
 auto test_map(int argc, char **argv, Factory &factory, potzendai_map &functions, int) -> decltype(owned(factory()), int())
 {
@@ -206,15 +206,8 @@ auto test_map(int argc, char **argv, Factory &factory, potzendai_map &functions,
     typedef typename std::remove_pointer<decltype(owned(factory()))>::type Map;
     Kept kept(factory);
     functions.map = &kept;
-    functions.begin = [](void *kept_factory) -> void * {
-        try {
-            return owned((*static_cast<Kept *>(kept_factory))());
-        } catch (const std::bad_alloc &) {
-            errno = ENOMEM;
-            return nullptr;
-        } catch (...) {
-            return nullptr;
-        }
+    functions.begin = [](void *kept_factory) {
+        return made_or_null([=] { return owned((*static_cast<Kept *>(kept_factory))()); });
     };
     functions.end = [](void *opened) { delete static_cast<Map *>(opened); };
     take_map<Map>(functions, nullptr);
@@ -222,7 +215,7 @@ auto test_map(int argc, char **argv, Factory &factory, potzendai_map &functions,
     return potzendai_test_main(argc, argv, &functions);
 }
 
-/* Tests one map, that is given. */
+/* Tests the one map that is given. */
 template <class Map> int test_map(int argc, char **argv, Map &map, potzendai_map &functions, long)
 {
     functions.map = &map;
@@ -231,8 +224,8 @@ template <class Map> int test_map(int argc, char **argv, Map &map, potzendai_map
     return potzendai_test_main(argc, argv, &functions);
 }
 
-/* A whole program: reads the words, tests the map, or those that a factory makes, says the verdict, and answers the status. A factory is called
- * without arguments, and returns a new map as a std::unique_ptr, or as a pointer that the run deletes. */
+/* The whole program: reads the words, tests the map or the maps that a factory makes, prints the verdict, and returns the status. A factory is
+ * called without arguments, and returns a new map as a std::unique_ptr, or as a pointer that the run deletes. */
 template <class Map> int test_main(int argc, char **argv, Map &&map, const char *name, unsigned value_bits = 0)
 {
     potzendai_map functions = potzendai_map();

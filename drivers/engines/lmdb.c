@@ -1,12 +1,14 @@
 /* LMDB, tested: each call is one transaction. With the word `plain` in front, puts and deletes are mdb_put and mdb_del alone, which tell
- * less. README.md says how it is built. */
+ * less. README.md says how it is built, and what the other words set. */
 #include "../c/potzendai_test.h"
+#include "settings.h"
 #include <lmdb.h>
 
 static MDB_env *env;
 static MDB_dbi pairs;
-static char folder[32];
+static char folder[POTZENDAI_PATH];
 static bool is_plain;
+static unsigned flags = MDB_NOSYNC;
 
 static MDB_val bytes_of(uint64_t *number) { return (MDB_val){sizeof *number, number}; }
 static uint64_t number_in(MDB_val value) { uint64_t number; memcpy(&number, value.mv_data, sizeof number); return number; }
@@ -117,23 +119,28 @@ static enum map_said ceiling_of(void *map, uint64_t key, struct recording_pair *
 static int open_folder(void)
 {
     MDB_txn *txn;
-    return mdb_env_create(&env) || mdb_env_set_mapsize(env, 1u << 28) || mdb_env_open(env, folder, MDB_NOSYNC, 0600)
+    size_t most = flags & MDB_WRITEMAP ? 1u << 20 : 1u << 28; /* the file has it all under MDB_WRITEMAP */
+    return mdb_env_create(&env) || mdb_env_set_mapsize(env, most) || mdb_env_open(env, folder, flags, 0600)
         || mdb_txn_begin(env, NULL, 0, &txn) || mdb_dbi_open(txn, NULL, MDB_INTEGERKEY, &pairs) || mdb_txn_commit(txn);
 }
 
 static void remove_folder(void)
 {
-    char file[64];
+    char file[POTZENDAI_PATH + 16];
     for (int i = 0; i < 2; i++)
         if (snprintf(file, sizeof file, "%s/%s", folder, i ? "lock.mdb" : "data.mdb") > 0)
             unlink(file);
     rmdir(folder);
 }
 
-/* A new map, in a folder of its own. */
+/* A new map, in a folder of its own; or the store that is killed. */
 static void *begin(void *map)
 {
     (void)map;
+    if (potzendai_store()) {
+        snprintf(folder, sizeof folder, "%s", potzendai_store());
+        return open_folder() ? NULL : folder;
+    }
     strcpy(folder, "/tmp/potzendai-lmdb-XXXXXX");
     if (!mkdtemp(folder))
         return NULL;
@@ -160,9 +167,10 @@ int main(int argc, char **argv)
 {
     struct potzendai_map map = {.name = "lmdb", .get = get, .put = put, .del = del, .scan = scan, .replace = replace,
                                 .put_if_absent = put_if_absent, .ceiling = ceiling_of, .begin = begin, .end = end_map, .reopen = reopen};
-    char again[] = "lmdb plain";
-    is_plain = argc > 1 && strcmp(argv[1], "plain") == 0;
-    if (is_plain)
-        argv[1] = again;
-    return potzendai_test_main(argc - is_plain, argv + is_plain, &map);
+    static const char *const names[] = {"plain", "sync", "nometasync", "mapasync", NULL};
+    bool is_set[4] = {false};
+    int count = take_settings(argc, argv, names, is_set);
+    is_plain = is_set[0];
+    flags = is_set[1] ? 0 : is_set[2] ? MDB_NOMETASYNC : is_set[3] ? MDB_WRITEMAP | MDB_MAPASYNC : flags;
+    return potzendai_test_main(argc - count, argv + count, &map);
 }

@@ -1,7 +1,7 @@
 // RocksDB, tested: puts and deletes in transactions that read first, and tell. With the word `plain` in front they are single ones, which
-// tell nothing. README.md says how it is built.
+// tell nothing. README.md says how it is built, and what the other words set.
 #include "../cpp/potzendai_test.hpp"
-#include <cstring>
+#include "settings.h"
 #include <memory>
 #include <rocksdb/utilities/transaction.h>
 #include <rocksdb/utilities/transaction_db.h>
@@ -11,7 +11,18 @@
 using namespace rocksdb;
 
 static TransactionDB *base;
-static bool is_plain;
+enum { PLAIN, SYNC, NO_LOG, MANUAL_LOG, SETTINGS };
+
+static bool is_set[SETTINGS];
+
+// Of each write: whether it is logged, and the log is synced.
+static WriteOptions writes()
+{
+    WriteOptions options;
+    options.sync = is_set[SYNC];
+    options.disableWAL = is_set[NO_LOG];
+    return options;
+}
 
 // Numbers as bytes, the highest first, so that they rise as the numbers do.
 static std::string bytes_of(uint64_t number)
@@ -42,7 +53,7 @@ static map_said told(const Status &status, const std::string &value, uint64_t &f
 static map_said change(uint64_t key, const uint64_t *value, const uint64_t *old, uint64_t &found)
 {
     std::string before, at = bytes_of(key);
-    std::unique_ptr<Transaction> transaction(base->BeginTransaction(WriteOptions()));
+    std::unique_ptr<Transaction> transaction(base->BeginTransaction(writes()));
     map_said said = told(transaction->GetForUpdate(ReadOptions(), at, &before), before, found);
     if (said == MAP_REFUSED)
         return said;
@@ -57,21 +68,21 @@ static map_said change(uint64_t key, const uint64_t *value, const uint64_t *old,
 
 // A map in a folder of its own.
 class Rocks {
-    char folder[32];
+    std::string folder;
 
     void open()
     {
         Options options;
         options.create_if_missing = true;
+        options.manual_wal_flush = is_set[MANUAL_LOG];
         if (!TransactionDB::Open(options, TransactionDBOptions(), folder, &base).ok())
             throw std::runtime_error("rocksdb: does not open");
     }
 
 public:
-    Rocks()
+    Rocks() : folder(potzendai_store() ? potzendai_store() : "/tmp/potzendai-rocksdb-XXXXXX")
     {
-        std::strcpy(folder, "/tmp/potzendai-rocksdb-XXXXXX");
-        if (!mkdtemp(folder))
+        if (!potzendai_store() && !mkdtemp(&folder[0]))
             throw std::runtime_error("rocksdb: no folder");
         open();
     }
@@ -98,16 +109,16 @@ public:
 
     map_said put(uint64_t key, uint64_t value, uint64_t &found)
     {
-        if (!is_plain)
+        if (!is_set[PLAIN])
             return change(key, &value, nullptr, found);
-        return base->Put(WriteOptions(), bytes_of(key), bytes_of(value)).ok() ? MAP_DONE : MAP_UNKNOWN;
+        return base->Put(writes(), bytes_of(key), bytes_of(value)).ok() ? MAP_DONE : MAP_UNKNOWN;
     }
 
     map_said del(uint64_t key, uint64_t &found)
     {
-        if (!is_plain)
+        if (!is_set[PLAIN])
             return change(key, nullptr, nullptr, found);
-        return base->Delete(WriteOptions(), bytes_of(key)).ok() ? MAP_DONE : MAP_UNKNOWN;
+        return base->Delete(writes(), bytes_of(key)).ok() ? MAP_DONE : MAP_UNKNOWN;
     }
 
     map_said replace(uint64_t key, uint64_t old, uint64_t value, uint64_t &found) { return change(key, &value, &old, found); }
@@ -125,9 +136,7 @@ public:
 
 int main(int argc, char **argv)
 {
-    char again[] = "rocksdb plain";
-    is_plain = argc > 1 && strcmp(argv[1], "plain") == 0;
-    if (is_plain)
-        argv[1] = again;
-    return potzendai::test_main(argc - is_plain, argv + is_plain, [] { return std::unique_ptr<Rocks>(new Rocks); }, "rocksdb");
+    static const char *const names[] = {"plain", "sync", "nolog", "manuallog", nullptr};
+    int count = take_settings(argc, argv, names, is_set);
+    return potzendai::test_main(argc - count, argv + count, [] { return std::unique_ptr<Rocks>(new Rocks); }, "rocksdb");
 }

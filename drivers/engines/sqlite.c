@@ -18,7 +18,7 @@ static const char first[] =
 
 struct connection { sqlite3 *base; sqlite3_stmt *all[STATEMENTS]; };
 
-static char file[32];
+static char file[POTZENDAI_PATH];
 static bool is_plain;
 
 /* Runs a statement to its end, which commits it where no transaction is open: the pairs; MAP_REFUSED where it is busy, which changes nothing; or
@@ -148,10 +148,14 @@ static void *open_connection(void *map, unsigned thread)
     return is_open ? s : NULL;
 }
 
-/* A new map, in a file of its own, which each connection opens. */
+/* A new map, in a file of its own, which each connection opens; or the store that is killed. */
 static void *begin(void *map)
 {
     (void)map;
+    if (potzendai_store()) {
+        snprintf(file, sizeof file, "%s/base", potzendai_store());
+        return file;
+    }
     strcpy(file, "/tmp/potzendai-sqlite-XXXXXX");
     int made = mkstemp(file);
     return made >= 0 && close(made) == 0 ? file : NULL;

@@ -279,57 +279,62 @@ class Run:
                     json.dumps(call), json.dumps(answer)))
         return events, ""
 
+    def take_life(self, child, events, drawn):
+        """Takes the events of a life, which is to end a drawn time after its first call. Returns the signal that was sent to end it, or None."""
+        options, rest, due, sent = self.options, b"", None, None
+        opening = time.monotonic() + options.open
+        while True:
+            if select.select([child.stdout], [], [], max(0, (due or opening) - time.monotonic()))[0]:
+                text = os.read(child.stdout.fileno(), 1 << 16)
+                if not text:
+                    break  # the rest is a line that the kill cut: its call had not begun, or stays open
+                due = due or time.monotonic() + drawn
+                text, _, rest = (rest + text).rpartition(b"\n")
+                events.take(text)
+            if time.monotonic() < (due or opening):
+                continue
+            if sent == signal.SIGTERM:
+                raise Stop(WORDS, "%s did not end within %g seconds of SIGTERM" % (events.name, options.open))
+            if sent == signal.SIGKILL:
+                raise Stop(WORDS, "%s left a process that holds its output after the kill" % events.name)
+            if options.stop and due:
+                child.terminate()
+                sent = signal.SIGTERM
+            else:
+                self.kill(child)
+                sent = signal.SIGKILL
+            due = time.monotonic() + options.open
+        if not self.is_over(child, time.monotonic() + options.open):
+            raise Stop(WORDS, "%s closed its output and did not end" % events.name)
+        return sent
+
     def live(self, life):
-        """Runs a life until it is killed, or told to end. Answers its events."""
+        """Runs a life until it is killed, or asked to end. Returns its events."""
         options = self.options
-        name, rest, due = "`run %d`" % life, b"", None
         drawn = options.kill * (0.5 + self.random.random())
         kill_at = self.random.randint(1, self.first_writes) if options.kill_at_write and self.first_writes else 0
-        child, events = self.start("run", life, kill_at), Events(name, options.keys)
-        opening = time.monotonic() + options.open
-        is_killed = is_asked = False
+        child, events = self.start("run", life, kill_at), Events("`run %d`" % life, options.keys)
         try:
-            while True:
-                left = max(0, (due or opening) - time.monotonic())
-                if select.select([child.stdout], [], [], left)[0]:
-                    text = os.read(child.stdout.fileno(), 1 << 16)
-                    if not text:
-                        break
-                    due = due or time.monotonic() + drawn
-                    text, _, rest = (rest + text).rpartition(b"\n")
-                    events.take(text)
-                if time.monotonic() < (due or opening):
-                    continue
-                if is_asked and not is_killed:
-                    raise Stop(WORDS, "%s did not end within %g seconds of SIGTERM" % (name, options.open))
-                if options.stop and due:
-                    child.terminate()
-                    is_asked, due = True, time.monotonic() + options.open
-                elif not is_killed:
-                    self.kill(child)
-                    is_killed, due = True, time.monotonic() + options.open
-                else:
-                    raise Stop(WORDS, "%s left a process that holds its output after the kill" % name)
-            if not self.is_over(child, time.monotonic() + options.open):
-                raise Stop(WORDS, "%s closed its output and did not end" % name)
+            sent = self.take_life(child, events, drawn)
         finally:
             self.kill(child)
             status = child.wait()
             child.stdout.close()
         writes, syncs = self.counted()
         self.seen, self.syncs = self.seen + writes, self.syncs + syncs
+        self.first_writes = self.first_writes or writes
         is_at_write = bool(kill_at) and writes >= kill_at
         self.at_write += is_at_write
-        if not self.first_writes:
-            self.first_writes = writes
-        if not (is_asked and status == 0) and not (status == -signal.SIGKILL and (is_killed or is_at_write)):
+        is_stopped = sent == signal.SIGTERM and status == 0
+        is_killed = status == -signal.SIGKILL and (sent == signal.SIGKILL or is_at_write)
+        if not is_stopped and not is_killed:
             ended = "status %d" % status if status >= 0 else "signal %d" % -status
-            raise Stop(WORDS, "%s ended by itself, with %s%s" % (name, ended, "" if events.calls else ", before its first call"))
-        return events  # the rest is a line that the kill cut: its call had not begun, or stays open
+            raise Stop(WORDS, "%s ended by itself, with %s%s" % (events.name, ended, "" if events.calls else ", before its first call"))
+        return events
 
     def lose_power(self):
         """Leaves each file of the store what it held when it was last synced."""
-        copies = set(os.listdir(self.shadow))
+        copies, used = set(os.listdir(self.shadow)), set()
         for folder, _, names in os.walk(self.store):
             for name in names:
                 path = os.path.join(folder, name)
@@ -340,13 +345,51 @@ class Run:
                     with open(os.path.join(self.shadow, copy), "rb") as kept, open(path, "r+b") as file:
                         shutil.copyfileobj(kept, file)
                         file.truncate()
-                    copies.discard(copy)
+                    used.add(copy)
                 else:
                     os.truncate(path, 0)
-        for copy in copies:
+        for copy in copies - used:
             os.unlink(os.path.join(self.shadow, copy))
 
     # Verdicts
+
+    def judge(self, life, head, events, reading):
+        """The status of a life, by what `bench follow` says of it with the reading after it."""
+        busy = {json.loads(line)["process"] for line in reading.lines} & set(events.opened)
+        if busy:
+            raise Stop(WORDS, "`read` uses process %d, which has a call that is open since the kill: take a number that `run` never uses"
+                       % min(busy))
+        lines = [head, *events.lines, *reading.lines]
+        status, reports = self.program.ask("follow", b"\n".join(lines) + b"\n")
+        made = events.calls + reading.calls
+        if status == YES and reports[0].get("calls") != made:
+            raise Stop(WORDS, "life %d: bench follow counts %s calls of %d" % (life, reports[0].get("calls"), made))
+        if status != YES:
+            self.show(life, status, reports, lines, len(events.lines))
+        return status
+
+    def one_life(self, life, before):
+        """Runs a life from the pairs of the reading before it, and judges it. Returns the status, and the reading after it."""
+        options = self.options
+        start = sorted((call[1], answer) for call, answer in before.answers if answer is not None)
+        head = b'{"start":%s,"version":3}' % json.dumps(start, separators=(",", ":")).encode()
+        events = self.live(life)
+        if options.power:
+            self.lose_power()
+        self.lives += 1
+        self.calls += events.calls
+        self.open_at_kill += len(events.opened)
+        self.empty += not events.calls
+        self.full += bool(events.calls) and not events.opened
+        if (options.kill_at_write or options.power) and not self.seen:
+            raise Stop(WORDS, "no write of the store was seen: the child writes by direct system calls, through mmap or stdio, or not below "
+                              "POTZENDAI_STORE")
+        reading, why = self.read()
+        if reading is None:
+            self.keep(life, head, events.lines)
+            print("does not open after %s %d: %s" % ("stop" if options.stop else "kill", life, why))
+            return NO, None
+        return self.judge(life, head, events, reading), reading
 
     def all_lives(self):
         options = self.options
@@ -356,35 +399,8 @@ class Run:
         for life in range(options.lives):
             if options.seconds and time.monotonic() - self.begun >= options.seconds:
                 break
-            start = sorted((call[1], answer) for call, answer in reading.answers if answer is not None)
-            events = self.live(life)
-            if options.power:
-                self.lose_power()
-            self.lives += 1
-            self.calls += events.calls
-            self.open_at_kill += len(events.opened)
-            self.empty += not events.calls
-            self.full += bool(events.calls) and not events.opened
-            if (options.kill_at_write or options.power) and not self.seen:
-                raise Stop(WORDS, "no write of the store was seen: the child writes by direct system calls, through mmap or stdio, or not below "
-                                  "POTZENDAI_STORE")
-            reading, why = self.read()
-            head = b'{"start":%s,"version":3}' % json.dumps(start, separators=(",", ":")).encode()
-            if reading is None:
-                self.keep(life, head, events.lines)
-                print("does not open after %s %d: %s" % ("stop" if options.stop else "kill", life, why))
-                return NO
-            busy = {json.loads(line)["process"] for line in reading.lines} & set(events.opened)
-            if busy:
-                raise Stop(WORDS, "`read` uses process %d, which has a call that is open since the kill: take a number that `run` never uses"
-                           % min(busy))
-            lines = [head, *events.lines, *reading.lines]
-            status, reports = self.program.ask("follow", b"\n".join(lines) + b"\n")
-            made = events.calls + reading.calls
-            if status == YES and reports[0].get("calls") != made:
-                raise Stop(WORDS, "life %d: bench follow counts %s calls of %d" % (life, reports[0].get("calls"), made))
+            status, reading = self.one_life(life, reading)
             if status != YES:
-                self.show(life, status, reports, lines, len(events.lines))
                 return status
             if not self.calls:
                 break  # the first life is never killed at a write

@@ -109,7 +109,7 @@ def text(answer):
     return "null" if answer is None else str(answer).replace(" ", "")
 
 
-def main():
+def options_of():
     parser = argparse.ArgumentParser(allow_abbrev=False)
     parser.add_argument("--plant", choices=("seen", "order", "torn", "buffered"))
     parser.add_argument("--sync", action="store_true", help="sync the log at each put")
@@ -117,46 +117,65 @@ def main():
     parser.add_argument("--threads", type=int, default=4)
     parser.add_argument("word", choices=("run", "read"))
     parser.add_argument("number", type=int)
-    options = parser.parse_args()
-    seed, is_over = int(os.environ["POTZENDAI_SEED"]), threading.Event()
+    return parser.parse_args()
+
+
+def call(store, process, draws, value):
+    """Makes one drawn call. A put writes this value."""
+    key, draw = draws.randrange(16), draws.random()
+    if draw < .05:
+        high = draws.randrange(key, 16)
+        note(process, '"invoke":["scan",%d,%d]' % (key, high))
+        answer = store.scan(key, high)
+    elif draw < .5:
+        note(process, '"invoke":["get",%d]' % key)
+        answer = store.get(key)
+    elif draw < .9:
+        note(process, '"invoke":["insert",%d,%d]' % (key, value))
+        answer = store.change(PUT, key, value)
+    else:
+        note(process, '"invoke":["remove",%d]' % key)
+        answer = store.change(REMOVE, key, 0)
+    note(process, '"answer":' + text(answer))
+
+
+def run(store, life, count, is_over):
+    """Makes calls in so many threads until the life is over."""
+    seed = int(os.environ["POTZENDAI_SEED"])
+
+    def calls(process):
+        draws, n = random.Random((seed * 100003 + life) * 64 + process), 0
+        while not is_over.is_set():
+            n += 1
+            call(store, process, draws, (life * 64 + process) << 32 | n)
+
+    threads = [threading.Thread(target=calls, args=(process,)) for process in range(count)]
+    for thread in threads:
+        thread.start()
+    for thread in threads:
+        thread.join()
+
+
+def read(store, keys):
+    """Gets each key once."""
+    for key in range(keys):
+        note(65535, '"invoke":["get",%d]' % key)
+        note(65535, '"answer":' + text(store.get(key)))
+
+
+def main():
+    options, is_over = options_of(), threading.Event()
+    signal.signal(signal.SIGTERM, lambda *_: is_over.set())
 
     def point():
         if options.delay and random.random() < 0.5:
             time.sleep(random.random() * options.delay)
 
-    signal.signal(signal.SIGTERM, lambda *_: is_over.set())
     store = Store(os.environ["POTZENDAI_STORE"], options.plant, options.sync, point)
-
-    def calls(process):
-        draws, n = random.Random((seed * 100003 + options.number) * 64 + process), 0
-        while not is_over.is_set():
-            key, draw, n = draws.randrange(16), draws.random(), n + 1
-            if draw < .05:
-                high = draws.randrange(key, 16)
-                note(process, '"invoke":["scan",%d,%d]' % (key, high))
-                answer = store.scan(key, high)
-            elif draw < .5:
-                note(process, '"invoke":["get",%d]' % key)
-                answer = store.get(key)
-            elif draw < .9:
-                value = (options.number * 64 + process) << 32 | n
-                note(process, '"invoke":["insert",%d,%d]' % (key, value))
-                answer = store.change(PUT, key, value)
-            else:
-                note(process, '"invoke":["remove",%d]' % key)
-                answer = store.change(REMOVE, key, 0)
-            note(process, '"answer":' + text(answer))
-
     if options.word == "read":
-        for key in range(options.number):
-            note(65535, '"invoke":["get",%d]' % key)
-            note(65535, '"answer":' + text(store.get(key)))
+        read(store, options.number)
     else:
-        threads = [threading.Thread(target=calls, args=(process,)) for process in range(options.threads)]
-        for thread in threads:
-            thread.start()
-        for thread in threads:
-            thread.join()
+        run(store, options.number, options.threads, is_over)
     store.close()
 
 

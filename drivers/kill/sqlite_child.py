@@ -44,7 +44,7 @@ def text(value):
     return "null" if value is None else str(value)
 
 
-def main():
+def options_of():
     parser = argparse.ArgumentParser(allow_abbrev=False)
     parser.add_argument("--journal", default="WAL", choices=("WAL", "DELETE", "TRUNCATE", "PERSIST", "MEMORY", "OFF"))
     parser.add_argument("--synchronous", default="FULL", choices=("OFF", "NORMAL", "FULL", "EXTRA"))
@@ -52,40 +52,42 @@ def main():
     parser.add_argument("--threads", type=int, default=4)
     parser.add_argument("word", choices=("run", "read"))
     parser.add_argument("number", type=int)
-    options = parser.parse_args()
-    seed, is_over = int(os.environ["POTZENDAI_SEED"]), threading.Event()
-    signal.signal(signal.SIGTERM, lambda *_: is_over.set())
-    if options.word == "read":
-        store = Store(options)
-        for key in range(options.number):
-            note(65535, '"invoke":["get",%d]' % key)
-            note(65535, '"answer":' + text(store.get(key)))
-        return
+    return parser.parse_args()
+
+
+def call(store, process, draws, value):
+    """Makes one drawn call. A put writes this value. Returns whether the call was answered."""
+    key, draw = draws.randrange(16), draws.random()
+    try:
+        if draw < .5:
+            note(process, '"invoke":["get",%d]' % key)
+            answer = store.get(key)
+        elif draw < .9:
+            note(process, '"invoke":["insert",%d,%d]' % (key, value))
+            answer = store.change(key, value)
+        else:
+            note(process, '"invoke":["remove",%d]' % key)
+            answer = store.change(key, None)
+    except sqlite3.OperationalError:
+        if store.base.in_transaction:
+            store.base.execute("ROLLBACK")
+        return False
+    note(process, '"answer":' + text(answer))
+    return True
+
+
+def run(options, is_over):
+    """Makes calls in threads until the life is over."""
+    seed = int(os.environ["POTZENDAI_SEED"])
     Store(options).base.close()  # the tables are there before the threads are
 
     def calls(thread):
         store, process = Store(options), thread
         draws, n = random.Random((seed * 100003 + options.number) * 64 + thread), 0
         while not is_over.is_set():
-            key, draw, n = draws.randrange(16), draws.random(), n + 1
-            value = (options.number * 64 + thread) << 32 | n
-            try:
-                if draw < .5:
-                    note(process, '"invoke":["get",%d]' % key)
-                    answer = store.get(key)
-                elif draw < .9:
-                    note(process, '"invoke":["insert",%d,%d]' % (key, value))
-                    answer = store.change(key, value)
-                else:
-                    note(process, '"invoke":["remove",%d]' % key)
-                    answer = store.change(key, None)
-            except sqlite3.OperationalError:
-                # Nobody knows whether it was done: the call stays open, and the thread goes on as another process.
-                if store.base.in_transaction:
-                    store.base.execute("ROLLBACK")
-                process += options.threads
-                continue
-            note(process, '"answer":' + text(answer))
+            n += 1
+            if not call(store, process, draws, (options.number * 64 + thread) << 32 | n):
+                process += options.threads  # nobody knows whether the call was done: it stays open
         store.base.close()
 
     threads = [threading.Thread(target=calls, args=(thread,)) for thread in range(options.threads)]
@@ -93,6 +95,22 @@ def main():
         thread.start()
     for thread in threads:
         thread.join()
+
+
+def read(store, keys):
+    """Gets each key once."""
+    for key in range(keys):
+        note(65535, '"invoke":["get",%d]' % key)
+        note(65535, '"answer":' + text(store.get(key)))
+
+
+def main():
+    options, is_over = options_of(), threading.Event()
+    signal.signal(signal.SIGTERM, lambda *_: is_over.set())
+    if options.word == "read":
+        read(Store(options), options.number)
+    else:
+        run(options, is_over)
 
 
 main()

@@ -1,6 +1,6 @@
-/* Values of four words that a put copies as a whole. WRONG 1: a get reads them without the lock, in a function that the compiler does not instrument,
- * so in one piece: it is torn only where another thread runs within the copying. WAY says how that is done: 1 by memcpy, 2 by memmove, and 3 by
- * memset, each of a size that the compiler does not know. Keys below 64. */
+/* Values of four words that a put copies as a whole. WRONG 1: a get reads them without the lock, in a function that the compiler does not
+ * instrument, so in one piece: it is torn only if another thread runs within the copying. WAY says how a put copies: 1 by memcpy, 2 by memmove, and 3
+ * by memset, each of a size that the compiler does not know. Keys below 64. */
 #include "potzendai_test.h"
 
 enum { KEYS = 64, WORDS = 4 };
@@ -21,7 +21,7 @@ static void copy(struct value *to, const struct value *from)
 #endif
 }
 
-/* A value whose words are not alike was never put. It is told as one that nobody puts. */
+/* Answers a value. One whose words differ was never put: the answer is a value that nobody puts. */
 static enum map_said tell(const struct value *value, uint64_t *found)
 {
     for (int i = 1; i < WORDS; i++)

@@ -1,5 +1,5 @@
-// A map that is copied at each write; readers have one of its versions, none of which is freed. WRONG 1: the new version is stored, also where
-// another one has come in between.
+// A map that is copied at each write. A reader has one of its versions; none is freed. WRONG 1: the new version is stored even if another one has
+// come in between.
 #include "potzendai_test.hpp"
 #include <atomic>
 #include <map>

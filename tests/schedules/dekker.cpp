@@ -1,5 +1,5 @@
-// A lock for two threads by two flags and a turn (Peterson 1981). WRONG 1: the flags are stored by release and read by acquire, which is right under
-// sequential consistency only: on x86 a store may reach the other thread after the load that follows it. Keys below 64.
+// A lock for two threads by two flags and a turn (Peterson 1981). WRONG 1: the flags are stored by release and read by acquire. That is right only
+// under sequential consistency: on x86 a store may reach the other thread after the load that follows it. Keys below 64.
 #include "potzendai_test.hpp"
 #include <atomic>
 #include <sched.h>

@@ -1,6 +1,6 @@
 // Maps whose rounds do not end well. Keys below 64. WRONG 1: a put takes the locks of two keys downwards, and a scan takes them upwards: a deadlock.
-// WRONG 2: a put takes a value away before it has a new one, and a get reads it in between: a crash. WRONG 3: a put leaves without giving its lock
-// back, and others spin: endless. WRONG 4: a get ends the process. WRONG 5: a put starts a thread.
+// WRONG 2: a put removes a value before it stores a new one, and a get reads in between: a crash. WRONG 3: a put does not release its lock, and
+// others spin: endless. WRONG 4: a get ends the process. WRONG 5: a put starts a thread.
 #include "potzendai_test.hpp"
 #include <atomic>
 #include <cstdlib>

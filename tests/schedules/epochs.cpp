@@ -1,19 +1,16 @@
-// A value for each key behind a pointer; what is removed is freed once all threads have left the epoch in which it was (Fraser 2004). Keys below 64.
+// A value for each key behind a pointer. A removed value is freed once all threads have left the epoch in which it was removed (Fraser 2004).
 // WRONG 1: a reader takes the pointer before it says in which epoch it is.
-#include "potzendai_test.hpp"
-#include <atomic>
+#include "slots.hpp"
 #include <utility>
 #include <vector>
 
-enum { THREADS = 64, KEYS = 64 };
-
 struct Map {
-    struct Value { std::atomic<uint64_t> value; };
-    std::atomic<Value *> slots[KEYS] = {};
+    Slot slots[KEYS] = {};
     std::atomic<uint64_t> epoch{1};
     std::atomic<uint64_t> entered[THREADS] = {}; // 0: the thread reads nothing
 
-    class connection {
+    class connection : public Writes<connection> {
+        friend class Writes<connection>;
         Map &map;
         std::atomic<uint64_t> &mine;
         std::vector<std::pair<uint64_t, Value *>> retired;
@@ -21,7 +18,7 @@ struct Map {
         void enter() { mine.store(map.epoch.load()); }
         void leave() { mine.store(0); }
 
-        // The epoch of the thread that is the furthest behind.
+        // The oldest epoch in which a thread reads, or the present one.
         uint64_t oldest() const
         {
             uint64_t least = map.epoch.load();
@@ -43,18 +40,8 @@ struct Map {
                 }
         }
 
-        map_said exchange(uint64_t key, Value *value, uint64_t &found)
-        {
-            Value *old = map.slots[key].exchange(value);
-            if (!old)
-                return MAP_NONE;
-            found = old->value.load();
-            retire(old);
-            return MAP_TOLD;
-        }
-
     public:
-        connection(Map &of, unsigned thread) : map(of), mine(of.entered[thread % THREADS]) {}
+        connection(Map &of, unsigned thread) : Writes(of.slots), map(of), mine(of.entered[thread % THREADS]) {}
 
         map_said get(uint64_t key, uint64_t &found)
         {
@@ -67,9 +54,6 @@ struct Map {
             leave();
             return value ? MAP_TOLD : MAP_NONE;
         }
-
-        map_said put(uint64_t key, uint64_t value, uint64_t &found) { return exchange(key, new Value{{value}}, found); }
-        map_said del(uint64_t key, uint64_t &found) { return exchange(key, nullptr, found); }
     };
 };
 

@@ -1,5 +1,5 @@
-// A hash table of chains with a lock each, that grows: all its locks are taken, and a table of twice as many chains takes its place. Tables are not
-// freed. WRONG 1: a write does not look whether its table is still the map's once it has the lock of a chain.
+// A hash table that grows. Each chain has a lock. To grow, all locks are taken, and a table of twice as many chains replaces the old one. Tables are
+// not freed. WRONG 1: once a write has the lock of a chain, it does not look whether its table is still the map's.
 #include "potzendai_test.hpp"
 #include <atomic>
 #include <mutex>
@@ -41,7 +41,7 @@ class Map {
             chain.lock.unlock();
     }
 
-    // Locks the chain of a key, of the table that the map has now.
+    // Locks the chain of a key in the table that the map has now.
     Chain &lock(uint64_t key, Table *&now, bool is_write)
     {
         for (;;) {

@@ -1,22 +1,19 @@
-// A value for each key behind a pointer; readers say by hazard pointers (Michael 2004) which they read, and only others are freed. Keys below 64.
-// WRONG 1: a reader does not look whether the pointer is still the map's once it has said so: then it may have been freed before.
-#include "potzendai_test.hpp"
-#include <atomic>
+// A value for each key behind a pointer. Readers say by hazard pointers which value they read, and only other values are freed (Michael 2004).
+// WRONG 1: once a reader has said so, it does not look whether the slot still has the pointer: the value may have been freed before.
+#include "slots.hpp"
 #include <vector>
 
-enum { THREADS = 64, KEYS = 64 };
-
 struct Map {
-    struct Value { std::atomic<uint64_t> value; };
-    std::atomic<Value *> slots[KEYS] = {};
+    Slot slots[KEYS] = {};
     std::atomic<Value *> hazards[THREADS] = {};
 
-    class connection {
+    class connection : public Writes<connection> {
+        friend class Writes<connection>;
         Map &map;
         std::atomic<Value *> &hazard;
         std::vector<Value *> retired;
 
-        Value *protect(const std::atomic<Value *> &slot)
+        Value *protect(const Slot &slot)
         {
             Value *seen = slot.load();
             for (;;) {
@@ -36,7 +33,7 @@ struct Map {
             return false;
         }
 
-        // What is freed is given to the next that asks for as much.
+        // The memory of a freed value goes to the next allocation of its size.
         void retire(Value *value)
         {
             retired.push_back(value);
@@ -47,18 +44,8 @@ struct Map {
                 }
         }
 
-        map_said exchange(uint64_t key, Value *value, uint64_t &found)
-        {
-            Value *old = map.slots[key].exchange(value);
-            if (!old)
-                return MAP_NONE;
-            found = old->value.load();
-            retire(old);
-            return MAP_TOLD;
-        }
-
     public:
-        connection(Map &of, unsigned thread) : map(of), hazard(of.hazards[thread % THREADS]) {}
+        connection(Map &of, unsigned thread) : Writes(of.slots), map(of), hazard(of.hazards[thread % THREADS]) {}
 
         map_said get(uint64_t key, uint64_t &found)
         {
@@ -68,9 +55,6 @@ struct Map {
             hazard.store(nullptr);
             return value ? MAP_TOLD : MAP_NONE;
         }
-
-        map_said put(uint64_t key, uint64_t value, uint64_t &found) { return exchange(key, new Value{{value}}, found); }
-        map_said del(uint64_t key, uint64_t &found) { return exchange(key, nullptr, found); }
     };
 };
 

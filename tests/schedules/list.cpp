@@ -1,5 +1,5 @@
-// A sorted list without locks (Harris 2001, Michael 2002): the lowest bit of a node's link says that the node is removed. A value of 0 says so
-// before that, and is the moment of the removal. Nodes are not freed.
+// A sorted list without locks (Harris 2001, Michael 2002). The lowest bit of a node's link says that the node is removed. Before that, its value is
+// set to 0, which is the moment of the removal. Nodes are not freed.
 // WRONG 1: a put into a removed node answers as if it were there.
 // WRONG 2: a removed node is used again at once, so a link may be set that leads elsewhere by then (ABA).
 // WRONG 3: the mark is a word of its own, so a link can be set in a node that is removed.
@@ -37,7 +37,7 @@ class List {
         return n;
     }
 
-    // Unlinks a removed node: false where the link leads elsewhere by now.
+    // Unlinks a removed node: false if the link leads elsewhere by now.
     bool unlink(Link &link, Node *n, uintptr_t next)
     {
         uintptr_t expected = reinterpret_cast<uintptr_t>(n);
@@ -48,7 +48,7 @@ class List {
         return true;
     }
 
-    // The first node of at least this key, with the link that leads to it; removed nodes on the way are unlinked. A null link: again.
+    // Finds the first node of at least this key, and the link that leads to it. Unlinks removed nodes on the way. If the link is null, try again.
     Node *seek_once(uint64_t key, Link *&link)
     {
         link = &head;
@@ -88,7 +88,7 @@ class List {
             }
     }
 
-    // Puts into a node that is there: false where it is removed meanwhile.
+    // Puts into a node: false if the node is removed meanwhile.
     static bool overwrite(Node *n, uint64_t value, uint64_t &found)
     {
         found = n->value.load();

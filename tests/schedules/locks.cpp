@@ -1,28 +1,7 @@
-// A std::map under a lock. WRONG 1: a put looks under the lock, gives it back, and writes under it again.
-#include "potzendai_test.hpp"
-#include <map>
-#include <mutex>
+// A std::map under a lock. WRONG 1: a put looks under the lock, releases it, and writes after it has taken the lock again.
+#include "locked_map.hpp"
 
-class Map {
-    std::mutex lock;
-    std::map<uint64_t, uint64_t> pairs;
-
-    map_said look(uint64_t key, uint64_t &found) const
-    {
-        auto at = pairs.find(key);
-        if (at == pairs.end())
-            return MAP_NONE;
-        found = at->second;
-        return MAP_TOLD;
-    }
-
-public:
-    map_said get(uint64_t key, uint64_t &found)
-    {
-        std::lock_guard<std::mutex> guard(lock);
-        return look(key, found);
-    }
-
+struct Map : LockedMap<std::mutex> {
     map_said put(uint64_t key, uint64_t value, uint64_t &found)
     {
         std::unique_lock<std::mutex> guard(lock);
@@ -32,14 +11,6 @@ public:
         guard.lock();
 #endif
         pairs[key] = value;
-        return said;
-    }
-
-    map_said del(uint64_t key, uint64_t &found)
-    {
-        std::lock_guard<std::mutex> guard(lock);
-        map_said said = look(key, found);
-        pairs.erase(key);
         return said;
     }
 };

@@ -1,6 +1,6 @@
-// A skip list with a lock in each node (the lazy one of Herlihy, Lev, Luchangco and Shavit, 2006). Nodes are not freed, and a node of key k has as
-// many levels as k has ones at its end, and one.
-// WRONG 1: an insert does not look whether its neighbours are still neighbours once it has their locks.
+// A skip list with a lock in each node (the lazy one of Herlihy, Lev, Luchangco and Shavit, 2006). Nodes are not freed. A node of key k has one more
+// level than k has ones at its binary end.
+// WRONG 1: once an insert has the locks of its neighbours, it does not look whether they are still neighbours.
 #include "potzendai_test.hpp"
 #include <atomic>
 #include <mutex>
@@ -32,7 +32,7 @@ class List {
         return levels;
     }
 
-    // The neighbours of a key at each level; the node of the key itself, or null.
+    // Finds the neighbours of a key at each level. Returns the node of the key itself, or null.
     Node *find(uint64_t key, Way &way)
     {
         Node *at = &head, *found = nullptr;
@@ -50,7 +50,7 @@ class List {
         return found;
     }
 
-    // Each node once: neighbours at higher levels may be the same.
+    // Locks each node once: neighbours at higher levels may be the same.
     static void lock(const Way &way, int levels)
     {
         for (int level = 0; level < levels; level++)

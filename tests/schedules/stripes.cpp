@@ -1,5 +1,5 @@
-// A hash table of chains, with fewer locks than chains. WRONG 1: a lock is chosen by the key and not by its chain, so two threads may change one
-// chain under different locks.
+// A hash table with fewer locks than chains. WRONG 1: a lock is chosen by the key and not by its chain, so two threads may change one chain under
+// different locks.
 #include "potzendai_test.hpp"
 #include <mutex>
 

@@ -1,4 +1,4 @@
-// The concurrent_map of oneTBB: what is inserted, found, and the first key from one on. Its erase is not for threads.
+// The concurrent_map of oneTBB: insert, find and lower_bound. Its erase is not for concurrent use.
 #include "potzendai_test.hpp"
 #include <tbb/concurrent_map.h>
 

@@ -1,5 +1,5 @@
-// A B+-tree under optimistic lock coupling (Leis, Scheibner, Kemper and Neumann, 2016): readers take no lock, and look at the versions of the nodes
-// that they read again. Two levels: the root has room for all leaves of up to 64 keys, and a leaf is split by its third key.
+// A B+-tree under optimistic lock coupling (Leis, Scheibner, Kemper and Neumann, 2016). Readers take no lock: after a read they look at the versions
+// of the nodes again. There are two levels. The root has room for all leaves of up to 64 keys. A leaf is split by its third key.
 // WRONG 1: the descent does not look at the root's version again once it has the leaf's, so the leaf may have been split in between.
 // WRONG 2: a get does not look at the leaf's version again.
 #include "potzendai_test.hpp"
@@ -8,7 +8,7 @@
 enum { PAIRS = 2, LEAVES = 64 };
 typedef std::atomic<uint64_t> Word;
 
-// A version that is odd is that of a locked node.
+// A locked node has an odd version.
 struct Node {
     Word version{0}, count{0};
 
@@ -27,7 +27,7 @@ struct Node {
 struct Leaf : Node {
     Word keys[PAIRS], values[PAIRS];
 
-    // The place of a key, or of the first that is greater.
+    // The place of a key, or of the first greater one.
     uint64_t find(uint64_t key) const
     {
         uint64_t at = 0, held = count.load();
@@ -91,7 +91,7 @@ class Tree {
         root.count.fetch_add(1);
     }
 
-    // False where a version has changed.
+    // Splits a leaf: false if a version has changed.
     bool split_at(const Place &place)
     {
         if (!root.lock(place.root_version))

@@ -1,9 +1,8 @@
-// A std::map under a lock; WAY says which, since each kind of lock waits in another way.
-#include "potzendai_test.hpp"
+// A std::map under a lock. WAY says which: each kind of lock waits in another way.
+#include "locked_map.hpp"
 #include <atomic>
 #include <chrono>
 #include <condition_variable>
-#include <map>
 #include <memory>
 #include <mutex>
 #include <semaphore.h>
@@ -57,7 +56,7 @@ struct Lock {
             zero = 0;
     }
     void unlock() { __atomic_store_n(&word, 0, __ATOMIC_SEQ_CST); }
-#elif WAY == 5 // the same, by fetch_or and fetch_and
+#elif WAY == 5 // atomics of 16 bytes, by fetch_or and fetch_and
     __extension__ typedef unsigned __int128 Word;
     Word word = 0;
     void lock()
@@ -119,12 +118,12 @@ struct Lock {
             none = nullptr;
     }
     void unlock() { held.store(nullptr); }
-#elif WAY == 12 // C11's
+#elif WAY == 12 // a lock of C11
     mtx_t mutex;
     Lock() { mtx_init(&mutex, mtx_plain); }
     void lock() { mtx_lock(&mutex); }
     void unlock() { mtx_unlock(&mutex); }
-#elif WAY == 13 // for readers and writers, which both write here
+#elif WAY == 13 // a lock for readers and writers, held as by a writer
     std::shared_timed_mutex mutex;
     void lock() { mutex.lock(); }
     void unlock() { mutex.unlock(); }
@@ -151,45 +150,8 @@ struct Lock {
 #endif
 };
 
-class Map {
-    Lock lock;
-    std::map<uint64_t, uint64_t> pairs;
-
-    map_said look(uint64_t key, uint64_t &found) const
-    {
-        auto at = pairs.find(key);
-        if (at == pairs.end())
-            return MAP_NONE;
-        found = at->second;
-        return MAP_TOLD;
-    }
-
-public:
-    map_said get(uint64_t key, uint64_t &found)
-    {
-        std::lock_guard<Lock> guard(lock);
-        return look(key, found);
-    }
-
-    map_said put(uint64_t key, uint64_t value, uint64_t &found)
-    {
-        std::lock_guard<Lock> guard(lock);
-        map_said said = look(key, found);
-        pairs[key] = value;
-        return said;
-    }
-
-    map_said del(uint64_t key, uint64_t &found)
-    {
-        std::lock_guard<Lock> guard(lock);
-        map_said said = look(key, found);
-        pairs.erase(key);
-        return said;
-    }
-};
-
 int main(int argc, char **argv)
 {
-    Map map;
+    LockedMap<Lock> map;
     return potzendai::test_main(argc, argv, map, "ways");
 }
