@@ -219,9 +219,9 @@ func pairsText(pairs [][2]uint64) string {
 	return "[" + strings.Join(texts, ",") + "]"
 }
 
-// Whether the answer tells which call of a history it was.
+// Whether the answer tells which call of a history it was. Of a cache each one does, since the note of a call has its answer.
 func (o *options) isHeld(kind string) bool {
-	return isOneOf(kind, "put_if_absent", "floor", "ceiling", "pop_first") || o.cache != "" && isOneOf(kind, "get", "replace", "scan")
+	return o.cache != "" || isOneOf(kind, "put_if_absent", "floor", "ceiling", "pop_first")
 }
 
 // The words that a function may answer beside what it tells.
@@ -1611,7 +1611,7 @@ func (t *tally) end(kind string, key uint64, said string, begun uint64) {
 		t.hits++
 	}
 	stored, is := t.stored[key]
-	if said == "none" && isOneOf(kind, "get", "put", "replace", "rest") && is && stored < begun {
+	if said == "none" && isOneOf(kind, "get", "put", "replace", "put_if_absent", "rest") && is && stored < begun {
 		t.losses++
 		delete(t.stored, key)
 	}

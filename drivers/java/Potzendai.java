@@ -149,11 +149,10 @@ public final class Potzendai {
         Kind(String name, long share, String call) { this.name = name; this.share = share; this.call = call; }
         boolean writes() { return this == PUT || this == DEL || this == REPLACE || this == PUT_IF_ABSENT || this == POP_FIRST; }
         boolean isRead() { return this == GET || this == SCAN || this == FLOOR || this == CEILING; }
-        /** Whether the answer tells which call of a history it was. */
+        /** Whether the answer tells which call of a history it was. Of a cache each one does, since the note of a call has its answer. */
         boolean isHeld(boolean isCache) {
-            return isCache && (this == GET || this == REPLACE || this == SCAN) || isHeld();
+            return isCache || this == PUT_IF_ABSENT || this == FLOOR || this == CEILING || this == POP_FIRST;
         }
-        private boolean isHeld() { return this == PUT_IF_ABSENT || this == FLOOR || this == CEILING || this == POP_FIRST; }
         static Kind named(String name) {
             return Arrays.stream(values()).filter(kind -> kind.name.equals(name)).findFirst().orElse(null);
         }
@@ -1358,7 +1357,7 @@ public final class Potzendai {
             boolean isGet = kind.equals("get"), isNone = said == Word.NONE;
             hits += isGet && (said == Word.TOLD || said == Word.FOUND) ? 1 : 0;
             misses += isGet && isNone ? 1 : 0;
-            boolean looks = isGet || kind.equals("put") || kind.equals("replace") || kind.equals("rest");
+            boolean looks = List.of("get", "put", "replace", "put_if_absent", "rest").contains(kind);
             if (isNone && looks && stored.getOrDefault(key, begun) < begun) {
                 losses++;
                 stored.remove(key);

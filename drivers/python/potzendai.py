@@ -333,7 +333,7 @@ class Worker:
         self.number, self.options, self.stamp, self.locks, self.doubts, self.stream = number, options, stamp, locks, doubts, stream
         self.puts, self.values_from, self.process, self.helpers = 0, values_from, number, []
         self.total, self.is_reading, self.end = sum(options.shares.values()), False, None
-        self.held = HELD + (("get", "replace", "scan") if options.cache else ())
+        self.held = ANSWERS if options.cache else HELD  # the note of a cache's call has its answer
         self.fresh = itertools.count(OWN + number, options.threads)  # values that no call puts
         self.span = options.span
 
@@ -914,7 +914,7 @@ class Tally:
         if kind == "get":
             self.hits += saying in ("told", FOUND)
             self.misses += saying == NONE
-        if saying == NONE and kind in ("get", "put", "replace", "rest") and self.stored.get(key, begun) < begun:
+        if saying == NONE and kind in ("get", "put", "replace", "put_if_absent", "rest") and self.stored.get(key, begun) < begun:
             self.losses += 1
             del self.stored[key]
         if kind in ("delete", "pop_first"):

@@ -184,9 +184,9 @@ impl Kind {
         matches!(self, Get | Scan | Floor | Ceiling)
     }
 
-    /// Whether the answer tells which call of a history it was.
+    /// Whether the answer tells which call of a history it was. Of a cache each one does, since the note of a call has its answer.
     fn is_held(self, options: &Options) -> bool {
-        matches!(self, PutIfAbsent | Floor | Ceiling | PopFirst) || options.cache.is_some() && matches!(self, Get | Replace | Scan)
+        options.cache.is_some() || matches!(self, PutIfAbsent | Floor | Ceiling | PopFirst)
     }
 
     /// Its call in a history, as far as that is known before the answer.
@@ -1424,7 +1424,7 @@ impl Tally {
         self.clock += 1;
         self.hits += u64::from(kind == "get" && matches!(said, "told" | "found"));
         self.misses += u64::from(kind == "get" && said == "none");
-        let looks = matches!(kind, "get" | "put" | "replace" | "rest");
+        let looks = matches!(kind, "get" | "put" | "replace" | "put_if_absent" | "rest");
         if said == "none" && looks && self.stored.get(&key).is_some_and(|stored| *stored < begun) {
             self.losses += 1;
             self.stored.remove(&key);

@@ -1,5 +1,5 @@
 #!/usr/bin/env python3
-"""Runs the program on histories and streams whose answers tell less than the map answers: done, found and other.
+"""Runs the program on histories and streams whose answers tell less than the map answers: done, found and other. Among them are calls of caches.
 
     tests/program/untold.py
 
@@ -143,6 +143,32 @@ SEVERAL = [
     (DEAD_PUT + '{"answer":3,"process":9},', '["get",5]', "99", [64]),
 ]
 
+# Calls of a cache as `docs/RECORDING.md` has them recorded by hand: calls in turn with their answers, or events; and the status of their verdict.
+# A value has a time to live: process 9 replaces it by one that nobody writes, between the earliest moment at which it expires and the latest.
+EXPIRES, EXPIRED = '{"invoke":["replace",1,5,9223372036854775808],"process":9}', '{"answer":"done","process":9}'
+CACHED = [
+    (['["insert",1,5]:"done"', EXPIRES, '["get",1]:5', EXPIRED], 0),
+    (['["insert",1,5]:"done"', EXPIRES, '["remove",1]:"done"', EXPIRED], 0),
+    (['["insert",1,5]:"done"', EXPIRES, EXPIRED, '["remove",1]:"done"'], 0),
+    (['["insert",1,5]:"done"', EXPIRES, EXPIRED, '["get",1]:5'], 1),
+    (['["insert",1,5]:"done"', '["insert",1,6]:"done"', EXPIRES, EXPIRED, '["get",1]:6'], 0),
+    (['["insert",1,5]:"done"', '["remove",1]:"done"', '["get",1]:5'], 1),
+    # incr and append: the new value, of which the old one is known, or only that there was one; and none
+    (['["insert",1,5]:"done"', '["insert",1,6]:5', '["get",1]:6'], 0),
+    (['["insert",1,5]:"done"', '["insert",1,6]:5', '["get",1]:5'], 1),
+    (['["insert",1,5]:"done"', '["insert",1,6]:"found"', '["get",1]:5'], 1),
+    (['["remove",1]:"done"', '["insert",1,6]:"found"'], 1),
+    # touch: yes, and no
+    (['["insert",1,5]:"done"', '["get",1]:"found"', '["get",1]:5'], 0),
+    (['["remove",1]:"done"', '["get",1]:"found"'], 1),
+    # the loader ran, and the next one did not
+    (['["insert",1,5]:"done"', '["insert",1,6]:"done"', '["get",1]:6'], 0),
+    (['["insert",1,5]:"done"', '["insert",1,6]:"done"', '["get",1]:5'], 1),
+    # a no that is missed: a replace found another value or none, and then the one that nobody writes is found
+    (['["insert",1,5]:"done"', '["replace",1,5,9223372036854775808]:"done"', '["get",1]:"found"'], 0),
+    (['["insert",1,5]:"done"', '["replace",1,5,9223372036854775808]:"done"', '["get",1]:5'], 1),
+]
+
 
 def told(events, start=""):
     """The text of a history of version 3."""
@@ -263,6 +289,13 @@ def explained(start, calls, wanted, _value):
     return None
 
 
+def cached(calls, status):
+    """What is wrong with the verdict on calls of a cache."""
+    text = told(",".join(call if call.startswith("{") else in_turn([call]) for call in calls))
+    found = answer(["judge"], text)[0]
+    return None if found == status else f"status {found}, and wanted is {status} of {text}"
+
+
 def drawn(reply):
     """What is wrong with the picture of a call that is answered so."""
     status, output, faults = answer(["draw"], told(in_turn([f'["get",5]:"{reply}"']), "[5,7]"))
@@ -273,6 +306,7 @@ def drawn(reply):
 
 def main():
     others = [functools.partial(explained, *row) for row in IN_TURN]
+    others += [functools.partial(cached, *row) for row in CACHED]
     others += [functools.partial(drawn, reply) for reply in ("done", "found", "other")]
     others += [functools.partial(followed, *row) for row in follow()]
     return compare(rows(), others)

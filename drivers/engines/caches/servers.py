@@ -17,6 +17,7 @@ from potzendai import DONE, FOUND, NONE, OTHER, REFUSED  # noqa: E402
 
 TIMEOUT = 5
 MEMCACHED_VALUE, REDIS_VALUE = 30000, 20000  # bytes of a value, so that a small server has to evict
+NO_MEMORY = b"SERVER_ERROR out of memory storing object".split()
 
 
 class Evicting(redis_map.Told):
@@ -36,7 +37,8 @@ class Redis(redis_map.Redis):
 
 
 class Connection:
-    """A request that fails ends its connection, since its answer may still come."""
+    """A request that fails ends its connection, since its answer may still come. A write that memcached has no memory for is refused: then it has
+    stored nothing. A `set` has dropped the value before, which a cache may lose at any time."""
     port, wire = 7380, None
 
     def ask(self, line, value=None):
@@ -48,7 +50,7 @@ class Connection:
             data = b"" if value is None else str(value).ljust(MEMCACHED_VALUE).encode() + b"\r\n"
             self.wire.sendall(line.encode() + b"\r\n" + data)
             words = self.lines.readline().split()
-            if not words or b"ERROR" in words[0]:
+            if not words or b"ERROR" in words[0] and words != NO_MEMORY:
                 raise OSError(b" ".join(words))
             found = None
             if words[0] == b"VALUE":
@@ -68,21 +70,22 @@ class Connection:
         return potzendai.told(self.ask(f"get {key}")[1])
 
     def put(self, key, value):
-        self.ask(f"set {key} 0 0 {MEMCACHED_VALUE}", value)
-        return DONE
+        said = self.ask(f"set {key} 0 0 {MEMCACHED_VALUE}", value)[0]
+        return REFUSED if said == NO_MEMORY else DONE
 
     def delete(self, key):
         return FOUND if self.ask(f"delete {key}")[0] == [b"DELETED"] else NONE
 
     def put_if_absent(self, key, value):
-        return NONE if self.ask(f"add {key} 0 0 {MEMCACHED_VALUE}", value)[0] == [b"STORED"] else FOUND
+        said = self.ask(f"add {key} 0 0 {MEMCACHED_VALUE}", value)[0]
+        return {b"STORED": NONE, b"NOT_STORED": FOUND}.get(said[0], REFUSED)
 
     def replace(self, key, old, new):
         words, found = self.ask(f"gets {key}")
         if found != old:
             return potzendai.told(found)
         said = self.ask(f"cas {key} 0 0 {MEMCACHED_VALUE} {words[4].decode()}", new)[0]
-        return {b"STORED": DONE, b"NOT_FOUND": NONE}.get(said[0], OTHER)
+        return {b"STORED": DONE, b"NOT_FOUND": NONE, b"EXISTS": OTHER}.get(said[0], REFUSED)
 
 
 class Memcached:
