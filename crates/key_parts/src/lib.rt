@@ -1,0 +1,13 @@
+//! What is kept of the calls of a stream while it goes on, by parts of the keys: laws alone.
+//!
+//! A part is some keys with the pasts that these may have: which calls took effect there, what they found, and what the keys hold. Parts stand
+//! for the calls so far where the pasts of all of them together stand above the calls, and below. A part may take a step by itself, two may
+//! become one, and one may fall apart: what the others hold is never looked at.
+#![tactic(auto)]
+
+mod laws;
+
+pub use laws::{
+    calls_come_next, dead_pasts_go, operations_decide, parts_begin, parts_decide,
+    parts_in_any_order, parts_stay, parts_unite, reads_are_taken_at_rest, reads_come_next,
+};
