@@ -9,7 +9,7 @@ use Rattle.key_effects.specs.Growth.{HaveGrown}
 use Rattle.key_effects.specs.Choices.{Choice, at_first, rest_of}
 use Rattle.key_effects.specs.Cuts.{Keys}
 use Rattle.key_effects.specs.Apart.{AreApart}
-use Rattle.key_parts.specs.Parts.{Part, IsAt, IsOneOf, ShareKeys, StandFor, GoesOnAt, SomePastGoesOn, AreOfOnePart, left_at}
+use Rattle.key_parts.specs.Parts.{Part, IsOneOf, ShareKeys, StandFor, GoesOnAt, SomePastGoesOn, AreOfOnePart, left_at}
 use Rattle.key_parts.specs.Steps.{IsLeftAt, MayComeNext, IsAfterCall, HavePlaces, ArePartedBefore, IsReadAt, IsAtRest, AreJoined}
 use Rattle.key_parts.specs.Operations.{AreLeftCalls}
 
@@ -41,7 +41,6 @@ PartsDecide =
 abbrev pub DeadPastsGo : Type 0
 DeadPastsGo =
     (held : ℕ → Option ℕ) (place : ℕ) (calls : List KeyedCall) (keys : Keys) (pasts left : List Choice) (rest : List Part)
-    → HaveGrown place calls calls
     → ((past : Choice) → Contains pasts past → IsOneOf keys left past ⊎ (GoesOnAt keys past calls → ⊥))
     → ((past : Choice) → Contains left past → IsOneOf keys pasts past)
     → StandFor held place calls (record { keys = keys; pasts = pasts } ∷ rest)

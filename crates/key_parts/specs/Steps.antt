@@ -1,7 +1,7 @@
 -- Steps from a past at some keys: one more call is taken there.
 use Rattle.std.specs.Prelude.{◌≡◌, ◌⊎◌, ℕ, ◌==◌, ◌<◌, true, false, ◌||◌, ◌&&◌, List, Some, Contains}
 use Rattle.key_effects.specs.KeyedCalls.{KeyedCall, precedes}
-use Rattle.key_effects.specs.Choices.{Choice, Choices, rest_of}
+use Rattle.key_effects.specs.Choices.{Choice, rest_of}
 use Rattle.key_effects.specs.Cuts.{Keys, IsWithin, IsOutside}
 use Rattle.key_effects.specs.Apart.{IsQuiet}
 use Rattle.key_parts.specs.Parts.{Part, IsAt, choices_of}
