@@ -1,2 +1,9 @@
 pub mod PartLemmas
 pub mod StepLemmas
+pub mod MaskLemmas
+pub mod NextLemmas
+pub mod FirstLemmas
+pub mod SiftLemmas
+pub mod BackLemmas
+pub mod InsertLemmas
+pub mod CallLemmas

@@ -9,8 +9,8 @@ use Rattle.key_effects.specs.Growth.{HaveGrown}
 use Rattle.key_effects.specs.Choices.{Choice, at_first, rest_of}
 use Rattle.key_effects.specs.Cuts.{Keys}
 use Rattle.key_effects.specs.Apart.{AreApart}
-use Rattle.key_parts.specs.Parts.{Part, IsAt, IsOneOf, ShareKeys, StandFor, GoesOnAt, SomePastGoesOn, AreOfOnePart, left_at}
-use Rattle.key_parts.specs.Steps.{IsLeftAt, MayComeNext, IsAfterCall, HavePlaces, ArePartedBefore, IsReadAt, IsAtRest, AreJoined}
+use Rattle.key_parts.specs.Parts.{Part, IsOneOf, ShareKeys, StandFor, GoesOnAt, SomePastGoesOn, AreOfOnePart, left_at}
+use Rattle.key_parts.specs.Steps.{IsLeftAt, MayComeNext, IsAfterCall, AreKnownAt, ArePartedBefore, IsReadAt, IsAtRest, AreJoined}
 use Rattle.key_parts.specs.Operations.{AreLeftCalls}
 
 -- before any event all keys are one part, of one past: no call is taken, and the keys hold what they hold at the start
@@ -52,8 +52,8 @@ DeadPastsGo =
 abbrev pub CallsComeNext : Type 0
 CallsComeNext =
     (held : ℕ → Option ℕ) (place limit : ℕ) (calls : List KeyedCall) (keys : Keys) (past : Choice) (others nexts : List Choice) (rest : List Part)
-    (ended : KeyedCall) → HaveGrown place calls calls → HavePlaces calls → limit ≤ place → Contains calls ended
-    → ends_before ended.res limit ≡ true → ended.refused ≡ false → IsLeftAt keys past ended
+    (ended : KeyedCall) → Contains calls ended → ends_before ended.res limit ≡ true → ended.refused ≡ false
+    → IsLeftAt keys past ended → AreKnownAt keys limit past calls
     → ArePartedBefore keys limit (record { keys = keys; pasts = past ∷ [] } ∷ rest) calls
     → ((a : KeyedCall) → Contains calls a → MayComeNext keys past calls a
     → (next : Choice) × Contains nexts next × IsAfterCall keys past a next)
@@ -66,9 +66,8 @@ CallsComeNext =
 abbrev pub ReadsComeNext : Type 0
 ReadsComeNext =
     (held : ℕ → Option ℕ) (place limit : ℕ) (calls : List KeyedCall) (keys : Keys) (past next : Choice) (others : List Choice) (rest : List Part)
-    (b : KeyedCall) → HaveGrown place calls calls → HavePlaces calls → limit ≤ place → Contains calls b → is_completed b ≡ true → b.inv < limit
-    → MayComeNext keys past calls b → IsReadAt keys past b → IsAfterCall keys past b next
-    → ArePartedBefore keys limit (record { keys = keys; pasts = past ∷ [] } ∷ rest) calls
+    (b : KeyedCall) → Contains calls b → is_completed b ≡ true → b.inv < limit → MayComeNext keys past calls b → IsReadAt keys past b
+    → IsAfterCall keys past b next → ArePartedBefore keys limit (record { keys = keys; pasts = past ∷ [] } ∷ rest) calls
     → StandFor held place calls (record { keys = keys; pasts = past ∷ others } ∷ rest)
     → StandFor held place calls (record { keys = keys; pasts = next ∷ others } ∷ rest)
 
