@@ -47,7 +47,7 @@ module _ (keys : Keys) (place limit : ℕ) (calls more : List KeyedCall) (past n
   formed : (e : KeyedCall) → Contains more e → IsFormed e
   formed e e_in = All-contains IsFormed more e at.grown.formed e_in
 
-  -- what is taken by the first is taken by the second, but for the call
+  -- the first takes what the second takes, and the call
   taken_back : (inv key : ℕ) → v.taken inv key ≡ (w.taken inv key || taken_by keys a inv key)
   taken_back inv key = by_key (bool_cases (keys key))
     where
@@ -124,7 +124,7 @@ module _ (keys : Keys) (place limit : ℕ) (calls more : List KeyedCall) (past n
   other_name : (inv : ℕ) → inv ≢ a.inv → (inv == a.inv) ≡ false
   other_name inv other = false_from_ne_true (inv == a.inv) (λ is. other (eqb-true inv a.inv is))
 
-  -- of another call is left what was left
+  -- of another call both leave the same
   pub rest_other : (e : KeyedCall) → e.inv ≢ a.inv → rest_of w e ≡ rest_of v e
   rest_other e other = sym (masked_same (taken_by keys a) (rest_of w e) (λ key. none key)) ∙ rest_back e
     where

@@ -56,7 +56,7 @@ left_later keys place past a d later none key is =
     subst (λ (name : ℕ). (not (past.taken name key) && d.concerns key) ≡ false) (sym later.inv)
     (subst (λ (c : Bool). (not (past.taken a.inv key) && c) ≡ false) (sym (later.concerns key)) (none key is))
 
--- what does not come behind a call that ended before a place began before that place
+-- a call that another does not precede began before any place before which that other ended
 pub begun_before : (res : Option ℕ) (inv limit : ℕ) → ends_before res limit ≡ true → ends_before res inv ≡ false → inv < limit
 begun_before None inv limit ended open_there = cc
 begun_before (Some res) inv limit ended open_there =
@@ -93,7 +93,7 @@ pub record AtEnded (keys : Keys) (place limit : ℕ) (calls more order : List Ke
   pub grown : HaveGrown place calls more
   pub is : IsKeyedOrder w.holds (map (rest_of w) more) order
 
--- a call of the order is left at the keys, or was refused or is not
+-- a call of the order is left at the keys; or it was refused, or nothing of it is left there
 abbrev pub IsLeft : Keys → ℕ → List KeyedCall → List KeyedCall → Choice → Choice → KeyedCall → Type 0
 IsLeft keys place calls more past w x =
     (a : KeyedCall) × (d : KeyedCall) × Contains calls a × Contains more d × IsLater place a d × (x ≡ rest_of w d) × (d.refused ≡ false)
@@ -174,10 +174,10 @@ module _ (keys : Keys) (place limit : ℕ) (calls more order : List KeyedCall) (
         (λ same. let one : d ≡ b = same_call more d b at.grown.apart.distinct d_in in_more (ap (λ (z : KeyedCall). z.inv) same) in
         let itself : precedes d d ≡ true = subst (λ (z : KeyedCall). precedes z d ≡ true) (sym one) before_d in
         let never : precedes d d ≡ false = All-contains (λ c. precedes c c ≡ false) more d at.grown.apart.last d_in in cc)
-        (λ behind. let never : precedes b d ≡ false = All-contains (λ y. precedes y (rest_of w d) ≡ false) back (rest_of w b)
+        (λ later. let never : precedes b d ≡ false = All-contains (λ y. precedes y (rest_of w d) ≡ false) back (rest_of w b)
         (AllPairs-head (λ y z. precedes z y ≡ false) (rest_of w d) back
         (AllPairs-back (λ y z. precedes z y ≡ false) front (rest_of w d ∷ back)
-        (subst (λ (xs : List KeyedCall). KeepPrecedence xs) parts at.is.precedence))) behind in cc)
+        (subst (λ (xs : List KeyedCall). KeepPrecedence xs) parts at.is.precedence))) later in cc)
         (Contains-cases (rest_of w d) back (rest_of w b) second))
         (Contains-append_cases front (rest_of w d ∷ back) (rest_of w b) in_order)
 

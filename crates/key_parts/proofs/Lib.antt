@@ -7,3 +7,4 @@ pub mod SiftLemmas
 pub mod BackLemmas
 pub mod InsertLemmas
 pub mod CallLemmas
+pub mod KnownLemmas

@@ -17,7 +17,7 @@ use Rattle.key_parts.specs.Steps.{IsAfterCall}
 use Rattle.key_parts.proofs.MaskLemmas.{masked_by, order_masked, quiet_masked}
 use Rattle.key_parts.proofs.PartLemmas.{instead}
 
--- what is taken besides: a call at the keys of these that it concerns
+-- what is taken besides: a call, at those of these keys that it concerns
 abbrev pub taken_by : Keys → KeyedCall → ℕ → ℕ → Bool
 taken_by keys a inv key = keys key && ((inv == a.inv) && a.concerns key)
 
@@ -45,7 +45,7 @@ module _ (keys : Keys) (place : ℕ) (calls more : List KeyedCall) (past next w 
           rw is (at.after.taken inv key is ∙ ap (λ (t : Bool). t || ((inv == a.inv) && a.concerns key)) (sym (at.same.taken inv key is)))
       by_key (inr is) = rw is (or_none (w.taken inv key))
 
-  -- what is left of it is what was left of it
+  -- the keys hold what the call leaves there
   pub rest_leaves : (key : ℕ) → keys key ≡ true → ((rest_of w d).effect key).fits (w.holds key) ≡ true
       → next.holds key ≡ ((rest_of w d).effect key).leaves (w.holds key)
   rest_leaves key is fits =

@@ -3,7 +3,7 @@ use Rattle.std.specs.Prelude.{◌≡◌, ◌⊎◌, ◌↔◌, ℕ, ◌<◌, ◌
 use Rattle.events.specs.declared.operation.Operation.{Operation}
 use Rattle.map_object.specs.MapObject.{Contents}
 use Rattle.orders.specs.Orders.{IsLinearizable}
-use Rattle.key_effects.specs.KeyedCalls.{KeyedCall, is_completed, ends_before}
+use Rattle.key_effects.specs.KeyedCalls.{KeyedCall, is_completed, ends_before, keyed}
 use Rattle.key_effects.specs.KeyedOrders.{HasKeyedOrder}
 use Rattle.key_effects.specs.Growth.{HaveGrown}
 use Rattle.key_effects.specs.Choices.{Choice, at_first, rest_of}
@@ -61,6 +61,10 @@ CallsComeNext =
     → (a : KeyedCall) × Contains calls a × MayComeNext keys past calls a × IsAfterCall keys past a next)
     → StandFor held place calls (record { keys = keys; pasts = past ∷ others } ∷ rest)
     → StandFor held place calls (record { keys = keys; pasts = nexts ++ others } ∷ rest)
+
+-- of calls of a history it is known whether something is left of them
+abbrev pub CallsAreKnown : Type 0
+CallsAreKnown = (keys : Keys) (place : ℕ) (past : Choice) (calls : List Operation) → AreKnownAt keys place past (map keyed calls)
 
 -- a read that was answered, and may come next, may be taken at once, and no other call in its stead
 abbrev pub ReadsComeNext : Type 0
