@@ -8,3 +8,4 @@ pub mod BackLemmas
 pub mod InsertLemmas
 pub mod CallLemmas
 pub mod KnownLemmas
+pub mod WiderLemmas

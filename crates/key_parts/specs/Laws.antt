@@ -12,6 +12,7 @@ use Rattle.key_effects.specs.Apart.{AreApart}
 use Rattle.key_parts.specs.Parts.{Part, IsOneOf, ShareKeys, StandFor, GoesOnAt, SomePastGoesOn, AreOfOnePart, left_at}
 use Rattle.key_parts.specs.Steps.{IsLeftAt, MayComeNext, IsAfterCall, AreKnownAt, ArePartedBefore, IsReadAt, IsAtRest, AreJoined}
 use Rattle.key_parts.specs.Operations.{AreLeftCalls}
+use Rattle.key_parts.specs.Wider.{AnyPartsDecide, PendingCallsMustCome, ReadsAreTakenAtOnce}
 
 -- before any event all keys are one part, of one past: no call is taken, and the keys hold what they hold at the start
 abbrev pub PartsBegin : Type 0
@@ -41,7 +42,6 @@ PartsDecide =
 abbrev pub DeadPastsGo : Type 0
 DeadPastsGo =
     (held : ℕ → Option ℕ) (place : ℕ) (calls : List KeyedCall) (keys : Keys) (pasts left : List Choice) (rest : List Part)
-    → HaveGrown place calls calls
     → ((past : Choice) → Contains pasts past → IsOneOf keys left past ⊎ (GoesOnAt keys past calls → ⊥))
     → ((past : Choice) → Contains left past → IsOneOf keys pasts past)
     → StandFor held place calls (record { keys = keys; pasts = pasts } ∷ rest)
@@ -97,3 +97,15 @@ OperationsDecide =
     (keys : Keys) (place : ℕ) (past : Choice) (calls : List KeyedCall) (pairs : Contents) (left : List Operation) → HaveGrown place calls calls
     → AllPairs (λ a b. a.inv < b.inv) calls → AreLeftCalls keys past calls pairs left
     → HasKeyedOrder past.holds (map (left_at keys past) calls) ↔ IsLinearizable pairs left
+
+-- but where a call is left at the keys of two parts, each may have a past that goes on, and the calls no order
+abbrev pub PartsMayBeTied : Type 0
+PartsMayBeTied = AnyPartsDecide → ⊥
+
+-- where no call that is left was answered, none need come, and a past that goes may be lost
+abbrev pub PastsMayStay : Type 0
+PastsMayStay = PendingCallsMustCome → ⊥
+
+-- and a read that is taken too early may gain an order
+abbrev pub EarlyReadsGain : Type 0
+EarlyReadsGain = ReadsAreTakenAtOnce → ⊥

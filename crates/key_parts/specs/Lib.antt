@@ -2,3 +2,4 @@ pub mod Parts
 pub mod Steps
 pub mod Operations
 pub mod Laws
+pub mod Wider

@@ -1,6 +1,6 @@
 -- What is kept of the calls so far: parts, each of some keys with the pasts that these may have. A past is a choice of which the part's keys
 -- alone count. So what is known of one part does not depend on what the others have come to.
-use Rattle.std.specs.Prelude.{◌≡◌, ◌⊎◌, ℕ, Bool, true, false, List, map, All, AllPairs, Contains, Option}
+use Rattle.std.specs.Prelude.{◌≡◌, ◌⊎◌, ℕ, true, false, List, map, All, AllPairs, Contains, Option}
 use Rattle.key_effects.specs.KeyedCalls.{KeyedCall, is_completed}
 use Rattle.key_effects.specs.KeyedOrders.{HasKeyedOrder}
 use Rattle.key_effects.specs.Choices.{Choice, Choices, rest_of, StandAbove, StandBelow}

@@ -1,5 +1,5 @@
 // Laws of parts, each the contract of a function that does nothing.
-ghost use Rattle.key_parts.specs.Laws.{CallsAreKnown, CallsComeNext, DeadPastsGo, OperationsDecide, PartsBegin, PartsDecide, PartsInAnyOrder, PartsStay, PartsUnite, ReadsAreTakenAtRest, ReadsComeNext};
+ghost use Rattle.key_parts.specs.Laws.{CallsAreKnown, CallsComeNext, DeadPastsGo, EarlyReadsGain, OperationsDecide, PartsBegin, PartsDecide, PartsInAnyOrder, PartsMayBeTied, PartsStay, PartsUnite, PastsMayStay, ReadsAreTakenAtRest, ReadsComeNext};
 
 /// Before any event all keys are one part, of one past.
 pub fn parts_begin()
@@ -54,4 +54,19 @@ pub fn parts_unite()
 /// What is left at some keys has an order exactly where it has one as calls of a map that has these keys alone.
 pub fn operations_decide()
     ensures { OperationsDecide }
+{}
+
+/// But where a call is left at the keys of two parts, each may have a past that goes on, and the calls no order.
+pub fn parts_may_be_tied()
+    ensures { PartsMayBeTied }
+{}
+
+/// Where no call that is left was answered, none need come, and a past that goes may be lost.
+pub fn pasts_may_stay()
+    ensures { PastsMayStay }
+{}
+
+/// And a read that is taken too early may gain an order.
+pub fn early_reads_gain()
+    ensures { EarlyReadsGain }
 {}
