@@ -4,12 +4,12 @@ use Rattle.events.specs.declared.operation.Operation.{Operation}
 use Rattle.map_object.specs.MapObject.{Contents}
 use Rattle.orders.specs.Orders.{IsLinearizable}
 use Rattle.key_effects.specs.KeyedCalls.{KeyedCall, is_completed, ends_before}
-use Rattle.key_effects.specs.KeyedOrders.{HasKeyedOrder}
+use Rattle.key_effects.specs.KeyedOrders.{HasKeyedOrder, AreKeyedCalls}
 use Rattle.key_effects.specs.Growth.{HaveGrown}
 use Rattle.key_effects.specs.Choices.{Choice, at_first, rest_of}
 use Rattle.key_effects.specs.Cuts.{Keys}
 use Rattle.key_effects.specs.Apart.{AreApart}
-use Rattle.key_parts.specs.Parts.{Part, IsAt, IsOneOf, ShareKeys, StandFor, GoesOnAt, SomePastGoesOn, AreOfOnePart, left_at}
+use Rattle.key_parts.specs.Parts.{Part, IsOneOf, ShareKeys, StandFor, GoesOnAt, SomePastGoesOn, AreOfOnePart, left_at}
 use Rattle.key_parts.specs.Steps.{IsLeftAt, MayComeNext, IsAfterCall, HavePlaces, ArePartedBefore, IsReadAt, IsAtRest, AreJoined}
 use Rattle.key_parts.specs.Operations.{AreLeftCalls}
 
@@ -91,6 +91,6 @@ PartsUnite =
 -- what is left at some keys has an order exactly where it has one as calls of a map that has these keys alone
 abbrev pub OperationsDecide : Type 0
 OperationsDecide =
-    (keys : Keys) (place : ℕ) (past : Choice) (calls : List KeyedCall) (pairs : Contents) (left : List Operation) → HaveGrown place calls calls
+    (keys : Keys) (past : Choice) (calls : List KeyedCall) (pairs : Contents) (left : List Operation) → AreKeyedCalls calls
     → AllPairs (λ a b. a.inv < b.inv) calls → AreLeftCalls keys past calls pairs left
     → HasKeyedOrder past.holds (map (left_at keys past) calls) ↔ IsLinearizable pairs left
