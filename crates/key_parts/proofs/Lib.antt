@@ -1,2 +1,4 @@
 pub mod PartLemmas
+pub mod MaskLemmas
 pub mod OperationLemmas
+pub mod RestLemmas

@@ -3,14 +3,14 @@
 -- at some keys, and so does what it is there. `same_goes_on`: what is the same at all keys goes on too. `keys_shared`, `with_instead`: a part
 -- with other pasts. `part_steps`: parts stand where one of them took a step.
 use Rattle.std.proofs.Common.{◌≡◌, ℕ, Bool, true, false, not, ◌||◌, ◌&&◌, cond, List, [], ◌∷◌, map, Option, inl, inr, refl, sym, ap, ◌∙◌, subst, ⊎_elim}
-use Rattle.std.specs.Prelude.{◌⊎◌, All, AllPairs, Contains}
-use Rattle.std.proofs.lemmas.List.Elements.{All-cons, All-head, All-tail, All-contains}
+use Rattle.std.specs.Prelude.{◌⊎◌, Contains}
+use Rattle.std.proofs.lemmas.List.Elements.{All-cons, All-tail, All-contains}
 use Rattle.std.proofs.lemmas.List.Kept.{AllPairs-cons}
 use Rattle.list_laws.proofs.FilterLemmas.{Contains-from_map}
 use Rattle.list_laws.proofs.Lists.{AllPairs-head, AllPairs-tail, All-from_contains, Contains-first, Contains-later, Contains-cases}
 use mathlib.Core.Path.{fun_ext}
 use Rattle.key_effects.specs.KeyedCalls.{KeyedCall, Effect, no_effect, IsNoEffect}
-use Rattle.key_effects.specs.KeyedOrders.{FitInTurn, IsKeyedOrder, HasKeyedOrder}
+use Rattle.key_effects.specs.KeyedOrders.{FitInTurn, HasKeyedOrder}
 use Rattle.key_effects.specs.Growth.{HaveGrown}
 use Rattle.key_effects.specs.Choices.{Choice, Agrees, rest_of, GoesOn, SomeGoesOn}
 use Rattle.key_effects.specs.Cuts.{Keys}
