@@ -2,3 +2,4 @@ pub mod PartLemmas
 pub mod MaskLemmas
 pub mod OperationLemmas
 pub mod RestLemmas
+pub mod DecideLemmas
