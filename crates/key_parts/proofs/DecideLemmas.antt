@@ -201,8 +201,8 @@ agrees_all parts calls w shared picked a a_in = record {
       subst (λ (u : Option ℕ). (a.effect key).fits u ≡ true) (sym (same.found a.inv key here before)) (agrees.fits key here before);
 }
 
-order_all : (place : ℕ) (parts : List Part) (calls : List KeyedCall) (w : Choice) → HaveGrown place calls calls → AllPairs (λ a b. a.inv < b.inv) calls
-    → AreOfOnePart parts calls → ShareKeys parts → choices_of parts w → All (IsPicked calls w) parts → HasKeyedOrder w.holds (map (rest_of w) calls)
+order_all : (place : ℕ) (parts : List Part) (calls : List KeyedCall) (w : Choice) → HaveGrown place calls calls
+    → AllPairs (λ a b. a.inv < b.inv) calls → AreOfOnePart parts calls → ShareKeys parts → choices_of parts w → All (IsPicked calls w) parts → HasKeyedOrder w.holds (map (rest_of w) calls)
 order_all place parts calls w grown rising one shared is picked =
     with_refused all_keys w calls grown.apart rising grown.formed w.holds
     ((parts_judge w.holds (map (λ part. part.keys) parts) (map (rest_of w) (filter is_accepted calls))

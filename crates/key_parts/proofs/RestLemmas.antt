@@ -67,7 +67,8 @@ at_taken keys past next b w v after read fits first second same = record {
     itself true c is = refl
     itself false c is = rw (eq-eqb b.inv b.inv refl) is
 
-    taken : (inv key : ℕ) → (keys key ≡ true) ⊎ (keys key ≡ false) → v.taken inv key ≡ (w.taken inv key || ((inv == b.inv) && (keys key && b.concerns key)))
+    taken : (inv key : ℕ) → (keys key ≡ true) ⊎ (keys key ≡ false)
+        → v.taken inv key ≡ (w.taken inv key || ((inv == b.inv) && (keys key && b.concerns key)))
     taken inv key (inl is) = second.taken inv key is ∙ after.taken inv key is
         ∙ taken_here (past.taken inv key) (w.taken inv key) (inv == b.inv) (keys key) (b.concerns key) is (first.taken inv key is)
     taken inv key (inr out) = same.taken inv key (out_of (keys key) out)
@@ -204,7 +205,8 @@ module _ (keys : Keys) (more : List KeyedCall) (w v : Choice) (b : KeyedCall) (a
       → FitInTurn key (v.holds key) (map (masked_by (besides keys b)) order)
   fit_forth order is key =
       subst (λ (u : Option ℕ). FitInTurn key u (map (masked_by (besides keys b)) order)) (sym (at.taken.holds key))
-      (quiet_moved key (masked_by (besides keys b)) order (w.holds key) (λ x x_in. each x x_in (bool_cases ((x.inv == b.inv) && keys key))) (is.fit key))
+      (quiet_moved key (masked_by (besides keys b)) order (w.holds key)
+      (λ x x_in. each x x_in (bool_cases ((x.inv == b.inv) && keys key))) (is.fit key))
     where
       each : (x : KeyedCall) → Contains order x → (((x.inv == b.inv) && keys key) ≡ true) ⊎ (((x.inv == b.inv) && keys key) ≡ false)
           → ((masked_by (besides keys b) x).effect key ≡ x.effect key)
@@ -286,7 +288,8 @@ module _ (keys : Keys) (more : List KeyedCall) (w v : Choice) (b : KeyedCall) (a
     first_other x x_in = (
       All-contains (λ y. x.inv ≢ y.inv) (rest_of v b ∷ back) (rest_of v b)
           (All-contains (λ z. All (λ y. z.inv ≢ y.inv) (rest_of v b ∷ back)) front x
-          (AllPairs-across (λ z y. z.inv ≢ y.inv) front (rest_of v b ∷ back) (subst (λ (xs : List KeyedCall). AreDistinct xs) parts is.distinct)) x_in)
+          (AllPairs-across (λ z y. z.inv ≢ y.inv) front (rest_of v b ∷ back)
+          (subst (λ (xs : List KeyedCall). AreDistinct xs) parts is.distinct)) x_in)
           (Contains-first (rest_of v b) back),
       All-contains (λ y. precedes y x ≡ false) (rest_of v b ∷ back) (rest_of v b)
           (All-contains (λ z. All (λ y. precedes y z ≡ false) (rest_of v b ∷ back)) front x
@@ -386,8 +389,8 @@ none_quiet : (e : Effect) → IsNoEffect e → (value : Option ℕ) → e.fits v
 none_quiet e none value fits = none.leaves value
 
 -- where keys are at rest, all that the read does not precede is quiet there
-at_rest : (place : ℕ) (calls more : List KeyedCall) (keys : Keys) (past next v : Choice) (b : KeyedCall) → HaveGrown place calls more → Contains calls b
-    → is_completed b ≡ true → IsAtRest keys past calls b → IsAfterCall keys past b next → IsAt keys next v → (d : KeyedCall) (key : ℕ)
+at_rest : (place : ℕ) (calls more : List KeyedCall) (keys : Keys) (past next v : Choice) (b : KeyedCall) → HaveGrown place calls more
+    → Contains calls b → is_completed b ≡ true → IsAtRest keys past calls b → IsAfterCall keys past b next → IsAt keys next v → (d : KeyedCall) (key : ℕ)
     → Contains more d → concerned keys b key ≡ true → precedes b d ≡ false → IsQuiet (rest_of v d) key
 at_rest place calls more keys past next v b grown b_in completed rest after same d key d_in here sooner =
     let (is, concerns) = and_parts (keys key) (b.concerns key) here in

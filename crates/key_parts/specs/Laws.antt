@@ -77,8 +77,8 @@ abbrev pub ReadsAreTakenAtRest : Type 0
 ReadsAreTakenAtRest =
     (held : ℕ → Option ℕ) (place : ℕ) (calls : List KeyedCall) (keys : Keys) (past next : Choice) (others : List Choice) (rest : List Part)
     (b : KeyedCall) → Contains calls b → is_completed b ≡ true → b.refused ≡ false → IsReadAt keys past b
-    → ((key : ℕ) → keys key ≡ true → ((rest_of past b).effect key).fits (past.holds key) ≡ true) → IsAtRest keys past calls b → IsAfterCall keys past b next
-    → StandFor held place calls (record { keys = keys; pasts = past ∷ others } ∷ rest)
+    → ((key : ℕ) → keys key ≡ true → ((rest_of past b).effect key).fits (past.holds key) ≡ true) → IsAtRest keys past calls b
+    → IsAfterCall keys past b next → StandFor held place calls (record { keys = keys; pasts = past ∷ others } ∷ rest)
     → StandFor held place calls (record { keys = keys; pasts = next ∷ others } ∷ rest)
 
 -- two parts are as good as one of the keys of both that has all pairs of their pasts
