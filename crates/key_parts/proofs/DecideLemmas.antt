@@ -1,23 +1,23 @@
 -- The parts decide: each has a past that goes on at its keys exactly where the calls have an order.
-use Rattle.std.proofs.Common.{◌≡◌, ℕ, ◌<◌, Bool, true, false, not, ◌&&◌, cond, List, [], ◌∷◌, map, Option, inl, inr, refl, sym, ◌∙◌, subst, ⊎_elim}
-use Rattle.std.specs.Prelude.{◌≢◌, ◌⊎◌, All, AllPairs, Contains, filter}
+use Rattle.std.proofs.Common.{◌≡◌, ℕ, ◌<◌, Bool, true, false, not, ◌&&◌, cond, List, [], ◌∷◌, map, Option, inl, inr, refl, sym, ap, ◌∙◌, subst, ⊎_elim}
+use Rattle.std.specs.Prelude.{◌⊎◌, ◌↔◌, All, AllPairs, Contains, filter}
 use Rattle.std.proofs.lemmas.List.Elements.{All-nil, All-cons, All-head, All-tail, All-contains, All-map}
 use Rattle.std.proofs.lemmas.List.Kept.{AllPairs-filter}
 use Rattle.list_laws.proofs.FilterLemmas.{AllPairs-map, Contains-map, Contains-from_map}
-use Rattle.list_laws.proofs.Lists.{AllPairs-head, AllPairs-tail, All-from_contains, Contains-nil, Contains-cases, Contains-filter, Contains-from_filter}
-use Rattle.key_effects.specs.KeyedCalls.{KeyedCall, Effect, IsNoEffect, IsFormed, no_effect, precedes}
+use Rattle.list_laws.proofs.Lists.{AllPairs-head, AllPairs-tail, All-from_contains, Contains-nil, Contains-cases, Contains-from_filter}
+use Rattle.key_effects.specs.KeyedCalls.{KeyedCall, Effect, IsNoEffect, IsFormed, no_effect}
 use Rattle.key_effects.specs.KeyedOrders.{AreKeyedCalls, HasKeyedOrder}
 use Rattle.key_effects.specs.Growth.{HaveGrown}
 use Rattle.key_effects.specs.Choices.{Choice, at_first, rest_of, Agrees}
 use Rattle.key_effects.specs.Cuts.{Keys, IsWithin}
 use Rattle.key_effects.specs.Apart.{only, AreApart, AreParts, Parts}
 use Rattle.key_effects.proofs.DeadLemmas.{bool_cases}
-use Rattle.key_effects.proofs.NoneLemmas.{effects_decide}
-use Rattle.key_effects.proofs.PartLemmas.{parts_judge}
+use Rattle.key_effects.proofs.PartLemmas.{none_at, parts_judge}
 use Rattle.key_effects.proofs.RestLemmas.{none_none, none_or, refused_none}
 use Rattle.key_parts.specs.Laws.{PartsDecide}
 use Rattle.key_parts.specs.Parts.{Part, IsAt, IsOneOf, choices_of, ShareKeys, left_at, AgreesAt, GoesOnAt, SomePastGoesOn, IsOfOnePart, AreOfOnePart}
-use Rattle.key_parts.proofs.PartLemmas.{all_keys, all_left, at_back, at_next, goes_on_there, instead, instead_here, instead_there, same_goes_on_there}
+use Rattle.key_parts.proofs.PartLemmas.{all_keys, at_back, at_next, goes_on_there, instead, instead_here, instead_there, same_goes_on_there}
+use Rattle.key_parts.proofs.SomeLemmas.{keyed_left, keyed_some, some_decide}
 
 -- ---- one choice of a past for each part
 
@@ -46,67 +46,51 @@ pick calls base (part ∷ parts) apart some =
 abbrev is_accepted : KeyedCall → Bool
 is_accepted a = not a.refused
 
+-- what is left of the others
+abbrev accepted_left : Keys → Choice → List KeyedCall → List KeyedCall
+accepted_left keys w calls = filter is_accepted (map (left_at keys w) calls)
+
+abbrev accepted_rest : Choice → List KeyedCall → List KeyedCall
+accepted_rest w calls = filter is_accepted (map (rest_of w) calls)
+
 not_refused : (b : Bool) → not b ≡ true → b ≡ false
 not_refused true h = cc
 not_refused false h = refl
 
-none_only : (t : Bool) (e : Effect) → IsNoEffect e → IsNoEffect (cond t e no_effect)
-none_only true e none = none
-none_only false e none = none_none
+from_accepted : (w : Choice) (calls : List KeyedCall) (x : KeyedCall) → Contains (accepted_rest w calls) x
+    → (a : KeyedCall) × Contains calls a × (a.refused ≡ false) × (rest_of w a ≡ x)
+from_accepted w calls x x_in =
+    let (whole, accepted) = Contains-from_filter is_accepted (map (rest_of w) calls) x x_in in
+    let (a, a_in, a_is) = Contains-from_map (rest_of w) calls x whole in
+    (a, a_in, subst (λ (z : KeyedCall). z.refused ≡ false) (sym a_is) (not_refused x.refused accepted), a_is)
 
-module _ (keys : Keys) (w : Choice) (calls : List KeyedCall) (apart : AreKeyedCalls calls) (rising : AllPairs (λ a b. a.inv < b.inv) calls)
-    (formed : All IsFormed calls) where
-  keyed_left : AreKeyedCalls (map (left_at keys w) calls)
-  keyed_left = record {
-    distinct = AllPairs-map (λ a b. a.inv ≢ b.inv) (left_at keys w) calls apart.distinct;
-    last = All-map (λ a. precedes a a ≡ false) (left_at keys w) calls apart.last;
-  }
+accepted_at : (keys : Keys) (w : Choice) (calls : List KeyedCall) → map (only keys) (accepted_rest w calls) ≡ accepted_left keys w calls
+accepted_at keys w [] = refl
+accepted_at keys w (a ∷ calls) = by_refusal a.refused (accepted_at keys w calls)
+  where
+    by_refusal : (b : Bool) → map (only keys) (accepted_rest w calls) ≡ accepted_left keys w calls
+        → map (only keys) (cond (not b) (rest_of w a ∷ accepted_rest w calls) (accepted_rest w calls))
+        ≡ cond (not b) (left_at keys w a ∷ accepted_left keys w calls) (accepted_left keys w calls)
+    by_refusal true further = further
+    by_refusal false further = ap (λ (xs : List KeyedCall). left_at keys w a ∷ xs) further
 
-  keyed_accepted : AreKeyedCalls (map (left_at keys w) (filter is_accepted calls))
-  keyed_accepted = record {
-    distinct = AllPairs-map (λ a b. a.inv ≢ b.inv) (left_at keys w) (filter is_accepted calls)
-        (AllPairs-filter (λ a b. a.inv ≢ b.inv) is_accepted calls apart.distinct);
-    last = All-map (λ a. precedes a a ≡ false) (left_at keys w) (filter is_accepted calls)
-        (All-from_contains (λ a. precedes a a ≡ false) (filter is_accepted calls) (λ a a_in.
-        All-contains (λ b. precedes b b ≡ false) calls a apart.last (Contains-from_filter is_accepted calls a a_in).0));
-  }
-
-  rising_accepted : AllPairs (λ a b. a.inv < b.inv) (map (left_at keys w) (filter is_accepted calls))
-  rising_accepted = AllPairs-map (λ a b. a.inv < b.inv) (left_at keys w) (filter is_accepted calls)
-      (AllPairs-filter (λ a b. a.inv < b.inv) is_accepted calls rising)
-
-  none_or_accepted : (x : KeyedCall) → Contains (map (left_at keys w) calls) x
-      → ((key : ℕ) → IsNoEffect (x.effect key)) ⊎ Contains (map (left_at keys w) (filter is_accepted calls)) x
-  none_or_accepted x x_in =
-      let (a, a_in, a_is) = Contains-from_map (left_at keys w) calls x x_in in by_refusal a a_in a_is (bool_cases a.refused)
-    where
-      by_refusal : (a : KeyedCall) → Contains calls a → left_at keys w a ≡ x → (a.refused ≡ true) ⊎ (a.refused ≡ false)
-          → ((key : ℕ) → IsNoEffect (x.effect key)) ⊎ Contains (map (left_at keys w) (filter is_accepted calls)) x
-      by_refusal a a_in a_is (inl refused) =
-          inl (λ key. subst (λ (z : KeyedCall). IsNoEffect (z.effect key)) a_is
-          (none_only (keys key) ((rest_of w a).effect key) (refused_none w a (All-contains IsFormed calls a formed a_in) refused key)))
-      by_refusal a a_in a_is (inr accepted) =
-          inr (subst (λ (z : KeyedCall). Contains (map (left_at keys w) (filter is_accepted calls)) z) a_is
-          (Contains-map (left_at keys w) (filter is_accepted calls) a (Contains-filter is_accepted calls a a_in (rw accepted refl))))
-
-  of_accepted : (x : KeyedCall) → Contains (map (left_at keys w) (filter is_accepted calls)) x → Contains (map (left_at keys w) calls) x
-  of_accepted x x_in =
-      let (a, a_in, a_is) = Contains-from_map (left_at keys w) (filter is_accepted calls) x x_in in
-      subst (λ (z : KeyedCall). Contains (map (left_at keys w) calls) z) a_is
-      (Contains-map (left_at keys w) calls a (Contains-from_filter is_accepted calls a a_in).0)
-
-  without_refused : (held : ℕ → Option ℕ) → HasKeyedOrder held (map (left_at keys w) calls)
-      → HasKeyedOrder held (map (left_at keys w) (filter is_accepted calls))
-  without_refused held order =
-      effects_decide held (map (left_at keys w) calls) (map (left_at keys w) (filter is_accepted calls)) keyed_accepted rising_accepted
-      none_or_accepted (λ x x_in. inr (of_accepted x x_in)) order
-
-  with_refused : (held : ℕ → Option ℕ) → HasKeyedOrder held (map (left_at keys w) (filter is_accepted calls))
-      → HasKeyedOrder held (map (left_at keys w) calls)
-  with_refused held order =
-      effects_decide held (map (left_at keys w) (filter is_accepted calls)) (map (left_at keys w) calls) keyed_left
-      (AllPairs-map (λ a b. a.inv < b.inv) (left_at keys w) calls rising)
-      (λ x x_in. inr (of_accepted x x_in)) none_or_accepted order
+accepted_decide : (held : ℕ → Option ℕ) (keys : Keys) (w : Choice) (calls : List KeyedCall) → AreKeyedCalls calls
+    → AllPairs (λ a b. a.inv < b.inv) calls → All IsFormed calls
+    → HasKeyedOrder held (map (left_at keys w) calls) ↔ HasKeyedOrder held (accepted_left keys w calls)
+accepted_decide held keys w calls apart rising formed =
+    some_decide held is_accepted (map (left_at keys w) calls) (keyed_left keys w calls apart)
+    (AllPairs-map (λ a b. a.inv < b.inv) (left_at keys w) calls rising) each
+  where
+    each : (x : KeyedCall) → Contains (map (left_at keys w) calls) x → ((key : ℕ) → IsNoEffect (x.effect key)) ⊎ (is_accepted x ≡ true)
+    each x x_in = let (a, a_in, a_is) = Contains-from_map (left_at keys w) calls x x_in in by_refusal a a_in a_is (bool_cases a.refused)
+      where
+        by_refusal : (a : KeyedCall) → Contains calls a → left_at keys w a ≡ x → (a.refused ≡ true) ⊎ (a.refused ≡ false)
+            → ((key : ℕ) → IsNoEffect (x.effect key)) ⊎ (is_accepted x ≡ true)
+        by_refusal a a_in a_is (inl refused) =
+            inl (λ key. subst (λ (z : KeyedCall). IsNoEffect (z.effect key)) a_is
+            (none_at (keys key) ((rest_of w a).effect key) (refused_none w a (All-contains IsFormed calls a formed a_in) refused key)))
+        by_refusal a a_in a_is (inr accepted) =
+            inr (subst (λ (z : KeyedCall). is_accepted z ≡ true) a_is (ap (λ (b : Bool). not b) accepted))
 
 -- ---- the parts are parts of the calls
 
@@ -145,10 +129,7 @@ formed_rest w a formed = record {
     by_taken key out (inr untaken) = none_or (w.taken a.inv key) (a.effect key) (formed.elsewhere key (rw untaken at out))
 
 module _ (parts : List Part) (w : Choice) (calls : List KeyedCall) (shared : ShareKeys parts) (is : choices_of parts w)
-    (apart : AreKeyedCalls calls) (formed : All IsFormed calls) (one : AreOfOnePart parts calls) where
-  abbrev accepted_calls : List KeyedCall
-  accepted_calls = map (rest_of w) (filter (λ a. not a.refused) calls)
-
+    (one : AreOfOnePart parts calls) where
   parted : (part : Part) → Contains parts part → (whole : List KeyedCall) (a : KeyedCall) → a.refused ≡ false → IsOfOnePart parts w a
       → Parts part.keys whole (rest_of w a)
   parted part part_in whole a accepted (inl refused) = cc
@@ -168,17 +149,15 @@ module _ (parts : List Part) (w : Choice) (calls : List KeyedCall) (shared : Sha
           by_key (inr not_so) = not_so
           by_key (inl both) = let never : part.keys key ≡ false = before key both in cc
 
-  are_parts : AreParts (map (λ part. part.keys) parts) accepted_calls
+  are_parts : AreParts (map (λ part. part.keys) parts) (accepted_rest w calls)
   are_parts = record {
     apart = AllPairs-map AreApart (λ (part : Part). part.keys) parts shared.apart;
-    parted = All-from_contains (λ keys. All (Parts keys accepted_calls) accepted_calls) (map (λ part. part.keys) parts) (λ keys keys_in.
-        let (part, part_in, part_is) = Contains-from_map (λ (part : Part). part.keys) parts keys keys_in in
-        subst (λ (some : Keys). All (Parts some accepted_calls) accepted_calls) part_is
-        (All-from_contains (Parts part.keys accepted_calls) accepted_calls (λ x x_in.
-        let (a, a_in, a_is) = Contains-from_map (rest_of w) (filter (λ a. not a.refused) calls) x x_in in
-        let (in_calls, accepted) = Contains-from_filter (λ (a : KeyedCall). not a.refused) calls a a_in in
-        subst (λ (z : KeyedCall). Parts part.keys accepted_calls z) a_is
-        (parted part part_in accepted_calls a (not_refused a.refused accepted) (one w a is in_calls)))));
+    parted = All-map (λ keys. All (Parts keys (accepted_rest w calls)) (accepted_rest w calls)) (λ (part : Part). part.keys) parts
+        (All-from_contains (λ part. All (Parts part.keys (accepted_rest w calls)) (accepted_rest w calls)) parts (λ part part_in.
+        All-from_contains (Parts part.keys (accepted_rest w calls)) (accepted_rest w calls) (λ x x_in.
+        let (a, a_in, accepted, a_is) = from_accepted w calls x x_in in
+        subst (λ (z : KeyedCall). Parts part.keys (accepted_rest w calls) z) a_is
+        (parted part part_in (accepted_rest w calls) a accepted (one w a is a_in)))));
     elsewhere = λ a key a_in out.
         let (part, part_in, here) = shared.every key in
         let never : part.keys key ≡ false = All-contains (λ (keys : Keys). keys key ≡ false) (map (λ part. part.keys) parts) part.keys out
@@ -204,19 +183,20 @@ agrees_all parts calls w shared picked a a_in = record {
 order_all : (place : ℕ) (parts : List Part) (calls : List KeyedCall) (w : Choice) → HaveGrown place calls calls
     → AllPairs (λ a b. a.inv < b.inv) calls → AreOfOnePart parts calls → ShareKeys parts → choices_of parts w → All (IsPicked calls w) parts → HasKeyedOrder w.holds (map (rest_of w) calls)
 order_all place parts calls w grown rising one shared is picked =
-    with_refused all_keys w calls grown.apart rising grown.formed w.holds
-    ((parts_judge w.holds (map (λ part. part.keys) parts) (map (rest_of w) (filter is_accepted calls))
-    (keyed_accepted all_keys w calls grown.apart rising grown.formed)
-    (rising_accepted all_keys w calls grown.apart rising grown.formed)
-    (All-map IsFormed (rest_of w) (filter is_accepted calls) (All-from_contains (λ a. IsFormed (rest_of w a)) (filter is_accepted calls) (λ a a_in.
-    formed_rest w a (All-contains IsFormed calls a grown.formed (Contains-from_filter is_accepted calls a a_in).0))))
-    (are_parts parts w calls shared is grown.apart grown.formed one)).1
-    (All-map (λ keys. HasKeyedOrder w.holds (map (only keys) (map (rest_of w) (filter is_accepted calls)))) (λ (part : Part). part.keys) parts
-    (All-from_contains (λ part. HasKeyedOrder w.holds (map (only part.keys) (map (rest_of w) (filter is_accepted calls)))) parts (λ part part_in.
+    (accepted_decide w.holds all_keys w calls grown.apart rising grown.formed).1
+    ((parts_judge w.holds (map (λ part. part.keys) parts) (accepted_rest w calls)
+    (keyed_some is_accepted (map (rest_of w) calls) (keyed_left all_keys w calls grown.apart))
+    (AllPairs-filter (λ a b. a.inv < b.inv) is_accepted (map (rest_of w) calls) (AllPairs-map (λ a b. a.inv < b.inv) (rest_of w) calls rising))
+    (All-from_contains IsFormed (accepted_rest w calls) (λ x x_in.
+    let (a, a_in, accepted, a_is) = from_accepted w calls x x_in in
+    subst (λ (z : KeyedCall). IsFormed z) a_is (formed_rest w a (All-contains IsFormed calls a grown.formed a_in))))
+    (are_parts parts w calls shared is one)).1
+    (All-map (λ keys. HasKeyedOrder w.holds (map (only keys) (accepted_rest w calls))) (λ (part : Part). part.keys) parts
+    (All-from_contains (λ part. HasKeyedOrder w.holds (map (only part.keys) (accepted_rest w calls))) parts (λ part part_in.
     let (past, past_in, same, goes_on) = All-contains (IsPicked calls w) parts part picked part_in in
     let here : GoesOnAt part.keys w calls = same_goes_on_there part.keys w past calls (at_back part.keys past w same) goes_on in
-    subst (λ (xs : List KeyedCall). HasKeyedOrder w.holds xs) (sym (all_left part.keys w (filter is_accepted calls)))
-    (without_refused part.keys w calls grown.apart rising grown.formed w.holds here.1)))))
+    subst (λ (xs : List KeyedCall). HasKeyedOrder w.holds xs) (sym (accepted_at part.keys w calls))
+    ((accepted_decide w.holds part.keys w calls grown.apart rising grown.formed).0 here.1)))))
 
 pub parts_decide : PartsDecide
 parts_decide held place calls parts grown rising one stand = (

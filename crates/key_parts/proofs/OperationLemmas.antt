@@ -1,14 +1,12 @@
 -- What is left at some keys, as calls of a map that has these keys alone.
-use Rattle.std.proofs.Common.{◌≡◌, ℕ, ◌<◌, Bool, true, false, List, map, inl, inr, sym, ap, ◌∙◌, subst, ⊎_elim, arith}
-use Rattle.std.specs.Prelude.{◌≢◌, ◌⊎◌, AllPairs, Contains, filter}
-use Rattle.std.proofs.lemmas.List.Elements.{All-contains, All-map}
-use Rattle.std.proofs.lemmas.List.Kept.{AllPairs-filter}
+use Rattle.std.proofs.Common.{◌≡◌, ℕ, ◌<◌, Bool, true, List, map, inl, inr, sym, ap, ◌∙◌, subst, ⊎_elim, arith}
+use Rattle.std.specs.Prelude.{◌≢◌, ◌⊎◌, ◌↔◌, AllPairs, Contains, filter}
 use Rattle.list_laws.proofs.FilterLemmas.{AllPairs-map, AllPairs-weaker, Contains-map, Contains-from_map}
-use Rattle.list_laws.proofs.Lists.{All-from_contains, Contains-filter, Contains-from_filter}
+use Rattle.list_laws.proofs.Lists.{Contains-filter, Contains-from_filter}
 use Rattle.events.specs.declared.operation.Operation.{Operation}
 use Rattle.map_object.specs.MapObject.{Contents, value_at}
 use Rattle.orders.specs.Orders.{calls_at}
-use Rattle.key_effects.specs.KeyedCalls.{KeyedCall, IsNoEffect, keyed, precedes}
+use Rattle.key_effects.specs.KeyedCalls.{KeyedCall, IsNoEffect, keyed}
 use Rattle.key_effects.specs.KeyedOrders.{AreKeyedCalls, HasKeyedOrder}
 use Rattle.key_effects.specs.Choices.{Choice}
 use Rattle.key_effects.specs.Cuts.{Keys, has_call}
@@ -16,11 +14,11 @@ use Rattle.key_effects.specs.Apart.{IsAlikeAt, AreAlike}
 use Rattle.key_effects.proofs.AfterLemmas.{named_in, from_named}
 use Rattle.key_effects.proofs.AlikeLemmas.{alike_decide}
 use Rattle.key_effects.proofs.BridgeLemmas.{keyed_order, plain_order}
-use Rattle.key_effects.proofs.NoneLemmas.{effects_decide}
 use Rattle.key_effects.proofs.OrderLemmas.{same_call}
 use Rattle.key_parts.specs.Laws.{OperationsDecide}
 use Rattle.key_parts.specs.Operations.{AreLeftCalls}
 use Rattle.key_parts.specs.Parts.{left_at}
+use Rattle.key_parts.proofs.SomeLemmas.{keyed_left, keyed_some, some_decide}
 
 -- whether one of the operations is of this name
 abbrev is_shown : List Operation → KeyedCall → Bool
@@ -47,33 +45,13 @@ module _ (keys : Keys) (past : Choice) (calls : List KeyedCall) (pairs : Content
       (o, o_in, subst (λ (z : KeyedCall). IsAlikeAt keys (left_at keys past z) (keyed o)) same alike)
 
   none_or_shown : (x : KeyedCall) → Contains (map (left_at keys past) calls) x
-      → ((key : ℕ) → IsNoEffect (x.effect key)) ⊎ Contains (shown keys past calls left) x
+      → ((key : ℕ) → IsNoEffect (x.effect key)) ⊎ (is_shown left x ≡ true)
   none_or_shown x x_in =
       let (a, a_in, a_is) = Contains-from_map (left_at keys past) calls x x_in in
       ⊎_elim
       (λ none. inl (subst (λ (z : KeyedCall). (key : ℕ) → IsNoEffect (z.effect key)) a_is none))
-      (λ some. inr (Contains-filter (is_shown left) (map (left_at keys past) calls) x x_in
-      (subst (λ (z : KeyedCall). is_shown left z ≡ true) a_is (named_left a some.0 some.1 some.2))))
+      (λ some. inr (subst (λ (z : KeyedCall). is_shown left z ≡ true) a_is (named_left a some.0 some.1 some.2)))
       (are.there a a_in)
-
-  of_shown : (x : KeyedCall) → Contains (shown keys past calls left) x → Contains (map (left_at keys past) calls) x
-  of_shown x x_in = (Contains-from_filter (is_shown left) (map (left_at keys past) calls) x x_in).0
-
-  apart_left : AreKeyedCalls (map (left_at keys past) calls)
-  apart_left = record {
-    distinct = AllPairs-map (λ a b. a.inv ≢ b.inv) (left_at keys past) calls apart.distinct;
-    last = All-map (λ a. precedes a a ≡ false) (left_at keys past) calls apart.last;
-  }
-
-  apart_shown : AreKeyedCalls (shown keys past calls left)
-  apart_shown = record {
-    distinct = AllPairs-filter (λ a b. a.inv ≢ b.inv) (is_shown left) (map (left_at keys past) calls) apart_left.distinct;
-    last = All-from_contains (λ a. precedes a a ≡ false) (shown keys past calls left) (λ a a_in.
-        All-contains (λ b. precedes b b ≡ false) (map (left_at keys past) calls) a apart_left.last (of_shown a a_in));
-  }
-
-  rising_left : AllPairs (λ a b. a.inv < b.inv) (map (left_at keys past) calls)
-  rising_left = AllPairs-map (λ a b. a.inv < b.inv) (left_at keys past) calls rising
 
   alike : AreAlike keys past.holds (value_at pairs) (shown keys past calls left) (map keyed left)
   alike = record {
@@ -92,28 +70,23 @@ module _ (keys : Keys) (past : Choice) (calls : List KeyedCall) (pairs : Content
               (Contains-map (left_at keys past) calls a a_in) (named_left a o o_in is),
           subst (λ (z : KeyedCall). IsAlikeAt keys (left_at keys past a) z) o_is is,
         );
-    one = apart_shown.distinct;
+    one = (keyed_some (is_shown left) (map (left_at keys past) calls) (keyed_left keys past calls apart)).distinct;
     other_one = AllPairs-map (λ a b. a.inv ≢ b.inv) keyed left
         (AllPairs-weaker (λ a b. a.inv < b.inv) (λ a b. a.inv ≢ b.inv) left (λ a b a_in b_in less same. absurd (omega arith)) are.rising);
   }
 
-  forth : HasKeyedOrder past.holds (map (left_at keys past) calls) → HasKeyedOrder (value_at pairs) (map keyed left)
-  forth order =
-      (alike_decide keys past.holds (value_at pairs) (shown keys past calls left) (map keyed left) alike).0
-      (effects_decide past.holds (map (left_at keys past) calls) (shown keys past calls left) apart_shown
-      (AllPairs-filter (λ a b. a.inv < b.inv) (is_shown left) (map (left_at keys past) calls) rising_left)
-      none_or_shown (λ x x_in. inr (of_shown x x_in)) order)
+  decide : HasKeyedOrder past.holds (map (left_at keys past) calls) ↔ HasKeyedOrder past.holds (shown keys past calls left)
+  decide = some_decide past.holds (is_shown left) (map (left_at keys past) calls) (keyed_left keys past calls apart)
+      (AllPairs-map (λ a b. a.inv < b.inv) (left_at keys past) calls rising) none_or_shown
 
-  back : HasKeyedOrder (value_at pairs) (map keyed left) → HasKeyedOrder past.holds (map (left_at keys past) calls)
-  back order =
-      effects_decide past.holds (shown keys past calls left) (map (left_at keys past) calls) apart_left rising_left
-      (λ x x_in. inr (of_shown x x_in)) none_or_shown
-      ((alike_decide keys past.holds (value_at pairs) (shown keys past calls left) (map keyed left) alike).1 order)
+  same : HasKeyedOrder past.holds (shown keys past calls left) ↔ HasKeyedOrder (value_at pairs) (map keyed left)
+  same = alike_decide keys past.holds (value_at pairs) (shown keys past calls left) (map keyed left) alike
 
 pub operations_decide : OperationsDecide
 operations_decide keys past calls pairs left apart rising are = (
-  λ order. let there = forth keys past calls pairs left apart rising are order in
+  λ order.
+      let there = (same keys past calls pairs left apart rising are).0 ((decide keys past calls pairs left apart rising are).0 order) in
       plain_order pairs left are.rises are.rising are.forms there.0 there.1,
-  λ order. back keys past calls pairs left apart rising are
-      (map keyed (calls_at left order.0), (keyed_order pairs left are.rises are.rising order.0 order.1).1),
+  λ order. (decide keys past calls pairs left apart rising are).1 ((same keys past calls pairs left apart rising are).1
+      (map keyed (calls_at left order.0), (keyed_order pairs left are.rises are.rising order.0 order.1).1)),
 )
