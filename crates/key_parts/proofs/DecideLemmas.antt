@@ -181,7 +181,8 @@ agrees_all parts calls w shared picked a a_in = record {
 }
 
 order_all : (place : ℕ) (parts : List Part) (calls : List KeyedCall) (w : Choice) → HaveGrown place calls calls
-    → AllPairs (λ a b. a.inv < b.inv) calls → AreOfOnePart parts calls → ShareKeys parts → choices_of parts w → All (IsPicked calls w) parts → HasKeyedOrder w.holds (map (rest_of w) calls)
+    → AllPairs (λ a b. a.inv < b.inv) calls → AreOfOnePart parts calls → ShareKeys parts → choices_of parts w → All (IsPicked calls w) parts
+    → HasKeyedOrder w.holds (map (rest_of w) calls)
 order_all place parts calls w grown rising one shared is picked =
     (accepted_decide w.holds all_keys w calls grown.apart rising grown.formed).1
     ((parts_judge w.holds (map (λ part. part.keys) parts) (accepted_rest w calls)

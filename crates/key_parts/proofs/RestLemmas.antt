@@ -373,7 +373,7 @@ module _ (keys : Keys) (more : List KeyedCall) (w v : Choice) (b : KeyedCall) (a
 
 -- ---- keys at rest
 
--- a call that may change a key and is left there stays quiet
+-- what is quiet stays so where more is taken, or where it was pending and is answered
 quiet_on : (t s : Bool) (e f : Effect) → (t ≡ true → s ≡ true) → (e ≡ f) ⊎ (((value : Option ℕ) → e.fits value ≡ true) × LeaveTheSame e f)
     → ((value : Option ℕ) → (cond t no_effect e).fits value ≡ true → (cond t no_effect e).leaves value ≡ value)
     → (value : Option ℕ) → (cond s no_effect f).fits value ≡ true → (cond s no_effect f).leaves value ≡ value
@@ -390,8 +390,8 @@ none_quiet e none value fits = none.leaves value
 
 -- where keys are at rest, all that the read does not precede is quiet there
 at_rest : (place : ℕ) (calls more : List KeyedCall) (keys : Keys) (past next v : Choice) (b : KeyedCall) → HaveGrown place calls more
-    → Contains calls b → is_completed b ≡ true → IsAtRest keys past calls b → IsAfterCall keys past b next → IsAt keys next v → (d : KeyedCall) (key : ℕ)
-    → Contains more d → concerned keys b key ≡ true → precedes b d ≡ false → IsQuiet (rest_of v d) key
+    → Contains calls b → is_completed b ≡ true → IsAtRest keys past calls b → IsAfterCall keys past b next → IsAt keys next v
+    → (d : KeyedCall) (key : ℕ) → Contains more d → concerned keys b key ≡ true → precedes b d ≡ false → IsQuiet (rest_of v d) key
 at_rest place calls more keys past next v b grown b_in completed rest after same d key d_in here sooner =
     let (is, concerns) = and_parts (keys key) (b.concerns key) here in
     ⊎_elim
