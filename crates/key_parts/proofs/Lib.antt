@@ -8,4 +8,8 @@ pub mod BackLemmas
 pub mod InsertLemmas
 pub mod CallLemmas
 pub mod KnownLemmas
+pub mod SomeLemmas
+pub mod OperationLemmas
+pub mod RestLemmas
+pub mod DecideLemmas
 pub mod WiderLemmas
