@@ -1,12 +1,12 @@
 -- Rules that go further than the laws, and are false.
-use Rattle.std.specs.Prelude.{◌≡◌, ◌⊎◌, ℕ, ◌<◌, true, false, List, [], ◌∷◌, ◌++◌, Option, All, AllPairs, Contains}
+use Rattle.std.specs.Prelude.{◌≡◌, ℕ, ◌<◌, true, false, List, [], ◌∷◌, ◌++◌, Option, All, AllPairs, Contains}
 use Rattle.key_effects.specs.KeyedCalls.{KeyedCall, is_completed}
 use Rattle.key_effects.specs.KeyedOrders.{HasKeyedOrder}
 use Rattle.key_effects.specs.Growth.{HaveGrown}
 use Rattle.key_effects.specs.Choices.{Choice, rest_of}
 use Rattle.key_effects.specs.Cuts.{Keys}
 use Rattle.key_parts.specs.Parts.{Part, StandFor, SomePastGoesOn}
-use Rattle.key_parts.specs.Steps.{IsLeftAt, NoneIsLeftAt, MayComeNext, IsAfterCall, ArePartedBefore, IsReadAt}
+use Rattle.key_parts.specs.Steps.{IsLeftAt, MayComeNext, IsAfterCall, AreKnownAt, ArePartedBefore, IsReadAt}
 
 -- that calls have an order where each part has a past that goes on, though a call is left at the keys of two parts
 abbrev pub AnyPartsDecide : Type 0
@@ -19,7 +19,7 @@ abbrev pub PendingCallsMustCome : Type 0
 PendingCallsMustCome =
     (held : ℕ → Option ℕ) (place limit : ℕ) (calls : List KeyedCall) (keys : Keys) (past : Choice) (others nexts : List Choice) (rest : List Part)
     (begun : KeyedCall) → Contains calls begun → begun.inv < limit → begun.refused ≡ false → IsLeftAt keys past begun
-    → ((a : KeyedCall) → Contains calls a → a.inv < limit → a.refused ≡ false → IsLeftAt keys past a ⊎ NoneIsLeftAt keys past a)
+    → AreKnownAt keys limit past calls
     → ArePartedBefore keys limit (record { keys = keys; pasts = past ∷ [] } ∷ rest) calls
     → ((a : KeyedCall) → Contains calls a → MayComeNext keys past calls a
     → (next : Choice) × Contains nexts next × IsAfterCall keys past a next)
