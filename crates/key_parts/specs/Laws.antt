@@ -1,0 +1,111 @@
+-- Laws of parts.
+use Rattle.std.specs.Prelude.{◌≡◌, ◌⊎◌, ◌↔◌, ℕ, ◌<◌, ◌≤◌, true, false, List, [], ◌∷◌, ◌++◌, map, Option, All, AllPairs, Contains}
+use Rattle.events.specs.declared.operation.Operation.{Operation}
+use Rattle.map_object.specs.MapObject.{Contents}
+use Rattle.orders.specs.Orders.{IsLinearizable}
+use Rattle.key_effects.specs.KeyedCalls.{KeyedCall, is_completed, ends_before, keyed}
+use Rattle.key_effects.specs.KeyedOrders.{HasKeyedOrder, AreKeyedCalls}
+use Rattle.key_effects.specs.Growth.{HaveGrown}
+use Rattle.key_effects.specs.Choices.{Choice, at_first, rest_of}
+use Rattle.key_effects.specs.Cuts.{Keys}
+use Rattle.key_effects.specs.Apart.{AreApart}
+use Rattle.key_parts.specs.Parts.{Part, IsOneOf, ShareKeys, StandFor, GoesOnAt, SomePastGoesOn, AreOfOnePart, left_at}
+use Rattle.key_parts.specs.Steps.{IsLeftAt, MayComeNext, IsAfterCall, AreKnownAt, ArePartedBefore, IsReadAt, IsAtRest, AreJoined}
+use Rattle.key_parts.specs.Operations.{AreLeftCalls}
+use Rattle.key_parts.specs.Wider.{AnyPartsDecide, PendingCallsMustCome, ReadsAreTakenAtOnce}
+
+-- before any event all keys are one part, of one past: no call is taken, and the keys hold what they hold at the start
+abbrev pub PartsBegin : Type 0
+PartsBegin = (held : ℕ → Option ℕ) → StandFor held 0 [] (record { keys = λ key. true; pasts = at_first held ∷ [] } ∷ [])
+
+-- parts that stand for the calls do so with further events
+abbrev pub PartsStay : Type 0
+PartsStay =
+    (held : ℕ → Option ℕ) (place next : ℕ) (calls more : List KeyedCall) (parts : List Part) → place ≤ next → HaveGrown place calls more
+    → StandFor held place calls parts → StandFor held next more parts
+
+-- in any order
+abbrev pub PartsInAnyOrder : Type 0
+PartsInAnyOrder =
+    (held : ℕ → Option ℕ) (place : ℕ) (calls : List KeyedCall) (parts others : List Part) → ShareKeys others
+    → ((part : Part) → Contains parts part → Contains others part) → ((part : Part) → Contains others part → Contains parts part)
+    → StandFor held place calls parts → StandFor held place calls others
+
+-- the calls have an order exactly where each part has a past that goes on to one at its keys
+abbrev pub PartsDecide : Type 0
+PartsDecide =
+    (held : ℕ → Option ℕ) (place : ℕ) (calls : List KeyedCall) (parts : List Part) → HaveGrown place calls calls
+    → AllPairs (λ a b. a.inv < b.inv) calls → AreOfOnePart parts calls → StandFor held place calls parts
+    → HasKeyedOrder held calls ↔ All (SomePastGoesOn calls) parts
+
+-- a past that goes on to no order at its keys may go, and so may one that is there twice
+abbrev pub DeadPastsGo : Type 0
+DeadPastsGo =
+    (held : ℕ → Option ℕ) (place : ℕ) (calls : List KeyedCall) (keys : Keys) (pasts left : List Choice) (rest : List Part)
+    → ((past : Choice) → Contains pasts past → IsOneOf keys left past ⊎ (GoesOnAt keys past calls → ⊥))
+    → ((past : Choice) → Contains left past → IsOneOf keys pasts past)
+    → StandFor held place calls (record { keys = keys; pasts = pasts } ∷ rest)
+    → StandFor held place calls (record { keys = keys; pasts = left } ∷ rest)
+
+-- where some call that was answered must still come, a past becomes those that it comes to by each call that may come next: these began before
+-- that answer
+abbrev pub CallsComeNext : Type 0
+CallsComeNext =
+    (held : ℕ → Option ℕ) (place limit : ℕ) (calls : List KeyedCall) (keys : Keys) (past : Choice) (others nexts : List Choice) (rest : List Part)
+    (ended : KeyedCall) → Contains calls ended → ends_before ended.res limit ≡ true → ended.refused ≡ false
+    → IsLeftAt keys past ended → AreKnownAt keys limit past calls
+    → ArePartedBefore keys limit (record { keys = keys; pasts = past ∷ [] } ∷ rest) calls
+    → ((a : KeyedCall) → Contains calls a → MayComeNext keys past calls a
+    → (next : Choice) × Contains nexts next × IsAfterCall keys past a next)
+    → ((next : Choice) → Contains nexts next
+    → (a : KeyedCall) × Contains calls a × MayComeNext keys past calls a × IsAfterCall keys past a next)
+    → StandFor held place calls (record { keys = keys; pasts = past ∷ others } ∷ rest)
+    → StandFor held place calls (record { keys = keys; pasts = nexts ++ others } ∷ rest)
+
+-- of calls of a history it is known whether something is left of them
+abbrev pub CallsAreKnown : Type 0
+CallsAreKnown = (keys : Keys) (place : ℕ) (past : Choice) (calls : List Operation) → AreKnownAt keys place past (map keyed calls)
+
+-- a read that was answered, and may come next, may be taken at once, and no other call in its stead
+abbrev pub ReadsComeNext : Type 0
+ReadsComeNext =
+    (held : ℕ → Option ℕ) (place limit : ℕ) (calls : List KeyedCall) (keys : Keys) (past next : Choice) (others : List Choice) (rest : List Part)
+    (b : KeyedCall) → Contains calls b → is_completed b ≡ true → b.inv < limit → MayComeNext keys past calls b → IsReadAt keys past b
+    → IsAfterCall keys past b next → ArePartedBefore keys limit (record { keys = keys; pasts = past ∷ [] } ∷ rest) calls
+    → StandFor held place calls (record { keys = keys; pasts = past ∷ others } ∷ rest)
+    → StandFor held place calls (record { keys = keys; pasts = next ∷ others } ∷ rest)
+
+-- a read that was answered is taken at keys at rest, where it fits what they hold, even though it is left at others
+abbrev pub ReadsAreTakenAtRest : Type 0
+ReadsAreTakenAtRest =
+    (held : ℕ → Option ℕ) (place : ℕ) (calls : List KeyedCall) (keys : Keys) (past next : Choice) (others : List Choice) (rest : List Part)
+    (b : KeyedCall) → Contains calls b → is_completed b ≡ true → b.refused ≡ false → IsReadAt keys past b
+    → ((key : ℕ) → keys key ≡ true → ((rest_of past b).effect key).fits (past.holds key) ≡ true) → IsAtRest keys past calls b
+    → IsAfterCall keys past b next → StandFor held place calls (record { keys = keys; pasts = past ∷ others } ∷ rest)
+    → StandFor held place calls (record { keys = keys; pasts = next ∷ others } ∷ rest)
+
+-- two parts are as good as one of the keys of both that has all pairs of their pasts
+abbrev pub PartsUnite : Type 0
+PartsUnite =
+    (held : ℕ → Option ℕ) (place : ℕ) (calls : List KeyedCall) (part other both : Part) (rest : List Part) → AreApart part.keys other.keys
+    → AreJoined part other both
+    → StandFor held place calls (part ∷ other ∷ rest) ↔ StandFor held place calls (both ∷ rest)
+
+-- what is left at some keys has an order exactly where it has one as calls of a map that has these keys alone
+abbrev pub OperationsDecide : Type 0
+OperationsDecide =
+    (keys : Keys) (past : Choice) (calls : List KeyedCall) (pairs : Contents) (left : List Operation) → AreKeyedCalls calls
+    → AllPairs (λ a b. a.inv < b.inv) calls → AreLeftCalls keys past calls pairs left
+    → HasKeyedOrder past.holds (map (left_at keys past) calls) ↔ IsLinearizable pairs left
+
+-- but where a call is left at the keys of two parts, each may have a past that goes on, and the calls no order
+abbrev pub PartsMayBeTied : Type 0
+PartsMayBeTied = AnyPartsDecide → ⊥
+
+-- where no call that is left was answered, none need come, and a past that goes may be lost
+abbrev pub PastsMayStay : Type 0
+PastsMayStay = PendingCallsMustCome → ⊥
+
+-- and a read that is taken too early may gain an order
+abbrev pub EarlyReadsGain : Type 0
+EarlyReadsGain = ReadsAreTakenAtOnce → ⊥

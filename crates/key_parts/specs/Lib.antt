@@ -1,0 +1,5 @@
+pub mod Parts
+pub mod Steps
+pub mod Operations
+pub mod Laws
+pub mod Wider

@@ -1,0 +1,64 @@
+-- What is kept of the calls so far: parts, each of some keys with the pasts that these may have. A past is a choice of which the part's keys
+-- alone count. So what is known of one part does not depend on what the others have come to.
+use Rattle.std.specs.Prelude.{◌≡◌, ◌⊎◌, ℕ, true, false, List, map, All, AllPairs, Contains, Option}
+use Rattle.key_effects.specs.KeyedCalls.{KeyedCall, is_completed}
+use Rattle.key_effects.specs.KeyedOrders.{HasKeyedOrder}
+use Rattle.key_effects.specs.Choices.{Choice, Choices, rest_of, StandAbove, StandBelow}
+use Rattle.key_effects.specs.Cuts.{Keys, IsWithin}
+use Rattle.key_effects.specs.Apart.{only, AreApart, IsRead}
+
+-- keys that are kept together, and the pasts that they may have
+pub record Part : Type 0 where
+  pub keys : Keys
+  pub pasts : List Choice
+
+-- at some keys, a choice is this past: the same calls are taken there and found the same, and the keys hold the same
+pub record IsAt (keys : Keys) (past w : Choice) : Type 0 where
+  pub taken : (inv key : ℕ) → keys key ≡ true → w.taken inv key ≡ past.taken inv key
+  pub found : (inv key : ℕ) → keys key ≡ true → past.taken inv key ≡ true → w.found inv key ≡ past.found inv key
+  pub holds : (key : ℕ) → keys key ≡ true → w.holds key ≡ past.holds key
+
+-- at some keys, one of these pasts
+abbrev pub IsOneOf : Keys → List Choice → Choice → Type 0
+IsOneOf keys pasts w = (past : Choice) × Contains pasts past × IsAt keys past w
+
+-- the choices of parts: at the keys of each, one of its pasts
+abbrev pub choices_of : List Part → Choices
+choices_of parts w = All (λ part. IsOneOf part.keys part.pasts w) parts
+
+-- each key is one part's, and no other's
+pub record ShareKeys (parts : List Part) : Type 0 where
+  pub apart : AllPairs (λ part other. AreApart part.keys other.keys) parts
+  pub every : (key : ℕ) → (part : Part) × Contains parts part × (part.keys key ≡ true)
+
+-- parts stand for the calls so far, whatever events follow: their choices stand above the calls, and below
+pub record StandFor (held : ℕ → Option ℕ) (place : ℕ) (calls : List KeyedCall) (parts : List Part) : Type 0 where
+  pub shared : ShareKeys parts
+  pub above : StandAbove held place calls (choices_of parts)
+  pub below : StandBelow held place calls (choices_of parts)
+
+-- what is left of a call at some keys
+abbrev pub left_at : Keys → Choice → KeyedCall → KeyedCall
+left_at keys past a = only keys (rest_of past a)
+
+-- a call that was taken at these keys fits what it found there, and was not refused
+pub record AgreesAt (keys : Keys) (past : Choice) (a : KeyedCall) : Type 0 where
+  pub accepted : (key : ℕ) → keys key ≡ true → past.taken a.inv key ≡ true → a.refused ≡ false
+  pub fits : (key : ℕ) → keys key ≡ true → past.taken a.inv key ≡ true → (a.effect key).fits (past.found a.inv key) ≡ true
+
+-- at these keys alone, a past goes on to an order of the calls
+abbrev pub GoesOnAt : Keys → Choice → List KeyedCall → Type 0
+GoesOnAt keys past calls = All (AgreesAt keys past) calls × HasKeyedOrder past.holds (map (left_at keys past) calls)
+
+abbrev pub SomePastGoesOn : List KeyedCall → Part → Type 0
+SomePastGoesOn calls part = (past : Choice) × Contains part.pasts past × GoesOnAt part.keys past calls
+
+-- as far as it is left, a call concerns keys of one part alone; but for such as were refused, and reads that are pending
+abbrev pub IsOfOnePart : List Part → Choice → KeyedCall → Type 0
+IsOfOnePart parts w a =
+    (a.refused ≡ true)
+    ⊎ ((is_completed a ≡ false) × IsRead a)
+    ⊎ ((part : Part) × Contains parts part × IsWithin part.keys (rest_of w a))
+
+abbrev pub AreOfOnePart : List Part → List KeyedCall → Type 0
+AreOfOnePart parts calls = (w : Choice) (a : KeyedCall) → choices_of parts w → Contains calls a → IsOfOnePart parts w a
