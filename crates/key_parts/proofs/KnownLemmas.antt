@@ -1,13 +1,12 @@
 -- Of a call of a history it is known whether something is left of it at some keys: it concerns keys up to one.
-use Rattle.std.proofs.Common.{◌≡◌, ℕ, zero, suc, ◌+◌, ◌<◌, Bool, true, false, not, nat_le, ◌&&◌, map, List, inl, inr, subst, ⊎_elim, arith, sym, ap}
-use Rattle.std.specs.Prelude.{◌⊎◌, ◌≤◌, Contains}
+use Rattle.std.proofs.Common.{◌≡◌, ℕ, zero, suc, ◌+◌, ◌<◌, Bool, true, false, not, nat_le, ◌&&◌, inl, inr, subst, ⊎_elim, arith, sym}
+use Rattle.std.specs.Prelude.{◌⊎◌, ◌≤◌}
 use Rattle.std.proofs.lemmas.Bool.{and_parts, and_from, false_from_ne_true, eqb-true, leb-true}
 use Rattle.list_laws.proofs.FilterLemmas.{Contains-from_map}
 use Rattle.events.specs.declared.event.Call.{Call}
 use Rattle.events.specs.declared.event.Call.TheVariants.{Get, Insert, Remove, Scan, Replace}
-use Rattle.events.specs.declared.operation.Operation.{Operation}
 use Rattle.key_effects.specs.KeyedCalls.{KeyedCall, concerns_key, keyed}
-use Rattle.key_effects.specs.Choices.{Choice, rest_of}
+use Rattle.key_effects.specs.Choices.{Choice}
 use Rattle.key_effects.specs.Cuts.{Keys}
 use Rattle.key_effects.proofs.DeadLemmas.{bool_cases}
 use Rattle.key_parts.specs.Laws.{CallsAreKnown}
