@@ -1,28 +1,26 @@
 -- A part takes a step: one more call is taken at its keys.
-use Rattle.std.proofs.Common.{◌≡◌, ℕ, ◌<◌, Bool, true, false, not, ◌&&◌, ◌==◌, cond, List, [], ◌∷◌, ◌++◌, map, Option, inl, inr, refl, sym, ap, ◌∙◌, subst, ⊎_elim}
+use Rattle.std.proofs.Common.{◌≡◌, ℕ, ◌<◌, Bool, true, false, not, ◌&&◌, ◌==◌, List, [], ◌∷◌, ◌++◌, map, Option, refl, sym, ap, ◌∙◌, subst, ⊎_elim}
 use Rattle.std.specs.Prelude.{◌≢◌, ◌⊎◌, Contains}
 use Rattle.std.proofs.lemmas.Bool.{and_parts, false_from_ne_true, eqb-true}
-use Rattle.std.proofs.lemmas.List.Elements.{All-cons, All-head, All-tail, All-contains, Contains-append_left, Contains-append_right, Contains-append_cases}
-use Rattle.list_laws.proofs.FilterLemmas.{Contains-from_map}
+use Rattle.std.proofs.lemmas.List.Elements.{All-head, All-contains, Contains-append_left, Contains-append_right, Contains-append_cases}
 use Rattle.list_laws.proofs.Lists.{AllPairs-head, AllPairs-back, Contains-first, Contains-later, Contains-cases}
-use Rattle.key_effects.specs.KeyedCalls.{KeyedCall, no_effect, IsNoEffect, precedes}
+use Rattle.key_effects.specs.KeyedCalls.{KeyedCall, IsNoEffect, precedes}
 use Rattle.key_effects.specs.KeyedOrders.{FitInTurn, AreDistinct}
 use Rattle.key_effects.specs.Growth.{IsLater, HaveGrown}
 use Rattle.key_effects.specs.Choices.{Choice, rest_of, GoesOn}
 use Rattle.key_effects.specs.Cuts.{Keys, IsWithin, IsOutside}
-use Rattle.key_effects.specs.Apart.{IsQuiet, other_keys}
+use Rattle.key_effects.specs.Apart.{other_keys}
 use Rattle.key_effects.proofs.AfterLemmas.{none_left}
-use Rattle.key_effects.proofs.DeadLemmas.{bool_cases}
-use Rattle.key_effects.proofs.OrderLemmas.{same_call}
 use Rattle.key_effects.proofs.TurnLemmas.{fit-back}
 use Rattle.key_parts.specs.Parts.{Part, IsAt, IsOneOf, ShareKeys, choices_of}
-use Rattle.key_parts.specs.Steps.{MayComeNext, IsAfterCall, ArePartedBefore, IsReadAt}
+use Rattle.key_parts.specs.Steps.{MayComeNext, IsAfterCall, ArePartedBefore}
 use Rattle.key_parts.specs.Laws.{CallsComeNext, ReadsComeNext}
-use Rattle.key_parts.proofs.FirstLemmas.{begun_before, completed_stays, AtEnded, IsNotLeft, not_left_none, first_left, may_come}
+use Rattle.key_parts.proofs.FirstLemmas.{begun_before, AtEnded, IsNotLeft, not_left_none, first_left, may_come}
 use Rattle.key_parts.proofs.InsertLemmas.{goes_back}
-use Rattle.key_parts.proofs.MaskLemmas.{masked_by, quiet_masked, first_masked}
+use Rattle.key_parts.proofs.MaskLemmas.{masked_by, first_masked}
 use Rattle.key_parts.proofs.NextLemmas.{taken_by, IsTaken, rest_leaves, taken_none, goes_on_next}
-use Rattle.key_parts.proofs.PartLemmas.{instead, instead_here, instead_there, keys_shared, with_instead, part_steps}
+use Rattle.key_parts.proofs.ReadLemmas.{read_comes}
+use Rattle.key_parts.proofs.PartLemmas.{instead, instead_here, instead_there, keys_shared, with_instead, with_other, part_steps}
 
 -- ---- above
 
@@ -82,49 +80,6 @@ some_comes keys place limit calls more past w nexts ended come goes_on at =
       first_goes_on keys place limit calls more past w ended goes_on at front back a d whole d_in later accepted passed next after,
     )
 
--- a read is taken out of an order, in which it is quiet
-module _ (keys : Keys) (place : ℕ) (calls more : List KeyedCall) (past next w : Choice) (b : KeyedCall) (same : IsAt keys past w)
-    (grown : HaveGrown place calls more) (b_in : Contains more b) (may : MayComeNext keys past calls b) (read : IsReadAt keys past b)
-    (after : IsAfterCall keys past b next) where
-  read_fits : (key : ℕ) → keys key ≡ true → ((rest_of w b).effect key).fits (w.holds key) ≡ true
-  read_fits key is =
-      subst (λ (t : Bool). (cond t no_effect (b.effect key)).fits (w.holds key) ≡ true) (sym (same.taken b.inv key is))
-      (subst (λ (v : Option ℕ). (cond (past.taken b.inv key) no_effect (b.effect key)).fits v ≡ true) (sym (same.holds key is)) (may.fits key is))
-
-  read_quiet : (key : ℕ) → keys key ≡ true → IsQuiet (rest_of w b) key
-  read_quiet key is value fits =
-      ap (λ (t : Bool). (cond t no_effect (b.effect key)).leaves value) (same.taken b.inv key is)
-      ∙ read key is value (subst (λ (t : Bool). (cond t no_effect (b.effect key)).fits value ≡ true) (same.taken b.inv key is) fits)
-
-  read_taken : IsTaken keys place calls more past next w b b
-  read_taken = record {
-    same = same;
-    after = after;
-    grown = grown;
-    in_more = b_in;
-    later = record { inv = refl; concerns = λ key. refl; response = inl refl };
-    accepted = may.accepted;
-  }
-
-  read_goes_on : GoesOn w more → GoesOn (instead keys next w) more
-  read_goes_on goes_on =
-      goes_on_next keys place calls more past next w b b read_taken goes_on read_fits (λ key is.
-      subst (λ (v : Option ℕ). FitInTurn key v (map (masked_by (taken_by keys b)) goes_on.1.0))
-      (sym (rest_leaves keys place calls more past next w b b read_taken key is (read_fits key is)
-      ∙ read_quiet key is (w.holds key) (read_fits key is)))
-      (quiet_masked (taken_by keys b) key goes_on.1.0 (w.holds key)
-      (λ x x_in. quiet x key is (Contains-from_map (rest_of w) more x (goes_on.1.1.known x x_in)) (bool_cases (taken_by keys b x.inv key)))
-      (goes_on.1.1.fit key)))
-    where
-      quiet : (x : KeyedCall) (key : ℕ) → keys key ≡ true → (e : KeyedCall) × Contains more e × (rest_of w e ≡ x)
-          → (taken_by keys b x.inv key ≡ true) ⊎ (taken_by keys b x.inv key ≡ false) → (taken_by keys b x.inv key ≡ false) ⊎ IsQuiet x key
-      quiet x key is some (inr out) = inl out
-      quiet x key is (e, e_in, e_is) (inl taken) =
-          let (there, others) = and_parts (keys key) ((x.inv == b.inv) && b.concerns key) taken in
-          let (named, concerned) = and_parts (x.inv == b.inv) (b.concerns key) others in
-          let one : e ≡ b = same_call more e b grown.apart.distinct e_in b_in (ap (λ (z : KeyedCall). z.inv) e_is ∙ eqb-true x.inv b.inv named) in
-          inr (subst (λ (z : KeyedCall). IsQuiet z key) (ap (λ (z : KeyedCall). rest_of w z) (sym one) ∙ e_is) (read_quiet key is))
-
 -- ---- below
 
 -- a choice that goes on after the call goes on before it
@@ -167,14 +122,6 @@ step_back keys place limit calls more past next v pasts rest a begun a_in may af
 
 -- ---- the laws
 
--- a choice that is another of the pasts stays
-stays : (keys : Keys) (pasts nexts : List Choice) (rest : List Part) (w past : Choice)
-    → choices_of (record { keys = keys; pasts = pasts } ∷ rest) w → Contains nexts past → IsAt keys past w
-    → choices_of (record { keys = keys; pasts = nexts } ∷ rest) w
-stays keys pasts nexts rest w past is past_in same =
-    All-cons (λ part. IsOneOf part.keys part.pasts w) (record { keys = keys; pasts = nexts }) rest (past, past_in, same)
-    (All-tail (λ part. IsOneOf part.keys part.pasts w) (record { keys = keys; pasts = pasts }) rest is)
-
 pub calls_come_next : CallsComeNext
 calls_come_next held place limit calls keys past others nexts rest ended ended_in ended_before accepted is_left known parted come reached stand =
     part_steps held place calls keys (past ∷ others) (nexts ++ others) rest
@@ -196,7 +143,7 @@ calls_come_next held place limit calls keys past others nexts rest ended ended_i
       with_instead keys (past ∷ others) (nexts ++ others) rest next w stand.shared (Contains-append_left nexts others next next_in) w_is,
       goes,
     ))
-    (λ other. (w, stays keys (past ∷ others) (nexts ++ others) rest w p w_is (Contains-append_right nexts others p other) same, goes_on))
+    (λ other. (w, with_other keys (past ∷ others) (nexts ++ others) rest w p w_is (Contains-append_right nexts others p other) same, goes_on))
     (Contains-cases past others p p_in))
     (λ v more v_is grown goes_on.
     let (p, p_in, same) = All-head (λ part. IsOneOf part.keys part.pasts v) (record { keys = keys; pasts = nexts ++ others }) rest v_is in
@@ -207,7 +154,7 @@ calls_come_next held place limit calls keys past others nexts rest ended ended_i
       with_instead keys (nexts ++ others) (past ∷ others) rest past v shared (Contains-first past others) v_is,
       step_back keys place limit calls more past p v (nexts ++ others) rest a (begun a may) a_in may after parted shared v_is same grown goes_on,
     ))
-    (λ other. (v, stays keys (nexts ++ others) (past ∷ others) rest v p v_is (Contains-later past others p other) same, goes_on))
+    (λ other. (v, with_other keys (nexts ++ others) (past ∷ others) rest v p v_is (Contains-later past others p other) same, goes_on))
     (Contains-append_cases nexts others p p_in))
     stand
   where
@@ -227,17 +174,7 @@ calls_come_next held place limit calls keys past others nexts rest ended ended_i
 pub reads_come_next : ReadsComeNext
 reads_come_next held place limit calls keys past next others rest b b_in completed begun may read after parted stand =
     part_steps held place calls keys (past ∷ others) (next ∷ others) rest
-    (λ w more w_is grown goes_on.
-    let (p, p_in, same) = All-head (λ part. IsOneOf part.keys part.pasts w) (record { keys = keys; pasts = past ∷ others }) rest w_is in
-    ⊎_elim
-    (λ first. (
-      instead keys next w,
-      with_instead keys (past ∷ others) (next ∷ others) rest next w stand.shared (Contains-first next others) w_is,
-      read_goes_on keys place calls more past next w b (subst (λ (q : Choice). IsAt keys q w) (sym first) same) grown
-          (completed_stays place calls more b grown b_in completed) may read after goes_on,
-    ))
-    (λ other. (w, stays keys (past ∷ others) (next ∷ others) rest w p w_is (Contains-later next others p other) same, goes_on))
-    (Contains-cases past others p p_in))
+    (read_comes place calls keys past next others rest b b_in completed may.accepted read may.fits after stand.shared)
     (λ v more v_is grown goes_on.
     let (p, p_in, same) = All-head (λ part. IsOneOf part.keys part.pasts v) (record { keys = keys; pasts = next ∷ others }) rest v_is in
     ⊎_elim
@@ -247,7 +184,7 @@ reads_come_next held place limit calls keys past next others rest b b_in complet
       step_back keys place limit calls more past next v (next ∷ others) rest b begun b_in may after parted shared v_is
           (subst (λ (q : Choice). IsAt keys q v) (sym first) same) grown goes_on,
     ))
-    (λ other. (v, stays keys (next ∷ others) (past ∷ others) rest v p v_is (Contains-later past others p other) same, goes_on))
+    (λ other. (v, with_other keys (next ∷ others) (past ∷ others) rest v p v_is (Contains-later past others p other) same, goes_on))
     (Contains-cases next others p p_in))
     stand
   where

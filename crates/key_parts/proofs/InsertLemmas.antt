@@ -191,7 +191,8 @@ module _ (keys : Keys) (place limit : ℕ) (calls more : List KeyedCall) (past n
       let none : IsNoEffect ((rest_of w d).effect key) = none_elsewhere keys place limit calls more past next w v a d at key out in
       let after : FitInTurn key (left_by key (v.holds key) early) (seconds ++ thirds) =
       fit-append key (left_by key (v.holds key) early) seconds thirds (fit_none key seconds second_none (left_by key (v.holds key) early))
-      (subst (λ (o : Option ℕ). FitInTurn key o thirds) (sym (none_left key seconds (left_by key (v.holds key) early) second_none)) (thirds_fit key)) in
+      (subst (λ (o : Option ℕ). FitInTurn key o thirds) (sym (none_left key seconds (left_by key (v.holds key) early) second_none))
+      (thirds_fit key)) in
       let from_call : FitInTurn key (left_by key (v.holds key) early) (rest_of w d ∷ (seconds ++ thirds)) = (
         none.fits (left_by key (v.holds key) early),
         subst (λ (o : Option ℕ). FitInTurn key o (seconds ++ thirds)) (sym (none.leaves (left_by key (v.holds key) early))) after,

@@ -6,6 +6,7 @@ pub mod FirstLemmas
 pub mod SiftLemmas
 pub mod BackLemmas
 pub mod InsertLemmas
+pub mod ReadLemmas
 pub mod CallLemmas
 pub mod KnownLemmas
 pub mod SomeLemmas
