@@ -46,7 +46,7 @@ module _ (start : Contents) (calls : List Operation) (rising : IsRising start) (
   taken_at order a a_in = Contains-from_filter_map (slice_get calls) order a a_in
 
   -- from an order to one that the keys see
-  keyed_order : (order : List ℕ) → IsOrder start calls order
+  pub keyed_order : (order : List ℕ) → IsOrder start calls order
       → HaveForms calls × IsKeyedOrder (value_at start) (map keyed calls) (map keyed (calls_at calls order))
   keyed_order order is =
       let both = legal_fits (calls_at calls order) start rising is.legal_order.legal in (
@@ -98,7 +98,7 @@ module _ (start : Contents) (calls : List Operation) (rising : IsRising start) (
         All-cons (λ m. m < length calls) n numbers (IsSomeAnd-within calls n (λ b. ⊤) (rw here tt)) within,
       )
 
-  plain_order : HaveForms calls → (order : List KeyedCall) → IsKeyedOrder (value_at start) (map keyed calls) order → IsLinearizable start calls
+  pub plain_order : HaveForms calls → (order : List KeyedCall) → IsKeyedOrder (value_at start) (map keyed calls) order → IsLinearizable start calls
   plain_order forms order is =
       let (numbers, numbers_are, within) = numbers_of order is.known in
       let mapped : IsKeyedOrder (value_at start) (map keyed calls) (map keyed (calls_at calls numbers)) =

@@ -21,7 +21,7 @@ and_false : (t : Bool) (c : Bool) → c ≡ false → (t && c) ≡ false
 and_false true c is = is
 and_false false c is = refl
 
-none_at : (t : Bool) (e : Effect) → IsNoEffect e → IsNoEffect (cond t e no_effect)
+pub none_at : (t : Bool) (e : Effect) → IsNoEffect e → IsNoEffect (cond t e no_effect)
 none_at true e none = none
 none_at false e none = none_none
 

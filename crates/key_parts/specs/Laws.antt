@@ -4,7 +4,7 @@ use Rattle.events.specs.declared.operation.Operation.{Operation}
 use Rattle.map_object.specs.MapObject.{Contents}
 use Rattle.orders.specs.Orders.{IsLinearizable}
 use Rattle.key_effects.specs.KeyedCalls.{KeyedCall, is_completed, ends_before}
-use Rattle.key_effects.specs.KeyedOrders.{HasKeyedOrder}
+use Rattle.key_effects.specs.KeyedOrders.{HasKeyedOrder, AreKeyedCalls}
 use Rattle.key_effects.specs.Growth.{HaveGrown}
 use Rattle.key_effects.specs.Choices.{Choice, at_first, rest_of}
 use Rattle.key_effects.specs.Cuts.{Keys}
@@ -76,9 +76,9 @@ ReadsComeNext =
 abbrev pub ReadsAreTakenAtRest : Type 0
 ReadsAreTakenAtRest =
     (held : ℕ → Option ℕ) (place : ℕ) (calls : List KeyedCall) (keys : Keys) (past next : Choice) (others : List Choice) (rest : List Part)
-    (b : KeyedCall) → HaveGrown place calls calls → Contains calls b → is_completed b ≡ true → b.refused ≡ false → IsReadAt keys past b
-    → ((key : ℕ) → keys key ≡ true → ((rest_of past b).effect key).fits (past.holds key) ≡ true) → IsAtRest keys past calls b → IsAfterCall keys past b next
-    → StandFor held place calls (record { keys = keys; pasts = past ∷ others } ∷ rest)
+    (b : KeyedCall) → Contains calls b → is_completed b ≡ true → b.refused ≡ false → IsReadAt keys past b
+    → ((key : ℕ) → keys key ≡ true → ((rest_of past b).effect key).fits (past.holds key) ≡ true) → IsAtRest keys past calls b
+    → IsAfterCall keys past b next → StandFor held place calls (record { keys = keys; pasts = past ∷ others } ∷ rest)
     → StandFor held place calls (record { keys = keys; pasts = next ∷ others } ∷ rest)
 
 -- two parts are as good as one of the keys of both that has all pairs of their pasts
@@ -91,7 +91,7 @@ PartsUnite =
 -- what is left at some keys has an order exactly where it has one as calls of a map that has these keys alone
 abbrev pub OperationsDecide : Type 0
 OperationsDecide =
-    (keys : Keys) (place : ℕ) (past : Choice) (calls : List KeyedCall) (pairs : Contents) (left : List Operation) → HaveGrown place calls calls
+    (keys : Keys) (past : Choice) (calls : List KeyedCall) (pairs : Contents) (left : List Operation) → AreKeyedCalls calls
     → AllPairs (λ a b. a.inv < b.inv) calls → AreLeftCalls keys past calls pairs left
     → HasKeyedOrder past.holds (map (left_at keys past) calls) ↔ IsLinearizable pairs left
 

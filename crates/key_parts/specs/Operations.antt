@@ -1,7 +1,6 @@
 -- What is left at some keys, as calls of a map that has these keys alone.
 use Rattle.std.specs.Prelude.{◌≡◌, ◌⊎◌, ℕ, ◌<◌, true, false, List, None, AllPairs, Contains}
 use Rattle.events.specs.declared.operation.Operation.{Operation}
-use Rattle.events.specs.Precedence.{NonePrecedesItself}
 use Rattle.map_object.specs.MapObject.{Contents, IsRising, value_at}
 use Rattle.key_effects.specs.KeyedCalls.{KeyedCall, IsNoEffect, keyed}
 use Rattle.key_effects.specs.Forms.{HaveForms}
@@ -17,7 +16,6 @@ pub record AreLeftCalls (keys : Keys) (past : Choice) (calls : List KeyedCall) (
   pub same : (key : ℕ) → keys key ≡ true → value_at pairs key ≡ past.holds key
   pub nothing : (key : ℕ) → keys key ≡ false → value_at pairs key ≡ None
   pub rising : AllPairs (λ a b. a.inv < b.inv) left
-  pub apart : NonePrecedesItself left
   pub forms : HaveForms left
   pub there : (a : KeyedCall) → Contains calls a
       → ((key : ℕ) → IsNoEffect ((left_at keys past a).effect key))

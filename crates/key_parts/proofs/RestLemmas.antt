@@ -1,0 +1,504 @@
+-- A read that was answered, taken at keys at rest. `at_taken`: two choices that differ by it. `read_forth`, `read_back`: each goes on where the
+-- other does.
+use Rattle.std.proofs.Common.{◌≡◌, ℕ, ◌==◌, ◌<◌, Bool, true, false, not, ◌&&◌, ◌||◌, cond, List, [], ◌∷◌, ◌++◌, map, Option, inl, inr, refl, sym, ap, ◌∙◌, subst, ⊎_elim, arith}
+use Rattle.std.specs.Prelude.{◌≢◌, ◌⊎◌, All, Contains}
+use Rattle.std.proofs.lemmas.Bool.{eqb-true, eq-eqb, and_parts}
+use Rattle.std.proofs.lemmas.List.Elements.{All-cons, All-head, All-tail, All-contains, Contains-append_left}
+use Rattle.list_laws.proofs.FilterLemmas.{AllPairs-map, Contains-map, Contains-from_map}
+use Rattle.list_laws.proofs.Lists.{AllPairs-across, AllPairs-back, AllPairs-head, All-from_contains, Contains-first, Contains-later, Contains-cases, Contains-split}
+use mathlib.Core.Path.{fun_ext}
+use Rattle.key_effects.specs.KeyedCalls.{KeyedCall, Effect, IsNoEffect, IsFormed, no_effect, is_completed, ends_before, precedes}
+use Rattle.key_effects.specs.KeyedOrders.{FitInTurn, AreDistinct, KeepPrecedence, IsKeyedOrder, AreKeyedCalls}
+use Rattle.key_effects.specs.Growth.{LeaveTheSame, IsAnsweredAs, IsLater, HaveGrown}
+use Rattle.key_effects.specs.Choices.{Choice, rest_of, Agrees, GoesOn, SomeGoesOn}
+use Rattle.key_effects.specs.Cuts.{Keys}
+use Rattle.key_effects.specs.Apart.{other_keys, AreApart, IsQuiet}
+use Rattle.key_effects.proofs.DeadLemmas.{bool_cases, response_of}
+use Rattle.key_effects.proofs.OrderLemmas.{same_call, ends_at}
+use Rattle.key_effects.proofs.RestLemmas.{none_none, refused_none}
+use Rattle.key_parts.specs.Laws.{ReadsAreTakenAtRest}
+use Rattle.key_parts.specs.Parts.{Part, IsAt, IsOneOf, choices_of}
+use Rattle.key_parts.specs.Steps.{IsAfterCall, IsReadAt, IsAtRest}
+use Rattle.key_parts.proofs.MaskLemmas.{masked_by, order_masked}
+use Rattle.key_parts.proofs.PartLemmas.{at_back, instead, instead_here, instead_there, keys_shared, with_instead, part_steps}
+
+-- ---- two choices, of which one takes a call at some keys that the other leaves
+
+-- the call found there what they hold, and leaves it
+record IsTakenAt (keys : Keys) (w : Choice) (b : KeyedCall) (v : Choice) : Type 0 where
+  taken : (inv key : ℕ) → v.taken inv key ≡ (w.taken inv key || ((inv == b.inv) && keys key))
+  holds : (key : ℕ) → v.holds key ≡ w.holds key
+  found_before : (inv key : ℕ) → w.taken inv key ≡ true → v.found inv key ≡ w.found inv key
+  found : (key : ℕ) → keys key ≡ true → w.taken b.inv key ≡ false → v.found b.inv key ≡ w.holds key
+
+-- the keys of a set that a call concerns
+abbrev concerned : Keys → KeyedCall → Keys
+concerned keys b key = keys key && b.concerns key
+
+taken_here : (t s e k c : Bool) → k ≡ true → s ≡ t → (t || (e && c)) ≡ (s || (e && (k && c)))
+taken_here t s e k c is same = rw is (rw same refl)
+
+taken_there : (s e k c : Bool) → k ≡ false → s ≡ (s || (e && (k && c)))
+taken_there true e k c is = refl
+taken_there false true k c is = rw is refl
+taken_there false false k c is = refl
+
+out_of : (b : Bool) → b ≡ false → not b ≡ true
+out_of b is = rw is refl
+
+effect_untaken : (t : Bool) (e : Effect) → t ≡ false → cond t no_effect e ≡ e
+effect_untaken t e is = rw is refl
+
+at_taken : (keys : Keys) (past next : Choice) (b : KeyedCall) (w v : Choice) → IsAfterCall keys past b next → IsReadAt keys past b
+    → ((key : ℕ) → keys key ≡ true → ((rest_of past b).effect key).fits (past.holds key) ≡ true)
+    → IsAt keys past w → IsAt keys next v → IsAt (other_keys keys) w v → IsTakenAt (concerned keys b) w b v
+at_taken keys past next b w v after read fits first second same = record {
+  taken = λ inv key. taken inv key (bool_cases (keys key));
+  holds = λ key. holds key (bool_cases (keys key));
+  found_before = λ inv key is. found_before inv key is (bool_cases (keys key));
+  found = λ key here untaken.
+      let (is, concerns) = and_parts (keys key) (b.concerns key) here in
+      let before : past.taken b.inv key ≡ false = sym (first.taken b.inv key is) ∙ untaken in
+      let now : next.taken b.inv key ≡ true = after.taken b.inv key is ∙ itself (past.taken b.inv key) (b.concerns key) concerns in
+      second.found b.inv key is now ∙ after.found key is before concerns ∙ sym (first.holds key is);
+}
+  where
+    itself : (t c : Bool) → c ≡ true → (t || ((b.inv == b.inv) && c)) ≡ true
+    itself true c is = refl
+    itself false c is = rw (eq-eqb b.inv b.inv refl) is
+
+    taken : (inv key : ℕ) → (keys key ≡ true) ⊎ (keys key ≡ false)
+        → v.taken inv key ≡ (w.taken inv key || ((inv == b.inv) && (keys key && b.concerns key)))
+    taken inv key (inl is) = second.taken inv key is ∙ after.taken inv key is
+        ∙ taken_here (past.taken inv key) (w.taken inv key) (inv == b.inv) (keys key) (b.concerns key) is (first.taken inv key is)
+    taken inv key (inr out) = same.taken inv key (out_of (keys key) out)
+        ∙ taken_there (w.taken inv key) (inv == b.inv) (keys key) (b.concerns key) out
+
+    holds : (key : ℕ) → (keys key ≡ true) ⊎ (keys key ≡ false) → v.holds key ≡ w.holds key
+    holds key (inl is) = second.holds key is ∙ after.holds key is ∙ read key is (past.holds key) (fits key is) ∙ sym (first.holds key is)
+    holds key (inr out) = same.holds key (out_of (keys key) out)
+
+    still : (t s : Bool) → t ≡ true → (t || s) ≡ true
+    still t s is = rw is refl
+
+    found_before : (inv key : ℕ) → w.taken inv key ≡ true → (keys key ≡ true) ⊎ (keys key ≡ false) → v.found inv key ≡ w.found inv key
+    found_before inv key is (inl here) =
+        let before : past.taken inv key ≡ true = sym (first.taken inv key here) ∙ is in
+        let now : next.taken inv key ≡ true = after.taken inv key here ∙ still (past.taken inv key) ((inv == b.inv) && b.concerns key) before in
+        second.found inv key here now ∙ after.found_before inv key here before ∙ sym (first.found inv key here before)
+    found_before inv key is (inr out) = same.found inv key (out_of (keys key) out) is
+
+-- ---- the read is taken out of an order, and put back
+
+-- all that is known of the calls, and of the read
+record AtRead (keys : Keys) (more : List KeyedCall) (w v : Choice) (b : KeyedCall) : Type 0 where
+  b_in : Contains more b
+  apart : AreKeyedCalls more
+  accepted : b.refused ≡ false
+  completed : is_completed b ≡ true
+  taken : IsTakenAt keys w b v
+  quiet : (key : ℕ) → keys key ≡ true → IsQuiet (rest_of w b) key
+  fits : (key : ℕ) → keys key ≡ true → ((rest_of w b).effect key).fits (w.holds key) ≡ true
+
+-- calls in turn, each of which is the same at a key in another list, or quiet there, and has no effect in the other list
+quiet_moved : (key : ℕ) (f : KeyedCall → KeyedCall) (xs : List KeyedCall) (value : Option ℕ)
+    → ((x : KeyedCall) → Contains xs x → ((f x).effect key ≡ x.effect key) ⊎ (IsQuiet x key × ((f x).effect key ≡ no_effect)))
+    → FitInTurn key value xs → FitInTurn key value (map f xs)
+quiet_moved key f [] value each fit = tt
+quiet_moved key f (x ∷ xs) value each fit =
+    let rest : FitInTurn key ((x.effect key).leaves value) (map f xs) =
+    quiet_moved key f xs ((x.effect key).leaves value) (λ y y_in. each y (Contains-later x xs y y_in)) fit.1 in
+    ⊎_elim
+    (λ same. subst (λ (e : Effect). (e.fits value ≡ true) × FitInTurn key (e.leaves value) (map f xs)) (sym same) (fit.0, rest))
+    (λ quiet. subst (λ (e : Effect). (e.fits value ≡ true) × FitInTurn key (e.leaves value) (map f xs)) (sym quiet.1)
+    (refl, subst (λ (u : Option ℕ). FitInTurn key u (map f xs)) (quiet.0 value fit.0) rest))
+    (each x (Contains-first x xs))
+
+-- calls in turn of which one has no effect at a key, and is quiet there in the other list, where all before it are
+given_fit : (key : ℕ) (f : KeyedCall → KeyedCall) (b : KeyedCall) (back front : List KeyedCall) (value : Option ℕ)
+    → ((x : KeyedCall) → Contains front x → IsQuiet x key × ((f x).effect key ≡ x.effect key))
+    → ((x : KeyedCall) → Contains back x → (f x).effect key ≡ x.effect key)
+    → IsNoEffect (b.effect key) → IsQuiet (f b) key → ((f b).effect key).fits value ≡ true
+    → FitInTurn key value (front ++ b ∷ back) → FitInTurn key value (map f (front ++ b ∷ back))
+given_fit key f b back [] value before after none quiet fits fit = (
+  fits,
+  subst (λ (u : Option ℕ). FitInTurn key u (map f back)) (sym (quiet value fits))
+      (quiet_moved key f back value (λ x x_in. inl (after x x_in))
+      (subst (λ (u : Option ℕ). FitInTurn key u back) (none.leaves value) fit.1)),
+)
+given_fit key f b back (x ∷ front) value before after none quiet fits fit =
+    let (still, same) = before x (Contains-first x front) in
+    let rest : FitInTurn key value (map f (front ++ b ∷ back)) =
+    given_fit key f b back front value (λ y y_in. before y (Contains-later x front y y_in)) after none quiet fits
+    (subst (λ (u : Option ℕ). FitInTurn key u (front ++ b ∷ back)) (still value fit.0) fit.1) in
+    subst (λ (e : Effect). (e.fits value ≡ true) × FitInTurn key (e.leaves value) (map f (front ++ b ∷ back))) (sym same)
+    (fit.0, subst (λ (u : Option ℕ). FitInTurn key u (map f (front ++ b ∷ back))) (sym (still value fit.0)) rest)
+
+-- what is left of a call, given what is taken
+abbrev rest_by : (ℕ → Bool) → KeyedCall → KeyedCall
+rest_by taken d = record {
+  inv = d.inv;
+  res = d.res;
+  refused = d.refused;
+  concerns = λ key. not (taken key) && d.concerns key;
+  effect = λ key. cond (taken key) no_effect (d.effect key);
+}
+
+-- the read as it is left by the first choice, in the place of what is left of it by the second
+abbrev given_back : Choice → KeyedCall → KeyedCall → KeyedCall
+given_back w b x = record {
+  inv = x.inv;
+  res = x.res;
+  refused = x.refused;
+  concerns = λ key. cond (x.inv == b.inv) ((rest_of w b).concerns key) (x.concerns key);
+  effect = λ key. cond (x.inv == b.inv) ((rest_of w b).effect key) (x.effect key);
+}
+
+-- which are taken besides
+abbrev besides : Keys → KeyedCall → ℕ → ℕ → Bool
+besides keys b inv key = (inv == b.inv) && keys key
+
+or_none : (t e k : Bool) → e ≡ false → (t || (e && k)) ≡ t
+or_none true e k is = refl
+or_none false e k is = rw is refl
+
+out_none : (t e k : Bool) → k ≡ false → (t || (e && k)) ≡ t
+out_none true e k is = refl
+out_none false true k is = is
+out_none false false k is = refl
+
+module _ (keys : Keys) (more : List KeyedCall) (w v : Choice) (b : KeyedCall) (at : AtRead keys more w v b) where
+  only_read : (d : KeyedCall) → Contains more d → (d.inv == b.inv) ≡ true → d ≡ b
+  only_read d d_in named = same_call more d b at.apart.distinct d_in at.b_in (eqb-true d.inv b.inv named)
+
+  -- forth
+  agrees_forth : (d : KeyedCall) → Contains more d → Agrees w d → Agrees v d
+  agrees_forth d d_in agrees = record {
+    accepted = λ key taken. accepted key (bool_cases (w.taken d.inv key)) taken;
+    fits = λ key taken. fits key (bool_cases (w.taken d.inv key)) taken;
+  }
+    where
+      new : (key : ℕ) → w.taken d.inv key ≡ false → v.taken d.inv key ≡ true → (d ≡ b) × (keys key ≡ true)
+      new key untaken taken =
+          let here : (w.taken d.inv key || ((d.inv == b.inv) && keys key)) ≡ true = sym (at.taken.taken d.inv key) ∙ taken in
+          let both : ((d.inv == b.inv) && keys key) ≡ true = rw untaken at here in
+          let (named, is) = and_parts (d.inv == b.inv) (keys key) both in
+          (only_read d d_in named, is)
+
+      accepted : (key : ℕ) → (w.taken d.inv key ≡ true) ⊎ (w.taken d.inv key ≡ false) → v.taken d.inv key ≡ true → d.refused ≡ false
+      accepted key (inl before) taken = agrees.accepted key before
+      accepted key (inr untaken) taken = subst (λ (z : KeyedCall). z.refused ≡ false) (sym (new key untaken taken).0) at.accepted
+
+      fits : (key : ℕ) → (w.taken d.inv key ≡ true) ⊎ (w.taken d.inv key ≡ false) → v.taken d.inv key ≡ true
+          → (d.effect key).fits (v.found d.inv key) ≡ true
+      fits key (inl before) taken =
+          subst (λ (u : Option ℕ). (d.effect key).fits u ≡ true) (sym (at.taken.found_before d.inv key before)) (agrees.fits key before)
+      fits key (inr untaken) taken =
+          let (one, is) = new key untaken taken in
+          let b_untaken : w.taken b.inv key ≡ false = subst (λ (z : KeyedCall). w.taken z.inv key ≡ false) one untaken in
+          let fit : (b.effect key).fits (w.holds key) ≡ true =
+          subst (λ (e : Effect). e.fits (w.holds key) ≡ true) (effect_untaken (w.taken b.inv key) (b.effect key) b_untaken) (at.fits key is) in
+          subst (λ (z : KeyedCall). (z.effect key).fits (v.found z.inv key) ≡ true) (sym one)
+          (subst (λ (u : Option ℕ). (b.effect key).fits u ≡ true) (sym (at.taken.found key is b_untaken)) fit)
+
+  fit_forth : (order : List KeyedCall) → IsKeyedOrder w.holds (map (rest_of w) more) order → (key : ℕ)
+      → FitInTurn key (v.holds key) (map (masked_by (besides keys b)) order)
+  fit_forth order is key =
+      subst (λ (u : Option ℕ). FitInTurn key u (map (masked_by (besides keys b)) order)) (sym (at.taken.holds key))
+      (quiet_moved key (masked_by (besides keys b)) order (w.holds key)
+      (λ x x_in. each x x_in (bool_cases ((x.inv == b.inv) && keys key))) (is.fit key))
+    where
+      each : (x : KeyedCall) → Contains order x → (((x.inv == b.inv) && keys key) ≡ true) ⊎ (((x.inv == b.inv) && keys key) ≡ false)
+          → ((masked_by (besides keys b) x).effect key ≡ x.effect key)
+          ⊎ (IsQuiet x key × ((masked_by (besides keys b) x).effect key ≡ no_effect))
+      each x x_in (inr out) = inl (rw out refl)
+      each x x_in (inl both) =
+          let (named, here) = and_parts (x.inv == b.inv) (keys key) both in
+          let (d, d_in, d_is) = Contains-from_map (rest_of w) more x (is.known x x_in) in
+          let one : d ≡ b = only_read d d_in (subst (λ (z : KeyedCall). (z.inv == b.inv) ≡ true) (sym d_is) named) in
+          inr (subst (λ (z : KeyedCall). IsQuiet z key) (ap (λ (z : KeyedCall). rest_of w z) (sym one) ∙ d_is) (at.quiet key here), rw both refl)
+
+  read_forth : GoesOn w more → GoesOn v more
+  read_forth some = (
+    All-from_contains (Agrees v) more (λ d d_in. agrees_forth d d_in (All-contains (Agrees w) more d some.0 d_in)),
+    (
+      map (masked_by (besides keys b)) some.1.0,
+      order_masked w v (besides keys b) more some.1.0 at.taken.taken some.1.1 (fit_forth some.1.0 some.1.1),
+    ),
+  )
+
+  -- and back
+  agrees_back : (d : KeyedCall) → Agrees v d → Agrees w d
+  agrees_back d agrees = record {
+    accepted = λ key taken. agrees.accepted key (still key taken);
+    fits = λ key taken. subst (λ (u : Option ℕ). (d.effect key).fits u ≡ true) (at.taken.found_before d.inv key taken)
+        (agrees.fits key (still key taken));
+  }
+    where
+      still : (key : ℕ) → w.taken d.inv key ≡ true → v.taken d.inv key ≡ true
+      still key taken = at.taken.taken d.inv key ∙ ap (λ (t : Bool). t || ((d.inv == b.inv) && keys key)) taken
+
+  rest_back : (d : KeyedCall) → Contains more d → given_back w b (rest_of v d) ≡ rest_of w d
+  rest_back d d_in = by_name (bool_cases (d.inv == b.inv))
+    where
+      by_name : ((d.inv == b.inv) ≡ true) ⊎ ((d.inv == b.inv) ≡ false) → given_back w b (rest_of v d) ≡ rest_of w d
+      by_name (inl named) =
+          let one : d ≡ b = only_read d d_in named in
+          let same : rest_of w b ≡ rest_of w d = ap (λ (z : KeyedCall). rest_of w z) (sym one) in
+          rw named (ap (λ (z : KeyedCall). record {
+            inv = d.inv;
+            res = d.res;
+            refused = d.refused;
+            concerns = z.concerns;
+            effect = z.effect;
+          }) same)
+      by_name (inr other) = rw other (ap (λ (t : ℕ → Bool). rest_by t d)
+          (fun_ext (λ (key : ℕ). at.taken.taken d.inv key ∙ or_none (w.taken d.inv key) (d.inv == b.inv) (keys key) other)))
+
+  order_back : (order : List KeyedCall) → IsKeyedOrder v.holds (map (rest_of v) more) order
+      → ((key : ℕ) → FitInTurn key (w.holds key) (map (given_back w b) order))
+      → IsKeyedOrder w.holds (map (rest_of w) more) (map (given_back w b) order)
+  order_back order is fit = record {
+    known = λ y y_in.
+        let (x, x_in, x_is) = Contains-from_map (given_back w b) order y y_in in
+        let (d, d_in, d_is) = Contains-from_map (rest_of v) more x (is.known x x_in) in
+        let y_is : rest_of w d ≡ y = sym (rest_back d d_in) ∙ ap (λ (z : KeyedCall). given_back w b z) d_is ∙ x_is in
+        subst (λ (z : KeyedCall). Contains (map (rest_of w) more) z) y_is (Contains-map (rest_of w) more d d_in);
+    distinct = AllPairs-map (λ x y. x.inv ≢ y.inv) (given_back w b) order is.distinct;
+    precedence = AllPairs-map (λ x y. precedes y x ≡ false) (given_back w b) order is.precedence;
+    complete = λ y y_in completed.
+        let (d, d_in, d_is) = Contains-from_map (rest_of w) more y y_in in
+        let ended : is_completed (rest_of v d) ≡ true = subst (λ (z : KeyedCall). is_completed z ≡ true) (sym d_is) completed in
+        let in_order : Contains order (rest_of v d) = is.complete (rest_of v d) (Contains-map (rest_of v) more d d_in) ended in
+        subst (λ (z : KeyedCall). Contains (map (given_back w b) order) z) (rest_back d d_in ∙ d_is)
+        (Contains-map (given_back w b) order (rest_of v d) in_order);
+    fit = fit;
+  }
+
+  module _ (rests : (d : KeyedCall) (key : ℕ) → Contains more d → keys key ≡ true → precedes b d ≡ false → IsQuiet (rest_of v d) key)
+      (order front back : List KeyedCall) (is : IsKeyedOrder v.holds (map (rest_of v) more) order) (parts : order ≡ front ++ rest_of v b ∷ back) where
+    unnamed : (x : KeyedCall) (key : ℕ) → x.inv ≢ b.inv → (given_back w b x).effect key ≡ x.effect key
+    unnamed x key other = by_name (bool_cases (x.inv == b.inv))
+      where
+        by_name : ((x.inv == b.inv) ≡ true) ⊎ ((x.inv == b.inv) ≡ false) → (given_back w b x).effect key ≡ x.effect key
+        by_name (inl named) = absurd (other (eqb-true x.inv b.inv named))
+        by_name (inr not_so) = rw not_so refl
+
+    first_other : (x : KeyedCall) → Contains front x → (x.inv ≢ b.inv) × (precedes b x ≡ false)
+    first_other x x_in = (
+      All-contains (λ y. x.inv ≢ y.inv) (rest_of v b ∷ back) (rest_of v b)
+          (All-contains (λ z. All (λ y. z.inv ≢ y.inv) (rest_of v b ∷ back)) front x
+          (AllPairs-across (λ z y. z.inv ≢ y.inv) front (rest_of v b ∷ back)
+          (subst (λ (xs : List KeyedCall). AreDistinct xs) parts is.distinct)) x_in)
+          (Contains-first (rest_of v b) back),
+      All-contains (λ y. precedes y x ≡ false) (rest_of v b ∷ back) (rest_of v b)
+          (All-contains (λ z. All (λ y. precedes y z ≡ false) (rest_of v b ∷ back)) front x
+          (AllPairs-across (λ z y. precedes y z ≡ false) front (rest_of v b ∷ back)
+          (subst (λ (xs : List KeyedCall). KeepPrecedence xs) parts is.precedence)) x_in)
+          (Contains-first (rest_of v b) back),
+    )
+
+    last_other : (x : KeyedCall) → Contains back x → x.inv ≢ b.inv
+    last_other x x_in same =
+        All-contains (λ y. b.inv ≢ y.inv) back x (AllPairs-head (λ z y. z.inv ≢ y.inv) (rest_of v b) back
+        (AllPairs-back (λ z y. z.inv ≢ y.inv) front (rest_of v b ∷ back) (subst (λ (xs : List KeyedCall). AreDistinct xs) parts is.distinct)))
+        x_in (sym same)
+
+    itself : (key : ℕ) → (given_back w b (rest_of v b)).effect key ≡ (rest_of w b).effect key
+    itself key = rw (eq-eqb b.inv b.inv refl) refl
+
+    masked_none : (key : ℕ) → keys key ≡ true → IsNoEffect ((rest_of v b).effect key)
+    masked_none key here = by_taken (v.taken b.inv key) (at.taken.taken b.inv key ∙ all (w.taken b.inv key) (eq-eqb b.inv b.inv refl))
+      where
+        all : (t : Bool) → (b.inv == b.inv) ≡ true → (t || ((b.inv == b.inv) && keys key)) ≡ true
+        all true named = refl
+        all false named = rw named here
+
+        by_taken : (t : Bool) → t ≡ true → IsNoEffect (cond t no_effect (b.effect key))
+        by_taken t taken = rw taken none_none
+
+    at_key : (key : ℕ) → (keys key ≡ true) ⊎ (keys key ≡ false) → FitInTurn key (w.holds key) order
+        → FitInTurn key (w.holds key) (map (given_back w b) order)
+    at_key key (inl here) fit =
+        subst (λ (xs : List KeyedCall). FitInTurn key (w.holds key) (map (given_back w b) xs)) (sym parts)
+        (given_fit key (given_back w b) (rest_of v b) back front (w.holds key)
+        (λ x x_in.
+        let (other, sooner) = first_other x x_in in
+        let in_order : Contains order x = subst (λ (xs : List KeyedCall). Contains xs x) (sym parts)
+        (in_front x x_in) in
+        let (d, d_in, d_is) = Contains-from_map (rest_of v) more x (is.known x in_order) in (
+          subst (λ (z : KeyedCall). IsQuiet z key) d_is
+              (rests d key d_in here (subst (λ (z : KeyedCall). precedes b z ≡ false) (sym d_is) sooner)),
+          unnamed x key other,
+        ))
+        (λ x x_in. unnamed x key (last_other x x_in))
+        (masked_none key here)
+        (λ value fits. given_quiet value fits)
+        (subst (λ (e : Effect). e.fits (w.holds key) ≡ true) (sym (itself key)) (at.fits key here))
+        (subst (λ (xs : List KeyedCall). FitInTurn key (w.holds key) xs) parts fit))
+      where
+        in_front : (x : KeyedCall) → Contains front x → Contains (front ++ rest_of v b ∷ back) x
+        in_front x x_in = Contains-append_left front (rest_of v b ∷ back) x x_in
+
+        given_quiet : IsQuiet (given_back w b (rest_of v b)) key
+        given_quiet = subst (λ (e : Effect). (value : Option ℕ) → e.fits value ≡ true → e.leaves value ≡ value) (sym (itself key)) (at.quiet key here)
+    at_key key (inr out) fit =
+        quiet_moved key (given_back w b) order (w.holds key) (λ x x_in. inl (each x x_in (bool_cases (x.inv == b.inv)))) fit
+      where
+        each : (x : KeyedCall) → Contains order x → ((x.inv == b.inv) ≡ true) ⊎ ((x.inv == b.inv) ≡ false)
+            → (given_back w b x).effect key ≡ x.effect key
+        each x x_in (inr other) = rw other refl
+        each x x_in (inl named) =
+            let (d, d_in, d_is) = Contains-from_map (rest_of v) more x (is.known x x_in) in
+            let one : d ≡ b = only_read d d_in (subst (λ (z : KeyedCall). (z.inv == b.inv) ≡ true) (sym d_is) named) in
+            let x_is : rest_of v b ≡ x = ap (λ (z : KeyedCall). rest_of v z) (sym one) ∙ d_is in
+            let same : v.taken b.inv key ≡ w.taken b.inv key =
+            at.taken.taken b.inv key ∙ out_none (w.taken b.inv key) (b.inv == b.inv) (keys key) out in
+            rw named (ap (λ (t : Bool). cond t no_effect (b.effect key)) (sym same) ∙ ap (λ (z : KeyedCall). z.effect key) x_is)
+
+  read_back : ((d : KeyedCall) (key : ℕ) → Contains more d → keys key ≡ true → precedes b d ≡ false → IsQuiet (rest_of v d) key)
+      → GoesOn v more → GoesOn w more
+  read_back rests some =
+      let order = some.1.0 in
+      let is : IsKeyedOrder v.holds (map (rest_of v) more) order = some.1.1 in
+      let in_order : Contains order (rest_of v b) = is.complete (rest_of v b) (Contains-map (rest_of v) more b at.b_in) at.completed in
+      let (front, back, parts) = Contains-split order (rest_of v b) in_order in (
+        All-from_contains (Agrees w) more (λ d d_in. agrees_back d (All-contains (Agrees v) more d some.0 d_in)),
+        (
+          map (given_back w b) order,
+          order_back order is (λ key. at_key rests order front back is parts key (bool_cases (keys key))
+              (subst (λ (u : Option ℕ). FitInTurn key u order) (at.taken.holds key) (is.fit key))),
+        ),
+      )
+
+-- ---- keys at rest
+
+-- what is quiet stays so where more is taken, or where it was pending and is answered
+quiet_on : (t s : Bool) (e f : Effect) → (t ≡ true → s ≡ true) → (e ≡ f) ⊎ (((value : Option ℕ) → e.fits value ≡ true) × LeaveTheSame e f)
+    → ((value : Option ℕ) → (cond t no_effect e).fits value ≡ true → (cond t no_effect e).leaves value ≡ value)
+    → (value : Option ℕ) → (cond s no_effect f).fits value ≡ true → (cond s no_effect f).leaves value ≡ value
+quiet_on t true e f still same quiet value fits = refl
+quiet_on true false e f still same quiet value fits = let never : false ≡ true = still refl in cc
+quiet_on false false e f still same quiet value fits =
+    ⊎_elim
+    (λ one. subst (λ (g : Effect). (u : Option ℕ) → g.fits u ≡ true → g.leaves u ≡ u) one quiet value fits)
+    (λ later. later.1 value ∙ quiet value (later.0 value))
+    same
+
+none_quiet : (e : Effect) → IsNoEffect e → (value : Option ℕ) → e.fits value ≡ true → e.leaves value ≡ value
+none_quiet e none value fits = none.leaves value
+
+-- where keys are at rest, all that the read does not precede is quiet there
+at_rest : (place : ℕ) (calls more : List KeyedCall) (keys : Keys) (past next v : Choice) (b : KeyedCall) → HaveGrown place calls more
+    → Contains calls b → is_completed b ≡ true → IsAtRest keys past calls b → IsAfterCall keys past b next → IsAt keys next v
+    → (d : KeyedCall) (key : ℕ) → Contains more d → concerned keys b key ≡ true → precedes b d ≡ false → IsQuiet (rest_of v d) key
+at_rest place calls more keys past next v b grown b_in completed rest after same d key d_in here sooner =
+    let (is, concerns) = and_parts (keys key) (b.concerns key) here in
+    ⊎_elim
+    (λ old.
+    let (a, a_in, later) = old in
+    ⊎_elim
+    (λ quiet. by_answer is a later quiet)
+    (λ before.
+    let also : precedes b d ≡ true = subst (λ (n : ℕ). ends_before b.res n ≡ true) (sym later.inv) before in
+    let never : precedes b d ≡ false = sooner in cc)
+    (rest a key a_in is concerns))
+    (λ new.
+    let (at, at_is) = response_of b completed in
+    let less : at < place = grown.ended b at b_in at_is in
+    let also : precedes b d ≡ true = ends_at b.res at d.inv at_is (omega (arith, less, new)) in
+    let never : precedes b d ≡ false = sooner in cc)
+    (grown.come d d_in)
+  where
+    still : keys key ≡ true → (a : KeyedCall) → d.inv ≡ a.inv → past.taken a.inv key ≡ true → v.taken d.inv key ≡ true
+    still is a named taken =
+        let before : past.taken d.inv key ≡ true = subst (λ (n : ℕ). past.taken n key ≡ true) (sym named) taken in
+        same.taken d.inv key is ∙ after.taken d.inv key is ∙ ap (λ (t : Bool). t || ((d.inv == b.inv) && b.concerns key)) before
+
+    by_answer : keys key ≡ true → (a : KeyedCall) → IsLater place a d → IsQuiet (rest_of past a) key → IsQuiet (rest_of v d) key
+    by_answer is a later quiet =
+        ⊎_elim
+        (λ one. quiet_on (past.taken a.inv key) (v.taken d.inv key) (a.effect key) (d.effect key) (still is a later.inv)
+        (inl (ap (λ (z : KeyedCall). z.effect key) (sym one))) quiet)
+        (λ answered. by_refusal answered (bool_cases d.refused))
+        later.response
+      where
+        by_refusal : IsAnsweredAs place a d → (d.refused ≡ true) ⊎ (d.refused ≡ false) → IsQuiet (rest_of v d) key
+        by_refusal answered (inl refused) =
+            none_quiet ((rest_of v d).effect key) (refused_none v d (All-contains IsFormed more d grown.formed d_in) refused key)
+        by_refusal answered (inr accepted) =
+            quiet_on (past.taken a.inv key) (v.taken d.inv key) (a.effect key) (d.effect key) (still is a later.inv)
+            (inr (answered.fits key, answered.does accepted key)) quiet
+
+apart_others : (keys : Keys) → AreApart keys (other_keys keys)
+apart_others keys key is = rw is refl
+
+-- a choice of parts that has one of the other pasts at the keys of the first
+stays_one : (keys : Keys) (pasts nexts : List Choice) (rest : List Part) (p w : Choice) → Contains nexts p → IsAt keys p w
+    → choices_of (record { keys = keys; pasts = pasts } ∷ rest) w → choices_of (record { keys = keys; pasts = nexts } ∷ rest) w
+stays_one keys pasts nexts rest p w p_in same is =
+    All-cons (λ part. IsOneOf part.keys part.pasts w) (record { keys = keys; pasts = nexts }) rest (p, p_in, same)
+    (All-tail (λ part. IsOneOf part.keys part.pasts w) (record { keys = keys; pasts = pasts }) rest is)
+
+pub reads_at_rest : ReadsAreTakenAtRest
+reads_at_rest held place calls keys past next others rest b b_in completed accepted read fits quiet after stand =
+    part_steps held place calls keys (past ∷ others) (next ∷ others) rest forth back stand
+  where
+    at_read : (w v : Choice) (more : List KeyedCall) → HaveGrown place calls more → IsAt keys past w → IsAt keys next v → IsAt (other_keys keys) w v
+        → AtRead (concerned keys b) more w v b
+    at_read w v more grown first second same = record {
+      b_in = in_more;
+      apart = grown.apart;
+      accepted = accepted;
+      completed = completed;
+      taken = at_taken keys past next b w v after read fits first second same;
+      quiet = λ key here.
+          let is : keys key ≡ true = (and_parts (keys key) (b.concerns key) here).0 in
+          subst (λ (t : Bool). (value : Option ℕ) → (cond t no_effect (b.effect key)).fits value ≡ true
+          → (cond t no_effect (b.effect key)).leaves value ≡ value) (sym (first.taken b.inv key is)) (read key is);
+      fits = λ key here.
+          let is : keys key ≡ true = (and_parts (keys key) (b.concerns key) here).0 in
+          subst (λ (u : Option ℕ). (cond (w.taken b.inv key) no_effect (b.effect key)).fits u ≡ true) (sym (first.holds key is))
+          (subst (λ (t : Bool). (cond t no_effect (b.effect key)).fits (past.holds key) ≡ true) (sym (first.taken b.inv key is)) (fits key is));
+    }
+      where
+        in_more : Contains more b
+        in_more =
+            let (d, d_in, later) = grown.stay b b_in in
+            let same : d ≡ b = ⊎_elim (λ one. one)
+            (λ answered. let never : is_completed b ≡ false = answered.pending in let is : is_completed b ≡ true = completed in cc) later.response in
+            subst (λ (c : KeyedCall). Contains more c) same d_in
+
+    forth : (w : Choice) (more : List KeyedCall) → choices_of (record { keys = keys; pasts = past ∷ others } ∷ rest) w → HaveGrown place calls more
+        → GoesOn w more → SomeGoesOn (choices_of (record { keys = keys; pasts = next ∷ others } ∷ rest)) more
+    forth w more w_is grown goes_on =
+        let (p, p_in, same) = All-head (λ part. IsOneOf part.keys part.pasts w) (record { keys = keys; pasts = past ∷ others }) rest w_is in
+        ⊎_elim
+        (λ one.
+        let first : IsAt keys past w = subst (λ (z : Choice). IsAt keys z w) (sym one) same in (
+          instead keys next w,
+          with_instead keys (past ∷ others) (next ∷ others) rest next w stand.shared (Contains-first next others) w_is,
+          read_forth (concerned keys b) more w (instead keys next w) b
+              (at_read w (instead keys next w) more grown first (instead_here keys next w)
+              (instead_there keys (other_keys keys) next w (apart_others keys))) goes_on,
+        ))
+        (λ later. (w, stays_one keys (past ∷ others) (next ∷ others) rest p w (Contains-later next others p later) same w_is, goes_on))
+        (Contains-cases past others p p_in)
+
+    back : (v : Choice) (more : List KeyedCall) → choices_of (record { keys = keys; pasts = next ∷ others } ∷ rest) v → HaveGrown place calls more
+        → GoesOn v more → SomeGoesOn (choices_of (record { keys = keys; pasts = past ∷ others } ∷ rest)) more
+    back v more v_is grown goes_on =
+        let (p, p_in, same) = All-head (λ part. IsOneOf part.keys part.pasts v) (record { keys = keys; pasts = next ∷ others }) rest v_is in
+        ⊎_elim
+        (λ one.
+        let second : IsAt keys next v = subst (λ (z : Choice). IsAt keys z v) (sym one) same in (
+          instead keys past v,
+          with_instead keys (next ∷ others) (past ∷ others) rest past v
+              (keys_shared keys (past ∷ others) (next ∷ others) rest stand.shared) (Contains-first past others) v_is,
+          read_back (concerned keys b) more (instead keys past v) v b
+              (at_read (instead keys past v) v more grown (instead_here keys past v) second
+              (at_back (other_keys keys) v (instead keys past v) (instead_there keys (other_keys keys) past v (apart_others keys))))
+              (at_rest place calls more keys past next v b grown b_in completed quiet after second) goes_on,
+        ))
+        (λ later. (v, stays_one keys (next ∷ others) (past ∷ others) rest p v (Contains-later past others p later) same v_is, goes_on))
+        (Contains-cases next others p p_in)
