@@ -111,7 +111,7 @@ EarlyReadsGain = ReadsAreTakenAtOnce → ⊥
 abbrev pub OperationsMayCome : Type 0
 OperationsMayCome =
     (keys : Keys) (past : Choice) (limit : ℕ) (calls : List KeyedCall) (pairs : Contents) (left : List Operation) → AreKeyedCalls calls
-    → All IsFormed calls → AreLeftCalls keys past calls pairs left → AreOfLeftCalls keys past calls left → AreAllLeft keys past limit calls left
+    → AreLeftCalls keys past calls pairs left → AreOfLeftCalls keys past calls left → AreAllLeft keys past limit calls left
     → ((a : KeyedCall) → Contains calls a → a.inv < limit → MayComeNext keys past calls a
     → (o : Operation) × Contains left o × IsAlikeAt keys (left_at keys past a) (keyed o) × OperationMayCome pairs left o)
     × ((o : Operation) → Contains left o → o.inv < limit → OperationMayCome pairs left o
@@ -122,7 +122,7 @@ abbrev pub OperationsComeNext : Type 0
 OperationsComeNext =
     (keys : Keys) (past : Choice) (limit : ℕ) (calls : List KeyedCall) (pairs : Contents) (left : List Operation) (a : KeyedCall) (o : Operation)
     → AreKeyedCalls calls → All IsFormed calls → AreLeftCalls keys past calls pairs left → AreOfLeftCalls keys past calls left
-    → AreAllLeft keys past limit calls left → All (AgreesAt keys past) calls → Contains calls a → Contains left o
+    → AreAllLeft keys past limit calls left → All (AgreesAt keys past) calls → Contains calls a
     → IsAlikeAt keys (left_at keys past a) (keyed o) → MayComeNext keys past calls a
     → (next : Choice) × IsAfterCall keys past a next × AreLeftCalls keys next calls (after_call pairs o.call o.response) (without_call o.inv left)
     × AreOfLeftCalls keys next calls (without_call o.inv left) × AreAllLeft keys next limit calls (without_call o.inv left)
