@@ -111,7 +111,8 @@ point_fits m own call (Some response) is =
 
 -- what a call is at each key, where it is a call of one
 pub record IsStep (m : Contents) (a : Operation) : Type 0 where
-  pub fits : IsLegalCall m a.call a.response ↔ (HasForm a.call a.response × ((key : ℕ) → ((effect_at a.call a.response key).fits (value_at m key) ≡ true)))
+  pub fits : IsLegalCall m a.call a.response
+      ↔ (HasForm a.call a.response × ((key : ℕ) → ((effect_at a.call a.response key).fits (value_at m key) ≡ true)))
   pub leaves : (key : ℕ) → value_at (after_call m a.call a.response) key ≡ (effect_at a.call a.response key).leaves (value_at m key)
 
 key_cases : (own key : ℕ) → (own ≡ key) ⊎ ((key < own) ⊎ (own < key))

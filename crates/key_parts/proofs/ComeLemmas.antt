@@ -41,24 +41,21 @@ began_before a b alone before = by_res b.res refl
 
 module _ (keys : Keys) (past : Choice) (calls : List KeyedCall) (pairs : Contents) (left : List Operation) (a : KeyedCall) (o : Operation)
     (are : AreLeftCalls keys past calls pairs left) (alike : IsAlikeAt keys (left_at keys past a) (keyed o)) where
+  effect_here : (key : ℕ) → keys key ≡ true → (left_at keys past a).effect key ≡ (rest_of past a).effect key
+  effect_here key is = rw is refl
+
   -- at keys of the part, the operation does to the map what is left of the call does to what they hold
   fits_here : (key : ℕ) → keys key ≡ true
       → ((keyed o).effect key).fits (value_at pairs key) ≡ ((rest_of past a).effect key).fits (past.holds key)
   fits_here key is =
-      let there : ((keyed o).effect key).fits (value_at pairs key) ≡ ((left_at keys past a).effect key).fits (value_at pairs key) =
-      alike.fits key (value_at pairs key) is in
-      let here : ((left_at keys past a).effect key).fits (value_at pairs key) ≡ ((rest_of past a).effect key).fits (value_at pairs key) =
-      rw is refl in
-      there ∙ here ∙ ap (λ (v : Option ℕ). ((rest_of past a).effect key).fits v) (are.same key is)
+      alike.fits key (value_at pairs key) is ∙ ap (λ (e : Effect). e.fits (value_at pairs key)) (effect_here key is)
+      ∙ ap (λ (v : Option ℕ). ((rest_of past a).effect key).fits v) (are.same key is)
 
   leaves_here : (key : ℕ) → keys key ≡ true
       → ((keyed o).effect key).leaves (value_at pairs key) ≡ ((rest_of past a).effect key).leaves (past.holds key)
   leaves_here key is =
-      let there : ((keyed o).effect key).leaves (value_at pairs key) ≡ ((left_at keys past a).effect key).leaves (value_at pairs key) =
-      alike.leaves key (value_at pairs key) is in
-      let here : ((left_at keys past a).effect key).leaves (value_at pairs key) ≡ ((rest_of past a).effect key).leaves (value_at pairs key) =
-      rw is refl in
-      there ∙ here ∙ ap (λ (v : Option ℕ). ((rest_of past a).effect key).leaves v) (are.same key is)
+      alike.leaves key (value_at pairs key) is ∙ ap (λ (e : Effect). e.leaves (value_at pairs key)) (effect_here key is)
+      ∙ ap (λ (v : Option ℕ). ((rest_of past a).effect key).leaves v) (are.same key is)
 
   legal : Contains left o → ((key : ℕ) → keys key ≡ true → ((rest_of past a).effect key).fits (past.holds key) ≡ true)
       → IsLegalCall pairs o.call o.response
@@ -296,7 +293,8 @@ module _ (keys : Keys) (past : Choice) (limit : ℕ) (calls : List KeyedCall) (p
           inl (subst (λ (z : KeyedCall). (key : ℕ) → IsNoEffect ((left_at keys next z).effect key)) (sym one)
           (itself_none keys past calls a next apart a_in after formed))
       there b b_in (inr other) = ⊎_elim
-          (λ none. inl (λ key. subst (λ (e : Effect). IsNoEffect e) (sym (other_effect keys past calls a next apart a_in after b other key)) (none key)))
+          (λ none. inl (λ key.
+          subst (λ (e : Effect). IsNoEffect e) (sym (other_effect keys past calls a next apart a_in after b other key)) (none key)))
           (λ some.
           let (q, q_in, q_is) = some in
           inr (
