@@ -110,9 +110,10 @@ point_fits m own call (Some response) is =
     )
 
 -- what a call is at each key, where it is a call of one
-record IsStep (m : Contents) (a : Operation) : Type 0 where
-  fits : IsLegalCall m a.call a.response ↔ (HasForm a.call a.response × ((key : ℕ) → ((effect_at a.call a.response key).fits (value_at m key) ≡ true)))
-  leaves : (key : ℕ) → value_at (after_call m a.call a.response) key ≡ (effect_at a.call a.response key).leaves (value_at m key)
+pub record IsStep (m : Contents) (a : Operation) : Type 0 where
+  pub fits : IsLegalCall m a.call a.response
+      ↔ (HasForm a.call a.response × ((key : ℕ) → ((effect_at a.call a.response key).fits (value_at m key) ≡ true)))
+  pub leaves : (key : ℕ) → value_at (after_call m a.call a.response) key ≡ (effect_at a.call a.response key).leaves (value_at m key)
 
 key_cases : (own key : ℕ) → (own ≡ key) ⊎ ((key < own) ⊎ (own < key))
 key_cases own key = grind arith
@@ -230,7 +231,7 @@ step_of_point m a own is effects form elsewhere = record {
       (point_left m own a.call a.response key is elsewhere);
 }
 
-step_of : (m : Contents) (a : Operation) → IsRising m → IsStep m a
+pub step_of : (m : Contents) (a : Operation) → IsRising m → IsStep m a
 step_of m a rising = by_call a.call a.response a.inv (λ key out. value_left m (record { call = a.call; inv = a.inv; response = a.response }) key out)
   where
     by_call : (call : Call) (response : Option Response) (inv : ℕ)

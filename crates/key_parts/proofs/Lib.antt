@@ -1,5 +1,6 @@
 pub mod PartLemmas
 pub mod StepLemmas
+pub mod WiderLemmas
 pub mod MaskLemmas
 pub mod NextLemmas
 pub mod FirstLemmas
@@ -13,4 +14,4 @@ pub mod SomeLemmas
 pub mod OperationLemmas
 pub mod RestLemmas
 pub mod DecideLemmas
-pub mod WiderLemmas
+pub mod ComeLemmas

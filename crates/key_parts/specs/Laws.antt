@@ -2,16 +2,16 @@
 use Rattle.std.specs.Prelude.{◌≡◌, ◌⊎◌, ◌↔◌, ℕ, ◌<◌, ◌≤◌, true, false, List, [], ◌∷◌, ◌++◌, map, Option, All, AllPairs, Contains}
 use Rattle.events.specs.declared.operation.Operation.{Operation}
 use Rattle.map_object.specs.MapObject.{Contents}
-use Rattle.orders.specs.Orders.{IsLinearizable}
-use Rattle.key_effects.specs.KeyedCalls.{KeyedCall, is_completed, ends_before, keyed}
+use Rattle.orders.specs.Orders.{IsLinearizable, after_call}
+use Rattle.key_effects.specs.KeyedCalls.{KeyedCall, is_completed, ends_before, keyed, IsFormed}
 use Rattle.key_effects.specs.KeyedOrders.{HasKeyedOrder, AreKeyedCalls}
 use Rattle.key_effects.specs.Growth.{HaveGrown}
 use Rattle.key_effects.specs.Choices.{Choice, at_first, rest_of}
 use Rattle.key_effects.specs.Cuts.{Keys}
-use Rattle.key_effects.specs.Apart.{AreApart}
-use Rattle.key_parts.specs.Parts.{Part, IsOneOf, ShareKeys, StandFor, GoesOnAt, SomePastGoesOn, AreOfOnePart, left_at}
+use Rattle.key_effects.specs.Apart.{AreApart, IsAlikeAt}
+use Rattle.key_parts.specs.Parts.{Part, IsOneOf, ShareKeys, StandFor, GoesOnAt, SomePastGoesOn, AreOfOnePart, left_at, AgreesAt}
 use Rattle.key_parts.specs.Steps.{IsLeftAt, MayComeNext, IsAfterCall, AreKnownAt, ArePartedBefore, IsReadAt, IsAtRest, AreJoined}
-use Rattle.key_parts.specs.Operations.{AreLeftCalls}
+use Rattle.key_parts.specs.Operations.{AreLeftCalls, AreOfLeftCalls, AreAllLeft, OperationMayCome, without_call}
 use Rattle.key_parts.specs.Wider.{AnyPartsDecide, PendingCallsMustCome, ReadsAreTakenAtOnce}
 
 -- before any event all keys are one part, of one past: no call is taken, and the keys hold what they hold at the start
@@ -109,3 +109,24 @@ PastsMayStay = PendingCallsMustCome → ⊥
 -- and a read that is taken too early may gain an order
 abbrev pub EarlyReadsGain : Type 0
 EarlyReadsGain = ReadsAreTakenAtOnce → ⊥
+
+-- of the calls that began before a place, those that may come next at some keys are those whose operations may
+abbrev pub OperationsMayCome : Type 0
+OperationsMayCome =
+    (keys : Keys) (past : Choice) (limit : ℕ) (calls : List KeyedCall) (pairs : Contents) (left : List Operation) → AreKeyedCalls calls
+    → AreLeftCalls keys past calls pairs left → AreOfLeftCalls keys past calls left → AreAllLeft keys past limit calls left
+    → ((a : KeyedCall) → Contains calls a → a.inv < limit → MayComeNext keys past calls a
+    → (o : Operation) × Contains left o × IsAlikeAt keys (left_at keys past a) (keyed o) × OperationMayCome pairs left o)
+    × ((o : Operation) → Contains left o → o.inv < limit → OperationMayCome pairs left o
+    → (a : KeyedCall) × Contains calls a × IsAlikeAt keys (left_at keys past a) (keyed o) × MayComeNext keys past calls a)
+
+-- an operation that may come next leads to what is left after its call: the map after it, and the others
+abbrev pub OperationsComeNext : Type 0
+OperationsComeNext =
+    (keys : Keys) (past : Choice) (limit : ℕ) (calls : List KeyedCall) (pairs : Contents) (left : List Operation) (a : KeyedCall) (o : Operation)
+    → AreKeyedCalls calls → All IsFormed calls → AreLeftCalls keys past calls pairs left → AreOfLeftCalls keys past calls left
+    → AreAllLeft keys past limit calls left → All (AgreesAt keys past) calls → Contains calls a
+    → IsAlikeAt keys (left_at keys past a) (keyed o) → MayComeNext keys past calls a
+    → (next : Choice) × IsAfterCall keys past a next × AreLeftCalls keys next calls (after_call pairs o.call o.response) (without_call o.inv left)
+    × AreOfLeftCalls keys next calls (without_call o.inv left) × AreAllLeft keys next limit calls (without_call o.inv left)
+    × All (AgreesAt keys next) calls

@@ -1,13 +1,16 @@
 -- What is left at some keys, as calls of a map that has these keys alone.
-use Rattle.std.specs.Prelude.{◌≡◌, ◌⊎◌, ℕ, ◌<◌, true, false, List, None, AllPairs, Contains}
+use Rattle.std.specs.Prelude.{◌≡◌, ◌⊎◌, ℕ, ◌==◌, ◌<◌, true, false, not, List, filter, None, AllPairs, Contains}
 use Rattle.events.specs.declared.operation.Operation.{Operation}
+use Rattle.events.specs.Precedence.{precedes}
 use Rattle.map_object.specs.MapObject.{Contents, IsRising, value_at}
+use Rattle.orders.specs.Orders.{IsLegalCall}
 use Rattle.key_effects.specs.KeyedCalls.{KeyedCall, IsNoEffect, keyed}
 use Rattle.key_effects.specs.Forms.{HaveForms}
 use Rattle.key_effects.specs.Choices.{Choice}
 use Rattle.key_effects.specs.Cuts.{Keys}
 use Rattle.key_effects.specs.Apart.{IsAlikeAt}
 use Rattle.key_parts.specs.Parts.{left_at}
+use Rattle.key_parts.specs.Steps.{IsLeftAt}
 
 -- the map holds what the keys hold, and nothing else; the operations are alike at the keys to what is left there of calls, but for such as
 -- have no effect
@@ -21,3 +24,23 @@ pub record AreLeftCalls (keys : Keys) (past : Choice) (calls : List KeyedCall) (
       → ((key : ℕ) → IsNoEffect ((left_at keys past a).effect key))
       ⊎ ((o : Operation) × Contains left o × IsAlikeAt keys (left_at keys past a) (keyed o))
   pub back : (o : Operation) → Contains left o → (a : KeyedCall) × Contains calls a × IsAlikeAt keys (left_at keys past a) (keyed o)
+
+-- each operation is alike to a call that was not refused, and of which something is left
+abbrev pub AreOfLeftCalls : Keys → Choice → List KeyedCall → List Operation → Type 0
+AreOfLeftCalls keys past calls left =
+    (o : Operation) → Contains left o
+    → (a : KeyedCall) × Contains calls a × (a.refused ≡ false) × IsLeftAt keys past a × IsAlikeAt keys (left_at keys past a) (keyed o)
+
+-- of the calls that began before a place, and were not refused, all that is left is among the operations
+abbrev pub AreAllLeft : Keys → Choice → ℕ → List KeyedCall → List Operation → Type 0
+AreAllLeft keys past limit calls left =
+    (a : KeyedCall) → Contains calls a → a.inv < limit → a.refused ≡ false → IsLeftAt keys past a
+    → (o : Operation) × Contains left o × IsAlikeAt keys (left_at keys past a) (keyed o)
+
+-- an operation may come next: the map allows its answer, and none of the others precedes it
+abbrev pub OperationMayCome : Contents → List Operation → Operation → Type 0
+OperationMayCome pairs left o = IsLegalCall pairs o.call o.response × ((q : Operation) → Contains left q → precedes q o ≡ false)
+
+-- the operations without one
+abbrev pub without_call : ℕ → List Operation → List Operation
+without_call inv left = filter (λ q. not (q.inv == inv)) left

@@ -1,5 +1,5 @@
 // Laws of parts, each the contract of a function that does nothing.
-ghost use Rattle.key_parts.specs.Laws.{CallsAreKnown, CallsComeNext, DeadPastsGo, EarlyReadsGain, OperationsDecide, PartsBegin, PartsDecide, PartsInAnyOrder, PartsMayBeTied, PartsStay, PartsUnite, PastsMayStay, ReadsAreTakenAtRest, ReadsComeNext};
+ghost use Rattle.key_parts.specs.Laws.{CallsAreKnown, CallsComeNext, DeadPastsGo, EarlyReadsGain, OperationsDecide, PartsBegin, PartsDecide, PartsInAnyOrder, PartsMayBeTied, PartsStay, PartsUnite, PastsMayStay, ReadsAreTakenAtRest, ReadsComeNext, OperationsComeNext, OperationsMayCome};
 
 /// Before any event all keys are one part, of one past.
 pub fn parts_begin()
@@ -69,4 +69,14 @@ pub fn pasts_may_stay()
 /// And a read that is taken too early may gain an order.
 pub fn early_reads_gain()
     ensures { EarlyReadsGain }
+{}
+
+/// Those calls may come next at some keys whose operations may.
+pub fn operations_may_come()
+    ensures { OperationsMayCome }
+{}
+
+/// An operation that may come next leads to what is left after its call.
+pub fn operations_come_next()
+    ensures { OperationsComeNext }
 {}
