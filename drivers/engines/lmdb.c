@@ -1,5 +1,5 @@
-/* A test of LMDB: each call is one transaction. With the first word `plain`, a put is only mdb_put and a del only mdb_del, which say less of what
- * they found. README.md says how it is built. */
+/* LMDB, tested: each call is one transaction. With the word `plain` in front, puts and deletes are mdb_put and mdb_del alone, which tell
+ * less. README.md says how it is built. */
 #include "../c/potzendai_test.h"
 #include <lmdb.h>
 
@@ -11,7 +11,7 @@ static bool is_plain;
 static MDB_val bytes_of(uint64_t *number) { return (MDB_val){sizeof *number, number}; }
 static uint64_t number_in(MDB_val value) { uint64_t number; memcpy(&number, value.mv_data, sizeof number); return number; }
 
-/* Ends a transaction. Its answer holds if it is committed. If a commit fails, the manual does not say that nothing has changed. */
+/* Ends a transaction: what it says holds where it is committed. Of a commit that fails the manual does not say that nothing has changed. */
 static enum map_said end(MDB_txn *txn, int status, enum map_said said)
 {
     if (status == 0 && said != MAP_REFUSED)
@@ -20,7 +20,7 @@ static enum map_said end(MDB_txn *txn, int status, enum map_said said)
     return MAP_REFUSED;
 }
 
-/* Finds the value of a key. Returns 0, or the status of a failure. */
+/* What is at a key: the status is that of a failure. */
 static int look(MDB_txn *txn, uint64_t key, uint64_t *found, enum map_said *said)
 {
     MDB_val at = bytes_of(&key), value;
@@ -42,7 +42,7 @@ static enum map_said get(void *map, uint64_t key, uint64_t *found)
     return end(txn, status, said);
 }
 
-/* Finds the value of a key, unless it is plain, and then puts or deletes. A replace does so only if the key has the old value. */
+/* Looks what is there, unless it is plain, and then puts or deletes. A replace does so only where the old value is there. */
 static enum map_said change(uint64_t key, uint64_t *value, const uint64_t *old, uint64_t *found)
 {
     MDB_txn *txn;
@@ -86,7 +86,7 @@ static enum map_said put_if_absent(void *map, uint64_t key, uint64_t value, uint
     return end(txn, status == MDB_KEYEXIST ? 0 : status, status ? MAP_TOLD : MAP_NONE);
 }
 
-/* The pairs that a cursor finds in one read transaction, which sees the map as it was when the transaction began. */
+/* The pairs that a cursor meets in one read transaction, which sees what was there as it began. */
 static enum map_said scan(void *map, uint64_t low, uint64_t high, struct recording_pair *all, size_t room, size_t *count)
 {
     MDB_txn *txn;
@@ -113,7 +113,7 @@ static enum map_said ceiling_of(void *map, uint64_t key, struct recording_pair *
     return said == MAP_TOLD && count == 0 ? MAP_NONE : said;
 }
 
-/* Opens the map in the folder, or makes one there. */
+/* Opens what is in the folder, or begins there. */
 static int open_folder(void)
 {
     MDB_txn *txn;

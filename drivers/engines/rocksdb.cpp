@@ -1,5 +1,5 @@
-// A test of RocksDB: puts and deletes are transactions that first read the value before. With the first word `plain` they are single operations,
-// which do not say it. README.md says how it is built.
+// RocksDB, tested: puts and deletes in transactions that read first, and tell. With the word `plain` in front they are single ones, which
+// tell nothing. README.md says how it is built.
 #include "../cpp/potzendai_test.hpp"
 #include <cstring>
 #include <memory>
@@ -13,7 +13,7 @@ using namespace rocksdb;
 static TransactionDB *base;
 static bool is_plain;
 
-// Numbers as bytes, the highest first, so that their order is that of the numbers.
+// Numbers as bytes, the highest first, so that they rise as the numbers do.
 static std::string bytes_of(uint64_t number)
 {
     std::string bytes;
@@ -37,8 +37,8 @@ static map_said told(const Status &status, const std::string &value, uint64_t &f
     return status.ok() ? MAP_TOLD : status.IsNotFound() ? MAP_NONE : MAP_REFUSED;
 }
 
-// Finds the value under the key's lock, and then puts a value or deletes; a replace only if the key has the old value. Nothing has changed if the
-// transaction has expired or met a conflict. If a commit fails otherwise, nobody knows.
+// Looks what is there under the key's lock, and then puts a value or deletes; a replace only where the old value is there. Nothing has changed
+// where the transaction has expired or met a conflict; of a commit that fails otherwise nobody knows.
 static map_said change(uint64_t key, const uint64_t *value, const uint64_t *old, uint64_t &found)
 {
     std::string before, at = bytes_of(key);
