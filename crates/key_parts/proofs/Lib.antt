@@ -6,3 +6,4 @@ pub mod SomeLemmas
 pub mod OperationLemmas
 pub mod RestLemmas
 pub mod DecideLemmas
+pub mod EventLemmas
