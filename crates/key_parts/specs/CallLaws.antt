@@ -60,7 +60,7 @@ TakenCallsAreAnswered =
     → IsLeft keys past limit (front ++ keyed o ∷ back) pairs left
     → IsLeft keys past limit (front ++ keyed (answered response o) ∷ back) pairs left
 
--- one of other keys is answered: nothing changes, unless it is refused and was taken at one of these
+-- one of other keys is answered: nothing changes, unless it is refused and was taken at these
 abbrev pub OtherCallsAreAnswered : Type 0
 OtherCallsAreAnswered =
     (keys : Keys) (past : Choice) (limit : ℕ) (front back : List KeyedCall) (pairs : Contents) (left : List Operation) (o : Operation)
