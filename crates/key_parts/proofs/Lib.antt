@@ -1,8 +1,16 @@
 pub mod PartLemmas
 pub mod StepLemmas
-pub mod WiderLemmas
 pub mod MaskLemmas
+pub mod NextLemmas
+pub mod FirstLemmas
+pub mod SiftLemmas
+pub mod BackLemmas
+pub mod InsertLemmas
+pub mod ReadLemmas
+pub mod CallLemmas
+pub mod KnownLemmas
 pub mod SomeLemmas
 pub mod OperationLemmas
 pub mod RestLemmas
 pub mod DecideLemmas
+pub mod WiderLemmas

@@ -1,12 +1,14 @@
 -- What is left of calls where more is taken.
-use Rattle.std.proofs.Common.{◌≡◌, ℕ, Bool, true, false, not, ◌&&◌, ◌||◌, cond, List, [], ◌∷◌, ◌++◌, map, Option, refl, sym, ap, ◌∙◌, subst}
-use Rattle.std.specs.Prelude.{◌≢◌, Contains}
+use Rattle.std.proofs.Common.{◌≡◌, ℕ, Bool, true, false, not, ◌&&◌, ◌||◌, cond, List, [], ◌∷◌, ◌++◌, map, Option, inl, inr, refl, sym, ap, ◌∙◌, subst, ⊎_elim}
+use Rattle.std.specs.Prelude.{◌≢◌, ◌⊎◌, Contains}
 use Rattle.list_laws.proofs.FilterLemmas.{Contains-map, Contains-from_map, AllPairs-map}
 use Rattle.list_laws.proofs.Lists.{Contains-first, Contains-later}
 use mathlib.Core.Path.{fun_ext}
 use Rattle.key_effects.specs.KeyedCalls.{KeyedCall, Effect, no_effect, IsNoEffect, precedes, is_completed}
 use Rattle.key_effects.specs.KeyedOrders.{FitInTurn, IsKeyedOrder}
 use Rattle.key_effects.specs.Choices.{Choice, rest_of}
+use Rattle.key_effects.specs.Apart.{IsQuiet}
+use Rattle.key_effects.proofs.DeadLemmas.{bool_cases}
 use Rattle.key_effects.proofs.RestLemmas.{none_or}
 
 -- what is left of a call where more is taken
@@ -42,6 +44,15 @@ rest_masked w next m d taken =
     made : (ℕ → Bool) → (ℕ → Effect) → KeyedCall
     made c e = record { inv = d.inv; res = d.res; refused = d.refused; concerns = c; effect = e }
 
+-- where nothing more is taken, a call is what it was
+pub masked_same : (m : ℕ → ℕ → Bool) (x : KeyedCall) → ((key : ℕ) → m x.inv key ≡ false) → masked_by m x ≡ x
+masked_same m x out =
+    ap (λ (c : ℕ → Bool). made c (λ (key : ℕ). cond (m x.inv key) no_effect (x.effect key))) (fun_ext (λ (key : ℕ). rw (out key) refl))
+    ∙ ap (λ (e : ℕ → Effect). made x.concerns e) (fun_ext (λ (key : ℕ). rw (out key) refl))
+  where
+    made : (ℕ → Bool) → (ℕ → Effect) → KeyedCall
+    made c e = record { inv = x.inv; res = x.res; refused = x.refused; concerns = c; effect = e }
+
 -- an order where more is taken, as far as it fits
 pub order_masked : (w next : Choice) (m : ℕ → ℕ → Bool) (more order : List KeyedCall)
     → ((inv key : ℕ) → next.taken inv key ≡ (w.taken inv key || m inv key)) → IsKeyedOrder w.holds (map (rest_of w) more) order
@@ -64,12 +75,23 @@ order_masked w next m more order taken is fit = record {
   fit = fit;
 }
 
--- at a key at which nothing more is taken, calls in turn fit as they did
-pub same_masked : (m : ℕ → ℕ → Bool) (key : ℕ) (xs : List KeyedCall) (value : Option ℕ) → ((x : KeyedCall) → Contains xs x → m x.inv key ≡ false)
-    → FitInTurn key value xs → FitInTurn key value (map (masked_by m) xs)
-same_masked m key [] value out fit = tt
-same_masked m key (x ∷ xs) value out fit =
-    rw (out x (Contains-first x xs)) (fit.0, same_masked m key xs ((x.effect key).leaves value) (λ y y_in. out y (Contains-later x xs y y_in)) fit.1)
+-- where those of which more is taken are quiet at a key, calls in turn fit as they did
+pub quiet_masked : (m : ℕ → ℕ → Bool) (key : ℕ) (xs : List KeyedCall) (value : Option ℕ)
+    → ((x : KeyedCall) → Contains xs x → (m x.inv key ≡ false) ⊎ IsQuiet x key) → FitInTurn key value xs
+    → FitInTurn key value (map (masked_by m) xs)
+quiet_masked m key [] value quiet fit = tt
+quiet_masked m key (x ∷ xs) value quiet fit =
+    by_name (bool_cases (m x.inv key))
+    (quiet_masked m key xs ((x.effect key).leaves value) (λ y y_in. quiet y (Contains-later x xs y y_in)) fit.1)
+  where
+    by_name : (m x.inv key ≡ true) ⊎ (m x.inv key ≡ false) → FitInTurn key ((x.effect key).leaves value) (map (masked_by m) xs)
+        → FitInTurn key value (map (masked_by m) (x ∷ xs))
+    by_name (inr out) rest = rw out (fit.0, rest)
+    by_name (inl named) rest =
+        ⊎_elim
+        (λ out. let never : m x.inv key ≡ false = out in cc)
+        (λ still. rw named (refl, subst (λ (v : Option ℕ). FitInTurn key v (map (masked_by m) xs)) (still value fit.0) rest))
+        (quiet x (Contains-first x xs))
 
 -- the first that has an effect at a key is taken: the others go on from what it leaves
 pub first_masked : (m : ℕ → ℕ → Bool) (key : ℕ) (front : List KeyedCall) (x : KeyedCall) (back : List KeyedCall) (value : Option ℕ)
@@ -81,7 +103,7 @@ first_masked m key [] x back value none taken out fit = (
   (
     taken.fits ((x.effect key).leaves value),
     subst (λ (v : Option ℕ). FitInTurn key v (map (masked_by m) back)) (sym (taken.leaves ((x.effect key).leaves value)))
-        (same_masked m key back ((x.effect key).leaves value) out fit.1),
+        (quiet_masked m key back ((x.effect key).leaves value) (λ y y_in. inl (out y y_in)) fit.1),
   ),
 )
 first_masked m key (y ∷ front) x back value none taken out fit =

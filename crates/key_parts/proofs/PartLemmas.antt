@@ -1,7 +1,7 @@
 -- Choices at some keys. `at_self`, `at_back`, `at_next`: being the same at some keys is an equivalence. `at_fewer`, `at_both`: at fewer keys,
 -- and at those of two sets. `instead`: a choice that is another at some keys. `goes_on_there`: a choice that goes on to an order goes on to one
--- at some keys, and so does what it is there. `same_goes_on`: what is the same at all keys goes on too. `keys_shared`, `with_instead`: a part
--- with other pasts. `part_steps`: parts stand where one of them took a step.
+-- at some keys, and so does what it is there. `same_goes_on`: what is the same at all keys goes on too. `keys_shared`, `with_instead`,
+-- `with_other`: a part with other pasts. `part_steps`: parts stand where one of them took a step.
 use Rattle.std.proofs.Common.{◌≡◌, ℕ, Bool, true, false, not, ◌||◌, ◌&&◌, cond, List, [], ◌∷◌, map, Option, inl, inr, refl, sym, ap, ◌∙◌, subst, ⊎_elim}
 use Rattle.std.specs.Prelude.{◌⊎◌, Contains}
 use Rattle.std.proofs.lemmas.List.Elements.{All-cons, All-tail, All-contains}
@@ -249,6 +249,14 @@ with_instead keys pasts nexts rest next w shared next_in is =
     let (past, past_in, same) = All-contains (λ other. IsOneOf other.keys other.pasts w) rest part
     (All-tail (λ other. IsOneOf other.keys other.pasts w) (record { keys = keys; pasts = pasts }) rest is) part_in in
     (past, past_in, at_next part.keys past w (instead keys next w) same (instead_there keys part.keys next w apart))))
+
+-- and one that has another past of the first
+pub with_other : (keys : Keys) (pasts nexts : List Choice) (rest : List Part) (w past : Choice)
+    → choices_of (record { keys = keys; pasts = pasts } ∷ rest) w → Contains nexts past → IsAt keys past w
+    → choices_of (record { keys = keys; pasts = nexts } ∷ rest) w
+with_other keys pasts nexts rest w past is past_in same =
+    All-cons (λ part. IsOneOf part.keys part.pasts w) (record { keys = keys; pasts = nexts }) rest (past, past_in, same)
+    (All-tail (λ part. IsOneOf part.keys part.pasts w) (record { keys = keys; pasts = pasts }) rest is)
 
 -- the first of parts took a step: each of its choices that goes on has one after the step that does, and the other way round
 pub part_steps : (held : ℕ → Option ℕ) (place : ℕ) (calls : List KeyedCall) (keys : Keys) (pasts nexts : List Choice) (rest : List Part)

@@ -1,9 +1,9 @@
--- A read that was answered, taken at keys at rest. `at_taken`: two choices that differ by it. `read_forth`, `read_back`: each goes on where the
--- other does.
+-- A read that was answered, taken at keys at rest. `at_taken`: two choices that differ by it. `read_back`: one goes on where the other
+-- does, which has taken it.
 use Rattle.std.proofs.Common.{◌≡◌, ℕ, ◌==◌, ◌<◌, Bool, true, false, not, ◌&&◌, ◌||◌, cond, List, [], ◌∷◌, ◌++◌, map, Option, inl, inr, refl, sym, ap, ◌∙◌, subst, ⊎_elim, arith}
 use Rattle.std.specs.Prelude.{◌≢◌, ◌⊎◌, All, Contains}
 use Rattle.std.proofs.lemmas.Bool.{eqb-true, eq-eqb, and_parts}
-use Rattle.std.proofs.lemmas.List.Elements.{All-cons, All-head, All-tail, All-contains, Contains-append_left}
+use Rattle.std.proofs.lemmas.List.Elements.{All-head, All-contains, Contains-append_left}
 use Rattle.list_laws.proofs.FilterLemmas.{AllPairs-map, Contains-map, Contains-from_map}
 use Rattle.list_laws.proofs.Lists.{AllPairs-across, AllPairs-back, AllPairs-head, All-from_contains, Contains-first, Contains-later, Contains-cases, Contains-split}
 use mathlib.Core.Path.{fun_ext}
@@ -17,19 +17,19 @@ use Rattle.key_effects.proofs.DeadLemmas.{bool_cases, response_of}
 use Rattle.key_effects.proofs.OrderLemmas.{same_call, ends_at}
 use Rattle.key_effects.proofs.RestLemmas.{none_none, refused_none}
 use Rattle.key_parts.specs.Laws.{ReadsAreTakenAtRest}
-use Rattle.key_parts.specs.Parts.{Part, IsAt, IsOneOf, choices_of}
+use Rattle.key_parts.specs.Parts.{IsAt, IsOneOf, choices_of}
 use Rattle.key_parts.specs.Steps.{IsAfterCall, IsReadAt, IsAtRest}
-use Rattle.key_parts.proofs.MaskLemmas.{masked_by, order_masked}
-use Rattle.key_parts.proofs.PartLemmas.{at_back, instead, instead_here, instead_there, keys_shared, with_instead, part_steps}
+use Rattle.key_parts.proofs.PartLemmas.{at_back, instead, instead_here, instead_there, keys_shared, with_instead, with_other, part_steps}
+use Rattle.key_parts.proofs.FirstLemmas.{completed_stays}
+use Rattle.key_parts.proofs.ReadLemmas.{read_comes, read_fits, read_quiet}
 
 -- ---- two choices, of which one takes a call at some keys that the other leaves
 
--- the call found there what they hold, and leaves it
+-- the call leaves what they hold
 record IsTakenAt (keys : Keys) (w : Choice) (b : KeyedCall) (v : Choice) : Type 0 where
   taken : (inv key : ℕ) → v.taken inv key ≡ (w.taken inv key || ((inv == b.inv) && keys key))
   holds : (key : ℕ) → v.holds key ≡ w.holds key
   found_before : (inv key : ℕ) → w.taken inv key ≡ true → v.found inv key ≡ w.found inv key
-  found : (key : ℕ) → keys key ≡ true → w.taken b.inv key ≡ false → v.found b.inv key ≡ w.holds key
 
 -- the keys of a set that a call concerns
 abbrev concerned : Keys → KeyedCall → Keys
@@ -46,9 +46,6 @@ taken_there false false k c is = refl
 out_of : (b : Bool) → b ≡ false → not b ≡ true
 out_of b is = rw is refl
 
-effect_untaken : (t : Bool) (e : Effect) → t ≡ false → cond t no_effect e ≡ e
-effect_untaken t e is = rw is refl
-
 at_taken : (keys : Keys) (past next : Choice) (b : KeyedCall) (w v : Choice) → IsAfterCall keys past b next → IsReadAt keys past b
     → ((key : ℕ) → keys key ≡ true → ((rest_of past b).effect key).fits (past.holds key) ≡ true)
     → IsAt keys past w → IsAt keys next v → IsAt (other_keys keys) w v → IsTakenAt (concerned keys b) w b v
@@ -56,17 +53,8 @@ at_taken keys past next b w v after read fits first second same = record {
   taken = λ inv key. taken inv key (bool_cases (keys key));
   holds = λ key. holds key (bool_cases (keys key));
   found_before = λ inv key is. found_before inv key is (bool_cases (keys key));
-  found = λ key here untaken.
-      let (is, concerns) = and_parts (keys key) (b.concerns key) here in
-      let before : past.taken b.inv key ≡ false = sym (first.taken b.inv key is) ∙ untaken in
-      let now : next.taken b.inv key ≡ true = after.taken b.inv key is ∙ itself (past.taken b.inv key) (b.concerns key) concerns in
-      second.found b.inv key is now ∙ after.found key is before concerns ∙ sym (first.holds key is);
 }
   where
-    itself : (t c : Bool) → c ≡ true → (t || ((b.inv == b.inv) && c)) ≡ true
-    itself true c is = refl
-    itself false c is = rw (eq-eqb b.inv b.inv refl) is
-
     taken : (inv key : ℕ) → (keys key ≡ true) ⊎ (keys key ≡ false)
         → v.taken inv key ≡ (w.taken inv key || ((inv == b.inv) && (keys key && b.concerns key)))
     taken inv key (inl is) = second.taken inv key is ∙ after.taken inv key is
@@ -88,13 +76,12 @@ at_taken keys past next b w v after read fits first second same = record {
         second.found inv key here now ∙ after.found_before inv key here before ∙ sym (first.found inv key here before)
     found_before inv key is (inr out) = same.found inv key (out_of (keys key) out) is
 
--- ---- the read is taken out of an order, and put back
+-- ---- the read is put back into an order
 
 -- all that is known of the calls, and of the read
 record AtRead (keys : Keys) (more : List KeyedCall) (w v : Choice) (b : KeyedCall) : Type 0 where
   b_in : Contains more b
   apart : AreKeyedCalls more
-  accepted : b.refused ≡ false
   completed : is_completed b ≡ true
   taken : IsTakenAt keys w b v
   quiet : (key : ℕ) → keys key ≡ true → IsQuiet (rest_of w b) key
@@ -171,63 +158,6 @@ module _ (keys : Keys) (more : List KeyedCall) (w v : Choice) (b : KeyedCall) (a
   only_read : (d : KeyedCall) → Contains more d → (d.inv == b.inv) ≡ true → d ≡ b
   only_read d d_in named = same_call more d b at.apart.distinct d_in at.b_in (eqb-true d.inv b.inv named)
 
-  -- forth
-  agrees_forth : (d : KeyedCall) → Contains more d → Agrees w d → Agrees v d
-  agrees_forth d d_in agrees = record {
-    accepted = λ key taken. accepted key (bool_cases (w.taken d.inv key)) taken;
-    fits = λ key taken. fits key (bool_cases (w.taken d.inv key)) taken;
-  }
-    where
-      new : (key : ℕ) → w.taken d.inv key ≡ false → v.taken d.inv key ≡ true → (d ≡ b) × (keys key ≡ true)
-      new key untaken taken =
-          let here : (w.taken d.inv key || ((d.inv == b.inv) && keys key)) ≡ true = sym (at.taken.taken d.inv key) ∙ taken in
-          let both : ((d.inv == b.inv) && keys key) ≡ true = rw untaken at here in
-          let (named, is) = and_parts (d.inv == b.inv) (keys key) both in
-          (only_read d d_in named, is)
-
-      accepted : (key : ℕ) → (w.taken d.inv key ≡ true) ⊎ (w.taken d.inv key ≡ false) → v.taken d.inv key ≡ true → d.refused ≡ false
-      accepted key (inl before) taken = agrees.accepted key before
-      accepted key (inr untaken) taken = subst (λ (z : KeyedCall). z.refused ≡ false) (sym (new key untaken taken).0) at.accepted
-
-      fits : (key : ℕ) → (w.taken d.inv key ≡ true) ⊎ (w.taken d.inv key ≡ false) → v.taken d.inv key ≡ true
-          → (d.effect key).fits (v.found d.inv key) ≡ true
-      fits key (inl before) taken =
-          subst (λ (u : Option ℕ). (d.effect key).fits u ≡ true) (sym (at.taken.found_before d.inv key before)) (agrees.fits key before)
-      fits key (inr untaken) taken =
-          let (one, is) = new key untaken taken in
-          let b_untaken : w.taken b.inv key ≡ false = subst (λ (z : KeyedCall). w.taken z.inv key ≡ false) one untaken in
-          let fit : (b.effect key).fits (w.holds key) ≡ true =
-          subst (λ (e : Effect). e.fits (w.holds key) ≡ true) (effect_untaken (w.taken b.inv key) (b.effect key) b_untaken) (at.fits key is) in
-          subst (λ (z : KeyedCall). (z.effect key).fits (v.found z.inv key) ≡ true) (sym one)
-          (subst (λ (u : Option ℕ). (b.effect key).fits u ≡ true) (sym (at.taken.found key is b_untaken)) fit)
-
-  fit_forth : (order : List KeyedCall) → IsKeyedOrder w.holds (map (rest_of w) more) order → (key : ℕ)
-      → FitInTurn key (v.holds key) (map (masked_by (besides keys b)) order)
-  fit_forth order is key =
-      subst (λ (u : Option ℕ). FitInTurn key u (map (masked_by (besides keys b)) order)) (sym (at.taken.holds key))
-      (quiet_moved key (masked_by (besides keys b)) order (w.holds key)
-      (λ x x_in. each x x_in (bool_cases ((x.inv == b.inv) && keys key))) (is.fit key))
-    where
-      each : (x : KeyedCall) → Contains order x → (((x.inv == b.inv) && keys key) ≡ true) ⊎ (((x.inv == b.inv) && keys key) ≡ false)
-          → ((masked_by (besides keys b) x).effect key ≡ x.effect key)
-          ⊎ (IsQuiet x key × ((masked_by (besides keys b) x).effect key ≡ no_effect))
-      each x x_in (inr out) = inl (rw out refl)
-      each x x_in (inl both) =
-          let (named, here) = and_parts (x.inv == b.inv) (keys key) both in
-          let (d, d_in, d_is) = Contains-from_map (rest_of w) more x (is.known x x_in) in
-          let one : d ≡ b = only_read d d_in (subst (λ (z : KeyedCall). (z.inv == b.inv) ≡ true) (sym d_is) named) in
-          inr (subst (λ (z : KeyedCall). IsQuiet z key) (ap (λ (z : KeyedCall). rest_of w z) (sym one) ∙ d_is) (at.quiet key here), rw both refl)
-
-  read_forth : GoesOn w more → GoesOn v more
-  read_forth some = (
-    All-from_contains (Agrees v) more (λ d d_in. agrees_forth d d_in (All-contains (Agrees w) more d some.0 d_in)),
-    (
-      map (masked_by (besides keys b)) some.1.0,
-      order_masked w v (besides keys b) more some.1.0 at.taken.taken some.1.1 (fit_forth some.1.0 some.1.1),
-    ),
-  )
-
-  -- and back
   agrees_back : (d : KeyedCall) → Agrees v d → Agrees w d
   agrees_back d agrees = record {
     accepted = λ key taken. agrees.accepted key (still key taken);
@@ -433,57 +363,28 @@ at_rest place calls more keys past next v b grown b_in completed rest after same
 apart_others : (keys : Keys) → AreApart keys (other_keys keys)
 apart_others keys key is = rw is refl
 
--- a choice of parts that has one of the other pasts at the keys of the first
-stays_one : (keys : Keys) (pasts nexts : List Choice) (rest : List Part) (p w : Choice) → Contains nexts p → IsAt keys p w
-    → choices_of (record { keys = keys; pasts = pasts } ∷ rest) w → choices_of (record { keys = keys; pasts = nexts } ∷ rest) w
-stays_one keys pasts nexts rest p w p_in same is =
-    All-cons (λ part. IsOneOf part.keys part.pasts w) (record { keys = keys; pasts = nexts }) rest (p, p_in, same)
-    (All-tail (λ part. IsOneOf part.keys part.pasts w) (record { keys = keys; pasts = pasts }) rest is)
-
 pub reads_at_rest : ReadsAreTakenAtRest
 reads_at_rest held place calls keys past next others rest b b_in completed accepted read fits quiet after stand =
-    part_steps held place calls keys (past ∷ others) (next ∷ others) rest forth back stand
+    part_steps held place calls keys (past ∷ others) (next ∷ others) rest
+    (read_comes place calls keys past next others rest b b_in completed accepted read fits after stand.shared) back stand
   where
+    in_more : (more : List KeyedCall) → HaveGrown place calls more → Contains more b
+    in_more more grown = completed_stays place calls more b grown b_in completed
+
     at_read : (w v : Choice) (more : List KeyedCall) → HaveGrown place calls more → IsAt keys past w → IsAt keys next v → IsAt (other_keys keys) w v
         → AtRead (concerned keys b) more w v b
     at_read w v more grown first second same = record {
-      b_in = in_more;
+      b_in = in_more more grown;
       apart = grown.apart;
-      accepted = accepted;
       completed = completed;
       taken = at_taken keys past next b w v after read fits first second same;
       quiet = λ key here.
-          let is : keys key ≡ true = (and_parts (keys key) (b.concerns key) here).0 in
-          subst (λ (t : Bool). (value : Option ℕ) → (cond t no_effect (b.effect key)).fits value ≡ true
-          → (cond t no_effect (b.effect key)).leaves value ≡ value) (sym (first.taken b.inv key is)) (read key is);
+          read_quiet keys place calls more past next w b first grown (in_more more grown) accepted read fits after key
+          (and_parts (keys key) (b.concerns key) here).0;
       fits = λ key here.
-          let is : keys key ≡ true = (and_parts (keys key) (b.concerns key) here).0 in
-          subst (λ (u : Option ℕ). (cond (w.taken b.inv key) no_effect (b.effect key)).fits u ≡ true) (sym (first.holds key is))
-          (subst (λ (t : Bool). (cond t no_effect (b.effect key)).fits (past.holds key) ≡ true) (sym (first.taken b.inv key is)) (fits key is));
+          read_fits keys place calls more past next w b first grown (in_more more grown) accepted read fits after key
+          (and_parts (keys key) (b.concerns key) here).0;
     }
-      where
-        in_more : Contains more b
-        in_more =
-            let (d, d_in, later) = grown.stay b b_in in
-            let same : d ≡ b = ⊎_elim (λ one. one)
-            (λ answered. let never : is_completed b ≡ false = answered.pending in let is : is_completed b ≡ true = completed in cc) later.response in
-            subst (λ (c : KeyedCall). Contains more c) same d_in
-
-    forth : (w : Choice) (more : List KeyedCall) → choices_of (record { keys = keys; pasts = past ∷ others } ∷ rest) w → HaveGrown place calls more
-        → GoesOn w more → SomeGoesOn (choices_of (record { keys = keys; pasts = next ∷ others } ∷ rest)) more
-    forth w more w_is grown goes_on =
-        let (p, p_in, same) = All-head (λ part. IsOneOf part.keys part.pasts w) (record { keys = keys; pasts = past ∷ others }) rest w_is in
-        ⊎_elim
-        (λ one.
-        let first : IsAt keys past w = subst (λ (z : Choice). IsAt keys z w) (sym one) same in (
-          instead keys next w,
-          with_instead keys (past ∷ others) (next ∷ others) rest next w stand.shared (Contains-first next others) w_is,
-          read_forth (concerned keys b) more w (instead keys next w) b
-              (at_read w (instead keys next w) more grown first (instead_here keys next w)
-              (instead_there keys (other_keys keys) next w (apart_others keys))) goes_on,
-        ))
-        (λ later. (w, stays_one keys (past ∷ others) (next ∷ others) rest p w (Contains-later next others p later) same w_is, goes_on))
-        (Contains-cases past others p p_in)
 
     back : (v : Choice) (more : List KeyedCall) → choices_of (record { keys = keys; pasts = next ∷ others } ∷ rest) v → HaveGrown place calls more
         → GoesOn v more → SomeGoesOn (choices_of (record { keys = keys; pasts = past ∷ others } ∷ rest)) more
@@ -500,5 +401,5 @@ reads_at_rest held place calls keys past next others rest b b_in completed accep
               (at_back (other_keys keys) v (instead keys past v) (instead_there keys (other_keys keys) past v (apart_others keys))))
               (at_rest place calls more keys past next v b grown b_in completed quiet after second) goes_on,
         ))
-        (λ later. (v, stays_one keys (next ∷ others) (past ∷ others) rest p v (Contains-later past others p later) same v_is, goes_on))
+        (λ later. (v, with_other keys (next ∷ others) (past ∷ others) rest v p v_is (Contains-later past others p later) same, goes_on))
         (Contains-cases next others p p_in)

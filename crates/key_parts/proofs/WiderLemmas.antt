@@ -17,7 +17,7 @@ use Rattle.key_effects.proofs.EffectLemmas.{same_values}
 use Rattle.key_effects.proofs.RestLemmas.{none_none}
 use Rattle.key_effects.proofs.TurnLemmas.{fit-back}
 use Rattle.key_parts.specs.Parts.{Part, IsAt, IsOneOf, choices_of, StandFor, left_at, AgreesAt, SomePastGoesOn}
-use Rattle.key_parts.specs.Steps.{MayComeNext, IsAfterCall}
+use Rattle.key_parts.specs.Steps.{IsLeftAt, MayComeNext, IsAfterCall}
 use Rattle.key_parts.specs.Laws.{PartsMayBeTied, PastsMayStay, EarlyReadsGain}
 use Rattle.key_parts.proofs.PartLemmas.{all_keys, at_self, at_back, same_goes_on, fit_none, none_left_out}
 use Rattle.key_parts.proofs.StepLemmas.{parts_begin, parts_stay, parts_unite}
@@ -228,9 +228,9 @@ never_after (order, is) =
 
 pub pasts_may_stay : PastsMayStay
 pasts_may_stay rule =
-    let stand = rule nothing 1 1 (pending ∷ []) all_keys (at_first nothing) [] (with_five ∷ []) [] pending grown_pending
-    (λ a b a_in b_in is. none-some b.inv (sym (each_of_one (λ x. x.res ≡ None) pending refl a a_in) ∙ is))
-    (omega arith) (Contains-first pending []) (omega arith) refl (0, refl, refl)
+    let stand = rule nothing 1 1 (pending ∷ []) all_keys (at_first nothing) [] (with_five ∷ []) [] pending
+    (Contains-first pending []) (omega arith) refl (0, refl, refl)
+    (λ a a_in begun accepted. inl (each_of_one (λ x. IsLeftAt all_keys (at_first nothing) x) pending (0, refl, refl) a a_in))
     (λ w b w_is b_in begun accepted. inl (λ key out. cc))
     (λ a a_in next. (
       with_five,
@@ -367,7 +367,7 @@ goes_on_early = (
 
 pub early_reads_gain : EarlyReadsGain
 early_reads_gain rule =
-    let stand = rule nothing 4 (put ∷ get ∷ []) all_keys (at_first nothing) with_none [] [] get grown_put
+    let stand = rule nothing 4 (put ∷ get ∷ []) all_keys (at_first nothing) with_none [] [] get
     (Contains-later put (get ∷ []) get (Contains-first get [])) refl refl
     (λ key is value fits. at_cases (λ e. e.leaves value ≡ value) 0 key (read_of None) refl refl)
     (λ key is. at_cases (λ e. e.fits None ≡ true) 0 key (read_of None) refl refl) after_none

@@ -10,7 +10,7 @@ use Rattle.key_effects.specs.Choices.{Choice, at_first, rest_of}
 use Rattle.key_effects.specs.Cuts.{Keys}
 use Rattle.key_effects.specs.Apart.{AreApart, IsAlikeAt}
 use Rattle.key_parts.specs.Parts.{Part, IsOneOf, ShareKeys, StandFor, GoesOnAt, SomePastGoesOn, AreOfOnePart, AgreesAt, left_at}
-use Rattle.key_parts.specs.Steps.{IsLeftAt, MayComeNext, IsAfterCall, HavePlaces, ArePartedBefore, IsReadAt, IsAtRest, AreJoined}
+use Rattle.key_parts.specs.Steps.{IsLeftAt, MayComeNext, IsAfterCall, AreKnownAt, ArePartedBefore, IsReadAt, IsAtRest, AreJoined}
 use Rattle.key_parts.specs.Operations.{AreLeftCalls, AreOfLeftCalls, AreAllLeft, OperationMayCome, without_call}
 use Rattle.key_parts.specs.Wider.{AnyPartsDecide, PendingCallsMustCome, ReadsAreTakenAtOnce}
 
@@ -52,8 +52,8 @@ DeadPastsGo =
 abbrev pub CallsComeNext : Type 0
 CallsComeNext =
     (held : ℕ → Option ℕ) (place limit : ℕ) (calls : List KeyedCall) (keys : Keys) (past : Choice) (others nexts : List Choice) (rest : List Part)
-    (ended : KeyedCall) → HaveGrown place calls calls → HavePlaces calls → limit ≤ place → Contains calls ended
-    → ends_before ended.res limit ≡ true → ended.refused ≡ false → IsLeftAt keys past ended
+    (ended : KeyedCall) → Contains calls ended → ends_before ended.res limit ≡ true → ended.refused ≡ false
+    → IsLeftAt keys past ended → AreKnownAt keys limit past calls
     → ArePartedBefore keys limit (record { keys = keys; pasts = past ∷ [] } ∷ rest) calls
     → ((a : KeyedCall) → Contains calls a → MayComeNext keys past calls a
     → (next : Choice) × Contains nexts next × IsAfterCall keys past a next)
@@ -62,13 +62,16 @@ CallsComeNext =
     → StandFor held place calls (record { keys = keys; pasts = past ∷ others } ∷ rest)
     → StandFor held place calls (record { keys = keys; pasts = nexts ++ others } ∷ rest)
 
+-- of calls of a history it is known whether something is left of them
+abbrev pub CallsAreKnown : Type 0
+CallsAreKnown = (keys : Keys) (place : ℕ) (past : Choice) (calls : List Operation) → AreKnownAt keys place past (map keyed calls)
+
 -- a read that was answered, and may come next, may be taken at once, and no other call in its stead
 abbrev pub ReadsComeNext : Type 0
 ReadsComeNext =
     (held : ℕ → Option ℕ) (place limit : ℕ) (calls : List KeyedCall) (keys : Keys) (past next : Choice) (others : List Choice) (rest : List Part)
-    (b : KeyedCall) → HaveGrown place calls calls → HavePlaces calls → limit ≤ place → Contains calls b → is_completed b ≡ true → b.inv < limit
-    → MayComeNext keys past calls b → IsReadAt keys past b → IsAfterCall keys past b next
-    → ArePartedBefore keys limit (record { keys = keys; pasts = past ∷ [] } ∷ rest) calls
+    (b : KeyedCall) → Contains calls b → is_completed b ≡ true → b.inv < limit → MayComeNext keys past calls b → IsReadAt keys past b
+    → IsAfterCall keys past b next → ArePartedBefore keys limit (record { keys = keys; pasts = past ∷ [] } ∷ rest) calls
     → StandFor held place calls (record { keys = keys; pasts = past ∷ others } ∷ rest)
     → StandFor held place calls (record { keys = keys; pasts = next ∷ others } ∷ rest)
 

@@ -1,5 +1,5 @@
 -- Steps from a past at some keys: one more call is taken there.
-use Rattle.std.specs.Prelude.{◌≡◌, ◌⊎◌, ℕ, ◌==◌, ◌<◌, true, false, ◌||◌, ◌&&◌, List, Some, Contains}
+use Rattle.std.specs.Prelude.{◌≡◌, ◌⊎◌, ℕ, ◌==◌, ◌<◌, true, false, ◌||◌, ◌&&◌, List, Contains}
 use Rattle.key_effects.specs.KeyedCalls.{KeyedCall, precedes}
 use Rattle.key_effects.specs.Choices.{Choice, rest_of}
 use Rattle.key_effects.specs.Cuts.{Keys, IsWithin, IsOutside}
@@ -28,9 +28,10 @@ pub record IsAfterCall (keys : Keys) (past : Choice) (a : KeyedCall) (next : Cho
   pub found_before : (inv key : ℕ) → keys key ≡ true → past.taken inv key ≡ true → next.found inv key ≡ past.found inv key
   pub found : (key : ℕ) → keys key ≡ true → past.taken a.inv key ≡ false → a.concerns key ≡ true → next.found a.inv key ≡ past.holds key
 
--- no response stands where an invocation does
-abbrev pub HavePlaces : List KeyedCall → Type 0
-HavePlaces calls = (a b : KeyedCall) → Contains calls a → Contains calls b → a.res ≡ Some b.inv → ⊥
+-- of calls that began before a place, and were not refused, it is known whether something is left of them at these keys
+abbrev pub AreKnownAt : Keys → ℕ → Choice → List KeyedCall → Type 0
+AreKnownAt keys place past calls =
+    (a : KeyedCall) → Contains calls a → a.inv < place → a.refused ≡ false → IsLeftAt keys past a ⊎ NoneIsLeftAt keys past a
 
 -- calls that began before a place, and were not refused, are left at these keys alone, or at others alone
 abbrev pub ArePartedBefore : Keys → ℕ → List Part → List KeyedCall → Type 0

@@ -1,12 +1,12 @@
 -- Rules that go further than the laws, and are false.
-use Rattle.std.specs.Prelude.{◌≡◌, ℕ, ◌<◌, ◌≤◌, true, false, List, [], ◌∷◌, ◌++◌, Option, All, AllPairs, Contains}
+use Rattle.std.specs.Prelude.{◌≡◌, ℕ, ◌<◌, true, false, List, [], ◌∷◌, ◌++◌, Option, All, AllPairs, Contains}
 use Rattle.key_effects.specs.KeyedCalls.{KeyedCall, is_completed}
 use Rattle.key_effects.specs.KeyedOrders.{HasKeyedOrder}
 use Rattle.key_effects.specs.Growth.{HaveGrown}
 use Rattle.key_effects.specs.Choices.{Choice, rest_of}
 use Rattle.key_effects.specs.Cuts.{Keys}
 use Rattle.key_parts.specs.Parts.{Part, StandFor, SomePastGoesOn}
-use Rattle.key_parts.specs.Steps.{IsLeftAt, MayComeNext, IsAfterCall, HavePlaces, ArePartedBefore, IsReadAt}
+use Rattle.key_parts.specs.Steps.{IsLeftAt, MayComeNext, IsAfterCall, AreKnownAt, ArePartedBefore, IsReadAt}
 
 -- that calls have an order where each part has a past that goes on, though a call is left at the keys of two parts
 abbrev pub AnyPartsDecide : Type 0
@@ -18,8 +18,8 @@ AnyPartsDecide =
 abbrev pub PendingCallsMustCome : Type 0
 PendingCallsMustCome =
     (held : ℕ → Option ℕ) (place limit : ℕ) (calls : List KeyedCall) (keys : Keys) (past : Choice) (others nexts : List Choice) (rest : List Part)
-    (begun : KeyedCall) → HaveGrown place calls calls → HavePlaces calls → limit ≤ place → Contains calls begun
-    → begun.inv < limit → begun.refused ≡ false → IsLeftAt keys past begun
+    (begun : KeyedCall) → Contains calls begun → begun.inv < limit → begun.refused ≡ false → IsLeftAt keys past begun
+    → AreKnownAt keys limit past calls
     → ArePartedBefore keys limit (record { keys = keys; pasts = past ∷ [] } ∷ rest) calls
     → ((a : KeyedCall) → Contains calls a → MayComeNext keys past calls a
     → (next : Choice) × Contains nexts next × IsAfterCall keys past a next)
@@ -32,7 +32,7 @@ PendingCallsMustCome =
 abbrev pub ReadsAreTakenAtOnce : Type 0
 ReadsAreTakenAtOnce =
     (held : ℕ → Option ℕ) (place : ℕ) (calls : List KeyedCall) (keys : Keys) (past next : Choice) (others : List Choice) (rest : List Part)
-    (b : KeyedCall) → HaveGrown place calls calls → Contains calls b → is_completed b ≡ true → b.refused ≡ false → IsReadAt keys past b
+    (b : KeyedCall) → Contains calls b → is_completed b ≡ true → b.refused ≡ false → IsReadAt keys past b
     → ((key : ℕ) → keys key ≡ true → ((rest_of past b).effect key).fits (past.holds key) ≡ true) → IsAfterCall keys past b next
     → StandFor held place calls (record { keys = keys; pasts = past ∷ others } ∷ rest)
     → StandFor held place calls (record { keys = keys; pasts = next ∷ others } ∷ rest)

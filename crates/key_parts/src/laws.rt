@@ -1,5 +1,5 @@
 // Laws of parts, each the contract of a function that does nothing.
-ghost use Rattle.key_parts.specs.Laws.{CallsComeNext, DeadPastsGo, EarlyReadsGain, OperationsComeNext, OperationsDecide, OperationsMayCome, PartsBegin, PartsDecide, PartsInAnyOrder, PartsMayBeTied, PartsStay, PartsUnite, PastsMayStay, ReadsAreTakenAtRest, ReadsComeNext};
+ghost use Rattle.key_parts.specs.Laws.{CallsAreKnown, CallsComeNext, DeadPastsGo, EarlyReadsGain, OperationsComeNext, OperationsDecide, OperationsMayCome, PartsBegin, PartsDecide, PartsInAnyOrder, PartsMayBeTied, PartsStay, PartsUnite, PastsMayStay, ReadsAreTakenAtRest, ReadsComeNext};
 
 /// Before any event all keys are one part, of one past.
 pub fn parts_begin()
@@ -29,6 +29,11 @@ pub fn dead_pasts_go()
 /// Where a call that was answered must still come, a past becomes those that it comes to by each call that may come next.
 pub fn calls_come_next()
     ensures { CallsComeNext }
+{}
+
+/// Of calls of a history it is known whether something is left of them.
+pub fn calls_are_known()
+    ensures { CallsAreKnown }
 {}
 
 /// A read that was answered, and may come next, may be taken at once.

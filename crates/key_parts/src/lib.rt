@@ -1,8 +1,8 @@
-//! What is kept of the calls of a stream while it goes on, by parts of the keys: laws alone.
+//! What may be kept of the calls of a stream, part by part of the keys: laws alone.
 //!
-//! A part is some keys with the pasts that these may have: which calls took effect there, what they found, and what the keys hold. Parts stand
-//! for the calls so far where the pasts of all of them together stand above the calls, and below. A part may take a step by itself, two may
-//! become one, and one may fall apart: what the others hold is never looked at.
+//! A part is some keys, with the pasts that these may have. A past says which calls took effect at the keys, what they found there, and what the
+//! keys hold. Parts stand for the calls so far if the pasts of all parts together stand above the calls, and below them. A law lets one part take
+//! a step, whatever the others hold; or it makes one part of two, or judges by all of them.
 #![tactic(auto)]
 
 mod call_laws;
@@ -15,7 +15,8 @@ pub use call_laws::{
     taken_calls_are_answered,
 };
 pub use laws::{
-    calls_come_next, dead_pasts_go, early_reads_gain, operations_come_next, operations_decide,
-    operations_may_come, parts_begin, parts_decide, parts_in_any_order, parts_may_be_tied,
-    parts_stay, parts_unite, pasts_may_stay, reads_are_taken_at_rest, reads_come_next,
+    calls_are_known, calls_come_next, dead_pasts_go, early_reads_gain, operations_come_next,
+    operations_decide, operations_may_come, parts_begin, parts_decide, parts_in_any_order,
+    parts_may_be_tied, parts_stay, parts_unite, pasts_may_stay, reads_are_taken_at_rest,
+    reads_come_next,
 };
