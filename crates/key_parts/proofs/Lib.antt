@@ -14,3 +14,4 @@ pub mod OperationLemmas
 pub mod RestLemmas
 pub mod DecideLemmas
 pub mod WiderLemmas
+pub mod UniteLemmas

@@ -11,7 +11,7 @@ use Rattle.key_effects.specs.Cuts.{Keys}
 use Rattle.key_effects.specs.Apart.{AreApart, IsRead}
 use Rattle.key_parts.specs.Parts.{Part, IsAt, StandFor, AgreesAt}
 use Rattle.key_parts.specs.Steps.{IsLeftAt, IsAfterCall}
-use Rattle.key_parts.specs.Left.{IsLeft, HasKeysIn, HasNoKeyIn, IsNotTakenAt, IsTakenAt, answered, AreTogether, pairs_at}
+use Rattle.key_parts.specs.Left.{IsLeft, HasKeysIn, HaveTheirKeys, HasNoKeyIn, IsNotTakenAt, IsTakenAt, answered, AreTogether, pairs_at}
 
 -- before any event nothing is left
 abbrev pub NothingIsLeft : Type 0
@@ -92,7 +92,7 @@ CallsWithoutEffectAreTaken =
 abbrev pub LeftCallsUnite : Type 0
 LeftCallsUnite =
     (keys others : Keys) (a b c : Choice) (limit : ℕ) (calls : List KeyedCall) (pairs other_pairs both : Contents)
-    (left other_left all : List Operation) → AreApart keys others → AreKeyedCalls calls → IsAt keys a c → IsAt others b c
+    (left other_left all : List Operation) → IsAt keys a c → IsAt others b c
     → All (HasKeysIn keys) left → All (HasKeysIn others) other_left → AreTogether keys pairs other_pairs both left other_left all
     → IsLeft keys a limit calls pairs left → IsLeft others b limit calls other_pairs other_left
     → IsLeft (λ key. keys key || others key) c limit calls both all
@@ -101,7 +101,7 @@ LeftCallsUnite =
 abbrev pub LeftCallsPart : Type 0
 LeftCallsPart =
     (keys others : Keys) (past : Choice) (limit : ℕ) (calls : List KeyedCall) (pairs : Contents) (left some : List Operation)
-    → AreApart keys others → AllPairs (λ o p. o.inv < p.inv) some
+    → AreApart keys others → AllPairs (λ o p. o.inv < p.inv) some → HaveTheirKeys calls left
     → ((o : Operation) → Contains left o → (HasKeysIn keys o × Contains some o) ⊎ HasKeysIn others o)
     → ((o : Operation) → Contains some o → HasKeysIn keys o × Contains left o)
     → IsLeft (λ key. keys key || others key) past limit calls pairs left
