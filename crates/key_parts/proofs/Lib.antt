@@ -15,3 +15,4 @@ pub mod RestLemmas
 pub mod DecideLemmas
 pub mod WiderLemmas
 pub mod UniteLemmas
+pub mod AnswerLemmas

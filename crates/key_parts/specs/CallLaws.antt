@@ -1,5 +1,5 @@
 -- Laws of what is left at some keys, as events come.
-use Rattle.std.specs.Prelude.{◌≡◌, ◌⊎◌, ℕ, ◌<◌, ◌≤◌, true, false, ◌||◌, List, [], ◌∷◌, ◌++◌, Option, Some, None, All, AllPairs, Contains}
+use Rattle.std.specs.Prelude.{◌≡◌, ◌≢◌, ◌⊎◌, ℕ, ◌<◌, ◌≤◌, true, false, ◌||◌, List, [], ◌∷◌, ◌++◌, Option, Some, None, All, AllPairs, Contains}
 use Rattle.events.specs.declared.operation.Operation.{Operation}
 use Rattle.events.specs.declared.operation.Response.{Response}
 use Rattle.map_object.specs.MapObject.{Contents, IsRising, value_at}
@@ -43,13 +43,12 @@ AnsweredCallsAreLeft =
     → IsLeft keys past limit (front ++ keyed o ∷ back) pairs (before ++ o ∷ after)
     → IsLeft keys past limit (front ++ keyed (answered response o) ∷ back) pairs (before ++ answered response o ∷ after)
 
--- a read of these keys that was not among what is left comes to it as it is answered
+-- a call of these keys that was not among what is left comes to it as it is answered, as a read may
 abbrev pub AnsweredReadsAreLeft : Type 0
 AnsweredReadsAreLeft =
     (keys : Keys) (past : Choice) (limit : ℕ) (front back : List KeyedCall) (pairs : Contents) (before after : List Operation) (o : Operation)
-    (response : Response) (key : ℕ) → AreKeyedCalls (front ++ keyed o ∷ back) → o.response ≡ None → is_refusal response.reply ≡ false
-    → HasForm o.call (Some response) → concerns_key o.call key ≡ true → HasKeysIn keys o → IsNotTakenAt keys past o.inv
-    → All (λ p. p.inv < o.inv) before → All (λ p. o.inv < p.inv) after
+    (response : Response) (key : ℕ) → is_refusal response.reply ≡ false → HasForm o.call (Some response) → concerns_key o.call key ≡ true
+    → HasKeysIn keys o → IsNotTakenAt keys past o.inv → All (λ p. p.inv < o.inv) before → All (λ p. o.inv < p.inv) after
     → IsLeft keys past limit (front ++ keyed o ∷ back) pairs (before ++ after)
     → IsLeft keys past limit (front ++ keyed (answered response o) ∷ back) pairs (before ++ answered response o ∷ after)
 
@@ -68,15 +67,15 @@ OtherCallsAreAnswered =
     (response : Response) → o.response ≡ None → HasNoKeyIn keys o → IsLeft keys past limit (front ++ keyed o ∷ back) pairs left
     → IsLeft keys past limit (front ++ keyed (answered response o) ∷ back) pairs left
 
--- a call that is refused is left no more; nor is a read that was not among what is left
+-- a call that is refused is left no more; nor is one that was not among what is left
 abbrev pub RefusedCallsAreNotLeft : Type 0
 RefusedCallsAreNotLeft =
     (keys : Keys) (past : Choice) (limit : ℕ) (front back : List KeyedCall) (pairs : Contents) (before after : List Operation) (o : Operation)
-    (response : Response) → AreKeyedCalls (front ++ keyed o ∷ back) → o.response ≡ None → is_refusal response.reply ≡ true
-    → IsNotTakenAt keys past o.inv
-    → (IsLeft keys past limit (front ++ keyed o ∷ back) pairs (before ++ o ∷ after)
+    (response : Response) → is_refusal response.reply ≡ true → IsNotTakenAt keys past o.inv
+    → (AreKeyedCalls (front ++ keyed o ∷ back) → IsLeft keys past limit (front ++ keyed o ∷ back) pairs (before ++ o ∷ after)
     → IsLeft keys past limit (front ++ keyed (answered response o) ∷ back) pairs (before ++ after))
-    × (IsRead (keyed o) → IsLeft keys past limit (front ++ keyed o ∷ back) pairs (before ++ after)
+    × (((p : Operation) → Contains (before ++ after) p → p.inv ≢ o.inv)
+    → IsLeft keys past limit (front ++ keyed o ∷ back) pairs (before ++ after)
     → IsLeft keys past limit (front ++ keyed (answered response o) ∷ back) pairs (before ++ after))
 
 -- a call that was answered and has no effect at some keys is taken there at any time
