@@ -13,6 +13,7 @@ pub mod SomeLemmas
 pub mod OperationLemmas
 pub mod RestLemmas
 pub mod DecideLemmas
-pub mod WiderLemmas
+pub mod EventLemmas
 pub mod UniteLemmas
 pub mod AnswerLemmas
+pub mod WiderLemmas

@@ -38,9 +38,8 @@ OtherCallsBegin =
 abbrev pub AnsweredCallsAreLeft : Type 0
 AnsweredCallsAreLeft =
     (keys : Keys) (past : Choice) (limit : ℕ) (front back : List KeyedCall) (pairs : Contents) (before after : List Operation) (o : Operation)
-    (response : Response) → AreKeyedCalls (front ++ keyed o ∷ back) → o.response ≡ None → is_refusal response.reply ≡ false
-    → HasForm o.call (Some response) → HasKeysIn keys o → IsNotTakenAt keys past o.inv
-    → IsLeft keys past limit (front ++ keyed o ∷ back) pairs (before ++ o ∷ after)
+    (response : Response) → AreKeyedCalls (front ++ keyed o ∷ back) → is_refusal response.reply ≡ false → HasForm o.call (Some response)
+    → HasKeysIn keys o → IsNotTakenAt keys past o.inv → IsLeft keys past limit (front ++ keyed o ∷ back) pairs (before ++ o ∷ after)
     → IsLeft keys past limit (front ++ keyed (answered response o) ∷ back) pairs (before ++ answered response o ∷ after)
 
 -- a call of these keys that was not among what is left comes to it as it is answered, as a read may
@@ -56,15 +55,17 @@ AnsweredReadsAreLeft =
 abbrev pub TakenCallsAreAnswered : Type 0
 TakenCallsAreAnswered =
     (keys : Keys) (past : Choice) (limit : ℕ) (front back : List KeyedCall) (pairs : Contents) (left : List Operation) (o : Operation)
-    (response : Response) → AreKeyedCalls (front ++ keyed o ∷ back) → o.response ≡ None → HasKeysIn keys o → IsTakenAt keys past o
-    → AgreesAt keys past (keyed (answered response o)) → IsLeft keys past limit (front ++ keyed o ∷ back) pairs left
+    (response : Response) → IsTakenAt keys past o → AgreesAt keys past (keyed (answered response o))
+    → IsLeft keys past limit (front ++ keyed o ∷ back) pairs left
     → IsLeft keys past limit (front ++ keyed (answered response o) ∷ back) pairs left
 
--- one of other keys is answered: nothing changes
+-- one of other keys is answered: nothing changes, unless it is refused and was taken at one of these
 abbrev pub OtherCallsAreAnswered : Type 0
 OtherCallsAreAnswered =
     (keys : Keys) (past : Choice) (limit : ℕ) (front back : List KeyedCall) (pairs : Contents) (left : List Operation) (o : Operation)
-    (response : Response) → o.response ≡ None → HasNoKeyIn keys o → IsLeft keys past limit (front ++ keyed o ∷ back) pairs left
+    (response : Response) → HasNoKeyIn keys o
+    → ((key : ℕ) → keys key ≡ true → past.taken o.inv key ≡ true → is_refusal response.reply ≡ false)
+    → IsLeft keys past limit (front ++ keyed o ∷ back) pairs left
     → IsLeft keys past limit (front ++ keyed (answered response o) ∷ back) pairs left
 
 -- a call that is refused is left no more; nor is one that was not among what is left
