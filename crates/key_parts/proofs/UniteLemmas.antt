@@ -53,7 +53,8 @@ one_of_name (x ∷ all) o q rising o_in q_in same =
         let less : x.inv < y.inv = All-contains (λ z. x.inv < z.inv) all y (AllPairs-head (λ z u. z.inv < u.inv) x all rising) y_in in
         omega (arith, less, equal)
 
-effect_here : (s t k l : Bool) (e : Effect) → s ≡ true → t ≡ true → k ≡ l → cond s (cond k no_effect e) no_effect ≡ cond t (cond l no_effect e) no_effect
+effect_here : (s t k l : Bool) (e : Effect) → s ≡ true → t ≡ true → k ≡ l
+    → cond s (cond k no_effect e) no_effect ≡ cond t (cond l no_effect e) no_effect
 effect_here s t k l e is also same = rw is (rw also (ap (λ (b : Bool). cond b no_effect e) same))
 
 -- it has no effect where what is left of its call has none
@@ -181,10 +182,12 @@ module _ (keys others : Keys) (past other w : Choice) (limit : ℕ) (calls : Lis
       by_key (inr out) = none_left_out wide w a key out
       by_key (inl is) =
           ⊎_elim
-          (λ e. subst (λ (x : Effect). IsNoEffect x) (effect_here (keys key) (wide key) (past.taken a.inv key) (w.taken a.inv key) (a.effect key) e is
-          (sym (here.taken a.inv key e))) (none key))
-          (λ e. subst (λ (x : Effect). IsNoEffect x) (effect_here (others key) (wide key) (other.taken a.inv key) (w.taken a.inv key) (a.effect key) e is
-          (sym (there.taken a.inv key e))) (other_none key))
+          (λ e. subst (λ (x : Effect). IsNoEffect x)
+          (effect_here (keys key) (wide key) (past.taken a.inv key) (w.taken a.inv key) (a.effect key) e is (sym (here.taken a.inv key e)))
+          (none key))
+          (λ e. subst (λ (x : Effect). IsNoEffect x)
+          (effect_here (others key) (wide key) (other.taken a.inv key) (w.taken a.inv key) (a.effect key) e is (sym (there.taken a.inv key e)))
+          (other_none key))
           (or_cases (keys key) (others key) is)
 
   value_wide : (key : ℕ) → wide key ≡ true → value_at both key ≡ w.holds key
@@ -229,11 +232,11 @@ module _ (keys others : Keys) (past other w : Choice) (limit : ℕ) (calls : Lis
       ⊎_elim
       (λ e.
       let (o, o_in, alike) = first.whole a a_in early accepted
-          (key, e, subst (λ (t : Bool). (not t && a.concerns key) ≡ true) (here.taken a.inv key e) some) in
+      (key, e, subst (λ (t : Bool). (not t && a.concerns key) ≡ true) (here.taken a.inv key e) some) in
       (o, together.first o o_in, of_first a o a_in o_in alike))
       (λ e.
       let (o, o_in, alike) = second.whole a a_in early accepted
-          (key, e, subst (λ (t : Bool). (not t && a.concerns key) ≡ true) (there.taken a.inv key e) some) in
+      (key, e, subst (λ (t : Bool). (not t && a.concerns key) ≡ true) (there.taken a.inv key e) some) in
       (o, together.second o o_in, of_second a o a_in o_in alike))
       (or_cases (keys key) (others key) is)
 
