@@ -21,7 +21,7 @@ use Rattle.key_parts.specs.Steps.{IsLeftAt}
 use Rattle.key_parts.specs.Left.{IsLeft, IsNotTakenAt, answered}
 use Rattle.key_parts.specs.CallLaws.{AnsweredReadsAreLeft, RefusedCallsAreNotLeft}
 use Rattle.key_parts.proofs.PartLemmas.{none_left_out}
-use Rattle.key_parts.proofs.EventLemmas.{IsKnown, known_of, known_on, left_from_each, beside, middle, differ, own_alike, own_known}
+use Rattle.key_parts.proofs.EventLemmas.{IsKnown, known_of, known_on, left_from_each, not_both, beside, middle, differ, own_alike, own_known}
 
 -- an operation is of this call, which was not refused, and of which something is left
 abbrev IsOf : Keys → Choice → KeyedCall → Operation → Type 0
@@ -55,7 +55,8 @@ left_instead keys past limit front back pairs a b left nexts rising forms known 
 
 pub answered_reads_are_left : AnsweredReadsAreLeft
 answered_reads_are_left keys past limit front back pairs before after o response key accepted form concerned inside free earlier later is =
-    left_instead keys past limit front back pairs (keyed o) (keyed (answered response o)) (before ++ after) (before ++ answered response o ∷ after) rising forms
+    left_instead keys past limit front back pairs (keyed o) (keyed (answered response o)) (before ++ after)
+    (before ++ answered response o ∷ after) rising forms
     (own_known keys past limit (before ++ answered response o ∷ after) (answered response o) (middle before (answered response o) after) inside free)
     (λ c p c_in p_in alike. beside before (answered response o) after p p_in)
     (λ p p_in. ⊎_elim
@@ -74,7 +75,8 @@ answered_reads_are_left keys past limit front back pairs before after o response
 
     rising : AllPairs (λ p q. p.inv < q.inv) (before ++ answered response o ∷ after)
     rising =
-        AllPairs-append (λ p q. p.inv < q.inv) before (answered response o ∷ after) (AllPairs-front (λ p q. p.inv < q.inv) before after is.alike.rising)
+        AllPairs-append (λ p q. p.inv < q.inv) before (answered response o ∷ after)
+        (AllPairs-front (λ p q. p.inv < q.inv) before after is.alike.rising)
         (AllPairs-cons (λ p q. p.inv < q.inv) (answered response o) after later (AllPairs-back (λ p q. p.inv < q.inv) before after is.alike.rising))
         (All-from_contains (λ p. All (λ q. p.inv < q.inv) (answered response o ∷ after)) before (λ p p_in.
         All-cons (λ q. p.inv < q.inv) (answered response o) after (All-contains (λ q. q.inv < o.inv) before p earlier p_in)
@@ -85,12 +87,10 @@ answered_reads_are_left keys past limit front back pairs before after o response
     forms =
         All-append (λ p. HasForm p.call p.response) before (answered response o ∷ after)
         (All-front (λ p. HasForm p.call p.response) before after is.alike.forms)
-        (All-cons (λ p. HasForm p.call p.response) (answered response o) after form (All-back (λ p. HasForm p.call p.response) before after is.alike.forms))
+        (All-cons (λ p. HasForm p.call p.response) (answered response o) after form
+        (All-back (λ p. HasForm p.call p.response) before after is.alike.forms))
 
 -- ---- a call is refused
-
-not_both : (b : Bool) → b ≡ true → b ≡ false → ⊥
-not_both b is out = cc
 
 -- nothing is left of it
 refused_known : (keys : Keys) (past : Choice) (limit : ℕ) (left : List Operation) (o : Operation) → (keyed o).refused ≡ true

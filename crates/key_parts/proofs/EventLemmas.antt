@@ -1,11 +1,15 @@
--- What is left at some keys as a call begins, or is answered. `left_from_each`: by each call and each operation alone. `left_as_before`: where
--- the calls that change are idle. `differ`: of others in the list none has the name. `own_known`: what is left of a call whose operation is there.
-use Rattle.std.proofs.Common.{◌≡◌, ℕ, ◌<◌, ◌≤◌, Bool, true, false, not, ◌&&◌, List, [], ◌∷◌, ◌++◌, Option, Some, None, inl, inr, refl, sym, ap, ◌∙◌, subst, ⊎_elim, arith}
+-- What is left at some keys as a call begins, or is answered. `left_from_each`: it is known by each call and each operation alone. `known_of`,
+-- `known_on`: what is known of a call stays known. `left_as_before`: nothing changes where the calls that change are idle at the keys.
+use Rattle.std.proofs.Common.{◌≡◌, ℕ, ◌<◌, ◌≤◌, Bool, true, false, not, ◌&&◌, List, [], ◌∷◌, ◌++◌, Option, Some, None, inl, inr, refl, sym, ap}
+use Rattle.std.proofs.Common.{◌∙◌, subst, ⊎_elim, arith}
 use Rattle.std.specs.Prelude.{◌≢◌, ◌⊎◌, All, AllPairs, Contains}
-use Rattle.std.proofs.lemmas.List.Elements.{All-nil, All-cons, All-head, All-tail, All-append, All-contains, Contains-append_left, Contains-append_right, Contains-append_cases}
+use Rattle.std.proofs.lemmas.List.Elements.{All-nil, All-cons, All-head, All-tail, All-append, All-contains}
+use Rattle.std.proofs.lemmas.List.Elements.{Contains-append_left, Contains-append_right, Contains-append_cases}
 use Rattle.std.proofs.lemmas.List.Kept.{AllPairs-cons}
 use Rattle.list_laws.proofs.FilterLemmas.{AllPairs-weaker}
-use Rattle.list_laws.proofs.Lists.{AllPairs-nil, AllPairs-head, AllPairs-tail, AllPairs-append, AllPairs-front, AllPairs-back, AllPairs-across, All-front, All-back, All-from_contains, Contains-nil, Contains-first, Contains-later, Contains-cases, Contains-around}
+use Rattle.list_laws.proofs.Lists.{AllPairs-nil, AllPairs-head, AllPairs-tail, AllPairs-append, AllPairs-front, AllPairs-back, AllPairs-across}
+use Rattle.list_laws.proofs.Lists.{All-front, All-back, All-from_contains}
+use Rattle.list_laws.proofs.Lists.{Contains-nil, Contains-first, Contains-later, Contains-cases, Contains-around}
 use Rattle.events.specs.declared.event.Call.{Call}
 use Rattle.events.specs.declared.event.Call.TheVariants.{Get, Insert, Remove, Scan, Replace}
 use Rattle.events.specs.declared.operation.Operation.{Operation}
@@ -27,6 +31,39 @@ use Rattle.key_parts.specs.Operations.{AreOfLeftCalls}
 use Rattle.key_parts.specs.Left.{IsLeft, HasKeysIn, HasNoKeyIn, IsNotTakenAt, IsTakenAt, answered}
 use Rattle.key_parts.specs.CallLaws.{BegunCallsAreLeft, OtherCallsBegin, AnsweredCallsAreLeft, TakenCallsAreAnswered, OtherCallsAreAnswered}
 use Rattle.key_parts.proofs.PartLemmas.{none_left_out}
+
+pub not_both : (b : Bool) → b ≡ true → b ≡ false → ⊥
+not_both b is never = cc
+
+-- ---- lists
+
+-- what is beside one is in the whole
+pub beside : {X : Type 0} (front : List X) (x : X) (back : List X) (z : X) → Contains (front ++ back) z → Contains (front ++ x ∷ back) z
+beside front x back z h =
+    ⊎_elim (λ first. Contains-append_left front (x ∷ back) z first)
+    (λ second. Contains-append_right front (x ∷ back) z (Contains-later x back z second))
+    (Contains-append_cases front back z h)
+
+pub middle : {X : Type 0} (front : List X) (x : X) (back : List X) → Contains (front ++ x ∷ back) x
+middle front x back = Contains-append_right front (x ∷ back) x (Contains-first x back)
+
+-- what is in a list with one more is in the list, or is that one
+one_more : {X : Type 0} (xs : List X) (x z : X) → Contains (xs ++ x ∷ []) z → Contains xs z ⊎ (x ≡ z)
+one_more xs x z h =
+    ⊎_elim (λ old. inl old) (λ new. ⊎_elim (λ same. inr same) (λ never. absurd (Contains-nil z never)) (Contains-cases x [] z new))
+    (Contains-append_cases xs (x ∷ []) z h)
+
+-- none of the others has its name
+pub differ : {X : Type 0} (name : X → ℕ) (front : List X) (x : X) (back : List X) → AllPairs (λ a b. name a ≢ name b) (front ++ x ∷ back)
+    → (z : X) → Contains (front ++ back) z → name z ≡ name x → ⊥
+differ name front x back distinct z z_in same =
+    ⊎_elim
+    (λ first. All-head (λ b. name z ≢ name b) x back
+    (All-contains (λ a. All (λ b. name a ≢ name b) (x ∷ back)) front z
+    (AllPairs-across (λ a b. name a ≢ name b) front (x ∷ back) distinct) first) same)
+    (λ second. All-contains (λ b. name x ≢ name b) back z
+    (AllPairs-head (λ a b. name a ≢ name b) x back (AllPairs-back (λ a b. name a ≢ name b) front (x ∷ back) distinct)) second (sym same))
+    (Contains-append_cases front back z z_in)
 
 -- ---- one call, and one operation
 
@@ -93,6 +130,10 @@ pub record IsIdle (keys : Keys) (past : Choice) (limit : ℕ) (a : KeyedCall) : 
   pub out : a.inv < limit → IsLeftAt keys past a → ⊥
   pub agrees : AgreesAt keys past a
 
+not_left : (keys : Keys) (past : Choice) (a : KeyedCall) → NoneIsLeftAt keys past a → IsLeftAt keys past a → ⊥
+not_left keys past a none (key, is, some) = not_both ((rest_of past a).concerns key) some (none key is)
+
+-- where such calls come, and calls go of which nothing is left, the same is left
 pub left_as_before : (keys : Keys) (past : Choice) (limit : ℕ) (calls more : List KeyedCall) (pairs : Contents) (left : List Operation)
     → ((a : KeyedCall) → Contains more a → Contains calls a ⊎ IsIdle keys past limit a)
     → ((a : KeyedCall) → Contains calls a → Contains more a ⊎ NoneIsLeftAt keys past a)
@@ -107,11 +148,8 @@ left_as_before keys past limit calls more pairs left from to is =
     })
     (from a a_in))
     (λ o o_in. let (a, a_in, accepted, some, alike) = is.owned o o_in in
-    ⊎_elim (λ here. (a, here, accepted, some, alike)) (λ none. absurd (left_and_not keys past a some none)) (to a a_in))
+    ⊎_elim (λ here. (a, here, accepted, some, alike)) (λ none. absurd (not_left keys past a none some)) (to a a_in))
     is
-  where
-    left_and_not : (keys : Keys) (past : Choice) (a : KeyedCall) → IsLeftAt keys past a → NoneIsLeftAt keys past a → ⊥
-    left_and_not keys past a (key, is, some) none = let never = none key is in cc
 
 -- where nothing is left of a call, it has no effect
 none_left : (keys : Keys) (past : Choice) (a : KeyedCall) → IsFormed a → NoneIsLeftAt keys past a → (key : ℕ)
@@ -126,12 +164,9 @@ none_idle : (keys : Keys) (past : Choice) (limit : ℕ) (o : Operation) → None
     → IsIdle keys past limit (keyed o)
 none_idle keys past limit o none agrees = record {
   none = none_left keys past (keyed o) (formed o) none;
-  out = λ early some. let never = none some.0 some.1 in absurd (both ((rest_of past (keyed o)).concerns some.0) some.2 never);
+  out = λ early some. not_left keys past (keyed o) none some;
   agrees = agrees;
 }
-  where
-    both : (b : Bool) → b ≡ true → b ≡ false → ⊥
-    both b is never = cc
 
 and_false : (b : Bool) → (b && false) ≡ false
 and_false true = refl
@@ -148,31 +183,9 @@ taken_none keys past o taken key is = by_concern (bool_cases (concerns_key o.cal
     by_concern (inl concerned) = rw (taken key is concerned) refl
     by_concern (inr not_so) = rw not_so (and_false (not (past.taken o.inv key)))
 
--- ---- a call in the middle
+-- ---- a call that is answered, and idle
 
--- what is beside one is in the whole
-pub beside : {X : Type 0} (front : List X) (x : X) (back : List X) (z : X) → Contains (front ++ back) z → Contains (front ++ x ∷ back) z
-beside front x back z h =
-    ⊎_elim (λ first. Contains-append_left front (x ∷ back) z first)
-    (λ second. Contains-append_right front (x ∷ back) z (Contains-later x back z second))
-    (Contains-append_cases front back z h)
-
-pub middle : {X : Type 0} (front : List X) (x : X) (back : List X) → Contains (front ++ x ∷ back) x
-middle front x back = Contains-append_right front (x ∷ back) x (Contains-first x back)
-
--- none of the others has the name
-pub differ : {X : Type 0} (name : X → ℕ) (front : List X) (x : X) (back : List X) → AllPairs (λ a b. name a ≢ name b) (front ++ x ∷ back) → (z : X)
-    → Contains (front ++ back) z → name z ≡ name x → ⊥
-differ name front x back distinct z z_in same =
-    ⊎_elim
-    (λ first. All-head (λ b. name z ≢ name b) x back
-    (All-contains (λ a. All (λ b. name a ≢ name b) (x ∷ back)) front z
-    (AllPairs-across (λ a b. name a ≢ name b) front (x ∷ back) distinct) first) same)
-    (λ second. All-contains (λ b. name x ≢ name b) back z
-    (AllPairs-head (λ a b. name a ≢ name b) x back (AllPairs-back (λ a b. name a ≢ name b) front (x ∷ back) distinct)) second (sym same))
-    (Contains-append_cases front back z z_in)
-
--- one call is another, and stays the same at the keys
+-- one call is another now, and both are idle at the keys
 change_idle : (keys : Keys) (past : Choice) (limit : ℕ) (front back : List KeyedCall) (pairs : Contents) (left : List Operation) (a b : KeyedCall)
     → NoneIsLeftAt keys past a → IsIdle keys past limit b → IsLeft keys past limit (front ++ a ∷ back) pairs left
     → IsLeft keys past limit (front ++ b ∷ back) pairs left
@@ -246,10 +259,7 @@ read_idle keys past limit o pending read late = record {
 pub other_calls_begin : OtherCallsBegin
 other_calls_begin keys past limit calls pairs left o pending idle is =
     left_as_before keys past limit calls (calls ++ keyed o ∷ []) pairs left
-    (λ a a_in. ⊎_elim (λ old. inl old)
-    (λ new. ⊎_elim (λ same. inr (subst (IsIdle keys past limit) same (idle_now idle))) (λ never. absurd (Contains-nil a never))
-    (Contains-cases (keyed o) [] a new))
-    (Contains-append_cases calls (keyed o ∷ []) a a_in))
+    (λ a a_in. ⊎_elim (λ old. inl old) (λ same. inr (subst (IsIdle keys past limit) same (idle_now idle))) (one_more calls (keyed o) a a_in))
     (λ a a_in. inl (Contains-append_left calls (keyed o ∷ []) a a_in))
     is
   where
@@ -271,7 +281,8 @@ own_alike keys past o inside free = record {
   leaves_none = λ key out. (elsewhere key out).leaves None;
 }
   where
-    by_concern : (key : ℕ) → keys key ≡ false → (concerns_key o.call key ≡ true) ⊎ (concerns_key o.call key ≡ false) → concerns_key o.call key ≡ false
+    by_concern : (key : ℕ) → keys key ≡ false → (concerns_key o.call key ≡ true) ⊎ (concerns_key o.call key ≡ false)
+        → concerns_key o.call key ≡ false
     by_concern key out (inl concerned) = let never : keys key ≡ true = inside key concerned in cc
     by_concern key out (inr not_so) = not_so
 
@@ -292,9 +303,6 @@ own_known keys past limit left o o_in inside free = record {
     shown : IsShown keys past left (keyed o)
     shown = (o, o_in, own_alike keys past o inside free)
 
-    not_both : (b : Bool) → b ≡ true → b ≡ false → ⊥
-    not_both b is never = cc
-
 pub begun_calls_are_left : BegunCallsAreLeft
 begun_calls_are_left keys past limit calls pairs left o key later pending concerned inside free is =
     left_from_each keys past limit calls (calls ++ keyed o ∷ []) pairs left (left ++ o ∷ [])
@@ -307,17 +315,14 @@ begun_calls_are_left keys past limit calls pairs left o key later pending concer
     (λ a a_in. ⊎_elim
     (λ old. known_on keys past limit left (left ++ o ∷ []) a (λ p p_in alike. Contains-append_left left (o ∷ []) p p_in)
     (known_of keys past limit calls pairs left is a old))
-    (λ new. ⊎_elim
     (λ same. subst (IsKnown keys past limit (left ++ o ∷ [])) same
     (own_known keys past limit (left ++ o ∷ []) o (middle left o []) inside free))
-    (λ never. absurd (Contains-nil a never))
-    (Contains-cases (keyed o) [] a new))
-    (Contains-append_cases calls (keyed o ∷ []) a a_in))
+    (one_more calls (keyed o) a a_in))
     (λ p p_in. ⊎_elim
     (λ old. let (a, a_in, accepted, some, alike) = is.owned p old in
     (a, Contains-append_left calls (keyed o ∷ []) a a_in, accepted, some, alike))
-    (λ new. ⊎_elim (λ same. subst (IsOwned keys past (calls ++ keyed o ∷ [])) same own) (λ never. absurd (Contains-nil p never)) (Contains-cases o [] p new))
-    (Contains-append_cases left (o ∷ []) p p_in))
+    (λ same. subst (IsOwned keys past (calls ++ keyed o ∷ [])) same own)
+    (one_more left o p p_in))
     is
   where
     earlier : (p : Operation) → Contains left p → p.inv < o.inv
@@ -327,8 +332,13 @@ begun_calls_are_left keys past limit calls pairs left o key later pending concer
         subst (λ (n : ℕ). n < o.inv) (sym alike.inv) before
 
     own : IsOwned keys past (calls ++ keyed o ∷ []) o
-    own = (keyed o, middle calls (keyed o) [], pending_accepted o pending, (key, inside key concerned, rw (free key (inside key concerned)) concerned),
-        own_alike keys past o inside free)
+    own = (
+      keyed o,
+      middle calls (keyed o) [],
+      pending_accepted o pending,
+      (key, inside key concerned, rw (free key (inside key concerned)) concerned),
+      own_alike keys past o inside free,
+    )
 
 -- ---- a call that is left is answered
 
@@ -363,7 +373,7 @@ module _ (keys : Keys) (past : Choice) (limit : ℕ) (front back : List KeyedCal
       (AllPairs-tail (λ p q. p.inv < q.inv) o after whole))
       (All-from_contains (λ p. All (λ q. p.inv < q.inv) (now ∷ after)) before (λ p p_in.
       let across = All-contains (λ p. All (λ q. p.inv < q.inv) (o ∷ after)) before p
-          (AllPairs-across (λ p q. p.inv < q.inv) before (o ∷ after) is.alike.rising) p_in in
+      (AllPairs-across (λ p q. p.inv < q.inv) before (o ∷ after) is.alike.rising) p_in in
       All-cons (λ q. p.inv < q.inv) now after (All-head (λ q. p.inv < q.inv) o after across) (All-tail (λ q. p.inv < q.inv) o after across)))
 
   forms : HaveForms (before ++ now ∷ after)
@@ -387,7 +397,8 @@ module _ (keys : Keys) (past : Choice) (limit : ℕ) (front back : List KeyedCal
 
   owned : AreOfLeftCalls keys past (front ++ keyed now ∷ back) (before ++ now ∷ after)
   owned p p_in = ⊎_elim
-      (λ same. subst (IsOwned keys past (front ++ keyed now ∷ back)) same (keyed now, middle front (keyed now) back, accepted, is_left, own_alike keys past now inside free))
+      (λ same. subst (IsOwned keys past (front ++ keyed now ∷ back)) same
+      (keyed now, middle front (keyed now) back, accepted, is_left, own_alike keys past now inside free))
       (λ rest. let (c, c_in, not_refused, some, alike) = is.owned p (beside before o after p rest) in
       ⊎_elim
       (λ same. absurd (other_operation p rest (alike.inv ∙ ap (λ (b : KeyedCall). b.inv) (sym same))))
@@ -395,12 +406,10 @@ module _ (keys : Keys) (past : Choice) (limit : ℕ) (front back : List KeyedCal
       (Contains-around front (keyed o) back c c_in))
       (Contains-around before now after p p_in)
 
+  all : IsLeft keys past limit (front ++ keyed now ∷ back) pairs (before ++ now ∷ after)
+  all = left_from_each keys past limit (front ++ keyed o ∷ back) (front ++ keyed now ∷ back) pairs (before ++ o ∷ after) (before ++ now ∷ after)
+      rising forms known owned is
+
 pub answered_calls_are_left : AnsweredCallsAreLeft
 answered_calls_are_left keys past limit front back pairs before after o response calls accepted form inside free is =
-    left_from_each keys past limit (front ++ keyed o ∷ back) (front ++ keyed (answered response o) ∷ back) pairs (before ++ o ∷ after)
-    (before ++ answered response o ∷ after)
-    (rising keys past limit front back pairs before after o response calls accepted form inside free is)
-    (forms keys past limit front back pairs before after o response calls accepted form inside free is)
-    (known keys past limit front back pairs before after o response calls accepted form inside free is)
-    (owned keys past limit front back pairs before after o response calls accepted form inside free is)
-    is
+    all keys past limit front back pairs before after o response calls accepted form inside free is

@@ -59,7 +59,7 @@ TakenCallsAreAnswered =
     → IsLeft keys past limit (front ++ keyed o ∷ back) pairs left
     → IsLeft keys past limit (front ++ keyed (answered response o) ∷ back) pairs left
 
--- one of other keys is answered: nothing changes, unless it is refused and was taken at one of these
+-- one of other keys is answered: nothing changes, unless it is refused and was taken at these
 abbrev pub OtherCallsAreAnswered : Type 0
 OtherCallsAreAnswered =
     (keys : Keys) (past : Choice) (limit : ℕ) (front back : List KeyedCall) (pairs : Contents) (left : List Operation) (o : Operation)
@@ -82,8 +82,8 @@ RefusedCallsAreNotLeft =
 -- a call that was answered and has no effect at some keys is taken there at any time
 abbrev pub CallsWithoutEffectAreTaken : Type 0
 CallsWithoutEffectAreTaken =
-    (held : ℕ → Option ℕ) (place : ℕ) (calls : List KeyedCall) (keys : Keys) (past next : Choice) (others : List Choice) (rest : List Part) (b : KeyedCall)
-    → Contains calls b → is_completed b ≡ true → b.refused ≡ false
+    (held : ℕ → Option ℕ) (place : ℕ) (calls : List KeyedCall) (keys : Keys) (past next : Choice) (others : List Choice) (rest : List Part)
+    (b : KeyedCall) → Contains calls b → is_completed b ≡ true → b.refused ≡ false
     → ((key : ℕ) → keys key ≡ true → IsNoEffect ((rest_of past b).effect key)) → IsAfterCall keys past b next
     → StandFor held place calls (record { keys = keys; pasts = past ∷ others } ∷ rest)
     → StandFor held place calls (record { keys = keys; pasts = next ∷ others } ∷ rest)

@@ -31,7 +31,7 @@ pub fn taken_calls_are_answered()
     ensures { TakenCallsAreAnswered }
 {}
 
-/// A call of other keys changes nothing as it is answered.
+/// A call of other keys changes nothing as it is answered, unless it is refused and was taken at these.
 pub fn other_calls_are_answered()
     ensures { OtherCallsAreAnswered }
 {}
