@@ -1,14 +1,13 @@
 -- What is left at some keys as a call is answered that was not left, or is refused. `left_instead`: one call in the place of another.
-use Rattle.std.proofs.Common.{◌≡◌, ℕ, ◌<◌, Bool, true, false, List, ◌∷◌, ◌++◌, Some, inl, inr, sym, ap, ◌∙◌, subst, ⊎_elim, arith}
+use Rattle.std.proofs.Common.{◌≡◌, ℕ, ◌<◌, true, false, List, ◌∷◌, ◌++◌, inl, inr, sym, ap, ◌∙◌, subst, ⊎_elim, arith}
 use Rattle.std.specs.Prelude.{◌≢◌, ◌⊎◌, All, AllPairs, Contains}
 use Rattle.std.proofs.lemmas.List.Elements.{All-cons, All-tail, All-append, All-contains, Contains-append_cases}
 use Rattle.std.proofs.lemmas.List.Kept.{AllPairs-cons}
 use Rattle.list_laws.proofs.FilterLemmas.{AllPairs-weaker}
 use Rattle.list_laws.proofs.Lists.{AllPairs-tail, AllPairs-append, AllPairs-front, AllPairs-back, AllPairs-across, All-front, All-back, All-from_contains, Contains-around}
 use Rattle.events.specs.declared.operation.Operation.{Operation}
-use Rattle.events.specs.declared.operation.Response.{Response}
 use Rattle.map_object.specs.MapObject.{Contents}
-use Rattle.key_effects.specs.KeyedCalls.{KeyedCall, IsNoEffect, is_refusal, keyed}
+use Rattle.key_effects.specs.KeyedCalls.{KeyedCall, IsNoEffect, keyed}
 use Rattle.key_effects.specs.Forms.{HasForm, HaveForms}
 use Rattle.key_effects.specs.Choices.{Choice}
 use Rattle.key_effects.specs.Cuts.{Keys}

@@ -15,7 +15,6 @@ use Rattle.key_effects.specs.Cuts.{Keys}
 use Rattle.key_effects.specs.Apart.{AreApart, IsAlikeAt}
 use Rattle.key_effects.proofs.DeadLemmas.{bool_cases}
 use Rattle.key_effects.proofs.GrowLemmas.{formed}
-use Rattle.key_effects.proofs.RestLemmas.{none_none}
 use Rattle.key_parts.specs.Parts.{IsAt, AgreesAt, left_at}
 use Rattle.key_parts.specs.Steps.{IsLeftAt}
 use Rattle.key_parts.specs.Left.{IsLeft, HasKeysIn, HaveTheirKeys, AreTogether, pairs_at}

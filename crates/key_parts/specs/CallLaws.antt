@@ -10,7 +10,7 @@ use Rattle.key_effects.specs.Choices.{Choice, at_first, rest_of}
 use Rattle.key_effects.specs.Cuts.{Keys}
 use Rattle.key_effects.specs.Apart.{AreApart, IsRead}
 use Rattle.key_parts.specs.Parts.{Part, IsAt, StandFor, AgreesAt}
-use Rattle.key_parts.specs.Steps.{IsLeftAt, IsAfterCall}
+use Rattle.key_parts.specs.Steps.{IsAfterCall}
 use Rattle.key_parts.specs.Left.{IsLeft, HasKeysIn, HaveTheirKeys, HasNoKeyIn, IsNotTakenAt, IsTakenAt, answered, AreTogether, pairs_at}
 
 -- before any event nothing is left

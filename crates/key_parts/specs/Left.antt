@@ -1,11 +1,9 @@
 -- All that is known of what is left at some keys, where a past goes with a map and operations.
-use Rattle.std.specs.Prelude.{◌≡◌, ◌⊎◌, ◌↔◌, ℕ, ◌<◌, Bool, true, false, ◌||◌, if◌then◌else◌, List, filter, Some, All, AllPairs, Contains}
-use Rattle.events.specs.declared.event.Call.{Call}
-use Rattle.events.specs.declared.event.Call.TheVariants.{Get, Insert, Remove, Scan, Replace}
+use Rattle.std.specs.Prelude.{◌≡◌, ◌⊎◌, ℕ, ◌<◌, true, false, if◌then◌else◌, List, filter, Some, All, AllPairs, Contains}
 use Rattle.events.specs.declared.operation.Operation.{Operation}
 use Rattle.events.specs.declared.operation.Response.{Response}
 use Rattle.map_object.specs.MapObject.{Contents, IsRising, value_at}
-use Rattle.key_effects.specs.KeyedCalls.{KeyedCall, concerns_key, keyed}
+use Rattle.key_effects.specs.KeyedCalls.{KeyedCall, concerns_key}
 use Rattle.key_effects.specs.Choices.{Choice}
 use Rattle.key_effects.specs.Cuts.{Keys}
 use Rattle.key_parts.specs.Parts.{AgreesAt}
