@@ -1,26 +1,45 @@
--- What is left at some keys as a call is answered that was not left, or is refused. `left_instead`: one call in the place of another.
-use Rattle.std.proofs.Common.{◌≡◌, ℕ, ◌<◌, true, false, List, ◌∷◌, ◌++◌, inl, inr, sym, ap, ◌∙◌, subst, ⊎_elim, arith}
+-- What is left at some keys before any event; and as a call is answered that was not left, or is refused. `left_instead`: one call in the place of
+-- another.
+use Rattle.std.proofs.Common.{◌≡◌, ℕ, ◌<◌, true, false, List, ◌∷◌, ◌++◌, inl, inr, refl, sym, ap, ◌∙◌, subst, ⊎_elim, arith}
 use Rattle.std.specs.Prelude.{◌≢◌, ◌⊎◌, All, AllPairs, Contains}
-use Rattle.std.proofs.lemmas.List.Elements.{All-cons, All-tail, All-append, All-contains, Contains-append_cases}
+use Rattle.std.proofs.lemmas.List.Elements.{All-nil, All-cons, All-tail, All-append, All-contains, Contains-append_cases}
 use Rattle.std.proofs.lemmas.List.Kept.{AllPairs-cons}
 use Rattle.list_laws.proofs.FilterLemmas.{AllPairs-weaker}
-use Rattle.list_laws.proofs.Lists.{AllPairs-tail, AllPairs-append, AllPairs-front, AllPairs-back, AllPairs-across, All-front, All-back, All-from_contains, Contains-around}
+use Rattle.list_laws.proofs.Lists.{AllPairs-nil, AllPairs-tail, AllPairs-append, AllPairs-front, AllPairs-back, AllPairs-across, All-front, All-back, All-from_contains, Contains-nil, Contains-around}
 use Rattle.events.specs.declared.operation.Operation.{Operation}
-use Rattle.map_object.specs.MapObject.{Contents}
+use Rattle.map_object.specs.MapObject.{Contents, value_at}
 use Rattle.key_effects.specs.KeyedCalls.{KeyedCall, IsNoEffect, keyed}
 use Rattle.key_effects.specs.Forms.{HasForm, HaveForms}
-use Rattle.key_effects.specs.Choices.{Choice}
+use Rattle.key_effects.specs.Choices.{Choice, at_first}
 use Rattle.key_effects.specs.Cuts.{Keys}
 use Rattle.key_effects.specs.Apart.{IsAlikeAt}
 use Rattle.key_effects.proofs.DeadLemmas.{bool_cases}
 use Rattle.key_effects.proofs.GrowLemmas.{formed}
 use Rattle.key_effects.proofs.RestLemmas.{none_or}
-use Rattle.key_parts.specs.Parts.{left_at}
+use Rattle.key_parts.specs.Parts.{AgreesAt, left_at}
 use Rattle.key_parts.specs.Steps.{IsLeftAt}
 use Rattle.key_parts.specs.Left.{IsLeft, IsNotTakenAt, answered}
-use Rattle.key_parts.specs.CallLaws.{AnsweredReadsAreLeft, RefusedCallsAreNotLeft}
+use Rattle.key_parts.specs.CallLaws.{NothingIsLeft, AnsweredReadsAreLeft, RefusedCallsAreNotLeft}
 use Rattle.key_parts.proofs.PartLemmas.{none_left_out}
 use Rattle.key_parts.proofs.EventLemmas.{IsKnown, known_of, known_on, left_from_each, not_both, beside, middle, differ, own_alike, own_known}
+
+pub nothing_is_left : NothingIsLeft
+nothing_is_left keys limit pairs rises nothing = record {
+  alike = record {
+    rises = rises;
+    same = λ key is. refl;
+    nothing = nothing;
+    rising = AllPairs-nil (λ o p. o.inv < p.inv);
+    forms = All-nil (λ o. HasForm o.call o.response);
+    there = λ a a_in. absurd (Contains-nil a a_in);
+    back = λ o o_in. absurd (Contains-nil o o_in);
+  };
+  owned = λ o o_in. absurd (Contains-nil o o_in);
+  whole = λ a a_in. absurd (Contains-nil a a_in);
+  agrees = All-nil (AgreesAt keys (at_first (value_at pairs)));
+}
+
+-- ---- one call in the place of another
 
 -- an operation is of this call, which was not refused, and of which something is left
 abbrev IsOf : Keys → Choice → KeyedCall → Operation → Type 0
