@@ -32,19 +32,19 @@ use Rattle.key_parts.specs.Left.{IsLeft, HasKeysIn, HasNoKeyIn, IsNotTakenAt, Is
 use Rattle.key_parts.specs.CallLaws.{BegunCallsAreLeft, OtherCallsBegin, AnsweredCallsAreLeft, TakenCallsAreAnswered, OtherCallsAreAnswered}
 use Rattle.key_parts.proofs.PartLemmas.{none_left_out}
 
-not_both : (b : Bool) → b ≡ true → b ≡ false → ⊥
+pub not_both : (b : Bool) → b ≡ true → b ≡ false → ⊥
 not_both b is never = cc
 
 -- ---- lists
 
 -- what is beside one is in the whole
-beside : {X : Type 0} (front : List X) (x : X) (back : List X) (z : X) → Contains (front ++ back) z → Contains (front ++ x ∷ back) z
+pub beside : {X : Type 0} (front : List X) (x : X) (back : List X) (z : X) → Contains (front ++ back) z → Contains (front ++ x ∷ back) z
 beside front x back z h =
     ⊎_elim (λ first. Contains-append_left front (x ∷ back) z first)
     (λ second. Contains-append_right front (x ∷ back) z (Contains-later x back z second))
     (Contains-append_cases front back z h)
 
-middle : {X : Type 0} (front : List X) (x : X) (back : List X) → Contains (front ++ x ∷ back) x
+pub middle : {X : Type 0} (front : List X) (x : X) (back : List X) → Contains (front ++ x ∷ back) x
 middle front x back = Contains-append_right front (x ∷ back) x (Contains-first x back)
 
 -- what is in a list with one more is in the list, or is that one
@@ -54,7 +54,7 @@ one_more xs x z h =
     (Contains-append_cases xs (x ∷ []) z h)
 
 -- none of the others has its name
-differ : {X : Type 0} (name : X → ℕ) (front : List X) (x : X) (back : List X) → AllPairs (λ a b. name a ≢ name b) (front ++ x ∷ back)
+pub differ : {X : Type 0} (name : X → ℕ) (front : List X) (x : X) (back : List X) → AllPairs (λ a b. name a ≢ name b) (front ++ x ∷ back)
     → (z : X) → Contains (front ++ back) z → name z ≡ name x → ⊥
 differ name front x back distinct z z_in same =
     ⊎_elim
@@ -269,7 +269,7 @@ other_calls_begin keys past limit calls pairs left o pending idle is =
 
 -- ---- a call that is left
 
-own_alike : (keys : Keys) (past : Choice) (o : Operation) → HasKeysIn keys o → IsNotTakenAt keys past o.inv
+pub own_alike : (keys : Keys) (past : Choice) (o : Operation) → HasKeysIn keys o → IsNotTakenAt keys past o.inv
     → IsAlikeAt keys (left_at keys past (keyed o)) (keyed o)
 own_alike keys past o inside free = record {
   inv = refl;
@@ -289,7 +289,7 @@ own_alike keys past o inside free = record {
     elsewhere : (key : ℕ) → keys key ≡ false → IsNoEffect ((keyed o).effect key)
     elsewhere key out = (formed o).elsewhere key (by_concern key out (bool_cases (concerns_key o.call key)))
 
-own_known : (keys : Keys) (past : Choice) (limit : ℕ) (left : List Operation) (o : Operation) → Contains left o → HasKeysIn keys o
+pub own_known : (keys : Keys) (past : Choice) (limit : ℕ) (left : List Operation) (o : Operation) → Contains left o → HasKeysIn keys o
     → IsNotTakenAt keys past o.inv → IsKnown keys past limit left (keyed o)
 own_known keys past limit left o o_in inside free = record {
   there = inr shown;

@@ -16,3 +16,5 @@ pub mod RestLemmas
 pub mod DecideLemmas
 pub mod ComeLemmas
 pub mod EventLemmas
+pub mod UniteLemmas
+pub mod AnswerLemmas
