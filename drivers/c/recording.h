@@ -108,8 +108,8 @@ static inline void recording_close(struct recording *r)
     r->processes = 0;
 }
 
-/* Opens a recording of so many processes (1 to 64), with at most so many calls each (4,096 in all), and room for so many pairs in
- * the answers of each process's scans. */
+/* Opens a recording of so many processes (1 to 64), with at most so many calls each (4,096 in all). The scans of each process have room
+ * for so many pairs in their answers. */
 static inline int recording_open(struct recording *r, unsigned processes, unsigned calls_each, size_t pairs_each)
 {
     r->processes = 0;

@@ -1,5 +1,5 @@
-// The SkipListMap of libcds under hazard pointers, tested. With the word `plain` in front its insert(key, value) makes an item and then sets its
-// value; without it emplace(key, value) makes both at once. README.md says how it is built.
+// A test of the SkipListMap of libcds under hazard pointers. With the first word `plain`, a put is insert(key, value), which makes an item and then
+// sets its value. Without it, a put is emplace(key, value), which makes both at once. README.md says how it is built.
 #include "../cpp/potzendai_test.hpp"
 #include <cds/container/skip_list_map_hp.h>
 #include <cds/gc/hp.h>
@@ -13,7 +13,7 @@ static bool is_plain;
 struct List {
     list_type pairs;
 
-    // A thread of the library for as long as it makes calls.
+    // Makes a thread one of the library as long as it makes calls.
     class connection {
         list_type &pairs;
 
@@ -27,7 +27,7 @@ struct List {
             return is_there ? MAP_TOLD : MAP_NONE;
         }
 
-        // What was there already is not told: another thread may erase it in between.
+        // The value that was there is not given: another thread may erase it in between.
         map_said put_if_absent(uint64_t key, uint64_t value, uint64_t &)
         {
             bool is_new = is_plain ? pairs.insert(key, value) : pairs.emplace(key, value);

@@ -119,7 +119,7 @@ static enum map_said ceiling_of(void *map, uint64_t key, struct recording_pair *
 static int open_folder(void)
 {
     MDB_txn *txn;
-    size_t most = flags & MDB_WRITEMAP ? 1u << 20 : 1u << 28; /* the file has it all under MDB_WRITEMAP */
+    size_t most = flags & MDB_WRITEMAP ? 1u << 24 : 1u << 28; /* the file has it all under MDB_WRITEMAP */
     return mdb_env_create(&env) || mdb_env_set_mapsize(env, most) || mdb_env_open(env, folder, flags, 0600)
         || mdb_txn_begin(env, NULL, 0, &txn) || mdb_dbi_open(txn, NULL, MDB_INTEGERKEY, &pairs) || mdb_txn_commit(txn);
 }

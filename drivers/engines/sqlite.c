@@ -1,5 +1,5 @@
-/* SQLite, tested: a connection for each thread, to one file with a write-ahead log. With the word `plain` in front, each call is one
- * statement, and tells as much as that does; else the writes read first, in one transaction. README.md says how it is built. */
+/* A test of SQLite: each thread has a connection to one file with a write-ahead log. With the first word `plain`, each call is one statement, and
+ * says as much as that does. Without it, writes read first, in one transaction. README.md says how it is built. */
 #include "../c/potzendai_test.h"
 #include <sqlite3.h>
 
@@ -21,8 +21,8 @@ struct connection { sqlite3 *base; sqlite3_stmt *all[STATEMENTS]; };
 static char file[POTZENDAI_PATH];
 static bool is_plain;
 
-/* Runs a statement to its end, which commits it where no transaction is open: the pairs; MAP_REFUSED where it is busy, which changes nothing; or
- * MAP_UNKNOWN where it fails otherwise, of which the manual does not say that. */
+/* Runs a statement to its end, which commits it if no transaction is open, and reads its pairs. Returns MAP_REFUSED if it is busy: then nothing has
+ * changed. Returns MAP_UNKNOWN if it fails otherwise, since the manual does not say that nothing has changed then. */
 static enum map_said ask(struct connection *s, int which, const uint64_t words[3], struct recording_pair *pairs, size_t room, size_t *count)
 {
     sqlite3_stmt *statement = s->all[which];
@@ -52,7 +52,7 @@ static bool is_done(enum map_said said)
     return said != MAP_REFUSED && said != MAP_UNKNOWN;
 }
 
-/* One statement, of which is told whether it has changed anything: what it says then, and else. */
+/* Runs one statement. The answer depends on whether it has changed anything. */
 static enum map_said change(struct connection *s, int which, const uint64_t words[3], enum map_said changed, enum map_said not_changed)
 {
     size_t count;
@@ -62,7 +62,7 @@ static enum map_said change(struct connection *s, int which, const uint64_t word
     return sqlite3_changes(s->base) ? changed : not_changed;
 }
 
-/* What is there, and then the statement, in one transaction. Where no commit was tried, or it was busy, a rollback ends it. */
+/* Finds the value of a key and then runs the statement, in one transaction. If no commit was tried, or it was busy, a rollback ends that. */
 static enum map_said look_and_change(struct connection *s, int which, const uint64_t words[3], uint64_t *found)
 {
     struct recording_pair pair = {0, 0};

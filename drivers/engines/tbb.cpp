@@ -1,4 +1,4 @@
-// The concurrent_hash_map of oneTBB, tested: each call holds an accessor of its key. README.md says how it is built.
+// A test of the concurrent_hash_map of oneTBB: each call holds an accessor of its key. README.md says how it is built.
 #include "../cpp/potzendai_test.hpp"
 #include <tbb/concurrent_hash_map.h>
 

@@ -2,7 +2,7 @@
    changes or syncs a file below POTZENDAI_STORE. POTZENDAI_WRITES names a file of two numbers that all processes of a life share: how many
    writes were seen, and how many of them were syncs. It outlives the kill. POTZENDAI_KILL_AT is N; 0 kills nothing.
    No sync reaches the disk: here a process dies, and the machine does not.
-   Not seen: direct system calls, the buffers of stdio when they are flushed, stores through mmap. */
+   It does not see direct system calls, flushes of the buffers of stdio, and stores through mmap. */
 #define _GNU_SOURCE
 #include <dlfcn.h>
 #include <errno.h>
@@ -23,7 +23,7 @@
 static const char *store;
 static uint64_t kill_at, *counted, uncounted[2];
 
-/* Looks a function of the C library up once. */
+/* Looks up a function of the C library, once. */
 static void find(_Atomic(void *) *found, void *to, const char *name)
 {
     void *at = atomic_load_explicit(found, memory_order_relaxed);
@@ -34,7 +34,7 @@ static void find(_Atomic(void *) *found, void *to, const char *name)
     memcpy(to, &at, sizeof at);
 }
 
-/* The function `real` that the C library has under this name. */
+/* Defines `real`: the function of the C library with this name. */
 #define REAL(result, name, parameters)                                                                                                        \
     static _Atomic(void *) found_##name;                                                                                                      \
     result(*real) parameters;                                                                                                                 \
@@ -89,7 +89,7 @@ static int is_named(int folder, const char *name)
     return realpath(path, whole) && (is_below(whole) || (store && strcmp(whole, store) == 0));
 }
 
-/* Counts a write, and kills the process and its group before the one that was drawn. */
+/* Counts a write, and kills the process and its group before the N-th. */
 static void count(int is_sync)
 {
     uint64_t n = __atomic_add_fetch(&counted[0], 1, __ATOMIC_SEQ_CST);
@@ -152,7 +152,7 @@ CHANGE(int, fallocate64, 0, (int fd, int mode, off64_t at, off64_t length), fd, 
 CHANGE(int, posix_fallocate, 0, (int fd, off_t at, off_t length), fd, at, length)
 CHANGE(int, posix_fallocate64, 0, (int fd, off64_t at, off64_t length), fd, at, length)
 
-/* A call that syncs the file of a descriptor; one of a file of the store does not reach the disk. */
+/* A call that syncs the file of a descriptor. A sync of a file of the store does not reach the disk. */
 #define SYNC(name)                                                                                                                            \
     int name(int fd)                                                                                                                          \
     {                                                                                                                                         \

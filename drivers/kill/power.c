@@ -1,7 +1,7 @@
-/* A library for LD_PRELOAD, by which kill_test.py models a loss of power: that of crash_at.c, which also keeps a copy of what each file of the
-   store held at its last fsync, fdatasync or msync, or after a write to a file that was opened with O_SYNC or O_DSYNC. A copy is named by the
-   number of its inode, in the folder POTZENDAI_SHADOW: so a file that is renamed keeps its copy. After the kill kill_test.py puts these copies
-   in the place of what the files hold; a file without one becomes empty. */
+/* A library for LD_PRELOAD, by which kill_test.py models a loss of power. It does what crash_at.c does, and also keeps a copy of each file of the
+   store: as it was at its last fsync, fdatasync or msync, or after a write to a file that was opened with O_SYNC or O_DSYNC. A copy is named by the
+   number of its inode, in the folder POTZENDAI_SHADOW, so a file that is renamed keeps its copy. After the kill, kill_test.py replaces what the
+   files hold by these copies. A file without a copy becomes empty. */
 #define POWER
 #include "crash_at.c"
 #include <ftw.h>
@@ -16,7 +16,7 @@ static void name_of(uint64_t inode, const char *end, char *to)
     snprintf(to, PATH_MAX, "%s/%" PRIu64 "%s", shadow ? shadow : ".", inode, end);
 }
 
-/* Copies what a file holds. A descriptor that can be read is read itself: another one, when it is closed, would drop the process's locks. */
+/* Copies a file. A descriptor that can be read is read itself: to close another one would drop the process's locks. */
 static void keep(int fd)
 {
     char made[PATH_MAX], to[PATH_MAX], link[64], part[1 << 14];
@@ -40,7 +40,7 @@ static void keep(int fd)
     }
     if (out >= 0)
         close(out);
-    /* What cannot be copied is no loss of power: the run ends. */
+    /* A file that cannot be copied is no loss of power: the process ends. */
     if (!is_whole || got < 0 || rename(made, to)) {
         fprintf(stderr, "power: no copy of a file of the store: %s\n", strerror(errno));
         _exit(70);
@@ -108,7 +108,7 @@ static uint64_t held_by(int folder, const char *name)
     return fstatat(folder, name, &file, AT_SYMLINK_NOFOLLOW) == 0 && S_ISREG(file.st_mode) && file.st_nlink == 1 ? file.st_ino : 0;
 }
 
-/* Its copy goes with it, before another file can have its number. */
+/* Removes the copy of a file that is gone, before another file can have its number. */
 static void unlock_names(uint64_t gone)
 {
     REAL(int, unlink, (const char *));

@@ -86,7 +86,7 @@ refused_none (Scan low high) (Some response) key is = refused_scan low high resp
 refused_none (Replace own expected value) (Some response) key is =
     refused_point own (Replace own expected value) response.res response.reply key is
 
-formed : (a : Operation) → IsFormed (keyed a)
+pub formed : (a : Operation) → IsFormed (keyed a)
 formed a = record {
   elsewhere = λ key out. elsewhere a.call a.response key out;
   refusal = λ is key. refused_none a.call a.response key is;
@@ -100,7 +100,7 @@ open_point own call key value = by_test (own == key)
     by_test true = refl
     by_test false = refl
 
-open_fits : (call : Call) (key : ℕ) (value : Option ℕ) → (effect_at call None key).fits value ≡ true
+pub open_fits : (call : Call) (key : ℕ) (value : Option ℕ) → (effect_at call None key).fits value ≡ true
 open_fits (Get own) key value = open_point own (Get own) key value
 open_fits (Insert own new) key value = open_point own (Insert own new) key value
 open_fits (Remove own) key value = open_point own (Remove own) key value

@@ -16,3 +16,4 @@ pub mod OperationLemmas
 pub mod RestLemmas
 pub mod DecideLemmas
 pub mod ComeLemmas
+pub mod EventLemmas

@@ -3,3 +3,5 @@ pub mod Steps
 pub mod Operations
 pub mod Laws
 pub mod Wider
+pub mod Left
+pub mod CallLaws

@@ -5,8 +5,15 @@
 //! a step, whatever the others hold; or it makes one part of two, or judges by all of them.
 #![tactic(auto)]
 
+mod call_laws;
 mod laws;
 
+pub use call_laws::{
+    answered_calls_are_left, answered_reads_are_left, begun_calls_are_left,
+    calls_without_effect_are_taken, left_calls_part, left_calls_unite, nothing_is_left,
+    other_calls_are_answered, other_calls_begin, refused_calls_are_not_left,
+    taken_calls_are_answered,
+};
 pub use laws::{
     calls_are_known, calls_come_next, dead_pasts_go, early_reads_gain, operations_come_next,
     operations_decide, operations_may_come, parts_begin, parts_decide, parts_in_any_order,
