@@ -8,6 +8,7 @@ pub mod SiftLemmas
 pub mod BackLemmas
 pub mod InsertLemmas
 pub mod ReadLemmas
+pub mod FewerLemmas
 pub mod CallLemmas
 pub mod KnownLemmas
 pub mod SomeLemmas

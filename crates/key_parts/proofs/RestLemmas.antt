@@ -144,10 +144,6 @@ given_back w b x = record {
   effect = λ key. cond (x.inv == b.inv) ((rest_of w b).effect key) (x.effect key);
 }
 
--- which are taken besides
-abbrev besides : Keys → KeyedCall → ℕ → ℕ → Bool
-besides keys b inv key = (inv == b.inv) && keys key
-
 or_none : (t e k : Bool) → e ≡ false → (t || (e && k)) ≡ t
 or_none true e k is = refl
 or_none false e k is = rw is refl
