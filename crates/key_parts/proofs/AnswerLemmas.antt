@@ -1,27 +1,25 @@
--- What is left at some keys before any event; and as a call is answered that was not left, or is refused. `left_instead`: one call in the place of
--- another.
+-- What is left at some keys before any event; and as a call is answered that was not left, or is refused.
 use Rattle.std.proofs.Common.{◌≡◌, ℕ, ◌<◌, true, false, List, ◌∷◌, ◌++◌, inl, inr, refl, sym, ap, ◌∙◌, subst, ⊎_elim, arith}
 use Rattle.std.specs.Prelude.{◌≢◌, ◌⊎◌, All, AllPairs, Contains}
 use Rattle.std.proofs.lemmas.List.Elements.{All-nil, All-cons, All-tail, All-append, All-contains, Contains-append_cases}
 use Rattle.std.proofs.lemmas.List.Kept.{AllPairs-cons}
 use Rattle.list_laws.proofs.FilterLemmas.{AllPairs-weaker}
-use Rattle.list_laws.proofs.Lists.{AllPairs-nil, AllPairs-tail, AllPairs-append, AllPairs-front, AllPairs-back, AllPairs-across, All-front, All-back, All-from_contains, Contains-nil, Contains-around}
+use Rattle.list_laws.proofs.Lists.{AllPairs-nil, AllPairs-tail, AllPairs-append, AllPairs-front, AllPairs-back, AllPairs-across, All-front}
+use Rattle.list_laws.proofs.Lists.{All-back, All-from_contains, Contains-nil, Contains-around}
 use Rattle.events.specs.declared.operation.Operation.{Operation}
-use Rattle.map_object.specs.MapObject.{Contents, value_at}
+use Rattle.map_object.specs.MapObject.{value_at}
 use Rattle.key_effects.specs.KeyedCalls.{KeyedCall, IsNoEffect, keyed}
 use Rattle.key_effects.specs.Forms.{HasForm, HaveForms}
 use Rattle.key_effects.specs.Choices.{Choice, at_first}
 use Rattle.key_effects.specs.Cuts.{Keys}
-use Rattle.key_effects.specs.Apart.{IsAlikeAt}
 use Rattle.key_effects.proofs.DeadLemmas.{bool_cases}
 use Rattle.key_effects.proofs.GrowLemmas.{formed}
 use Rattle.key_effects.proofs.RestLemmas.{none_or}
 use Rattle.key_parts.specs.Parts.{AgreesAt, left_at}
-use Rattle.key_parts.specs.Steps.{IsLeftAt}
-use Rattle.key_parts.specs.Left.{IsLeft, IsNotTakenAt, answered}
+use Rattle.key_parts.specs.Left.{IsNotTakenAt, answered}
 use Rattle.key_parts.specs.CallLaws.{NothingIsLeft, AnsweredReadsAreLeft, RefusedCallsAreNotLeft}
 use Rattle.key_parts.proofs.PartLemmas.{none_left_out}
-use Rattle.key_parts.proofs.EventLemmas.{IsKnown, known_of, known_on, left_from_each, not_both, beside, middle, differ, own_alike, own_known}
+use Rattle.key_parts.proofs.EventLemmas.{IsKnown, IsOf, left_instead, not_both, beside, middle, differ, own_alike, own_known}
 
 pub nothing_is_left : NothingIsLeft
 nothing_is_left keys limit pairs rises nothing = record {
@@ -38,36 +36,6 @@ nothing_is_left keys limit pairs rises nothing = record {
   whole = λ a a_in. absurd (Contains-nil a a_in);
   agrees = All-nil (AgreesAt keys (at_first (value_at pairs)));
 }
-
--- ---- one call in the place of another
-
--- an operation is of this call, which was not refused, and of which something is left
-abbrev IsOf : Keys → Choice → KeyedCall → Operation → Type 0
-IsOf keys past b o = (b.refused ≡ false) × IsLeftAt keys past b × IsAlikeAt keys (left_at keys past b) (keyed o)
-
--- one call stands in the place of another: its operations are new, and all others are old
-left_instead : (keys : Keys) (past : Choice) (limit : ℕ) (front back : List KeyedCall) (pairs : Contents) (a b : KeyedCall)
-    (left nexts : List Operation) → AllPairs (λ o p. o.inv < p.inv) nexts → HaveForms nexts → IsKnown keys past limit nexts b
-    → ((c : KeyedCall) (o : Operation) → Contains (front ++ back) c → Contains left o → IsAlikeAt keys (left_at keys past c) (keyed o)
-    → Contains nexts o)
-    → ((o : Operation) → Contains nexts o → IsOf keys past b o ⊎ (Contains left o × (o.inv ≢ a.inv)))
-    → IsLeft keys past limit (front ++ a ∷ back) pairs left → IsLeft keys past limit (front ++ b ∷ back) pairs nexts
-left_instead keys past limit front back pairs a b left nexts rising forms known on from is =
-    left_from_each keys past limit (front ++ a ∷ back) (front ++ b ∷ back) pairs left nexts rising forms
-    (λ c c_in. ⊎_elim
-    (λ same. subst (IsKnown keys past limit nexts) same known)
-    (λ others. known_on keys past limit left nexts c (λ o o_in alike. on c o others o_in alike)
-    (known_of keys past limit (front ++ a ∷ back) pairs left is c (beside front a back c others)))
-    (Contains-around front b back c c_in))
-    (λ o o_in. ⊎_elim
-    (λ own. (b, middle front b back, own.0, own.1, own.2))
-    (λ old. let (c, c_in, accepted, some, alike) = is.owned o old.0 in
-    ⊎_elim
-    (λ same. absurd (old.1 (alike.inv ∙ ap (λ (z : KeyedCall). z.inv) (sym same))))
-    (λ others. (c, beside front b back c others, accepted, some, alike))
-    (Contains-around front a back c c_in))
-    (from o o_in))
-    is
 
 -- ---- a call comes to what is left as it is answered
 

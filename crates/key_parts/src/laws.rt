@@ -1,5 +1,5 @@
 // Laws of parts, each the contract of a function that does nothing.
-ghost use Rattle.key_parts.specs.Laws.{CallsAreKnown, CallsComeNext, DeadPastsGo, EarlyReadsGain, OperationsDecide, PartsBegin, PartsDecide, PartsInAnyOrder, PartsMayBeTied, PartsStay, PartsUnite, PastsMayStay, ReadsAreTakenAtRest, ReadsComeNext, OperationsComeNext, OperationsMayCome, TiedCallsMayWait};
+ghost use Rattle.key_parts.specs.Laws.{CallsAreKnown, CallsComeNext, DeadPastsGo, EarlyReadsGain, OperationsComeNext, OperationsDecide, OperationsMayCome, PartsBegin, PartsDecide, PartsInAnyOrder, PartsMayBeTied, PartsStay, PartsUnite, PastsMayStay, ReadsAreTakenAtRest, ReadsComeNext, TiedCallsMayWait};
 
 /// Before any event all keys are one part, of one past.
 pub fn parts_begin()
