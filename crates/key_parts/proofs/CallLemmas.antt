@@ -132,7 +132,8 @@ calls_come_next
     ⊎_elim
     (λ first.
     let same : IsAt keys past w = subst (λ (q : Choice). IsAt keys q w) (sym first) at_p in
-    let (next, next_in, goes, a, d, answered, step) = some_comes keys some place limit calls more past w nexts rest ended inside parted come goes_on (record {
+    let (next, next_in, goes, a, d, answered, step) =
+    some_comes keys some place limit calls more past w nexts rest ended inside parted come goes_on (record {
       ended_in = ended_in;
       ended_before = ended_before;
       accepted = accepted;
