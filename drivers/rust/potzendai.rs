@@ -1582,7 +1582,6 @@ extern "C" {
     fn potzendai_explain(text: *const u8, size: usize, budget: u32, room: *mut u8, room_size: usize, length: *mut usize) -> u32;
     fn potzendai_draw_part(text: *const u8, size: usize, budget: u32, room: *mut u8, room_size: usize, length: *mut usize) -> u32;
     fn potzendai_page(text: *const u8, size: usize, budget: u32, room: *mut u8, room_size: usize, length: *mut usize) -> u32;
-    fn potzendai_follow(text: *const u8, size: usize, budget: u32, room: *mut u8, room_size: usize, length: *mut usize) -> u32;
     fn potzendai_follow_open(follower: *mut Follower, budget: u32) -> u32;
     fn potzendai_follow_event(follower: *mut Follower, lines: *const u8, size: usize) -> u32;
     fn potzendai_follow_verdict(follower: *mut Follower, room: *mut u8, room_size: usize, length: *mut usize) -> u32;
