@@ -71,7 +71,7 @@ def options_of(words):
     parser.add_argument("--kill-at-write", action="store_true", help="kill before a drawn write of the store")
     parser.add_argument("--power", action="store_true", help="after a kill a file holds what was synced")
     parser.add_argument("--stop", action="store_true", help="SIGTERM, not SIGKILL: the child closes the store")
-    parser.add_argument("--open", metavar="SECONDS", type=positive(float), default=60, help="how long opening may take [60]")
+    parser.add_argument("--open", metavar="SECONDS", type=positive(float), default=60, help="how long opening or reading may take [60]")
     parser.add_argument("--seed", metavar="N", type=int, default=1, help="what is drawn, in the children too [1]")
     parser.add_argument("--budget", metavar="N", type=positive(int), default=100000, help="the program's budget [100000]")
     parser.add_argument("--keep", metavar="FOLDER", default=".", help="where the run's folder is made [.]")
