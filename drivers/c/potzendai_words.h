@@ -406,7 +406,7 @@ static inline uint64_t potzendai_calls_where_none(const struct potzendai_options
 static inline int potzendai_complain_of_round(const struct potzendai_options *o, const char *word, const char *behind)
 {
     char text[160];
-    snprintf(text, sizeof text, "at most %" PRIu64 " with %" PRIu64 " threads, since a round has at most %d calls%s; --stream has no such end",
+    snprintf(text, sizeof text, "at most %" PRIu64 " with %" PRIu64 " threads, since a round has at most %d calls%s; --stream has no such limit",
              RECORDING_CALLS / (o->threads + 1), o->threads, RECORDING_CALLS, behind);
     return potzendai_complain(word, text);
 }
@@ -434,9 +434,9 @@ static inline int potzendai_check_sizes(struct potzendai_options *o)
     if (o->calls == 0)
         o->calls = potzendai_calls_where_none(o);
     if (o->threads >= RECORDING_PROCESSES)
-        return potzendai_complain("--threads", "at most 63 in rounds; --stream has no such end");
+        return potzendai_complain("--threads", "at most 63 in rounds; --stream has no such limit");
     if (o->keys > RECORDING_CALLS / (o->threads + 1))
-        return potzendai_complain_of_round(o, "--keys", ", behind which all keys are got");
+        return potzendai_complain_of_round(o, "--keys", ", with a get of each key at its end");
     return o->calls > RECORDING_CALLS / (o->threads + 1) ? potzendai_complain_of_round(o, "--calls", "") : 0;
 }
 

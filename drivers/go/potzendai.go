@@ -2745,11 +2745,11 @@ func (o *options) fit(has functions, canReopen bool) {
 	case o.isStream && o.rounds > 0:
 		fail(badWords, "--rounds: a stream has none; --seconds, or --calls of each thread")
 	case !o.isStream && o.threads > processes-2:
-		fail(badWords, "--threads: at most 62 in rounds; --stream has no such end")
+		fail(badWords, "--threads: at most 62 in rounds; --stream has no such limit")
 	case !o.isStream && o.keys > most:
-		fail(badWords, "--keys: %s, behind which all keys are got; --stream has no such end", size)
+		fail(badWords, "--keys: %s, with a get of each key at its end; --stream has no such limit", size)
 	case !o.isStream && o.calls > most:
-		fail(badWords, "--calls: %s; --stream has no such end", size)
+		fail(badWords, "--calls: %s; --stream has no such limit", size)
 	}
 	o.span = span
 	if room := (processes - 1 - o.threads) / o.threads; o.cache != "" && !o.isStream && room < o.span { // each missing key needs a process

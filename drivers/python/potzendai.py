@@ -1619,11 +1619,11 @@ def fit(options, has, can_reopen):
     most = CALLS // (options.threads + 1)
     size = "at most %d with %d threads, since a round has at most %d calls" % (most, options.threads, CALLS)
     if not options.stream and options.threads > PROCESSES - 2:
-        wrong("--threads", "at most 62 in rounds; --stream has no such end")
+        wrong("--threads", "at most 62 in rounds; --stream has no such limit")
     if not options.stream and options.keys > most:
-        wrong("--keys", size + ", behind which all keys are got; --stream has no such end")
+        wrong("--keys", size + ", with a get of each key at its end; --stream has no such limit")
     if not options.stream and options.calls > most:
-        wrong("--calls", size + "; --stream has no such end")
+        wrong("--calls", size + "; --stream has no such limit")
     options.span = SPAN
     if options.cache and not options.stream:
         options.span = max(1, min(SPAN, (PROCESSES - 1 - options.threads) // options.threads))  # each missing key needs a process

@@ -2745,8 +2745,8 @@ impl Options {
         self.seconds = if self.seconds > 0 { self.seconds } else if self.rounds > 0 { 1_000_000_000 } else { 10 };
         let (most, threads) = (CALLS / (self.threads + 1), self.threads);
         let size = format!("at most {most} with {threads} threads, since a round has at most {CALLS} calls");
-        let many_keys = format!("--keys: {size}, behind which all keys are got; --stream has no such end");
-        let many_calls = format!("--calls: {size}; --stream has no such end");
+        let many_keys = format!("--keys: {size}, with a get of each key at its end; --stream has no such limit");
+        let many_calls = format!("--calls: {size}; --stream has no such limit");
         let is_unbroken = self.broken.as_ref().map_or(true, |how| self.is_called(how));
         let rows = [
             (self.shares.iter().sum::<u64>() == 0, "--mix: no share"),
@@ -2759,7 +2759,7 @@ impl Options {
             (self.is_stream && self.is_reopened, "--reopen: not with --stream, which is of one map"),
             (self.is_reopened && !can_reopen, "--reopen: the map has no function reopen"),
             (self.is_stream && self.rounds > 0, "--rounds: a stream has none; --seconds, or --calls of each thread"),
-            (!self.is_stream && threads > PROCESSES as u64 - 2, "--threads: at most 62 in rounds; --stream has no such end"),
+            (!self.is_stream && threads > PROCESSES as u64 - 2, "--threads: at most 62 in rounds; --stream has no such limit"),
             (!self.is_stream && self.keys > most, &many_keys),
             (!self.is_stream && self.calls > most, &many_calls),
         ];
