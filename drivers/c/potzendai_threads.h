@@ -27,9 +27,9 @@ struct potzendai_key {
 /* A call of which nobody knows whether it was done, as it is recorded. */
 struct potzendai_open { enum recording_kind call; uint64_t words[3]; };
 
-/* What was counted of a run: its calls, how many others were open at their invocations, the answers, and the functions called. Then how many gets
- * found a value or none, how many keys were lost, how many scans of a cache were left out, how many points were reached within calls, and how
- * often a map that is made wrong was wrong. */
+/* What was counted of a run: its calls, how many others were open at their invocations, the answers, and the functions called. `hits` and `misses`
+ * are the gets that found a value or none. `losses` counts the keys that a cache lost, `left_out` its scans that are in no history. `points` counts
+ * the points that were reached within calls, and `wrongs` how often a map that is made wrong was wrong. */
 struct potzendai_counts {
     uint64_t calls, overlap, sayings[POTZENDAI_SAYINGS], functions_called[POTZENDAI_FUNCTIONS];
     uint64_t hits, misses, losses, left_out, points, wrongs;
