@@ -57,8 +57,8 @@ type Said struct {
 	pairs      [][2]uint64
 }
 
-// None: there was no value. Done: it was done, and nothing is told. Found: there was a value, which is not told. Refused: nothing has
-// changed. Unknown: nobody knows whether it was done, as of a request that timed out.
+// None: there was no value. Done: it was done, and nothing is reported. Found: there was a value, which is not reported. Refused:
+// nothing has changed. Unknown: nobody knows whether it was done, as of a request that timed out.
 var (
 	None    = Said{word: "none"}
 	Done    = Said{word: "done"}
@@ -82,7 +82,7 @@ func ToldIf(value uint64, isThere bool) Said {
 // ToldPair is the pair that there was.
 func ToldPair(key, value uint64) Said { return Said{word: "told", key: key, value: value} }
 
-// FoundKey is a pair of which only the key is told.
+// FoundKey is a pair of which only the key is reported.
 func FoundKey(key uint64) Said { return Said{word: "found", key: key} }
 
 // ToldPairs are those of a scan, by rising keys.
@@ -95,7 +95,7 @@ func (s Said) tells() bool { return s.word == "told" || s.word == "none" }
 const (
 	yes, no, undecided, badWords, badFile = 0, 1, 2, 5, 6
 	processes, mostCalls, span, seldom    = 64, 4096, 16, 20
-	// Limits of a stream and of its keys; how many stamps a thread may be in front of what is handed over; how many bytes are at once.
+	// Limits of a stream and of its keys; how many stamps a thread may be ahead of what is handed over; how many bytes are at once.
 	streamProcesses, streamKeys, ahead, batch = 65536, 16384, 8192, 65536
 	running, over, failed                     = 0, 1, 2
 	reportShown                               = 1000    // bytes of the report of a stream without order
@@ -146,7 +146,7 @@ func writes(kind string) bool {
 
 // Draws
 
-// Steele, Lea and Flood's SplitMix: the number behind a state.
+// Steele, Lea and Flood's SplitMix: the number that a state gives.
 func mixed(state uint64) uint64 {
 	z := state + 0x9e3779b97f4a7c15
 	z = (z ^ z>>30) * 0xbf58476d1ce4e5b9
@@ -219,12 +219,12 @@ func pairsText(pairs [][2]uint64) string {
 	return "[" + strings.Join(texts, ",") + "]"
 }
 
-// Whether the answer tells which call of a history it was. Of a cache each one does, since the note of a call has its answer.
+// Whether the answer says which call of a history it was. Of a cache each one does, since the note of a call has its answer.
 func (o *options) isHeld(kind string) bool {
 	return o.cache != "" || isOneOf(kind, "put_if_absent", "floor", "ceiling", "pop_first")
 }
 
-// The words that a function may answer beside what it tells.
+// The words that a function may answer.
 var fits = map[string][]string{
 	"get": {"told", "none", "done", "found", "refused", "unknown"}, "put": {"told", "none", "done", "found", "refused", "unknown"},
 	"del": {"told", "none", "done", "found", "refused", "unknown"}, "scan": {"told", "none", "done", "refused", "unknown"},
@@ -268,7 +268,7 @@ func edge(kind string, key uint64, said Said) (*call, string) {
 	return &call{"scan", []uint64{low, high}}, pairsText([][2]uint64{{said.key, said.value}})
 }
 
-// The call and the answer that a history has; no call where it is left out, since it tells nothing.
+// The call and the answer that a history has; no call if it is left out, since it reports nothing.
 func noted(kind string, words []uint64, said Said) (*call, string) {
 	isRead := isOneOf(kind, "get", "scan", "floor", "ceiling")
 	if said.word == "refused" && !isOneOf(kind, "put", "del", "replace") || isRead && isOneOf(said.word, "done", "unknown") {
@@ -474,8 +474,8 @@ func (w *wrong) get(words ...uint64) Said {
 	return said
 }
 
-// A put after a get, as if they were one: of the key itself where the put tells what it found, else of the key beside it, which is put back
-// as it was got.
+// Makes a get and then a put, as if they were one call. If the put reports what it found, the get is of the same key. Else it is of the key next
+// to it, which is put back as it was got.
 func (w *wrong) race(key, value uint64) Said {
 	beside := key ^ 1
 	if w.style == "told" || beside >= w.keys {
@@ -574,7 +574,7 @@ func (w *wrong) functions() functions {
 // Threads and what they record
 
 // An event: the invocation of a call, or an answer where there is none; of which function it is, unless no thread called one, and what that
-// said, once it is over. Once it is in a round, its process is told.
+// said, once it is over. Once it is in a round, its process is known.
 type event struct {
 	stamp        uint64
 	thread, life int
@@ -604,7 +604,7 @@ type task struct {
 	from     uint64
 }
 
-// The lock of a key; and whether a call that writes it has no answer, and so may still come between a get and the put behind it.
+// The lock of a key; and whether a call that writes it has no answer, and so may still come between a get and the put after it.
 type keyLock struct {
 	sync.Mutex
 	isDoubtful bool
@@ -636,7 +636,7 @@ type worker struct {
 	broken  *wrong
 	// How often the broken maps of before went wrong.
 	wrongTimes uint64
-	reads      bool   // whether the call that goes on only reads
+	reads      bool   // whether the open call only reads
 	taken      uint64 // the stamp at which its snapshot was taken
 }
 
@@ -652,7 +652,7 @@ func (w *worker) open(m Map) {
 	}
 }
 
-// The call that goes on is answered now, if it only reads. Of several such moments the last one counts.
+// Takes this moment as the answer of the open call, if that only reads. Of several such moments the last one counts.
 func (w *worker) take() {
 	if !w.reads {
 		return
@@ -815,8 +815,8 @@ func (w *worker) make(kind string, words ...uint64) Said {
 	return said
 }
 
-// What is known of the answer: where a put or del was done, and does not tell what it found, from the get in front of it under the key's
-// lock, or from what the one writer of the key remembers.
+// Returns what is known of the answer. If a put or del was done and does not report what it found, the get before it under the key's lock says
+// so, or what the only writer of the key remembers.
 func (w *worker) known(kind string, words []uint64, said, got Said) Said {
 	before, isKnown := w.memory[words[0]]
 	isPut := kind == "put" || kind == "put_if_absent" && said.word == "none" ||
@@ -842,8 +842,8 @@ func (w *worker) known(kind string, words []uint64, said, got Said) Said {
 	return said
 }
 
-// The events of a call that is over, for the stream. One that tells nothing is left out; or refused, where it stands there already. One whose
-// answer is unknown stays open, and its thread goes on as another process.
+// Puts the events of a call that is over into the stream. A call that reports nothing is left out, or gets the answer `refused` if the stream has
+// its invocation already. A call whose answer is unknown stays open, and its thread continues as another process.
 func (w *worker) handOver(begin, end uint64, kind, said string, m *made) {
 	isHeld := w.options.isHeld(kind)
 	ending := happening{kind: kind, said: said}
@@ -879,15 +879,15 @@ func (w *worker) handOver(begin, end uint64, kind, said string, m *made) {
 	}
 }
 
-// A part of what stands at a stamp of a stream: a call of a process with its note, or its answer, or none where it stays open.
+// A part of what a stamp of a stream has: a call of a process with its note, or its answer, or none if it stays open.
 type part struct {
 	process      int
 	call         *call
 	answer, note string
 }
 
-// What stands at a stamp of a stream: first the event of a thread, then those on behalf of it; of which function they are; and what the map said,
-// where that ends a call.
+// What a stamp of a stream has: first the event of a thread, then those on behalf of it; of which function they are; and what the map said, if
+// this ends a call.
 type happening struct {
 	parts      []part
 	kind, said string
@@ -900,9 +900,9 @@ type openCall struct {
 	stored uint64
 }
 
-// A stream of events, which a goroutine of its own hands on while others record. Stamps are numbers without a gap, and each has its slot;
-// who is too far in front of what is handed over waits, so that memory does not grow. Nobody waits between its two stamps but for those of
-// lower ones, so the event of the least stamp always comes.
+// A stream of events, which a goroutine of its own hands on while others record. Stamps are numbers without a gap, and each has its slot. Who is
+// too far ahead of what is handed over waits, so that memory does not grow. Between its two stamps nobody waits except for lower stamps, so the
+// event of the least stamp always comes.
 type stream struct {
 	run           *run
 	stamps        *atomic.Uint64
@@ -978,7 +978,7 @@ func (s *stream) write() {
 	s.status = s.run.program.checked("follow", s.asked.Wait(), s.asked, s.answer.String())
 }
 
-// Starts the program. It writes once it has a verdict, and may do so while the stream goes on: then the run is over.
+// Starts the program. It writes once it has a verdict, and may do so while the stream is still running: then the run is over.
 func (s *stream) ask(ended chan bool) {
 	p := s.run.program
 	s.asked = exec.Command(p.at("follow"), "follow", "--budget", strconv.FormatUint(p.budget, 10))
@@ -1072,7 +1072,7 @@ func (s *stream) take(what *happening) {
 	}
 }
 
-// Keeps the notes of the last events alone.
+// Keeps only the notes of the last events.
 func (s *stream) forgetNotes() {
 	if len(s.notes) > 2*keptNotes {
 		for number := range s.notes {
@@ -1190,7 +1190,7 @@ func (c *crew) each(part func(*worker)) {
 	}
 }
 
-// A round: its events, with gets of all keys behind those of the threads.
+// A round: its events, with gets of all keys after those of the threads.
 func (c *crew) round(t task) []event {
 	c.each(func(w *worker) { w.run(t) })
 	if c.options.isReopened {
@@ -1203,7 +1203,7 @@ func (c *crew) round(t task) []event {
 	return append(events, c.rest(t.round)...)
 }
 
-// Gets of all keys, the last calls of a round, and what the map then holds. A key of which a get does not tell it is written.
+// Gets of all keys, the last calls of a round, and what the map then holds. If a get does not report the value, the key is written.
 func (c *crew) rest(number uint64) []event {
 	var events []event
 	c.contents = map[uint64]uint64{}
@@ -1242,7 +1242,7 @@ func (c *crew) writeOf(key, number uint64) (string, uint64) {
 	return "put", c.from + c.puts*(c.options.threads+1) + c.options.threads
 }
 
-// What a function says at rest: again where it is refused, and a get also where nobody knows. It is noted unless it tells nothing.
+// Asks a function at rest: again if it is refused, and a get also if nobody knows. The answer is noted unless it reports nothing.
 func (c *crew) askAtRest(events *[]event, kind string, words ...uint64) (said Said, m *made) {
 	said = Refused
 	var begin, end uint64
@@ -1428,7 +1428,7 @@ func (r *round) measure(t *tally) {
 	}
 }
 
-// Whether an answer tells what a call puts: then it was done.
+// Whether an answer reports what a call puts: then it was done.
 func (r *round) tells(one *call) bool {
 	value := strconv.FormatUint(one.words[len(one.words)-1], 10)
 	for _, each := range r.events {
@@ -1518,7 +1518,7 @@ func pairsOf(answer string) (pairs [][2]uint64) {
 	return pairs
 }
 
-// Whether it is a history of so many keys alone, in which all calls have answers: then it may be judged with others.
+// Whether all its keys are below keys and all its calls have answers: then it may be judged together with others.
 func (r *round) isApart(keys uint64) bool {
 	calls := 0
 	for key := range r.start {
@@ -1652,8 +1652,8 @@ func newProgram(o *options) *program {
 	return p
 }
 
-// What does it: once it has answered, behind the repository's own bench the last program that that has built, since it takes as long as ten
-// rounds to see that nothing has changed.
+// Returns the program that runs a command. Once the repository's own bench has answered, this is the last program that bench built: bench itself
+// takes as long as ten rounds to see that nothing has changed.
 func (p *program) at(command string) string {
 	path, newest := p.path, time.Time{}
 	if filepath.Base(path) != "bench" || !strings.Contains(path, "/") {
@@ -2101,7 +2101,7 @@ func saidAnswered(r *round, answer interface{}) string {
 	return ", answered " + saidAnswer(answer) + saidWriter(r, answer)
 }
 
-// The first line of a report, and of a long list of calls only that it stands there.
+// The first line of a report, with `..` in place of a long list of calls.
 func saidVerdict(line string) string {
 	return regexp.MustCompile(`"calls":\[[^\]]{80,}\]`).ReplaceAllString(line, `"calls":[..]`)
 }
@@ -2252,7 +2252,7 @@ func saidOrigin(r *round, line reported) string {
 	return fmt.Sprintf("  %v at %v is %s", line.Value, line.Key, strings.Join(who, ", "))
 }
 
-// From which value of a key the few calls have no order: the line stands behind an undecided alone.
+// From which value of a key the few calls have no order. Only a report of undecided has this line.
 func saidFrom(line reported) string {
 	if line.From == "" {
 		return fmt.Sprintf("  from key %v holding nothing", line.Key)
@@ -2361,8 +2361,8 @@ func (r *run) keepMade(command, ending, text string) string {
 	return r.keep(ending, made)
 }
 
-// A stream that has no order: the calls left at a key are a history, where that says it all, which is explained; else it is said why not. Kept
-// is the stream so far, unless it is long, and of the report what is not shown, or all where nothing else is kept.
+// Reports a stream that has no order. If the calls left at a key show the fault, their history is explained; else a line says why not. The stream
+// so far is saved, unless it is long. The report is saved if it is not shown whole, or if nothing else is saved.
 func (r *run) refutedStream() []string {
 	report, left, _ := strings.Cut(r.report, "\n")
 	said := saidKeys(report)
@@ -2405,7 +2405,7 @@ func saidKeys(report string) []string {
 	return said
 }
 
-// The history of the calls left at a key, and few of it that have no order. Where these are not found, the history alone is kept.
+// Saves the history of the calls left at a key, and a few calls of it that have no order. If these are not found, it saves only the history.
 func (r *run) shownLeft(left string) []string {
 	explained, wrong := r.program.tried("explain", left)
 	if wrong != nil {
@@ -2440,7 +2440,7 @@ func (r *run) noted(left *round) *round {
 	return left
 }
 
-// Why a no of a stream has no history of few calls behind it.
+// Why no history of few calls follows a no of a stream.
 func whyNotFew(report string) string {
 	var told struct {
 		Keys []struct{ Values []interface{} }
@@ -2795,7 +2795,7 @@ func saidCalls(has functions, called map[string]uint64) string {
 	return text
 }
 
-// How a run went: its status, what is to be told before the last line, and that. A run that goes wrong is told as a stop.
+// How a run went: its status, the lines to print before the last line, and that line. A run that fails is reported as a stop.
 func tested(name string, make func() Map, words []string) (status int, said []string, last string, wrong *stop) {
 	defer func() {
 		if met := recover(); met != nil {
@@ -2818,7 +2818,7 @@ func tested(name string, make func() Map, words []string) (status int, said []st
 	if o.out != "-" {
 		p = newProgram(o)
 	} else {
-		signal.Ignore(syscall.SIGPIPE) // a reader that has gone is told by a write that fails
+		signal.Ignore(syscall.SIGPIPE) // if the reader has gone, a write fails and says so
 	}
 	if o.broken == "all" {
 		status, said, last = allBroken(o, make, p, has)

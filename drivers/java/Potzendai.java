@@ -86,7 +86,7 @@ public final class Potzendai {
         default Said popFirst() throws Exception { throw new UnsupportedOperationException(); }
     }
 
-    /** Words that a function may answer: of FOUND the value is not told, UNKNOWN leaves the call open. */
+    /** Words that a function may answer: of FOUND the value is not reported, UNKNOWN leaves the call open. */
     public enum Word { TOLD, NONE, DONE, FOUND, OTHER, REFUSED, UNKNOWN }
 
     /** What a function of the map answers. */
@@ -101,7 +101,7 @@ public final class Potzendai {
         public static Said told(Map.Entry<Long, Long> pair) {
             return pair == null ? NONE : new Said(Word.TOLD, pair.getKey(), pair.getValue(), null);
         }
-        /** A pair of which only the key is told. */
+        /** A pair of which only the key is reported. */
         public static Said found(long key) { return new Said(Word.FOUND, key, 0, null); }
         /** The pairs of a scan, by rising keys. */
         public static Said pairs(Map<Long, Long> pairs) {
@@ -149,7 +149,7 @@ public final class Potzendai {
         Kind(String name, long share, String call) { this.name = name; this.share = share; this.call = call; }
         boolean writes() { return this == PUT || this == DEL || this == REPLACE || this == PUT_IF_ABSENT || this == POP_FIRST; }
         boolean isRead() { return this == GET || this == SCAN || this == FLOOR || this == CEILING; }
-        /** Whether the answer tells which call of a history it was. Of a cache each one does, since the note of a call has its answer. */
+        /** Whether the answer says which call of a history it was. Of a cache each one does, since the note of a call has its answer. */
         boolean isHeld(boolean isCache) {
             return isCache || this == PUT_IF_ABSENT || this == FLOOR || this == CEILING || this == POP_FIRST;
         }
@@ -161,7 +161,7 @@ public final class Potzendai {
     private static final int YES = 0, NO = 1, UNDECIDED = 2, MEMORY = 4, WORDS = 5, FILE = 6;
     private static final List<String> VERDICTS = List.of("yes", "no", "undecided");
     private static final int PROCESSES = 64, CALLS = 4096, SPAN = 16, SELDOM = 20;
-    /** Limits of a stream and of its keys; how many stamps a thread may be in front of what is handed over; how many characters are at once. */
+    /** Limits of a stream and of its keys; how many stamps a thread may be ahead of what is handed over; how many characters are at once. */
     private static final int STREAM_PROCESSES = 65536, STREAM_KEYS = 16384, AHEAD = 8192, BATCH = 65536;
     private static final int RUNNING = 0, OVER = 1, FAILED = 2;
     private static final int REPORT_SHOWN = 1000, KEPT = 1 << 26; // of a report the characters shown, of a stream the bytes kept for a file
@@ -190,7 +190,7 @@ public final class Potzendai {
 
     // Draws
 
-    /** Steele, Lea and Flood's SplitMix: the number behind a state. */
+    /** Steele, Lea and Flood's SplitMix: the number that a state gives. */
     private static long mixed(long state) {
         long z = state + 0x9e3779b97f4a7c15L;
         z = (z ^ z >>> 30) * 0xbf58476d1ce4e5b9L;
@@ -268,7 +268,7 @@ public final class Potzendai {
             return list;
         }
 
-        /** Whether an answer tells what this call puts: then it was done. */
+        /** Whether an answer reports what this call puts: then it was done. */
         boolean isToldBy(String answer) {
             String value = Long.toUnsignedString(words[words.length - 1]);
             return !name.equals("remove") && answer != null && (answer.equals(value) || answer.contains("," + value + "]"));
@@ -322,7 +322,7 @@ public final class Potzendai {
         return new Noted(new Call("scan", low, high), "[" + pairText(said.key, said.value) + "]");
     }
 
-    /** The call and the answer that a history has; null where it is left out, since it tells nothing. */
+    /** The call and the answer that a history has; null if it is left out, since it reports nothing. */
     private static Noted noted(Kind kind, long[] words, Said said) {
         boolean changes = kind == Kind.PUT || kind == Kind.DEL || kind == Kind.REPLACE;
         boolean isRead = kind == Kind.GET || kind == Kind.SCAN || kind == Kind.FLOOR || kind == Kind.CEILING;
@@ -467,8 +467,8 @@ public final class Potzendai {
             return said;
         }
 
-        /** A put after a get, as if they were one: of the key itself where the put tells what it found, else of the key beside it, which is
-         * put back as it was got. */
+        /** Makes a get and then a put, as if they were one call. If the put reports what it found, the get is of the same key. Else it is of the
+         * key next to it, which is put back as it was got. */
         private Said race(long key, long value) throws Exception {
             long beside = style == Word.TOLD || (key ^ 1) >= keys ? key : key ^ 1;
             Said got = truly.get(beside);
@@ -565,7 +565,7 @@ public final class Potzendai {
     /** The number of the round, as how many processes a thread may go on, what the map holds, and keys at which calls have no answer. */
     private record Task(long round, int lives, Map<Long, Long> start, Set<Long> doubtful, long valuesFrom) { }
 
-    /** The lock of a key; and whether a call that writes it has no answer, and so may still come between a get and the put behind it. */
+    /** The lock of a key; and whether a call that writes it has no answer, and so may still come between a get and the put after it. */
     private static final class KeyLock extends ReentrantLock {
         private static final long serialVersionUID = 1;
         boolean isDoubtful;
@@ -587,11 +587,11 @@ public final class Potzendai {
         long puts, made;
         long valuesFrom; // each put has a value of its own, which was not in the map before
         int life, lives, process;
-        boolean closes, isReading; // the last: whether the call that goes on only reads
+        boolean closes, isReading; // the last: whether the open call only reads
         Stream stream;
         Broken broken;
         long wrongTimes, marks; // how often the broken maps of before went wrong; how many values no call puts
-        Long end; // the stamp at which the snapshot of the call that goes on was taken
+        Long end; // the stamp at which the snapshot of the open call was taken
         final List<Integer> helpers = new ArrayList<>();
 
         Worker(int number, Options options, AtomicLong stamps, KeyLock[] locks) {
@@ -611,7 +611,7 @@ public final class Potzendai {
 
         long wrongTimes() { return wrongTimes + (broken == null ? 0 : broken.times); }
 
-        /** The call that goes on is answered now, if it only reads. Of several such moments the last one counts. */
+        /** Takes this moment as the answer of the open call, if that only reads. Of several such moments the last one counts. */
         void take() {
             if (!isReading)
                 return;
@@ -735,8 +735,8 @@ public final class Potzendai {
             return said;
         }
 
-        /** What is known of the answer: where a put or del was done, and does not tell what it found, from the get in front of it under the
-         * key's lock, or from what the one writer of the key remembers. */
+        /** Returns what is known of the answer. If a put or del was done and does not report what it found, the get before it under the key's
+         * lock says so, or what the only writer of the key remembers. */
         private Said known(Kind kind, long[] words, Said said, Said got) {
             Said before = memory.get(words[0]);
             boolean isPut = kind == Kind.PUT || kind == Kind.PUT_IF_ABSENT && said.word == Word.NONE || kind == Kind.REPLACE
@@ -752,8 +752,8 @@ public final class Potzendai {
             return before != null ? before : got.tells() ? got : said;
         }
 
-        /** The events of a call that is over, for the stream. One that tells nothing is left out; or refused, where it stands there already.
-         * One whose answer is unknown stays open, and its thread goes on as another process. */
+        /** Puts the events of a call that is over into the stream. A call that reports nothing is left out, or gets the answer `refused` if the
+         * stream has its invocation already. A call whose answer is unknown stays open, and its thread continues as another process. */
         private void handOver(long begin, long end, Kind kind, Said said, Noted noted) {
             boolean isHeld = kind.isHeld(options.cache != null), isLeftOut = noted != null && noted.beside.size() > BESIDE;
             if (noted == null || isLeftOut) {
@@ -780,20 +780,20 @@ public final class Potzendai {
         }
     }
 
-    /** A part of what stands at a stamp of a stream: a call of a process with its note, or its answer, or null where it stays open. */
+    /** A part of what a stamp of a stream has: a call of a process with its note, or its answer, or null if it stays open. */
     private record Part(int process, Call call, String answer, String note) { }
 
-    /** What stands at a stamp of a stream: first the event of a thread, then those on behalf of it; of which function they are; and what the map
-     * said, where that ends a call. */
+    /** What a stamp of a stream has: first the event of a thread, then those on behalf of it; of which function they are; and what the map said,
+     * if this ends a call. */
     private record Happening(List<Part> parts, String kind, Word said, boolean isLeftOut) { }
 
     /** A call that is open, and when it began. */
     private record Opened(Call call, long stored) { }
 
     /**
-     * A stream of events, which a thread of its own hands on while others record. Stamps are numbers without a gap, and each has its slot; who
-     * is too far in front of what is handed over waits, so that memory does not grow. Nobody waits between its two stamps but for those of
-     * lower ones, so the event of the least stamp always comes.
+     * A stream of events, which a thread of its own hands on while others record. Stamps are numbers without a gap, and each has its slot. Who
+     * is too far ahead of what is handed over waits, so that memory does not grow. Between its two stamps nobody waits except for lower stamps,
+     * so the event of the least stamp always comes.
      */
     private static final class Stream implements Runnable, AutoCloseable {
         final AtomicReferenceArray<Happening> slots = new AtomicReferenceArray<>(AHEAD);
@@ -875,7 +875,7 @@ public final class Potzendai {
             }
         }
 
-        /** The program writes once it has a verdict, and may do so while the stream goes on: then the run is over. */
+        /** The program writes once it has a verdict, and may do so while the stream is still running: then the run is over. */
         private void read() {
             try {
                 report = process.getInputStream().readAllBytes();
@@ -919,7 +919,7 @@ public final class Potzendai {
             run.progress();
         }
 
-        /** The lines of events, and what is counted: as of a round, but that nothing is kept of calls that are over. A call without an answer is over
+        /** The lines of events, and what is counted: as of a round, but nothing is stored of calls that are over. A call without an answer is over
          * too: nobody waits for it. */
         private void take(Happening what) {
             for (Part part : what.parts) {
@@ -1013,7 +1013,7 @@ public final class Potzendai {
                 try {
                     future.get();
                 } catch (ExecutionException | InterruptedException wrong) {
-                    // The run goes on without it.
+                    // The run continues without it.
                 }
             workers.forEach(worker -> worker.closes = false);
             connection = null;
@@ -1072,7 +1072,7 @@ public final class Potzendai {
             throw (Error) wrong;
         }
 
-        /** A round: its events, with gets of all keys behind those of the threads. What these tell is `contents` then. */
+        /** A round: its events, with gets of all keys after those of the threads. What these gets report is `contents` then. */
         List<Event> round(Task task) {
             AtomicInteger missing = new AtomicInteger(workers.size());
             List<Event> events = each(worker -> {
@@ -1090,7 +1090,7 @@ public final class Potzendai {
             return events;
         }
 
-        /** Gets of all keys, the last calls of a round, and what the map then holds. A key of which a get does not tell it is written. */
+        /** Gets of all keys, the last calls of a round, and what the map then holds. If a get does not report the value, the key is written. */
         List<Event> rest(long round) {
             List<Event> events = new ArrayList<>();
             contents = new TreeMap<>();
@@ -1121,7 +1121,7 @@ public final class Potzendai {
             return options.hasDel && (options.cache != null || (key + round) % 2 == 1) ? Kind.DEL : Kind.PUT;
         }
 
-        /** What a function says at rest: again where it is refused, and a get also where nobody knows. It is noted unless it tells nothing. */
+        /** Asks a function at rest: again if it is refused, and a get also if nobody knows. The answer is noted unless it reports nothing. */
         private Said askAtRest(List<Event> events, Kind kind, long... words) {
             Said said = Said.REFUSED;
             long begin = 0, end = 0;
@@ -1185,8 +1185,8 @@ public final class Potzendai {
                 events.set(calls.get(i), new Event(events.get(calls.get(i)).thread, events.get(calls.get(i)).call, null, notes.get(invoked.get(i))));
         }
 
-        /** Each thread, and each of its lives, becomes a process, and so does who makes further calls on behalf of one; calls that have no answer from
-         * before are the first. */
+        /** Each thread, and each of its lives, becomes a process. So does who makes further calls on behalf of one. Calls from before that have no
+         * answer are the first processes. */
         Round(List<Event> noted, Map<Long, Long> start, List<Call> before, Tally tally) {
             this.start = start;
             this.before = before.size();
@@ -1263,7 +1263,8 @@ public final class Potzendai {
                     overlap += open.values().stream().filter(other -> other.kind != null && answered.contains(other)).count();
                     stored.put(event.thread, tally.begin(event.kind, event.call.words[0]));
                 }
-                if (writesKey(event.kind) && open.values().stream().anyMatch(other -> writesKey(other.kind) && other.call.words[0] == event.call.words[0]))
+                if (writesKey(event.kind)
+                    && open.values().stream().anyMatch(other -> writesKey(other.kind) && other.call.words[0] == event.call.words[0]))
                     met.add(event.call.words[0]);
                 open.put(event.thread, event);
             }
@@ -1279,7 +1280,7 @@ public final class Potzendai {
             return pairs;
         }
 
-        /** Whether it is a history of so many keys alone, in which all calls have answers: then it may be judged with others. */
+        /** Whether all its keys are below `keys` and all its calls have answers: then it may be judged together with others. */
         boolean isApart(long keys) {
             long count = 0;
             for (Event event : events) {
@@ -1383,8 +1384,8 @@ public final class Potzendai {
             return program;
         }
 
-        /** What does it: once it has answered, behind the repository's own `bench` the last program that that has built, since it takes as long
-         * as ten rounds to see that nothing has changed. */
+        /** Returns the program that runs a command. Once the repository's own `bench` has answered, this is the last program that `bench` built:
+         * `bench` itself takes as long as ten rounds to see that nothing has changed. */
         String at(String command) {
             if (!answered.contains(command.equals("judge")) || !path.endsWith("/bench")) return path;
             return List.of("history_bench", "judge_bench", "bench").stream().skip(command.equals("judge") ? 0 : 1)
@@ -1406,7 +1407,8 @@ public final class Potzendai {
 
         Answer ask(String command, String text, long budget) {
             try {
-                Process process = new ProcessBuilder(at(command), command, "--budget", "" + budget).redirectError(ProcessBuilder.Redirect.INHERIT).start();
+                Process process = new ProcessBuilder(at(command), command, "--budget", "" + budget)
+                    .redirectError(ProcessBuilder.Redirect.INHERIT).start();
                 try (var in = process.getOutputStream()) {
                     in.write(text.getBytes(StandardCharsets.UTF_8));
                 } catch (IOException broken) {
@@ -1777,7 +1779,7 @@ public final class Potzendai {
         return "left out".equals(answer) ? ", whatever its answer" : ", answered " + saidAnswer(answer) + saidWriter(round, answer);
     }
 
-    /** The first line of a report, and of a long list of calls only that it stands there. */
+    /** The first line of a report, with `..` in place of a long list of calls. */
     private static String saidVerdict(String line) {
         return line.replaceFirst("\"calls\":\\[[^\\]]{80,}\\]", "\"calls\":[..]");
     }
@@ -1867,7 +1869,7 @@ public final class Potzendai {
             + (who.isEmpty() ? "what " + round.nobody + " put" : String.join(", ", who));
     }
 
-    /** From which value of a key the few calls have no order: the line stands behind an undecided alone. */
+    /** From which value of a key the few calls have no order. Only a report of undecided has this line. */
     private static String saidFrom(Map<?, ?> line) {
         String begin = "  from key " + saidAnswer(line.get("key")) + " holding ";
         if (line.get("from") == null)
@@ -1881,8 +1883,8 @@ public final class Potzendai {
         StringBuilder said = new StringBuilder();
         for (Object missed : line.get("misses") instanceof List<?> all ? all : List.of()) {
             Map<?, ?> call = (Map<?, ?>) missed;
-            said.append("; it misses ").append(saidMade(round, (Long) call.get("event"), (List<?>) call.get("call"))).append(" of process ").append(call.get("process"))
-                .append(" (event ").append(call.get("event")).append(")");
+            said.append("; it misses ").append(saidMade(round, (Long) call.get("event"), (List<?>) call.get("call")))
+                .append(" of process ").append(call.get("process")).append(" (event ").append(call.get("event")).append(")");
         }
         return said.toString();
     }
@@ -1911,8 +1913,9 @@ public final class Potzendai {
                 said.add(saidOrigin(round, line));
             if (!line.containsKey("front"))
                 continue;
-            said.add((((List<?>) line.get("front")).isEmpty() ? "  no call of them can come first; the map holds " : "  an order of them gets as far as the "
-                + "events " + line.get("front").toString().replace(" ", "") + "; the map then holds ") + saidPairs((List<?>) line.get("holds")));
+            said.add((((List<?>) line.get("front")).isEmpty() ? "  no call of them can come first; the map holds "
+                : "  an order of them gets as far as the events " + line.get("front").toString().replace(" ", "") + "; the map then holds ")
+                + saidPairs((List<?>) line.get("holds")));
             for (Object each : (List<?>) line.get("next")) {
                 Map<?, ?> call = (Map<?, ?>) each;
                 next.add((Long) call.get("event"));
@@ -1957,8 +1960,8 @@ public final class Potzendai {
         }
     }
 
-    /** A stream that has no order: the calls left at a key are a history, where that says it all, which is explained; else it is said why not.
-     * Kept is the stream so far, unless it is long, and of the report what is not shown, or all where nothing else is kept. */
+    /** Reports a stream that has no order. If the calls left at a key show the fault, their history is explained; else a line says why not. The
+     * stream so far is saved, unless it is long. The report is saved if it is not shown whole, or if nothing else is saved. */
     private static List<String> refutedStream(Run run) {
         List<String> lines = run.report.lines().toList(), said = new ArrayList<>();
         String report = lines.get(0), left = lines.size() > 1 ? lines.get(1) + "\n" : null;
@@ -1992,7 +1995,8 @@ public final class Potzendai {
         return said;
     }
 
-    /** The history of the calls left at a key, and few of it that have no order. Where these are not found, the history alone is kept. */
+    /** Saves the history of the calls left at a key, and a few calls of it that have no order. If these are not found, it saves only the
+     * history. */
     private static List<String> shownLeft(Run run, String left) {
         String explained;
         try {
@@ -2010,7 +2014,7 @@ public final class Potzendai {
         return said;
     }
 
-    /** Why a no of a stream has no history of few calls behind it. */
+    /** Why no history of few calls follows a no of a stream. */
     private static String whyNotFew(String report) {
         List<?> keys = (List<?>) ((Map<?, ?>) Json.of(report)).get("keys");
         if (keys.isEmpty())
@@ -2119,7 +2123,8 @@ public final class Potzendai {
                 + (calls > 0 ? " --calls " + calls : "") + " --mix " + mix + (hasVoid || !isStream ? " --void " + voids : "")
                 + " --scan " + (isSteps ? "steps" : "snapshot") + (yields > 0 ? " --yield " + yields : "")
                 + (cache == null ? "" : cache.equals("late") ? " --cache late" : " --cache") + (fresh > 0 ? " --fresh " + fresh : "")
-                + (isReopened ? " --reopen" : "") + (broken != null ? " --break " + broken : "") + (isStream ? " --stream --seconds " + seconds : " --rounds " + rounds);
+                + (isReopened ? " --reopen" : "") + (broken != null ? " --break " + broken : "")
+                + (isStream ? " --stream --seconds " + seconds : " --rounds " + rounds);
         }
 
         Options(String name, String[] words) {
@@ -2170,7 +2175,7 @@ public final class Potzendai {
                 if (Long.compareUnsigned(least, number) <= 0 && Long.compareUnsigned(number, most) <= 0)
                     return number;
             } catch (NumberFormatException none) {
-                // It is told below.
+                // It is reported below.
             }
             throw new Stop(WORDS, word + ": a number from " + least + " to " + Long.toUnsignedString(most));
         }
@@ -2294,7 +2299,7 @@ public final class Potzendai {
         return "calls: " + String.join(", ", calls) + (missing.isEmpty() ? "" : "; not there: " + String.join(", ", missing));
     }
 
-    /** How a run went: its status, what is to be told before the last line, and that. */
+    /** How a run went: its status, the lines to print before the last line, and that line. */
     private record Outcome(int status, List<String> said, String last) { }
 
     private static Outcome tested(String name, Supplier<? extends Index> make, String... words) {

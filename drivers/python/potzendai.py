@@ -8,7 +8,7 @@ each recording, or follows one stream of it. Copy this file: Python 3.8 and the 
     if __name__ == "__main__":
         potzendai.main(Map)
 
-A function answers a value, a pair or pairs where it tells them, or one of the words in brackets. Any but get and put may be missing.
+A function answers a value, a pair or pairs if it reports them, or one of the words in brackets. Any but get and put may be missing.
 
     connection(self)                 what one thread calls in the place of the map, as a cursor; it may have close(self)
     get(self, key)                   the value [NONE or None, DONE, FOUND, REFUSED, UNKNOWN]
@@ -22,8 +22,8 @@ A function answers a value, a pair or pairs where it tells them, or one of the w
     reopen(self)                     for --reopen: closes the map at rest, and returns it opened again, with what it held
     close(self)                      called once the map is used no more
 
-NONE: there was no value. DONE: it was done, and nothing is told. FOUND: there was a value, which is not told; of a pair the value may be
-FOUND. OTHER: the old value was not there. REFUSED: nothing has changed. UNKNOWN, or an OSError that is raised, as of a timeout or a lost
+NONE: there was no value. DONE: it was done, and nothing is reported. FOUND: there was a value, which is not reported; of a pair the value may
+be FOUND. OTHER: the old value was not there. REFUSED: nothing has changed. UNKNOWN, or an OSError that is raised, as of a timeout or a lost
 connection: nobody knows whether it was done. `told(value)` is NONE for None. Keys and values are numbers, and nothing else changes the map.
 """
 import argparse
@@ -51,7 +51,7 @@ OWN = 2 ** 63  # under --cache, values from here on are the driver's own
 BATCH_ROUNDS, BATCH_CALLS = 64, 256  # so many rounds are judged together, of so many calls
 PROCESSES, CALLS, SPAN = 64, 4096, 16  # limits of a history; the most keys of a scan
 STREAM_PROCESSES, STREAM_KEYS = 65536, 16384  # limits of a stream, and of its keys
-AHEAD, BATCH = 8192, 4096  # how many stamps a thread may be in front of what is handed over; how many lines are handed over at once
+AHEAD, BATCH = 8192, 4096  # how many stamps a thread may be ahead of what is handed over; how many lines are handed over at once
 KEPT = 2 ** 26  # the most bytes of a stream that are kept for a file
 SELDOM = 20  # one call in so many goes wrong in a map that is broken
 YES, NO, UNDECIDED, FAULTY, MEMORY, WORDS, FILE = range(7)  # statuses, as the program's
@@ -81,7 +81,7 @@ def word(kind):
 # Draws
 
 def mixed(state):
-    """Steele, Lea and Flood's SplitMix: the number behind a state."""
+    """Steele, Lea and Flood's SplitMix: the number that a state gives."""
     z = (state + 0x9E3779B97F4A7C15) & GREATEST
     z = ((z ^ z >> 30) * 0xBF58476D1CE4E5B9) & GREATEST
     z = ((z ^ z >> 27) * 0x94D049BB133111EB) & GREATEST
@@ -143,7 +143,7 @@ def is_pairs(answer):
 
 OPEN = "open"
 EVENTS = {NONE: None, FOUND: "found", DONE: "done", OTHER: "other", REFUSED: "refused", UNKNOWN: OPEN}
-# Of each function its call in a history, what it tells, and the words that it may answer beside.
+# Of each function: its call in a history, what it reports, and the words that it may answer instead.
 ANSWERS = {
     "get": ("get", is_value, (NONE, FOUND, DONE, REFUSED, UNKNOWN)),
     "put": ("insert", is_value, (NONE, FOUND, DONE, REFUSED, UNKNOWN)),
@@ -184,7 +184,7 @@ def edge(kind, key, pair):
     return ["scan", low, high], [list(pair)]
 
 
-HELD = ("put_if_absent", "floor", "ceiling", "pop_first")  # the answer tells which call of a history it was
+HELD = ("put_if_absent", "floor", "ceiling", "pop_first")  # the answer says which call of a history it was
 
 
 # What a history has of a call: its invocation, its answer, a note of the call as it was made where that is another one, and further calls of
@@ -193,7 +193,7 @@ Noted = collections.namedtuple("Noted", "call answer note beside", defaults=(Non
 
 
 def noted(kind, words, answer):
-    """What a history has of a call; None where it is left out, since it tells nothing."""
+    """What a history has of a call; None if it is left out, since it reports nothing."""
     told_of = noted_call(kind, words, answer)
     return told_of and Noted(*told_of)
 
@@ -284,8 +284,8 @@ class Broken:
         return self.in_style(told(self.connection.get(key))) if self.style else None
 
     def race_put(self, key, value):
-        """A put after a get, as if they were one: of the key itself where the put tells what it found, else of the key beside it, which
-        is put back as it was got."""
+        """Makes a get and then a put, as if they were one call. If the put reports what it found, the get is of the same key. Else it is of the
+        key next to it, which is put back as it was got."""
         if not self.style:
             return None
         beside = key if self.style == "told" or key ^ 1 >= self.keys else key ^ 1
@@ -410,7 +410,7 @@ class Worker:
             return UNKNOWN
 
     def take(self):
-        """The call that goes on is answered now, if it only reads. Of several such moments the last one counts."""
+        """Takes this moment as the answer of the open call, if that only reads. Of several such moments the last one counts."""
         if self.is_reading:
             if self.stream and self.end is not None:
                 self.stream.put(self.end, ())
@@ -433,7 +433,7 @@ class Worker:
         self.called[kind] += 1
         self.sayings[answer if isinstance(answer, str) else "told"] += 1
         if self.locks and answer == UNKNOWN and words:
-            self.doubts[words[0]] |= kind in WRITING  # it may still come between a get and the put behind it
+            self.doubts[words[0]] |= kind in WRITING  # it may still come between a get and the put after it
         says = self.known(kind, words, answer, DONE if words and self.locks and self.doubts[words[0]] else got)
         if self.options.void == "told" and kind in ("put", "delete") and says in (DONE, FOUND):
             raise Stop(WORDS, "%s said %s, and --void told wants the value before" % (word(kind), says))
@@ -449,8 +449,8 @@ class Worker:
         return answer
 
     def known(self, kind, words, answer, got):
-        """What is known of the answer: where a put or a delete was done, and does not tell what it found, from the get in front of it
-        under the key's lock, or from what the one writer of the key remembers."""
+        """Returns what is known of the answer. If a put or a delete was done and does not report what it found, the get before it under the key's
+        lock says so, or what the only writer of the key remembers."""
         before = self.memory.get(words[0]) if words else None
         if kind in WRITING and before is not None and answer != REFUSED:
             if answer == UNKNOWN or kind == "replace" and answer == FOUND:
@@ -473,8 +473,8 @@ class Worker:
             self.log.append(Line(end, self.number, self.life, kind, answer if isinstance(answer, str) else "told", made))
 
     def hand_over(self, begin, end, kind, answer, made):
-        """Puts the events of a call that is over into the stream. One that tells nothing is left out; or refused, where it stands there
-        already. One whose answer is unknown stays open, and its thread goes on as another process."""
+        """Puts the events of a call that is over into the stream. A call that reports nothing is left out, or gets the answer `refused` if the
+        stream has its invocation already. A call whose answer is unknown stays open, and its thread continues as another process."""
         saying = answer if isinstance(answer, str) else "told"
         if made and len(made.beside) > BESIDE:
             made, kind = None, LEFT_OUT
@@ -548,9 +548,9 @@ NOTES = 10 ** 6  # of so many events of a stream the notes are kept for the word
 
 
 class Stream:
-    """One stream of events, which a thread of its own hands on while others record. Stamps are numbers without a gap, so it holds back what
-    comes early; who is too far in front of it waits, so that memory does not grow. Nobody waits between its two stamps but for those of
-    lower ones, so the event of the least stamp always comes."""
+    """One stream of events, which a thread of its own hands on while others record. Stamps are numbers without a gap, so this thread delays what
+    comes early. A thread that is too far ahead waits, so that memory does not grow. Between its two stamps a thread waits only for threads with
+    lower stamps, so the event of the least stamp always comes."""
 
     def __init__(self, options, pipe, stamp):
         shared = multiprocessing.get_context("fork").RawValue if options.processes else lambda kind: types.SimpleNamespace(value=0)
@@ -562,8 +562,8 @@ class Stream:
         return self.threads + self.others()
 
     def put(self, stamp, events, kind=None, saying=None):
-        """What stands at a stamp: events, each of a process with its call and the note of that, or with its answer; of which function they are,
-        the first one itself, and those that follow on behalf of it; and what the map said, where that ends a call."""
+        """Puts what a stamp has into the stream. Each event is of a process, with its call and the note of that, or with its answer. The first
+        event is the function's own; those after it are on its behalf. If this ends a call, `saying` is what the map said."""
         while stamp >= self.taken.value + AHEAD and self.state.value != FAILED:
             time.sleep(0.0005)
         self.inbox.put((stamp, events, kind, saying))
@@ -612,7 +612,7 @@ class Stream:
             pass
 
     def take(self, events, kind, saying):
-        """The lines of events, and what is counted: as of a round, but that nothing is kept of calls that are over. A call without an answer is
+        """The lines of events, and what is counted: as of a round, but nothing is stored of calls that are over. A call without an answer is
         over too: nobody waits for it."""
         run, opened, writers = self.run, self.opened, self.writers
         run.left_out += kind == LEFT_OUT
@@ -710,7 +710,7 @@ class Crew:
         return all(not outbox.empty() for _, outbox in self.pipes) or not all(one.is_alive() for one in self.members)
 
     def contents(self, number=0):
-        """Gets of all keys, the last calls of a round, and what the map then holds. A key of which a get does not tell it is written."""
+        """Gets of all keys, the last calls of a round, and what the map then holds. If a get does not report the value, the key is written."""
         log, pairs = [], {}
         for key in range(self.options.keys):
             said, made = self.ask_at_rest(log, "get", key)
@@ -736,7 +736,7 @@ class Crew:
         return "put", key, self.values_from + self.puts * (self.options.threads + 1) + self.options.threads
 
     def ask_at_rest(self, log, kind, *words):
-        """What a function says at rest: again where it is refused, and a get also where nobody knows. It is noted unless it tells nothing."""
+        """Asks a function at rest: again if it is refused, and a get also if nobody knows. The answer is noted unless it reports nothing."""
         for _ in range(1000):
             begin = self.stamp()
             try:
@@ -851,7 +851,7 @@ class Round:
         self.pending = [call for _, call, _, _ in opened.values() if call[0] == "remove" or call[-1] not in told_of]
 
     def is_apart(self, keys):
-        """Whether it is a history of so many keys alone, in which all calls have answers: then it may be judged with others."""
+        """Whether all its keys are below `keys` and all its calls have answers: then it may be judged together with others."""
         answers = [event["answer"] for event in self.events if type(event.get("answer")) is list]
         calls = [event["invoke"] for event in self.events if "invoke" in event]
         held = list(self.start) + [pair[0] for pairs in answers for pair in pairs] + [call[1] for call in calls]
@@ -947,8 +947,8 @@ class Program(Judge):
         self.ask(*(("follow", "") if options.stream else ("judge", '{"events":[],"version":1}\n')), self.budget)
 
     def program(self, command):
-        """What does it: once it has answered, behind the repository's own `bench` the last program that that has built, since it takes as long
-        as ten rounds to see that nothing has changed."""
+        """Returns the program that runs a command. Once the repository's own `bench` has answered, this is the last program that `bench` built:
+        `bench` itself takes as long as ten rounds to see that nothing has changed."""
         folder, script = os.path.split(self.path)
         if (command == "judge") not in self.answered or not folder or script != "bench":
             return self.path
@@ -988,7 +988,7 @@ class Program(Judge):
 
 
 class Pipe:
-    """A stream that `bench follow` reads. It writes once it has a verdict, and may do so while the stream goes on: a thread waits for that."""
+    """A stream that `bench follow` reads. It writes once it has a verdict, perhaps while the stream is still running: a thread waits for that."""
 
     def __init__(self, program):
         self.program = program
@@ -1365,7 +1365,7 @@ def said_answered(one, answer):
 
 
 def said_verdict(line):
-    """The first line of a report, and of a long list of calls only that it stands there."""
+    """The first line of a report, with `..` in place of a long list of calls."""
     return re.sub(r'"calls":\[[^]]{80,}\]', '"calls":[..]', line)
 
 
@@ -1403,7 +1403,7 @@ def said_origin(one, line):
 
 
 def said_from(line):
-    """From which value of a key the few calls have no order: the line stands behind an undecided alone."""
+    """From which value of a key the few calls have no order. Only a report of undecided has this line."""
     if line["from"] is None:
         return "  from key %d holding nothing" % line["key"]
     put = line["put"]
@@ -1454,8 +1454,8 @@ def said_open(one, shown, numbers):
 
 
 def said_report(report, one):
-    """A report of `explain` in words, and the line that is the few calls' history, or None. Behind an undecided `locate` has a line, which is
-    passed over."""
+    """A report of `explain` in words, and the line that is the few calls' history, or None. After an undecided there is a line of `locate`, which
+    is skipped."""
     texts = report.splitlines()
     texts[1:] = [text for text in texts[1:] if "verdict" not in json.loads(text)]
     lines, few, events, late = [json.loads(text) for text in texts], None, [], []
@@ -1664,7 +1664,7 @@ def functions(make):
 
 
 def tested(make, options):
-    """A run by these words: its status, what is to be told before the last line, and the last line."""
+    """Runs with these options. Returns the status, the lines to print before the last line, and the last line."""
     has, can_reopen = functions(make)
     fit(options, has, can_reopen)
     options.name = getattr(make, "__name__", "map")
@@ -1688,8 +1688,8 @@ def tested(make, options):
 
 
 def refuted_stream(run):
-    """A stream that has no order: the calls left at a key are a history, where that says it all, which is explained; else it is said why not.
-    Kept is the stream so far, unless it is long, and of the report what is not shown, or all where nothing else is kept."""
+    """Reports a stream that has no order. If the calls left at a key show the fault, their history is explained; else a line says why not. The
+    stream so far is saved, unless it is long. The report is saved if it is not shown whole, or if nothing else is saved."""
     report, _, left = run.failed.partition("\n")
     run.options.round, said = 0, said_keys(report)
     is_whole = said == [report]
@@ -1713,7 +1713,8 @@ def said_keys(report):
 
 
 def shown_left(run, left):
-    """The history of the calls left at a key, and few of it that have no order. Where these are not found, the history alone is kept."""
+    """Saves the history of the calls left at a key, and a few calls of it that have no order. If these are not found, it saves only the
+    history."""
     try:
         told_of = run.program.asked("explain", left)[1]
     except Stop as stop:
@@ -1730,7 +1731,7 @@ def shown_left(run, left):
 
 
 def why_not_few(keys):
-    """Why a no of a stream has no history of few calls behind it."""
+    """Why no history of few calls follows a no of a stream."""
     if not keys:
         return "no map gives a scan the answer of this event"
     if len(keys) > 1:
@@ -1799,7 +1800,7 @@ def check(make, *argv):
 
 
 def main(make, argv=None):
-    """A whole program. `make` makes a new and empty map: it is called at the beginning, and again for each run behind a no."""
+    """A whole program. `make` makes a new and empty map: it is called at the beginning, and again for each run after a no."""
     try:
         status, said, last = tested(make, words_of(argv))
         print("".join(line + "\n" for line in said), end="", file=sys.stderr)
@@ -1823,5 +1824,5 @@ def main(make, argv=None):
     try:
         sys.stdout.flush()
     except OSError:
-        os.dup2(os.open(os.devnull, os.O_WRONLY), 1)  # it has been told; else the interpreter tells it again as it ends
+        os.dup2(os.open(os.devnull, os.O_WRONLY), 1)  # this was reported above; else the interpreter reports it again as it ends
     sys.exit(status)

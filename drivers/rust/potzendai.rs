@@ -1,5 +1,5 @@
 //! Tests an ordered map of one's own: threads call its functions, what they do is recorded, and the program `bench` judges each recording, or
-//! follows one stream of it. Copy this file beside a source that says `mod potzendai;`: Rust 1.70 and the program are all that it needs.
+//! follows one stream of it. Copy this file next to a source that says `mod potzendai;`: Rust 1.70 and the program are all that it needs.
 //!
 //!     fn main() {
 //!         std::process::exit(potzendai::run("mine", || Mine::new(), std::env::args().skip(1)));
@@ -21,7 +21,7 @@ use std::sync::mpsc::{channel, Receiver, Sender, TryRecvError};
 use std::sync::{Arc, Mutex};
 use std::time::{Duration, Instant, SystemTime};
 
-/// What a function of the map answers: what it tells, or how little.
+/// What a function of the map answers: a value or pairs, or a word if it does not report them.
 #[derive(Clone, Debug, PartialEq)]
 pub enum Said {
     Told(u64),
@@ -29,9 +29,9 @@ pub enum Said {
     Pairs(Vec<(u64, u64)>),
     /// There was no value.
     None,
-    /// It was done, and nothing is told.
+    /// It was done, and nothing is reported.
     Done,
-    /// There was a value, which is not told; or a pair, of which only the key is.
+    /// There was a value, which is not reported; or a pair, of which only the key is.
     Found,
     FoundKey(u64),
     /// The old value was not there, and nothing has changed.
@@ -129,7 +129,7 @@ const PROCESSES: usize = 64;
 const CALLS: u64 = 4096;
 const SPAN: u64 = 16;
 const SELDOM: u64 = 20;
-/// Limits of a stream and of its keys; how many stamps a thread may be in front of what is handed over; how many bytes are at once.
+/// Limits of a stream and of its keys; how many stamps a thread may be ahead of what is handed over; how many bytes are at once.
 const STREAM_PROCESSES: usize = 65536;
 const STREAM_KEYS: u64 = 16384;
 /// Bytes of the report of a stream without order that are shown, and of a stream that are kept for a file.
@@ -184,7 +184,7 @@ impl Kind {
         matches!(self, Get | Scan | Floor | Ceiling)
     }
 
-    /// Whether the answer tells which call of a history it was. Of a cache each one does, since the note of a call has its answer.
+    /// Whether the answer says which call of a history it was. Of a cache each one does, since the note of a call has its answer.
     fn is_held(self, options: &Options) -> bool {
         options.cache.is_some() || matches!(self, PutIfAbsent | Floor | Ceiling | PopFirst)
     }
@@ -222,7 +222,7 @@ fn fail<T>(status: i32, line: impl Into<String>) -> Result<T, Stop> {
 
 const GAMMA: u64 = 0x9e37_79b9_7f4a_7c15;
 
-/// Steele, Lea and Flood's SplitMix: the number behind a state.
+/// Steele, Lea and Flood's SplitMix: the number that a state gives.
 fn mixed(state: u64) -> u64 {
     let z = state.wrapping_add(GAMMA);
     let z = (z ^ z >> 30).wrapping_mul(0xbf58_476d_1ce4_e5b9);
@@ -351,7 +351,7 @@ fn edge(kind: Kind, key: u64, said: &Said) -> (Call, Option<String>) {
     }
 }
 
-/// The call and the answer that a history has; none where it is left out, since it tells nothing.
+/// The call and the answer that a history has; none if it is left out, since it reports nothing.
 fn noted(kind: Kind, words: &[u64], said: &Said) -> Option<(Call, Option<String>)> {
     let tells_nothing = kind.reads() && matches!(said, Said::Done | Said::Unknown);
     if tells_nothing || *said == Said::Refused && !matches!(kind, Put | Del | Replace) {
@@ -506,8 +506,8 @@ impl<'a> Broken<'a> {
         }
     }
 
-    /// A put after a get, as if they were one: of the key itself where the put tells what it found, else of the key beside it, which is
-    /// put back as it was got.
+    /// Makes a get and then a put, as if they were one call. If the put reports what it found, the get is of the same key. Else it is of the key
+    /// next to it, which is put back as it was got.
     fn race(&mut self, key: u64, value: u64) -> Said {
         let tells = matches!(self.style, Some(Said::Told(_)));
         let beside = if tells || key ^ 1 >= self.keys { key } else { key ^ 1 };
@@ -671,14 +671,14 @@ struct Task {
 }
 
 /// What all threads share: the word of stamps; the locks of keys, with whether a call that writes the key has no answer, and so may still
-/// come between a get and the put behind it; and the stream, if it is one.
+/// come between a get and the put after it; and the stream, if it is one.
 struct Shared {
     stamps: Arc<AtomicU64>,
     locks: Vec<Mutex<bool>>,
     stream: Option<Stream>,
 }
 
-/// A part of what stands at a stamp of a stream: a call of a process with its note, or its answer, or none where it stays open.
+/// A part of what a stamp of a stream has: a call of a process with its note, or its answer, or none if it stays open.
 struct Part {
     process: usize,
     call: Option<Call>,
@@ -686,8 +686,8 @@ struct Part {
     note: Option<String>,
 }
 
-/// What stands at a stamp of a stream: first the event of a thread, then those on behalf of it; of which function they are; and what the map said,
-/// where that ends a call.
+/// What a stamp of a stream has: first the event of a thread, then those on behalf of it; of which function they are; and what the map said, if
+/// this ends a call.
 #[derive(Default)]
 struct Happening {
     parts: Vec<Part>,
@@ -696,14 +696,14 @@ struct Happening {
     is_left_out: bool,
 }
 
-/// Of a stream whether it goes on, is over, or has failed.
+/// Whether a stream is running, is over, or has failed.
 const RUNNING: usize = 0;
 const OVER: usize = 1;
 const FAILED: usize = 2;
 
-/// A stream of events, which a thread of its own hands on while others record. Stamps are numbers without a gap, and each has its slot; who
-/// is too far in front of what is handed over waits, so that memory does not grow. Nobody waits between its two stamps but for those of
-/// lower ones, so the event of the least stamp always comes.
+/// A stream of events, which a thread of its own hands on while others record. Stamps are numbers without a gap, and each has its slot. Who is
+/// too far ahead of what is handed over waits, so that memory does not grow. Between its two stamps nobody waits except for lower stamps, so the
+/// event of the least stamp always comes.
 struct Stream {
     slots: Vec<Mutex<Option<Happening>>>,
     taken: AtomicU64,
@@ -934,7 +934,7 @@ impl<'a> Worker<'a> {
         self.made_one(kind, words, said?, Said::Done, begin, end)
     }
 
-    /// The stamp in front of a call, which stands in a stream from here on, where it is known.
+    /// The stamp before a call. If the call is known already, a stream has it from here on.
     fn begin(&self, kind: Kind, words: &[u64]) -> u64 {
         let begin = self.shared.stamp();
         if let (Some(stream), false) = (&self.shared.stream, kind.is_held(self.options)) {
@@ -977,8 +977,8 @@ impl<'a> Worker<'a> {
         Ok(said)
     }
 
-    /// What is known of the answer: where a put or del was done, and does not tell what it found, from the get in front of it under the
-    /// key's lock, or from what the one writer of the key remembers.
+    /// Returns what is known of the answer. If a put or del was done and does not report what it found, the get before it under the key's
+    /// lock says so, or what the only writer of the key remembers.
     fn known(&mut self, kind: Kind, words: &[u64], said: &Said, got: Said) -> Said {
         let before = self.memory.get(&words[0]).cloned();
         let is_put = match (kind, said) {
@@ -1001,8 +1001,8 @@ impl<'a> Worker<'a> {
         }
     }
 
-    /// The events of a call that is over, for the stream. One that tells nothing is left out; or refused, where it stands there already.
-    /// One whose answer is unknown stays open, and its thread goes on as another process.
+    /// Puts the events of a call that is over into the stream. A call that reports nothing is left out, or gets the answer `refused` if the
+    /// stream has its invocation already. A call whose answer is unknown stays open, and its thread continues as another process.
     fn hand_over(&mut self, stream: &Stream, kind: Kind, word: usize, noted: Option<Noted>, stamps: [u64; 2]) {
         let is_held = kind.is_held(self.options);
         let is_left_out = noted.as_ref().is_some_and(|noted| noted.beside.len() > BESIDE);
@@ -1074,7 +1074,7 @@ fn serve(number: u64, options: &Options, shared: &Shared, map: &dyn Opens, kept:
     })
 }
 
-/// What gets of all keys at rest told: the last calls of a round, and what the map holds.
+/// What gets of all keys at rest reported: the last calls of a round, and what the map holds.
 #[derive(Default)]
 struct Rest {
     events: Vec<Event>,
@@ -1095,7 +1095,7 @@ impl Values {
 }
 
 impl Rest {
-    /// Gets of all keys. One of which a get does not tell it is written.
+    /// Gets of all keys. If a get does not report the value, the key is written.
     fn of(connection: &mut dyn Connection, options: &Options, shared: &Shared, round: u64, values: &mut Values) -> Result<Rest, Stop> {
         let mut rest = Rest::default();
         let is_late = options.cache.as_ref().is_some_and(|how| how == "late");
@@ -1122,7 +1122,7 @@ impl Rest {
         Ok(rest)
     }
 
-    /// What a function says at rest: again where it is refused, and a get also where nobody knows. It is noted unless it tells nothing.
+    /// Asks a function at rest: again if it is refused, and a get also if nobody knows. The answer is noted unless it reports nothing.
     fn ask(
         &mut self, connection: &mut dyn Connection, options: &Options, shared: &Shared, kind: Kind, words: &[u64],
     ) -> Result<Said, Stop> {
@@ -1279,7 +1279,7 @@ impl Round {
         self.pending = open.into_values().map(|(_, call, _)| call).filter(|call| !self.tells(call)).cloned().collect();
     }
 
-    /// Whether an answer tells what a call puts: then it was done.
+    /// Whether an answer reports what a call puts: then it was done.
     fn tells(&self, call: &Call) -> bool {
         let value = call.1.last().map_or(String::new(), u64::to_string);
         let in_pair = format!(",{value}]");
@@ -1315,7 +1315,7 @@ impl Round {
         }
     }
 
-    /// Whether it is a history of so many keys alone, in which all calls have answers: then it may be judged with others.
+    /// Whether all its keys are below `keys` and all its calls have answers: then it may be judged together with others.
     fn is_apart(&self, keys: u64) -> bool {
         let calls = self.events.iter().filter_map(One::call);
         let is_own = self.events.iter().all(|one| match &one.what {
@@ -1488,8 +1488,8 @@ impl Program {
         if command == "judge" { &self.has_judged } else { &self.has_told }
     }
 
-    /// What does it: once it has answered, behind the repository's own `bench` the last program that that has built, since it takes as long as
-    /// ten rounds to see that nothing has changed.
+    /// Returns the program that runs a command. Once the repository's own `bench` has answered, this is the last program that `bench` built:
+    /// `bench` itself takes as long as ten rounds to see that nothing has changed.
     fn at(&self, command: &str) -> std::path::PathBuf {
         let script = std::path::PathBuf::from(&self.path);
         let is_script = script.file_name() == Some("bench".as_ref()) && self.path.contains('/');
@@ -1502,7 +1502,7 @@ impl Program {
         built.max_by_key(|built| built.with_file_name("built").metadata().and_then(|found| found.modified()).ok()).unwrap_or(script)
     }
 
-    /// Has a stream followed that is handed over. The program writes once it has a verdict, and may do so while the stream goes on: then the
+    /// Has a stream followed that is handed over. The program writes once it has a verdict, and may do so while the stream is still running: then the
     /// run is over.
     fn follow(&self, stream: &Stream, hand: impl FnOnce(&mut dyn Write)) -> Result<(i32, String), Stop> {
         let told = |error: std::io::Error| self.told(&error);
@@ -1781,7 +1781,10 @@ impl Run {
         let left = Rest::of(&mut *map.open_one(), &options, shared, 0, &mut values).map_err(named)?;
         values.begin(&left.contents);
         let (start, missing) = (Arc::new(left.contents), Arc::new(AtomicUsize::new(threads.len())));
-        let task = Task { round: 0, lives: STREAM_PROCESSES, start: start.clone(), doubtful: Arc::new(HashSet::new()), missing, values_from: values.from };
+        let task = Task {
+            round: 0, lives: STREAM_PROCESSES, start: start.clone(), doubtful: Arc::new(HashSet::new()), missing,
+            values_from: values.from,
+        };
         stream.taken.store(shared.stamps.load(SeqCst), SeqCst);
         let (ended, written) = std::thread::scope(|scope| {
             let run = &mut *self;
@@ -1893,8 +1896,8 @@ impl Run {
         }
     }
 
-    /// The lines of events, and what is counted: as of a round, but that nothing is kept of calls that are over. A call without an answer is over too:
-    /// nobody waits for it.
+    /// The lines of events, and what is counted: as of a round, but nothing is stored of calls that are over. A call without an answer is
+    /// over too: nobody waits for it.
     fn take_happening(
         &mut self, what: Happening, open: &mut HashMap<usize, (Call, u64)>, writers: &mut HashMap<u64, u64>, text: &mut String,
     ) {
@@ -2077,8 +2080,8 @@ impl Run {
             let (calls, all) = (self.counted.calls as f64, self.counted.sayings.iter().sum::<u64>().max(1) as f64);
             eprintln!(
                 "{}, {:.0} a second, overlap {:.1} a call, {:.1}% refused, two writers met on {} of {}",
-                counted(self.counted.calls, "call"), calls / seconds, self.counted.overlap as f64 / calls, 100.0 * self.counted.sayings[5] as f64 / all,
-                self.met.len(), counted(self.options.keys, "key")
+                counted(self.counted.calls, "call"), calls / seconds, self.counted.overlap as f64 / calls,
+                100.0 * self.counted.sayings[5] as f64 / all, self.met.len(), counted(self.options.keys, "key")
             );
         }
     }
@@ -2091,7 +2094,8 @@ impl Run {
         let rounds = if self.options.is_stream { String::new() } else { counted(self.counted.rounds, "round") + ", " };
         let mut parts = vec![format!(
             "{verdict}: {rounds}{} in {:.1} seconds, overlap {:.2} a call: {}{undecided}",
-            counted(self.counted.calls, "call"), self.began.elapsed().as_secs_f64(), self.counted.overlap as f64 / self.counted.calls.max(1) as f64, said.join(", ")
+            counted(self.counted.calls, "call"), self.began.elapsed().as_secs_f64(),
+            self.counted.overlap as f64 / self.counted.calls.max(1) as f64, said.join(", ")
         )];
         let tally = &self.tally;
         if self.is_late() {
@@ -2188,7 +2192,7 @@ enum Json {
 }
 
 impl Json {
-    /// Reads a value from the front of a compact text that the program wrote, and leaves what stands behind it.
+    /// Reads a value from the front of a compact text that the program wrote, and leaves what is after it.
     fn read(text: &mut &str) -> Json {
         let first = text.as_bytes().first().copied().unwrap_or(b'n');
         match first {
@@ -2283,7 +2287,7 @@ fn said_answered(round: &Round, answer: &Json) -> String {
     }
 }
 
-/// The first line of a report, and of a long list of calls only that it stands there.
+/// The first line of a report, with `..` in place of a long list of calls.
 fn said_verdict(line: &str) -> String {
     let Some((before, from)) = line.split_once("\"calls\":[") else {
         return line.to_string();
@@ -2372,7 +2376,7 @@ fn said_origin(round: &Round, line: &Json) -> String {
     format!("  {} at {} is {who}", line.member("value").number(), line.member("key").number())
 }
 
-/// From which value of a key the few calls have no order: the line stands behind an undecided alone.
+/// From which value of a key the few calls have no order. Only a report of undecided has this line.
 fn said_from(line: &Json) -> String {
     let key = line.member("key").number();
     let (Json::Number(value), put) = (line.member("from"), line.member("put")) else {
@@ -2465,8 +2469,8 @@ fn keep(run: &Run, ending: &str, text: &str) -> String {
     }
 }
 
-/// A stream that has no order: the calls left at a key are a history, where that says it all, which is explained; else it is said why not. Kept
-/// is the stream so far, unless it is long, and of the report what is not shown, or all where nothing else is kept.
+/// Reports a stream that has no order. If the calls left at a key show the fault, their history is explained; else a line says why not. The
+/// stream so far is saved, unless it is long. The report is saved if it is not shown whole, or if nothing else is saved.
 fn refuted_stream(run: &Run, program: &Program) -> Result<Vec<String>, Stop> {
     let (report, left) = run.report.split_once('\n').unwrap_or((&run.report, ""));
     let mut said = said_keys(report);
@@ -2508,7 +2512,7 @@ fn said_keys(report: &str) -> Vec<String> {
     said
 }
 
-/// The history of the calls left at a key, and few of it that have no order. Where these are not found, the history alone is kept.
+/// Saves the history of the calls left at a key, and a few calls of it that have no order. If these are not found, it saves only the history.
 fn shown_left(run: &Run, left: &str, program: &Program) -> Vec<String> {
     let explained = match program.ask_twice("explain", left) {
         Ok((_, explained)) => explained,
@@ -2525,7 +2529,7 @@ fn shown_left(run: &Run, left: &str, program: &Program) -> Vec<String> {
     said
 }
 
-/// Why a no of a stream has no history of few calls behind it.
+/// Why no history of few calls follows a no of a stream.
 fn why_not_few(report: &str) -> &'static str {
     let report = Json::read(&mut &*report);
     match report.member("keys").items() {
@@ -2641,7 +2645,8 @@ impl Options {
         let mut options = Options {
             name: name.to_string(), void: "done".to_string(), scan: "snapshot".to_string(), out: ".".to_string(), broken: None, bench: None,
             seconds: 0, rounds: 0, threads: 4, keys: 0, hot: 0, calls: 0, seed, yields: 0, budget: 100_000,
-            cache: None, fresh: 0, span: SPAN, has_del: false, is_reopened: false, is_stream: false, has_void: false, has_mix: false, shares: [0; 9], shows: std::io::stderr().is_terminal(), shown: Instant::now(),
+            cache: None, fresh: 0, span: SPAN, has_del: false, is_reopened: false, is_stream: false, has_void: false, has_mix: false,
+            shares: [0; 9], shows: std::io::stderr().is_terminal(), shown: Instant::now(),
         };
         let mut words = words.iter().peekable();
         while let Some(word) = words.next() {
@@ -2754,7 +2759,10 @@ impl Options {
             (!is_unbroken, "--break: what it makes wrong is not called"),
             (self.hot > self.keys, "--hot: more than there are keys"),
             (self.void == "own" && self.keys < self.threads, "--void: own: each thread needs a key"),
-            (self.cache.is_some() && self.void == "own", "--cache: not with --void own, since the writer of a key does not see that the key was lost"),
+            (
+                self.cache.is_some() && self.void == "own",
+                "--cache: not with --void own, since the writer of a key does not see that the key was lost",
+            ),
             (self.is_stream && self.fresh > 0, "--fresh: not with --stream, which is of one map"),
             (self.is_stream && self.is_reopened, "--reopen: not with --stream, which is of one map"),
             (self.is_reopened && !can_reopen, "--reopen: the map has no function reopen"),
@@ -2845,7 +2853,7 @@ fn said_calls(has: [bool; 9], called: [u64; 9]) -> String {
     format!("calls: {}{rest}", calls.join(", "))
 }
 
-/// How a run went: its status, what is to be told before the last line, and that.
+/// How a run went: its status, the lines to print before the last line, and that line.
 fn tested<M: Map>(name: &str, make: &dyn Fn() -> M, words: &[String]) -> Result<(i32, Vec<String>, String), Stop> {
     let mut options = Options::new(name, words)?;
     let map = make();
