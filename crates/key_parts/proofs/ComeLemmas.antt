@@ -10,11 +10,11 @@ use Rattle.events.specs.Precedence as events
 use Rattle.map_object.specs.MapObject.{Contents, value_at}
 use Rattle.orders.specs.Orders.{IsLegalCall, after_call}
 use Rattle.quiet_cuts.proofs.ValueLemmas.{rising_kept}
-use Rattle.key_effects.specs.KeyedCalls.{KeyedCall, Effect, IsFormed, IsNoEffect, no_effect, ends_before, precedes, keyed}
+use Rattle.key_effects.specs.KeyedCalls.{KeyedCall, Effect, IsFormed, IsNoEffect, no_effect, ends_before, precedes, concerns_key, keyed}
 use Rattle.key_effects.specs.KeyedOrders.{AreKeyedCalls}
 use Rattle.key_effects.specs.Forms.{HasForm}
 use Rattle.key_effects.specs.Choices.{Choice, rest_of}
-use Rattle.key_effects.specs.Cuts.{Keys}
+use Rattle.key_effects.specs.Cuts.{Keys, IsWithin}
 use Rattle.key_effects.specs.Apart.{IsAlikeAt}
 use Rattle.key_effects.proofs.BridgeLemmas.{same_precedes}
 use Rattle.key_effects.proofs.DeadLemmas.{bool_cases}
@@ -22,10 +22,13 @@ use Rattle.key_effects.proofs.EffectLemmas.{step_of}
 use Rattle.key_effects.proofs.OrderLemmas.{same_call}
 use Rattle.key_effects.proofs.RestLemmas.{none_none, none_or}
 use Rattle.key_parts.specs.Laws.{OperationsMayCome, OperationsComeNext}
-use Rattle.key_parts.specs.Operations.{AreLeftCalls, AreOfLeftCalls, AreAllLeft, OperationMayCome, without_call}
+use Rattle.key_parts.specs.Operations.{AreLeftCalls, AreOfLeftCalls, AreAllLeft, HasSomeKeyIn, OperationMayCome, without_call}
+use Rattle.key_parts.specs.Left.{HasKeysIn, HaveTheirKeys}
 use Rattle.key_parts.specs.Parts.{AgreesAt, left_at}
 use Rattle.key_parts.specs.Steps.{IsLeftAt, NoneIsLeftAt, MayComeNext, IsAfterCall}
+use Rattle.key_parts.proofs.DecideLemmas.{formed_rest}
 use Rattle.key_parts.proofs.PartLemmas.{none_left_out}
+use Rattle.key_parts.proofs.UniteLemmas.{outside}
 
 -- a call that precedes another began before it
 began_before : (a b : KeyedCall) → precedes b b ≡ false → precedes b a ≡ true → b.inv < a.inv
@@ -57,12 +60,12 @@ module _ (keys : Keys) (past : Choice) (calls : List KeyedCall) (pairs : Content
       alike.leaves key (value_at pairs key) is ∙ ap (λ (e : Effect). e.leaves (value_at pairs key)) (effect_here key is)
       ∙ ap (λ (v : Option ℕ). ((rest_of past a).effect key).leaves v) (are.same key is)
 
-  legal : Contains left o → ((key : ℕ) → keys key ≡ true → ((rest_of past a).effect key).fits (past.holds key) ≡ true)
+  legal : Contains left o → ((key : ℕ) → keys key ≡ true → ((keyed o).effect key).fits (value_at pairs key) ≡ true)
       → IsLegalCall pairs o.call o.response
   legal o_in fits = (step_of pairs o are.rises).fits.1 (
     All-contains (λ b. HasForm b.call b.response) left o are.forms o_in,
     λ key. ⊎_elim
-        (λ here. fits_here key here ∙ fits key here)
+        (λ here. fits key here)
         (λ out. subst (λ (v : Option ℕ). ((keyed o).effect key).fits v ≡ true) (sym (are.nothing key out)) (alike.fits_none key out))
         (bool_cases (keys key)),
   )
@@ -76,54 +79,93 @@ same_before : (keys : Keys) (past : Choice) (a b : KeyedCall) (o q : Operation) 
 same_before keys past a b o q o_is q_is =
     sym (same_precedes q o) ∙ ap (λ (r : Option ℕ). ends_before r o.inv) q_is.res ∙ ap (λ (n : ℕ). ends_before b.res n) o_is.inv
 
+module _ (keys some : Keys) (past : Choice) (calls : List KeyedCall) (left : List Operation) (own : HaveTheirKeys calls left) (a : KeyedCall)
+    (o : Operation) (a_in : Contains calls a) (o_in : Contains left o) (alike : IsAlikeAt keys (left_at keys past a) (keyed o)) where
+  -- an operation has each key at which its call is left
+  own_key : (key : ℕ) → (rest_of past a).concerns key ≡ true → concerns_key o.call key ≡ true
+  own_key key there = own o a o_in a_in (sym alike.inv) key (and_parts (not (past.taken a.inv key)) (a.concerns key) there).1
+
+  -- so the call is left at some of the keys alone where the operation has no others
+  left_within : HasKeysIn some o → IsWithin some (left_at keys past a)
+  left_within inside key out = ⊎_elim
+      (λ there.
+      let is : some key ≡ true = inside key (own_key key (and_parts (keys key) ((rest_of past a).concerns key) there).1) in
+      cc)
+      (λ free. free)
+      (bool_cases ((left_at keys past a).concerns key))
+
+  left_at_some : HasKeysIn some o → IsLeftAt keys past a → IsLeftAt some past a
+  left_at_some inside is_left = (is_left.0, inside is_left.0 (own_key is_left.0 is_left.2), is_left.2)
+
 pub operations_may_come : OperationsMayCome
-operations_may_come keys past limit calls pairs left apart are of_calls all_left = (forth, back)
+operations_may_come keys some past limit calls pairs left among apart are of_calls all_left own together = (forth, back)
   where
-    none_first : (a : KeyedCall) (o q : Operation) → IsAlikeAt keys (left_at keys past a) (keyed o) → MayComeNext keys past calls a
-        → Contains left q → events.precedes q o ≡ true → ⊥
-    none_first a o q alike may q_in before =
+    none_first : (a : KeyedCall) (o q : Operation) → a.inv < limit → IsAlikeAt keys (left_at keys past a) (keyed o)
+        → MayComeNext some past calls a → Contains left q → HasSomeKeyIn some q → events.precedes q o ≡ true → ⊥
+    none_first a o q less alike may q_in concerned before =
         let (b, b_in, accepted, is_left, q_is) = of_calls q q_in in
+        let calls_before : precedes b a ≡ true = sym (same_before keys past a b o q alike q_is) ∙ before in
+        let sooner = began_before a b (All-contains (λ c. precedes c c ≡ false) calls b apart.last b_in) calls_before in
+        let same = q_is.inv in
+        let here = left_at_some keys some past calls left own b q b_in q_in q_is (together q q_in (omega arith) concerned) is_left in
         ⊎_elim
         (λ refused. let never : true ≡ false = sym refused ∙ accepted in cc)
-        (λ none. let never : true ≡ false = sym is_left.2 ∙ none is_left.0 is_left.1 in cc)
-        (may.first b b_in (sym (same_before keys past a b o q alike q_is) ∙ before))
+        (λ none. let never : true ≡ false = sym here.2 ∙ none here.0 here.1 in cc)
+        (may.first b b_in calls_before)
 
-    forth : (a : KeyedCall) → Contains calls a → a.inv < limit → MayComeNext keys past calls a
-        → (o : Operation) × Contains left o × IsAlikeAt keys (left_at keys past a) (keyed o) × OperationMayCome pairs left o
+    forth : (a : KeyedCall) → Contains calls a → a.inv < limit → MayComeNext some past calls a
+        → (o : Operation) × Contains left o × IsAlikeAt keys (left_at keys past a) (keyed o) × IsWithin some (left_at keys past a)
+        × OperationMayCome some pairs left o
     forth a a_in less may =
-        let (o, o_in, alike) = all_left a a_in less may.accepted may.is_left in (
+        let (o, o_in, alike) = all_left a a_in less may.accepted (may.is_left.0, among may.is_left.0 may.is_left.1, may.is_left.2) in
+        let concerned : HasSomeKeyIn some o =
+        (may.is_left.0, may.is_left.1, own_key keys some past calls left own a o a_in o_in alike may.is_left.0 may.is_left.2) in
+        let same = alike.inv in
+        let inside : HasKeysIn some o = together o o_in (omega arith) concerned in (
           o,
           o_in,
           alike,
-          (
-            legal keys past calls pairs left a o are alike o_in may.fits,
-            λ q q_in. ⊎_elim (λ before. absurd (none_first a o q alike may q_in before)) (λ is. is) (bool_cases (events.precedes q o)),
-          ),
+          left_within keys some past calls left own a o a_in o_in alike inside,
+          record {
+            concerned = concerned;
+            legal = legal keys past calls pairs left a o are alike o_in (λ key is. ⊎_elim
+                (λ here. fits_here keys past calls pairs left a o are alike key is ∙ may.fits key here)
+                (λ out. (outside some o inside key out).fits (value_at pairs key))
+                (bool_cases (some key)));
+            first = λ q q_in has. ⊎_elim
+                (λ before. absurd (none_first a o q less alike may q_in has before))
+                (λ is. is)
+                (bool_cases (events.precedes q o));
+          },
         )
 
-    back : (o : Operation) → Contains left o → o.inv < limit → OperationMayCome pairs left o
-        → (a : KeyedCall) × Contains calls a × IsAlikeAt keys (left_at keys past a) (keyed o) × MayComeNext keys past calls a
+    back : (o : Operation) → Contains left o → o.inv < limit → OperationMayCome some pairs left o
+        → (a : KeyedCall) × Contains calls a × IsAlikeAt keys (left_at keys past a) (keyed o) × IsWithin some (left_at keys past a)
+        × MayComeNext some past calls a
     back o o_in less may =
-        let (a, a_in, accepted, is_left, alike) = of_calls o o_in in (
+        let (a, a_in, accepted, is_left, alike) = of_calls o o_in in
+        let inside : HasKeysIn some o = together o o_in less may.concerned in (
           a,
           a_in,
           alike,
+          left_within keys some past calls left own a o a_in o_in alike inside,
           record {
-            is_left = is_left;
+            is_left = left_at_some keys some past calls left own a o a_in o_in alike inside is_left;
             accepted = accepted;
-            fits = fits keys past calls pairs left a o are alike may.0;
+            fits = λ key is. fits keys past calls pairs left a o are alike may.legal key (among key is);
             first = λ b b_in before. ⊎_elim (λ refused. inl refused) (λ told. inr (none a alike b b_in before told)) (bool_cases b.refused);
           },
         )
       where
         none : (a : KeyedCall) → IsAlikeAt keys (left_at keys past a) (keyed o) → (b : KeyedCall) → Contains calls b → precedes b a ≡ true
-            → b.refused ≡ false → NoneIsLeftAt keys past b
+            → b.refused ≡ false → NoneIsLeftAt some past b
         none a alike b b_in before told key is = ⊎_elim
             (λ concerned.
             let sooner = began_before a b (All-contains (λ c. precedes c c ≡ false) calls b apart.last b_in) before in
             let same = alike.inv in
-            let (q, q_in, q_is) = all_left b b_in (omega arith) told (key, is, concerned) in
-            let never : true ≡ false = sym before ∙ sym (same_before keys past a b o q alike q_is) ∙ may.1 q q_in in cc)
+            let (q, q_in, q_is) = all_left b b_in (omega arith) told (key, among key is, concerned) in
+            let has : HasSomeKeyIn some q = (key, is, own_key keys some past calls left own b q b_in q_in q_is key concerned) in
+            let never : true ≡ false = sym before ∙ sym (same_before keys past a b o q alike q_is) ∙ may.first q q_in has in cc)
             (λ free. free)
             (bool_cases ((rest_of past b).concerns key))
 
@@ -327,7 +369,7 @@ module _ (keys : Keys) (past : Choice) (limit : ℕ) (calls : List KeyedCall) (p
       )
 
 pub operations_come_next : OperationsComeNext
-operations_come_next keys past limit calls pairs left a o apart formed are of_calls all_left agree a_in alike may =
+operations_come_next keys some past limit calls pairs left a o apart formed are of_calls all_left agree a_in alike within may =
     let next = next_of past a in
     let after = after_next keys past a in (
       next,
@@ -335,5 +377,14 @@ operations_come_next keys past limit calls pairs left a o apart formed are of_ca
       left_after keys past limit calls pairs left a o next apart are a_in alike after (All-contains IsFormed calls a formed a_in),
       of_calls_after keys past limit calls pairs left a o next apart are a_in alike after of_calls,
       all_left_after keys past limit calls pairs left a o next apart are a_in alike after all_left,
-      agree_after keys past calls a next apart a_in after may.fits may.accepted agree,
+      agree_after keys past calls a next apart a_in after fits_all may.accepted agree,
     )
+  where
+    -- at the other keys nothing is left of it
+    fits_all : (key : ℕ) → keys key ≡ true → ((rest_of past a).effect key).fits (past.holds key) ≡ true
+    fits_all key is = ⊎_elim
+        (λ here. may.fits key here)
+        (λ out.
+        let free : (keys key && (rest_of past a).concerns key) ≡ false = within key out in
+        ((formed_rest past a (All-contains IsFormed calls a formed a_in)).elsewhere key (rw is at free)).fits (past.holds key))
+        (bool_cases (some key))

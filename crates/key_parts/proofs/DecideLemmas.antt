@@ -117,7 +117,7 @@ quiet_rest : (t : Bool) (e : Effect) → ((value : Option ℕ) → e.fits value 
 quiet_rest true e quiet value fits = refl
 quiet_rest false e quiet value fits = quiet value fits
 
-formed_rest : (w : Choice) (a : KeyedCall) → IsFormed a → IsFormed (rest_of w a)
+pub formed_rest : (w : Choice) (a : KeyedCall) → IsFormed a → IsFormed (rest_of w a)
 formed_rest w a formed = record {
   elsewhere = λ key out. by_taken key out (bool_cases (w.taken a.inv key));
   refusal = λ refused key. none_or (w.taken a.inv key) (a.effect key) (formed.refusal refused key);

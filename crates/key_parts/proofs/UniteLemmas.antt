@@ -25,7 +25,7 @@ use Rattle.key_parts.proofs.PartLemmas.{none_left_out, or_cases}
 -- ---- one operation
 
 -- at other keys than its own it has no effect
-outside : (keys : Keys) (o : Operation) → HasKeysIn keys o → (key : ℕ) → keys key ≡ false → IsNoEffect ((keyed o).effect key)
+pub outside : (keys : Keys) (o : Operation) → HasKeysIn keys o → (key : ℕ) → keys key ≡ false → IsNoEffect ((keyed o).effect key)
 outside keys o inside key out = (formed o).elsewhere key (by_concern (bool_cases (concerns_key o.call key)))
   where
     by_concern : (concerns_key o.call key ≡ true) ⊎ (concerns_key o.call key ≡ false) → concerns_key o.call key ≡ false

@@ -7,11 +7,12 @@ use Rattle.key_effects.specs.KeyedCalls.{KeyedCall, IsFormed, is_completed, ends
 use Rattle.key_effects.specs.KeyedOrders.{HasKeyedOrder, AreKeyedCalls}
 use Rattle.key_effects.specs.Growth.{HaveGrown}
 use Rattle.key_effects.specs.Choices.{Choice, at_first, rest_of}
-use Rattle.key_effects.specs.Cuts.{Keys}
+use Rattle.key_effects.specs.Cuts.{Keys, IsWithin}
 use Rattle.key_effects.specs.Apart.{AreApart, IsAlikeAt}
 use Rattle.key_parts.specs.Parts.{Part, IsOneOf, ShareKeys, StandFor, GoesOnAt, SomePastGoesOn, AreOfOnePart, AgreesAt, left_at}
 use Rattle.key_parts.specs.Steps.{IsLeftAt, MayComeNext, IsAfterCall, AreKnownAt, ArePartedBefore, IsReadAt, IsAtRest, AreJoined}
 use Rattle.key_parts.specs.Operations.{AreLeftCalls, AreOfLeftCalls, AreAllLeft, OperationMayCome, without_call}
+use Rattle.key_parts.specs.Left.{HaveKeysTogether, HaveTheirKeys}
 use Rattle.key_parts.specs.Wider.{AnyPartsDecide, PendingCallsMustCome, TiedCallsComeNext, ReadsAreTakenAtOnce}
 
 -- before any event all keys are one part, of one past: no call is taken, and the keys hold what they hold at the start
@@ -116,23 +117,28 @@ TiedCallsMayWait = TiedCallsComeNext → ⊥
 abbrev pub EarlyReadsGain : Type 0
 EarlyReadsGain = ReadsAreTakenAtOnce → ⊥
 
--- of the calls that began before a place, those that may come next at some keys are those whose operations may
+-- of the calls that began before a place, those that may come next at some of the keys are those whose operations may, where these operations
+-- have no other keys; so at the others nothing is left of such a call
 abbrev pub OperationsMayCome : Type 0
 OperationsMayCome =
-    (keys : Keys) (past : Choice) (limit : ℕ) (calls : List KeyedCall) (pairs : Contents) (left : List Operation) → AreKeyedCalls calls
-    → AreLeftCalls keys past calls pairs left → AreOfLeftCalls keys past calls left → AreAllLeft keys past limit calls left
-    → ((a : KeyedCall) → Contains calls a → a.inv < limit → MayComeNext keys past calls a
-    → (o : Operation) × Contains left o × IsAlikeAt keys (left_at keys past a) (keyed o) × OperationMayCome pairs left o)
-    × ((o : Operation) → Contains left o → o.inv < limit → OperationMayCome pairs left o
-    → (a : KeyedCall) × Contains calls a × IsAlikeAt keys (left_at keys past a) (keyed o) × MayComeNext keys past calls a)
+    (keys some : Keys) (past : Choice) (limit : ℕ) (calls : List KeyedCall) (pairs : Contents) (left : List Operation)
+    → ((key : ℕ) → some key ≡ true → keys key ≡ true) → AreKeyedCalls calls → AreLeftCalls keys past calls pairs left
+    → AreOfLeftCalls keys past calls left → AreAllLeft keys past limit calls left → HaveTheirKeys calls left → HaveKeysTogether some limit left
+    → ((a : KeyedCall) → Contains calls a → a.inv < limit → MayComeNext some past calls a
+    → (o : Operation) × Contains left o × IsAlikeAt keys (left_at keys past a) (keyed o) × IsWithin some (left_at keys past a)
+    × OperationMayCome some pairs left o)
+    × ((o : Operation) → Contains left o → o.inv < limit → OperationMayCome some pairs left o
+    → (a : KeyedCall) × Contains calls a × IsAlikeAt keys (left_at keys past a) (keyed o) × IsWithin some (left_at keys past a)
+    × MayComeNext some past calls a)
 
--- an operation that may come next leads to what is left after its call: the map after it, and the others
+-- an operation whose call may come next at some of the keys, and is left at these alone, leads to what is left after its call: the map after it,
+-- and the other operations
 abbrev pub OperationsComeNext : Type 0
 OperationsComeNext =
-    (keys : Keys) (past : Choice) (limit : ℕ) (calls : List KeyedCall) (pairs : Contents) (left : List Operation) (a : KeyedCall) (o : Operation)
-    → AreKeyedCalls calls → All IsFormed calls → AreLeftCalls keys past calls pairs left → AreOfLeftCalls keys past calls left
+    (keys some : Keys) (past : Choice) (limit : ℕ) (calls : List KeyedCall) (pairs : Contents) (left : List Operation) (a : KeyedCall)
+    (o : Operation) → AreKeyedCalls calls → All IsFormed calls → AreLeftCalls keys past calls pairs left → AreOfLeftCalls keys past calls left
     → AreAllLeft keys past limit calls left → All (AgreesAt keys past) calls → Contains calls a
-    → IsAlikeAt keys (left_at keys past a) (keyed o) → MayComeNext keys past calls a
+    → IsAlikeAt keys (left_at keys past a) (keyed o) → IsWithin some (left_at keys past a) → MayComeNext some past calls a
     → (next : Choice) × IsAfterCall keys past a next × AreLeftCalls keys next calls (after_call pairs o.call o.response) (without_call o.inv left)
     × AreOfLeftCalls keys next calls (without_call o.inv left) × AreAllLeft keys next limit calls (without_call o.inv left)
     × All (AgreesAt keys next) calls

@@ -7,7 +7,7 @@ use Rattle.key_effects.specs.KeyedCalls.{KeyedCall, concerns_key}
 use Rattle.key_effects.specs.Choices.{Choice}
 use Rattle.key_effects.specs.Cuts.{Keys}
 use Rattle.key_parts.specs.Parts.{AgreesAt}
-use Rattle.key_parts.specs.Operations.{AreLeftCalls, AreOfLeftCalls, AreAllLeft}
+use Rattle.key_parts.specs.Operations.{AreLeftCalls, AreOfLeftCalls, AreAllLeft, HasSomeKeyIn}
 
 -- a past of some keys, as a map of what they hold and the operations that are left of calls: of those that began before a limit all are there
 pub record IsLeft (keys : Keys) (past : Choice) (limit : ℕ) (calls : List KeyedCall) (pairs : Contents) (left : List Operation) : Type 0 where
@@ -22,6 +22,10 @@ HasKeysIn keys o = (key : ℕ) → concerns_key o.call key ≡ true → keys key
 
 abbrev pub HasNoKeyIn : Keys → Operation → Type 0
 HasNoKeyIn keys o = (key : ℕ) → keys key ≡ true → concerns_key o.call key ≡ false
+
+-- operations that began before a place, and have some key among these, have all
+abbrev pub HaveKeysTogether : Keys → ℕ → List Operation → Type 0
+HaveKeysTogether keys place left = (o : Operation) → Contains left o → o.inv < place → HasSomeKeyIn keys o → HasKeysIn keys o
 
 -- an operation that is left has all keys of the call of its name
 abbrev pub HaveTheirKeys : List KeyedCall → List Operation → Type 0

@@ -4,7 +4,7 @@ use Rattle.events.specs.declared.operation.Operation.{Operation}
 use Rattle.events.specs.Precedence.{precedes}
 use Rattle.map_object.specs.MapObject.{Contents, IsRising, value_at}
 use Rattle.orders.specs.Orders.{IsLegalCall}
-use Rattle.key_effects.specs.KeyedCalls.{KeyedCall, IsNoEffect, keyed}
+use Rattle.key_effects.specs.KeyedCalls.{KeyedCall, IsNoEffect, concerns_key, keyed}
 use Rattle.key_effects.specs.Forms.{HaveForms}
 use Rattle.key_effects.specs.Choices.{Choice}
 use Rattle.key_effects.specs.Cuts.{Keys}
@@ -37,9 +37,15 @@ AreAllLeft keys past limit calls left =
     (a : KeyedCall) → Contains calls a → a.inv < limit → a.refused ≡ false → IsLeftAt keys past a
     → (o : Operation) × Contains left o × IsAlikeAt keys (left_at keys past a) (keyed o)
 
--- an operation may come next: the map allows its answer, and none of the others precedes it
-abbrev pub OperationMayCome : Contents → List Operation → Operation → Type 0
-OperationMayCome pairs left o = IsLegalCall pairs o.call o.response × ((q : Operation) → Contains left q → precedes q o ≡ false)
+-- some key of a call is among these
+abbrev pub HasSomeKeyIn : Keys → Operation → Type 0
+HasSomeKeyIn keys o = (key : ℕ) × (keys key ≡ true) × (concerns_key o.call key ≡ true)
+
+-- an operation may come next at some keys: it has one of them, the map allows its answer, and no operation that has one of them precedes it
+pub record OperationMayCome (some : Keys) (pairs : Contents) (left : List Operation) (o : Operation) : Type 0 where
+  pub concerned : HasSomeKeyIn some o
+  pub legal : IsLegalCall pairs o.call o.response
+  pub first : (q : Operation) → Contains left q → HasSomeKeyIn some q → precedes q o ≡ false
 
 -- the operations without one
 abbrev pub without_call : ℕ → List Operation → List Operation

@@ -77,7 +77,7 @@ pub fn early_reads_gain()
     ensures { EarlyReadsGain }
 {}
 
-/// Those calls may come next at some keys whose operations may.
+/// Those calls may come next at some of the keys whose operations may.
 pub fn operations_may_come()
     ensures { OperationsMayCome }
 {}
