@@ -381,7 +381,7 @@ static inline int potzendai_take_end(struct potzendai_killing *k, const struct p
     run->counts.overlap += (uint64_t)(potzendai_met_a_call(&f->meetings) * (double)f->meetings.calls);
     tester->kills.open += f->meetings.open;
     if (!(is_killed || is_at_write) || !WIFSIGNALED(k->child.ended) || WTERMSIG(k->child.ended) != SIGKILL)
-        return potzendai_fail(run, POTZENDAI_BAD_WORDS, "life %" PRIu64 " ended by itself%s", run->round,
+        return potzendai_fail(run, POTZENDAI_BAD_WORDS, "life %" PRIu64 " ended on its own%s", run->round,
                               f->meetings.calls ? "" : ", before its first call");
     if (k->counted && k->writes == 0)
         return potzendai_fail(run, POTZENDAI_BAD_WORDS, "no write of the store was seen: it writes by direct system calls, through mmap or stdio, "

@@ -189,11 +189,12 @@ static inline int potzendai_write_round(struct potzendai_tester *tester, const s
     return potzendai_fail(tester->run, POTZENDAI_BAD_FILE, "a history was not written");
 }
 
-/* Records the round again, in the size that the run has now. Returns whether it has no order; then `told` has its text and report. */
+/* Records the round again, in the size that the run has now, of a new map if the program makes new ones: the failed round may have broken the old
+ * one. Returns whether it has no order; then `told` has its text and report. */
 static inline bool potzendai_fails_again(struct potzendai_tester *tester, struct potzendai_told *told)
 {
     memset(told, 0, sizeof *told);
-    bool is_ready = (tester->options->fresh ? potzendai_renew(tester) : potzendai_read_start(tester)) == 0;
+    bool is_ready = (tester->given->begin ? potzendai_renew(tester) : potzendai_read_start(tester)) == 0;
     bool fails = is_ready && potzendai_record(tester, told) == 0
         && potzendai_judged(tester->options, told) == POTZENDAI_IS_NO;
     if (!fails)

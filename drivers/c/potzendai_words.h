@@ -71,40 +71,39 @@ enum { POTZENDAI_PATH = 4096, POTZENDAI_USUAL = 100000, POTZENDAI_MOST = 1000000
 
 static const char potzendai_usage[] =
     "  --seconds N       how long (10, or as long as --rounds take)\n"
-    "  --rounds N        at most so many rounds\n"
+    "  --rounds N        at most N rounds\n"
     "  --threads N       threads that call the map (4)\n"
     "  --keys N          keys, from 0 (16; of a stream 1000)\n"
-    "  --hot N           so many of the keys are those of nine calls in ten\n"
-    "  --calls N         calls of a thread in a round, or in a stream (200; no end)\n"
-    "  --seed N          what the calls are drawn from (of the clock)\n"
+    "  --hot N           nine calls in ten use one of the first N keys\n"
+    "  --calls N         calls of each thread in a round, or in a stream (200; no limit)\n"
+    "  --seed N          what the calls are drawn from (the clock)\n"
     "  --mix LIST        shares, as get=50,put=30,del=10,scan=10; also replace, put_if_absent, floor, ceiling, pop_first\n"
-    "  --void HOW        a put that tells nothing is recorded as done; has to be told; own: one writer a key remembers what it put;\n"
-    "                    lock: a lock a key around a get and the put (done)\n"
+    "  --void HOW        done: a put or del may answer done; told: it must say the value before; own: one writer for each key remembers\n"
+    "                    what it put; lock: a lock for each key around a get and the put after it (done)\n"
     "  --scan HOW        snapshot: a scan is of one moment; steps: steps of ceiling (snapshot)\n"
-    "  --yield N         of a thousand points between and in calls, so many give way to other threads (0)\n"
+    "  --yield N         of a thousand points in and between calls, N let another thread run (0)\n"
     "  --break HOW       makes the map wrong now and then: drop, race, replay, stale, zombie, torn or cas; all: in each of these ways\n"
-    "  --cache [late]    the map is a cache, which may lose any key at any time; late: and a miss says nothing, as of a cache whose writes\n"
-    "                    appear later\n"
-    "  --fresh N         a new map after each so many rounds (one map)\n"
+    "  --cache [late]    the map is a cache, which may lose any key at any time; late: its writes appear later, so a miss says nothing\n"
+    "  --fresh N         a new map after each N rounds (one map)\n"
     "  --reopen          the map is closed and opened again after each round\n"
     "  --kill SECONDS    a process makes the calls of a round, and is killed 0.5 to 1.5 times as long after its first call\n"
     "  --kill-at-write   it is killed before a drawn write of its store\n"
     "  --power           after a kill each file has what it had at its last sync\n"
-    "  --stream          one stream that is followed, in the place of rounds\n"
+    "  --stream          one stream, judged while it is recorded, in place of rounds\n"
     "  --schedule HOW    the scheduler says which thread runs: mix, pos, pct or walk; with 12 calls and 4 keys\n"
     "  --depth N         of pct: at N - 1 drawn points a priority changes (3)\n"
     "  --points WHICH    where threads may give way: learned, all or atomics (learned, in every second round)\n"
     "  --tso             scheduled atomic stores below seq_cst reach other threads later\n"
-    "  --replay N        the scheduled round N of --seed, once more\n"
-    "  --jobs N          so many scheduled rounds run side by side (1)\n"
-    "  --kernel-threads  scheduled threads are no fibers, for debuggers\n"
-    "  --budget N        the judge's (100000); a round that it leaves undecided is asked once more at ten times as much\n"
+    "  --replay N        makes the scheduled round N of --seed again\n"
+    "  --jobs N          makes N scheduled rounds at a time (1)\n"
+    "  --kernel-threads  each scheduled thread runs on its own kernel thread, as debuggers expect\n"
+    "  --budget N        states that a search may meet (100000); an undecided round is asked again at ten times as many\n"
 #ifdef POTZENDAI_NO_LIBRARY
     "  --bench PATH      the program that judges, by a path with a slash or its name on the PATH; without it nobody judges\n"
-    "  --out FOLDER      where files are put (.; without --bench it has to be said), or - for standard output: all histories or the stream,\n"
-    "                    which nobody judges then\n";
+    "  --out FOLDER      where files are written (.; without --bench you must name it); -: all histories, or the stream, on standard output,\n"
+    "                    judged by nobody\n";
 #else
-    "  --out FOLDER      where files are put (.), or - for standard output: all histories or the stream, which nobody judges then\n";
+    "  --out FOLDER      where files are written (.); -: all histories, or the stream, on standard output, judged by nobody\n";
 #endif
 
 static inline int potzendai_complain(const char *word, const char *what)
@@ -407,7 +406,7 @@ static inline uint64_t potzendai_calls_where_none(const struct potzendai_options
 static inline int potzendai_complain_of_round(const struct potzendai_options *o, const char *word, const char *behind)
 {
     char text[160];
-    snprintf(text, sizeof text, "at most %" PRIu64 " with %" PRIu64 " threads, since a round has at most %d calls%s; --stream has no such end",
+    snprintf(text, sizeof text, "at most %" PRIu64 " with %" PRIu64 " threads, since a round has at most %d calls%s; --stream has no such limit",
              RECORDING_CALLS / (o->threads + 1), o->threads, RECORDING_CALLS, behind);
     return potzendai_complain(word, text);
 }
@@ -435,9 +434,9 @@ static inline int potzendai_check_sizes(struct potzendai_options *o)
     if (o->calls == 0)
         o->calls = potzendai_calls_where_none(o);
     if (o->threads >= RECORDING_PROCESSES)
-        return potzendai_complain("--threads", "at most 63 in rounds; --stream has no such end");
+        return potzendai_complain("--threads", "at most 63 in rounds; --stream has no such limit");
     if (o->keys > RECORDING_CALLS / (o->threads + 1))
-        return potzendai_complain_of_round(o, "--keys", ", behind which all keys are got");
+        return potzendai_complain_of_round(o, "--keys", ", with a get of each key at its end");
     return o->calls > RECORDING_CALLS / (o->threads + 1) ? potzendai_complain_of_round(o, "--calls", "") : 0;
 }
 
@@ -504,7 +503,7 @@ static inline bool potzendai_asks_help(int argc, char **argv)
 /* Prints the help: 0, or a status if standard output does not take it. */
 static inline int potzendai_help(const char *program)
 {
-    printf("usage: %s [WORDS]\n%s", program, potzendai_usage);
+    printf("usage: %s [OPTIONS]\n%s", program, potzendai_usage);
     if (fflush(stdout) == 0)
         return POTZENDAI_IS_YES;
     fputs("standard output: not written\n", stderr);

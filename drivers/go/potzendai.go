@@ -2500,24 +2500,24 @@ func (r *run) refuted() []string {
 // Words
 
 const usage = `  --seconds N       how long (10, or as long as --rounds take)
-  --rounds N        at most so many rounds
+  --rounds N        at most N rounds
   --threads N       threads that call the map (4)
   --keys N          keys, from 0 (16; of a stream 1000)
-  --hot N           so many of the keys are those of nine calls in ten
-  --calls N         calls of a thread in a round, or in a stream (200; no end)
-  --seed N          what the calls are drawn from (of the clock)
+  --hot N           nine calls in ten use one of the first N keys
+  --calls N         calls of each thread in a round, or in a stream (200; no limit)
+  --seed N          what the calls are drawn from (the clock)
   --mix LIST        shares, as get=50,put=30,del=10,scan=10; also replace, put_if_absent, floor, ceiling, pop_first
-  --void HOW        a put that tells nothing is recorded as done; has to be told; own: one writer a key remembers what it put;
-                    lock: a lock a key around a get and the put (done)
+  --void HOW        done: a put or del may answer done; told: it must say the value before; own: one writer for each key remembers
+                    what it put; lock: a lock for each key around a get and the put after it (done)
   --scan HOW        snapshot: a scan is of one moment; steps: steps of ceiling (snapshot)
-  --yield N         of a thousand points between and in calls, so many give way to other threads (0)
+  --yield N         of a thousand points in and between calls, N let another thread run (0)
   --break HOW       makes the map wrong now and then: drop, race, replay, stale, zombie, torn or cas; all: in each of these ways
-  --cache [late]    the map is a cache: it may lose any key at any time; late: and a miss says nothing, as of one whose writes appear later
-  --fresh N         a new map after each so many rounds (one map)
+  --cache [late]    the map is a cache, which may lose any key at any time; late: its writes appear later, so a miss says nothing
+  --fresh N         a new map after each N rounds (one map)
   --reopen          the map is closed and opened again after each round
-  --stream          one stream that is followed while it is recorded, in the place of rounds
-  --out FOLDER      where files are put (.), or - for standard output: all histories or the stream, which nobody judges then
-  --budget N        the judge's (100000)
+  --stream          one stream, judged while it is recorded, in place of rounds
+  --out FOLDER      where files are written (.); -: all histories, or the stream, on standard output, judged by nobody
+  --budget N        states that a search may meet (100000); an undecided round is asked again at ten times as many
   --bench PATH      the program (./bench, or on the PATH)`
 
 type options struct {
@@ -2745,11 +2745,11 @@ func (o *options) fit(has functions, canReopen bool) {
 	case o.isStream && o.rounds > 0:
 		fail(badWords, "--rounds: a stream has none; --seconds, or --calls of each thread")
 	case !o.isStream && o.threads > processes-2:
-		fail(badWords, "--threads: at most 62 in rounds; --stream has no such end")
+		fail(badWords, "--threads: at most 62 in rounds; --stream has no such limit")
 	case !o.isStream && o.keys > most:
-		fail(badWords, "--keys: %s, behind which all keys are got; --stream has no such end", size)
+		fail(badWords, "--keys: %s, with a get of each key at its end; --stream has no such limit", size)
 	case !o.isStream && o.calls > most:
-		fail(badWords, "--calls: %s; --stream has no such end", size)
+		fail(badWords, "--calls: %s; --stream has no such limit", size)
 	}
 	o.span = span
 	if room := (processes - 1 - o.threads) / o.threads; o.cache != "" && !o.isStream && room < o.span { // each missing key needs a process
@@ -2873,7 +2873,7 @@ func allBroken(o *options, make func() Map, p *program, has functions) (int, []s
 // Run is a whole program: it says how it went, and answers the status. `make` makes a new and empty map, for each run.
 func Run(name string, make func() Map, words ...string) int {
 	if isOneOf("--help", words...) || isOneOf("-h", words...) {
-		return printed(yes, fmt.Sprintf("usage: %s [WORDS]\n%s", name, usage))
+		return printed(yes, fmt.Sprintf("usage: %s [OPTIONS]\n%s", name, usage))
 	}
 	status, said, last, wrong := tested(name, make, words)
 	if wrong != nil {

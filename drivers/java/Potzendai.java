@@ -2063,24 +2063,24 @@ public final class Potzendai {
 
     private static final String USAGE = """
         --seconds N       how long (10, or as long as --rounds take)
-        --rounds N        at most so many rounds
+        --rounds N        at most N rounds
         --threads N       threads that call the map (4)
         --keys N          keys, from 0 (16; of a stream 1000)
-        --hot N           so many of the keys are those of nine calls in ten
-        --calls N         calls of a thread in a round, or in a stream (200; no end)
-        --seed N          what the calls are drawn from (of the clock)
+        --hot N           nine calls in ten use one of the first N keys
+        --calls N         calls of each thread in a round, or in a stream (200; no limit)
+        --seed N          what the calls are drawn from (the clock)
         --mix LIST        shares, as get=50,put=30,del=10,scan=10; also replace, put_if_absent, floor, ceiling, pop_first
-        --void HOW        a put that tells nothing is recorded as done; has to be told; own: one writer a key remembers what it put;
-                          lock: a lock a key around a get and the put (done)
+        --void HOW        done: a put or del may answer done; told: it must say the value before; own: one writer for each key remembers
+                          what it put; lock: a lock for each key around a get and the put after it (done)
         --scan HOW        snapshot: a scan is of one moment; steps: steps of ceiling (snapshot)
-        --yield N         of a thousand points between and in calls, so many give way to other threads (0)
+        --yield N         of a thousand points in and between calls, N let another thread run (0)
         --break HOW       makes the map wrong now and then: drop, race, replay, stale, zombie, torn or cas; all: in each of these ways
-        --cache [late]    the map is a cache: it may lose any key at any time; late: and a miss says nothing, as of one whose writes appear later
-        --fresh N         a new map after each so many rounds (one map)
+        --cache [late]    the map is a cache, which may lose any key at any time; late: its writes appear later, so a miss says nothing
+        --fresh N         a new map after each N rounds (one map)
         --reopen          the map is closed and opened again after each round
-        --stream          one stream that is followed while it is recorded, in the place of rounds
-        --out FOLDER      where files are put (.), or - for standard output: all histories or the stream, which nobody judges then
-        --budget N        the judge's (100000)
+        --stream          one stream, judged while it is recorded, in place of rounds
+        --out FOLDER      where files are written (.); -: all histories, or the stream, on standard output, judged by nobody
+        --budget N        states that a search may meet (100000); an undecided round is asked again at ten times as many
         --bench PATH      the program (./bench, or on the PATH)
         """;
 
@@ -2232,9 +2232,9 @@ public final class Potzendai {
             wrong(isStream && rounds > 0, "--rounds: a stream has none; --seconds, or --calls of each thread");
             long most = CALLS / (threads + 1);
             String size = "at most " + most + " with " + threads + " threads, since a round has at most " + CALLS + " calls";
-            wrong(!isStream && threads > PROCESSES - 2, "--threads: at most 62 in rounds; --stream has no such end");
-            wrong(!isStream && keys > most, "--keys: " + size + ", behind which all keys are got; --stream has no such end");
-            wrong(!isStream && calls > most, "--calls: " + size + "; --stream has no such end");
+            wrong(!isStream && threads > PROCESSES - 2, "--threads: at most 62 in rounds; --stream has no such limit");
+            wrong(!isStream && keys > most, "--keys: " + size + ", with a get of each key at its end; --stream has no such limit");
+            wrong(!isStream && calls > most, "--calls: " + size + "; --stream has no such limit");
             hasDel = has.contains(Kind.DEL);
             if (cache != null && !isStream)
                 span = Math.max(1, Math.min(SPAN, (PROCESSES - 1 - threads) / threads)); // each missing key needs a process
@@ -2357,7 +2357,7 @@ public final class Potzendai {
     public static int run(String name, Supplier<? extends Index> make, String... words) {
         try {
             if (List.of(words).contains("--help") || List.of(words).contains("-h"))
-                return printed(YES, "usage: " + name + " [WORDS]\n" + USAGE.indent(2).stripTrailing());
+                return printed(YES, "usage: " + name + " [OPTIONS]\n" + USAGE.indent(2).stripTrailing());
             Outcome outcome = tested(name, make, words);
             outcome.said.forEach(System.err::println);
             return outcome.last.isEmpty() && !System.out.checkError() ? outcome.status : printed(outcome.status, outcome.last);

@@ -71,7 +71,7 @@ def options_of(words):
     parser.add_argument("--kill-at-write", action="store_true", help="kill before a drawn write of the store")
     parser.add_argument("--power", action="store_true", help="after a kill a file holds what was synced")
     parser.add_argument("--stop", action="store_true", help="SIGTERM, not SIGKILL: the child closes the store")
-    parser.add_argument("--open", metavar="SECONDS", type=positive(float), default=60, help="how long opening may take [60]")
+    parser.add_argument("--open", metavar="SECONDS", type=positive(float), default=60, help="how long opening or reading may take [60]")
     parser.add_argument("--seed", metavar="N", type=int, default=1, help="what is drawn, in the children too [1]")
     parser.add_argument("--budget", metavar="N", type=positive(int), default=100000, help="the program's budget [100000]")
     parser.add_argument("--keep", metavar="FOLDER", default=".", help="where the run's folder is made [.]")
@@ -329,7 +329,7 @@ class Run:
         is_killed = status == -signal.SIGKILL and (sent == signal.SIGKILL or is_at_write)
         if not is_stopped and not is_killed:
             ended = "status %d" % status if status >= 0 else "signal %d" % -status
-            raise Stop(WORDS, "%s ended by itself, with %s%s" % (events.name, ended, "" if events.calls else ", before its first call"))
+            raise Stop(WORDS, "%s ended on its own, with %s%s" % (events.name, ended, "" if events.calls else ", before its first call"))
         return events
 
     def lose_power(self):
@@ -440,7 +440,7 @@ class Run:
         self.keep(life, lines[0], lines[1:])
 
     def few(self, reports, lines):
-        """A few calls that have no order by themselves, where `bench explain` finds them."""
+        """A few calls that have no order on their own, if `bench explain` finds them."""
         numbers, head = {}, json.loads(lines[0])
         events = [json.loads(line) for line in lines[1:]]
         if len(reports) > 1:

@@ -869,9 +869,6 @@ class Round:
         return json.dumps(whole, separators=(",", ":"), sort_keys=True) + "\n"
 
 
-WRITES = ("insert", "remove", "replace")
-
-
 def together(rounds, keys):
     """Rounds as one history, in which the keys of each are moved up. It has an order if and only if each round has one, since linearizability is
     local: a call says nothing of keys that it does not touch (Herlihy and Wing, 1990)."""
@@ -1020,7 +1017,7 @@ class Pipe:
 
 
 class Library(Judge):
-    """The library as a shared object, in the place of the program."""
+    """The library as a shared object, in place of the program."""
 
     def __init__(self, options):
         self.budget = options.budget
@@ -1540,35 +1537,42 @@ def mix(text):
     return {kind: shares.get(kind, 0) for kind in SHARES}
 
 
+# What the value of an option is called in the help, if it is no number.
+NAMED = {"--mix": "LIST", "--out": "FOLDER", "--bench": "PATH", "--library": "PATH"}
+
+
 def words_of(argv):
-    words = Parser(prog=os.path.basename(sys.argv[0]), usage="%(prog)s [WORDS]", allow_abbrev=False)
+    words = Parser(prog=os.path.basename(sys.argv[0]), usage="%(prog)s [OPTIONS]", allow_abbrev=False)
     for name, kind, usual, what in (
             ("--seconds", number(1, 10 ** 9), 0, "how long (10, or as long as --rounds take)"),
-            ("--rounds", number(1, GREATEST), 0, "at most so many rounds"),
+            ("--rounds", number(1, GREATEST), 0, "at most N rounds"),
             ("--threads", number(1, 1024), 4, "threads that call the map (4)"),
             ("--keys", number(1, STREAM_KEYS), 0, "keys, from 0 (16; of a stream 1000)"),
-            ("--hot", number(1, STREAM_KEYS), 0, "so many of the keys are those of nine calls in ten"),
-            ("--calls", number(1, GREATEST), 0, "calls of a thread in a round, or in a stream (200; no end)"),
-            ("--seed", number(0, GREATEST), time.time_ns() % 1000000007, "what the calls are drawn from (of the clock)"),
+            ("--hot", number(1, STREAM_KEYS), 0, "nine calls in ten use one of the first N keys"),
+            ("--calls", number(1, GREATEST), 0, "calls of each thread in a round, or in a stream (200; no limit)"),
+            ("--seed", number(0, GREATEST), time.time_ns() % 1000000007, "what the calls are drawn from (the clock)"),
             ("--mix", mix, None, "shares, as get=50,put=30,del=10,scan=10; also replace, put_if_absent, floor, ceiling, pop_first"),
-            ("--yield", number(0, 1000), 0, "of a thousand points between and in calls, so many give way to other threads (0)"),
-            ("--out", str, ".", "the folder where files are put (.), or - for standard output: all histories or the stream, which nobody judges "
-             "then"),
-            ("--fresh", number(1, GREATEST), 0, "a new map after each so many rounds (one map)"),
-            ("--budget", number(1, 10 ** 6), 100000, "the judge's (100000)"),
+            ("--yield", number(0, 1000), 0, "of a thousand points in and between calls, N let another thread run (0)"),
+            ("--out", str, ".", "where files are written (.); -: all histories, or the stream, on standard output, judged by nobody"),
+            ("--fresh", number(1, GREATEST), 0, "a new map after each N rounds (one map)"),
+            ("--budget", number(1, 10 ** 6), 100000, "states that a search may meet (100000); an undecided round is asked again at ten times "
+             "as many"),
             ("--bench", str, None, "the program (./bench, or on the PATH)"),
-            ("--library", str, None, "the library as a shared object, in the place of the program")):
-        words.add_argument(name, type=kind, default=usual, help=what, metavar="N" if isinstance(usual, int) else "WORD",
+            ("--library", str, None, "the library as a shared object, in place of the program")):
+        words.add_argument(name, type=kind, default=usual, help=what, metavar=NAMED.get(name, "N"),
                            dest=name[2:] + "s" * (name == "--yield"))
-    words.add_argument("--void", choices=("done", "told", "own", "lock"), help="a put that tells nothing is recorded as "
-                       "done; has to be told; own: one writer a key remembers what it put; lock: a lock a key around a get and the put (done)")
-    words.add_argument("--scan", choices=("snapshot", "steps"), default="snapshot", help="a scan is of one moment; or steps of ceiling")
-    words.add_argument("--cache", nargs="?", const=True, type=late, metavar="late", help="the map is a cache: it may lose any key at any time; late: and a "
-                       "miss says nothing, as of a cache whose writes appear later")
+    words.add_argument("--void", choices=("done", "told", "own", "lock"), help="done: a put or del may answer done; told: it must say the value "
+                       "before; own: one writer for each key remembers what it put; lock: a lock for each key around a get and the put after it "
+                       "(done)")
+    words.add_argument("--scan", choices=("snapshot", "steps"), default="snapshot",
+                       help="snapshot: a scan is of one moment; steps: steps of ceiling (snapshot)")
+    words.add_argument("--cache", nargs="?", const=True, type=late, metavar="late", help="the map is a cache, which may lose any key at any "
+                       "time; late: its writes appear later, so a miss says nothing")
     words.add_argument("--reopen", action="store_true", help="the map is closed and opened again after each round")
-    words.add_argument("--break", dest="broken", choices=tuple(BREAKS) + ("all",), help="makes the map wrong now and then; all: in each way")
-    words.add_argument("--processes", action="store_true", help="processes in the place of threads, as for clients of servers")
-    words.add_argument("--stream", action="store_true", help="one stream that is followed while it is recorded, in the place of rounds")
+    words.add_argument("--break", dest="broken", choices=tuple(BREAKS) + ("all",), help="makes the map wrong now and then; all: in each "
+                       "of these ways")
+    words.add_argument("--processes", action="store_true", help="processes in place of threads, for clients of servers")
+    words.add_argument("--stream", action="store_true", help="one stream, judged while it is recorded, in place of rounds")
     return words.parse_args(argv)
 
 
@@ -1615,11 +1619,11 @@ def fit(options, has, can_reopen):
     most = CALLS // (options.threads + 1)
     size = "at most %d with %d threads, since a round has at most %d calls" % (most, options.threads, CALLS)
     if not options.stream and options.threads > PROCESSES - 2:
-        wrong("--threads", "at most 62 in rounds; --stream has no such end")
+        wrong("--threads", "at most 62 in rounds; --stream has no such limit")
     if not options.stream and options.keys > most:
-        wrong("--keys", size + ", behind which all keys are got; --stream has no such end")
+        wrong("--keys", size + ", with a get of each key at its end; --stream has no such limit")
     if not options.stream and options.calls > most:
-        wrong("--calls", size + "; --stream has no such end")
+        wrong("--calls", size + "; --stream has no such limit")
     options.span = SPAN
     if options.cache and not options.stream:
         options.span = max(1, min(SPAN, (PROCESSES - 1 - options.threads) // options.threads))  # each missing key needs a process

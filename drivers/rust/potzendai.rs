@@ -1582,7 +1582,6 @@ extern "C" {
     fn potzendai_explain(text: *const u8, size: usize, budget: u32, room: *mut u8, room_size: usize, length: *mut usize) -> u32;
     fn potzendai_draw_part(text: *const u8, size: usize, budget: u32, room: *mut u8, room_size: usize, length: *mut usize) -> u32;
     fn potzendai_page(text: *const u8, size: usize, budget: u32, room: *mut u8, room_size: usize, length: *mut usize) -> u32;
-    fn potzendai_follow(text: *const u8, size: usize, budget: u32, room: *mut u8, room_size: usize, length: *mut usize) -> u32;
     fn potzendai_follow_open(follower: *mut Follower, budget: u32) -> u32;
     fn potzendai_follow_event(follower: *mut Follower, lines: *const u8, size: usize) -> u32;
     fn potzendai_follow_verdict(follower: *mut Follower, room: *mut u8, room_size: usize, length: *mut usize) -> u32;
@@ -2586,24 +2585,24 @@ fn refuted<M: Map>(run: &Run, make: &dyn Fn() -> M, program: &Program) -> Result
 // Words
 
 const USAGE: &str = "  --seconds N       how long (10, or as long as --rounds take)
-  --rounds N        at most so many rounds
+  --rounds N        at most N rounds
   --threads N       threads that call the map (4)
   --keys N          keys, from 0 (16; of a stream 1000)
-  --hot N           so many of the keys are those of nine calls in ten
-  --calls N         calls of a thread in a round, or in a stream (200; no end)
-  --seed N          what the calls are drawn from (of the clock)
+  --hot N           nine calls in ten use one of the first N keys
+  --calls N         calls of each thread in a round, or in a stream (200; no limit)
+  --seed N          what the calls are drawn from (the clock)
   --mix LIST        shares, as get=50,put=30,del=10,scan=10; also replace, put_if_absent, floor, ceiling, pop_first
-  --void HOW        a put that tells nothing is recorded as done; has to be told; own: one writer a key remembers what it put;
-                    lock: a lock a key around a get and the put (done)
+  --void HOW        done: a put or del may answer done; told: it must say the value before; own: one writer for each key remembers
+                    what it put; lock: a lock for each key around a get and the put after it (done)
   --scan HOW        snapshot: a scan is of one moment; steps: steps of ceiling (snapshot)
-  --yield N         of a thousand points between and in calls, so many give way to other threads (0)
+  --yield N         of a thousand points in and between calls, N let another thread run (0)
   --break HOW       makes the map wrong now and then: drop, race, replay, stale, zombie, torn or cas; all: in each of these ways
-  --cache [late]    the map is a cache: it may lose any key at any time; late: and a miss says nothing, as of one whose writes appear later
-  --fresh N         a new map after each so many rounds (one map)
+  --cache [late]    the map is a cache, which may lose any key at any time; late: its writes appear later, so a miss says nothing
+  --fresh N         a new map after each N rounds (one map)
   --reopen          the map is closed and opened again after each round
-  --stream          one stream that is followed while it is recorded, in the place of rounds
-  --out FOLDER      where files are put (.), or - for standard output: all histories or the stream, which nobody judges then
-  --budget N        the judge's (100000)
+  --stream          one stream, judged while it is recorded, in place of rounds
+  --out FOLDER      where files are written (.); -: all histories, or the stream, on standard output, judged by nobody
+  --budget N        states that a search may meet (100000); an undecided round is asked again at ten times as many
   --bench PATH      the program (./bench, or on the PATH)";
 
 #[derive(Clone)]
@@ -2746,8 +2745,8 @@ impl Options {
         self.seconds = if self.seconds > 0 { self.seconds } else if self.rounds > 0 { 1_000_000_000 } else { 10 };
         let (most, threads) = (CALLS / (self.threads + 1), self.threads);
         let size = format!("at most {most} with {threads} threads, since a round has at most {CALLS} calls");
-        let many_keys = format!("--keys: {size}, behind which all keys are got; --stream has no such end");
-        let many_calls = format!("--calls: {size}; --stream has no such end");
+        let many_keys = format!("--keys: {size}, with a get of each key at its end; --stream has no such limit");
+        let many_calls = format!("--calls: {size}; --stream has no such limit");
         let is_unbroken = self.broken.as_ref().map_or(true, |how| self.is_called(how));
         let rows = [
             (self.shares.iter().sum::<u64>() == 0, "--mix: no share"),
@@ -2760,7 +2759,7 @@ impl Options {
             (self.is_stream && self.is_reopened, "--reopen: not with --stream, which is of one map"),
             (self.is_reopened && !can_reopen, "--reopen: the map has no function reopen"),
             (self.is_stream && self.rounds > 0, "--rounds: a stream has none; --seconds, or --calls of each thread"),
-            (!self.is_stream && threads > PROCESSES as u64 - 2, "--threads: at most 62 in rounds; --stream has no such end"),
+            (!self.is_stream && threads > PROCESSES as u64 - 2, "--threads: at most 62 in rounds; --stream has no such limit"),
             (!self.is_stream && self.keys > most, &many_keys),
             (!self.is_stream && self.calls > most, &many_calls),
         ];
@@ -2915,7 +2914,7 @@ fn printed(status: i32, text: &str) -> i32 {
 pub fn run<M: Map>(name: &str, make: impl Fn() -> M, words: impl Iterator<Item = String>) -> i32 {
     let words: Vec<String> = words.collect();
     if words.iter().any(|word| word == "--help" || word == "-h") {
-        return printed(YES, &format!("usage: {name} [WORDS]\n{USAGE}"));
+        return printed(YES, &format!("usage: {name} [OPTIONS]\n{USAGE}"));
     }
     match tested(name, &make, &words) {
         Ok((status, said, last)) => {

@@ -1,5 +1,6 @@
 -- What is left at some keys as a call begins, or is answered. `left_from_each`: it is known by each call and each operation alone. `known_of`,
 -- `known_on`: what is known of a call stays known. `left_as_before`: nothing changes where the calls that change are idle at the keys.
+-- `left_instead`: one call stands in the place of another.
 use Rattle.std.proofs.Common.{◌≡◌, ℕ, ◌<◌, ◌≤◌, Bool, true, false, not, ◌&&◌, List, [], ◌∷◌, ◌++◌, Option, Some, None, inl, inr, refl, sym, ap}
 use Rattle.std.proofs.Common.{◌∙◌, subst, ⊎_elim, arith}
 use Rattle.std.specs.Prelude.{◌≢◌, ◌⊎◌, All, AllPairs, Contains}
@@ -32,19 +33,19 @@ use Rattle.key_parts.specs.Left.{IsLeft, HasKeysIn, HasNoKeyIn, IsNotTakenAt, Is
 use Rattle.key_parts.specs.CallLaws.{BegunCallsAreLeft, OtherCallsBegin, AnsweredCallsAreLeft, TakenCallsAreAnswered, OtherCallsAreAnswered}
 use Rattle.key_parts.proofs.PartLemmas.{none_left_out}
 
-not_both : (b : Bool) → b ≡ true → b ≡ false → ⊥
+pub not_both : (b : Bool) → b ≡ true → b ≡ false → ⊥
 not_both b is never = cc
 
 -- ---- lists
 
 -- what is beside one is in the whole
-beside : {X : Type 0} (front : List X) (x : X) (back : List X) (z : X) → Contains (front ++ back) z → Contains (front ++ x ∷ back) z
+pub beside : {X : Type 0} (front : List X) (x : X) (back : List X) (z : X) → Contains (front ++ back) z → Contains (front ++ x ∷ back) z
 beside front x back z h =
     ⊎_elim (λ first. Contains-append_left front (x ∷ back) z first)
     (λ second. Contains-append_right front (x ∷ back) z (Contains-later x back z second))
     (Contains-append_cases front back z h)
 
-middle : {X : Type 0} (front : List X) (x : X) (back : List X) → Contains (front ++ x ∷ back) x
+pub middle : {X : Type 0} (front : List X) (x : X) (back : List X) → Contains (front ++ x ∷ back) x
 middle front x back = Contains-append_right front (x ∷ back) x (Contains-first x back)
 
 -- what is in a list with one more is in the list, or is that one
@@ -54,7 +55,7 @@ one_more xs x z h =
     (Contains-append_cases xs (x ∷ []) z h)
 
 -- none of the others has its name
-differ : {X : Type 0} (name : X → ℕ) (front : List X) (x : X) (back : List X) → AllPairs (λ a b. name a ≢ name b) (front ++ x ∷ back)
+pub differ : {X : Type 0} (name : X → ℕ) (front : List X) (x : X) (back : List X) → AllPairs (λ a b. name a ≢ name b) (front ++ x ∷ back)
     → (z : X) → Contains (front ++ back) z → name z ≡ name x → ⊥
 differ name front x back distinct z z_in same =
     ⊎_elim
@@ -121,6 +122,34 @@ left_from_each keys past limit calls more pairs left nexts rising forms known ow
   whole = λ a a_in. (known a a_in).whole;
   agrees = All-from_contains (AgreesAt keys past) more (λ a a_in. (known a a_in).agrees);
 }
+
+-- an operation is of this call, which was not refused, and of which something is left
+abbrev pub IsOf : Keys → Choice → KeyedCall → Operation → Type 0
+IsOf keys past b o = (b.refused ≡ false) × IsLeftAt keys past b × IsAlikeAt keys (left_at keys past b) (keyed o)
+
+-- one call stands in the place of another: its operations are new, and all others are old
+pub left_instead : (keys : Keys) (past : Choice) (limit : ℕ) (front back : List KeyedCall) (pairs : Contents) (a b : KeyedCall)
+    (left nexts : List Operation) → AllPairs (λ o p. o.inv < p.inv) nexts → HaveForms nexts → IsKnown keys past limit nexts b
+    → ((c : KeyedCall) (o : Operation) → Contains (front ++ back) c → Contains left o → IsAlikeAt keys (left_at keys past c) (keyed o)
+    → Contains nexts o)
+    → ((o : Operation) → Contains nexts o → IsOf keys past b o ⊎ (Contains left o × (o.inv ≢ a.inv)))
+    → IsLeft keys past limit (front ++ a ∷ back) pairs left → IsLeft keys past limit (front ++ b ∷ back) pairs nexts
+left_instead keys past limit front back pairs a b left nexts rising forms known on from is =
+    left_from_each keys past limit (front ++ a ∷ back) (front ++ b ∷ back) pairs left nexts rising forms
+    (λ c c_in. ⊎_elim
+    (λ same. subst (IsKnown keys past limit nexts) same known)
+    (λ others. known_on keys past limit left nexts c (λ o o_in alike. on c o others o_in alike)
+    (known_of keys past limit (front ++ a ∷ back) pairs left is c (beside front a back c others)))
+    (Contains-around front b back c c_in))
+    (λ o o_in. ⊎_elim
+    (λ own. (b, middle front b back, own.0, own.1, own.2))
+    (λ old. let (c, c_in, accepted, some, alike) = is.owned o old.0 in
+    ⊎_elim
+    (λ same. absurd (old.1 (alike.inv ∙ ap (λ (z : KeyedCall). z.inv) (sym same))))
+    (λ others. (c, beside front b back c others, accepted, some, alike))
+    (Contains-around front a back c c_in))
+    (from o o_in))
+    is
 
 -- ---- calls that are idle at the keys
 
@@ -269,7 +298,7 @@ other_calls_begin keys past limit calls pairs left o pending idle is =
 
 -- ---- a call that is left
 
-own_alike : (keys : Keys) (past : Choice) (o : Operation) → HasKeysIn keys o → IsNotTakenAt keys past o.inv
+pub own_alike : (keys : Keys) (past : Choice) (o : Operation) → HasKeysIn keys o → IsNotTakenAt keys past o.inv
     → IsAlikeAt keys (left_at keys past (keyed o)) (keyed o)
 own_alike keys past o inside free = record {
   inv = refl;
@@ -289,7 +318,7 @@ own_alike keys past o inside free = record {
     elsewhere : (key : ℕ) → keys key ≡ false → IsNoEffect ((keyed o).effect key)
     elsewhere key out = (formed o).elsewhere key (by_concern key out (bool_cases (concerns_key o.call key)))
 
-own_known : (keys : Keys) (past : Choice) (limit : ℕ) (left : List Operation) (o : Operation) → Contains left o → HasKeysIn keys o
+pub own_known : (keys : Keys) (past : Choice) (limit : ℕ) (left : List Operation) (o : Operation) → Contains left o → HasKeysIn keys o
     → IsNotTakenAt keys past o.inv → IsKnown keys past limit left (keyed o)
 own_known keys past limit left o o_in inside free = record {
   there = inr shown;
@@ -383,32 +412,18 @@ module _ (keys : Keys) (past : Choice) (limit : ℕ) (front back : List KeyedCal
       (All-cons (λ p. HasForm p.call p.response) now after form
       (All-tail (λ p. HasForm p.call p.response) o after (All-back (λ p. HasForm p.call p.response) before (o ∷ after) is.alike.forms)))
 
-  known : (a : KeyedCall) → Contains (front ++ keyed now ∷ back) a → IsKnown keys past limit (before ++ now ∷ after) a
-  known a a_in = ⊎_elim
-      (λ same. subst (IsKnown keys past limit (before ++ now ∷ after)) same
-      (own_known keys past limit (before ++ now ∷ after) now (middle before now after) inside free))
-      (λ others. known_on keys past limit (before ++ o ∷ after) (before ++ now ∷ after) a
-      (λ p p_in alike. ⊎_elim
-      (λ same. absurd (other_call a others (sym alike.inv ∙ ap (λ (q : Operation). q.inv) (sym same))))
+  all : IsLeft keys past limit (front ++ keyed now ∷ back) pairs (before ++ now ∷ after)
+  all = left_instead keys past limit front back pairs (keyed o) (keyed now) (before ++ o ∷ after) (before ++ now ∷ after) rising forms
+      (own_known keys past limit (before ++ now ∷ after) now (middle before now after) inside free)
+      (λ c p c_in p_in alike. ⊎_elim
+      (λ same. absurd (other_call c c_in (sym alike.inv ∙ ap (λ (q : Operation). q.inv) (sym same))))
       (λ rest. beside before now after p rest)
       (Contains-around before o after p p_in))
-      (known_of keys past limit (front ++ keyed o ∷ back) pairs (before ++ o ∷ after) is a (beside front (keyed o) back a others)))
-      (Contains-around front (keyed now) back a a_in)
-
-  owned : AreOfLeftCalls keys past (front ++ keyed now ∷ back) (before ++ now ∷ after)
-  owned p p_in = ⊎_elim
-      (λ same. subst (IsOwned keys past (front ++ keyed now ∷ back)) same
-      (keyed now, middle front (keyed now) back, accepted, is_left, own_alike keys past now inside free))
-      (λ rest. let (c, c_in, not_refused, some, alike) = is.owned p (beside before o after p rest) in
-      ⊎_elim
-      (λ same. absurd (other_operation p rest (alike.inv ∙ ap (λ (b : KeyedCall). b.inv) (sym same))))
-      (λ others. (c, beside front (keyed now) back c others, not_refused, some, alike))
-      (Contains-around front (keyed o) back c c_in))
-      (Contains-around before now after p p_in)
-
-  all : IsLeft keys past limit (front ++ keyed now ∷ back) pairs (before ++ now ∷ after)
-  all = left_from_each keys past limit (front ++ keyed o ∷ back) (front ++ keyed now ∷ back) pairs (before ++ o ∷ after) (before ++ now ∷ after)
-      rising forms known owned is
+      (λ p p_in. ⊎_elim
+      (λ same. inl (subst (IsOf keys past (keyed now)) same (accepted, is_left, own_alike keys past now inside free)))
+      (λ rest. inr (beside before o after p rest, other_operation p rest))
+      (Contains-around before now after p p_in))
+      is
 
 pub answered_calls_are_left : AnsweredCallsAreLeft
 answered_calls_are_left keys past limit front back pairs before after o response calls accepted form inside free is =

@@ -8,6 +8,7 @@ pub mod SiftLemmas
 pub mod BackLemmas
 pub mod InsertLemmas
 pub mod ReadLemmas
+pub mod FewerLemmas
 pub mod CallLemmas
 pub mod KnownLemmas
 pub mod SomeLemmas
@@ -16,3 +17,5 @@ pub mod RestLemmas
 pub mod DecideLemmas
 pub mod ComeLemmas
 pub mod EventLemmas
+pub mod UniteLemmas
+pub mod AnswerLemmas

@@ -1,7 +1,7 @@
 -- Choices at some keys. `at_self`, `at_back`, `at_next`: being the same at some keys is an equivalence. `at_fewer`, `at_both`: at fewer keys,
 -- and at those of two sets. `instead`: a choice that is another at some keys. `goes_on_there`: a choice that goes on to an order goes on to one
--- at some keys, and so does what it is there. `same_goes_on`: what is the same at all keys goes on too. `keys_shared`, `with_instead`,
--- `with_other`: a part with other pasts. `part_steps`: parts stand where one of them took a step.
+-- at some keys, and so does what it is there. `same_goes_on`: what is the same at all keys goes on too. `keys_shared`, `with_past`,
+-- `with_instead`, `with_other`: a part with other pasts. `part_steps`: parts stand where one of them took a step.
 use Rattle.std.proofs.Common.{◌≡◌, ℕ, Bool, true, false, not, ◌||◌, ◌&&◌, cond, List, [], ◌∷◌, map, Option, inl, inr, refl, sym, ap, ◌∙◌, subst, ⊎_elim}
 use Rattle.std.specs.Prelude.{◌⊎◌, Contains}
 use Rattle.std.proofs.lemmas.List.Elements.{All-cons, All-tail, All-contains}
@@ -14,7 +14,7 @@ use Rattle.key_effects.specs.KeyedOrders.{FitInTurn, HasKeyedOrder}
 use Rattle.key_effects.specs.Growth.{HaveGrown}
 use Rattle.key_effects.specs.Choices.{Choice, Agrees, rest_of, GoesOn, SomeGoesOn}
 use Rattle.key_effects.specs.Cuts.{Keys}
-use Rattle.key_effects.specs.Apart.{only, AreApart}
+use Rattle.key_effects.specs.Apart.{only, other_keys, AreApart}
 use Rattle.key_effects.proofs.ApartLemmas.{some_refute}
 use Rattle.key_effects.proofs.DeadLemmas.{bool_cases}
 use Rattle.key_effects.proofs.RestLemmas.{none_none}
@@ -235,20 +235,36 @@ keys_shared keys pasts nexts rest shared = record {
       (Contains-cases (record { keys = keys; pasts = pasts }) rest part part_in);
 }
 
--- a choice of parts, with another past at the keys of the first
+-- a choice of parts that is another past at the keys of the first, and elsewhere the same
+pub with_past : (keys : Keys) (pasts nexts : List Choice) (rest : List Part) (next w x : Choice)
+    → ShareKeys (record { keys = keys; pasts = pasts } ∷ rest) → Contains nexts next
+    → choices_of (record { keys = keys; pasts = pasts } ∷ rest) w → IsAt keys next x → IsAt (other_keys keys) w x
+    → choices_of (record { keys = keys; pasts = nexts } ∷ rest) x
+with_past keys pasts nexts rest next w x shared next_in is here there =
+    All-cons (λ part. IsOneOf part.keys part.pasts x) (record { keys = keys; pasts = nexts }) rest (next, next_in, here)
+    (All-from_contains (λ part. IsOneOf part.keys part.pasts x) rest (λ part part_in.
+    let apart : AreApart keys part.keys = All-contains (λ other. AreApart keys other.keys) rest part
+    (AllPairs-head (λ one other. AreApart one.keys other.keys) (record { keys = keys; pasts = pasts }) rest shared.apart) part_in in
+    let (past, past_in, same) = All-contains (λ other. IsOneOf other.keys other.pasts w) rest part
+    (All-tail (λ other. IsOneOf other.keys other.pasts w) (record { keys = keys; pasts = pasts }) rest is) part_in in (
+      past,
+      past_in,
+      at_next part.keys past w x same (at_fewer (other_keys keys) part.keys w x (λ key inside. out part apart key inside
+          (bool_cases (keys key))) there),
+    )))
+  where
+    out : (part : Part) → AreApart keys part.keys → (key : ℕ) → part.keys key ≡ true → (keys key ≡ true) ⊎ (keys key ≡ false)
+        → not (keys key) ≡ true
+    out part apart key inside (inl both) = let never : part.keys key ≡ false = apart key both in cc
+    out part apart key inside (inr is) = rw is refl
+
 pub with_instead : (keys : Keys) (pasts nexts : List Choice) (rest : List Part) (next w : Choice)
     → ShareKeys (record { keys = keys; pasts = pasts } ∷ rest) → Contains nexts next
     → choices_of (record { keys = keys; pasts = pasts } ∷ rest) w
     → choices_of (record { keys = keys; pasts = nexts } ∷ rest) (instead keys next w)
 with_instead keys pasts nexts rest next w shared next_in is =
-    All-cons (λ part. IsOneOf part.keys part.pasts (instead keys next w)) (record { keys = keys; pasts = nexts }) rest
-    (next, next_in, instead_here keys next w)
-    (All-from_contains (λ part. IsOneOf part.keys part.pasts (instead keys next w)) rest (λ part part_in.
-    let apart : AreApart keys part.keys = All-contains (λ other. AreApart keys other.keys) rest part
-    (AllPairs-head (λ one other. AreApart one.keys other.keys) (record { keys = keys; pasts = pasts }) rest shared.apart) part_in in
-    let (past, past_in, same) = All-contains (λ other. IsOneOf other.keys other.pasts w) rest part
-    (All-tail (λ other. IsOneOf other.keys other.pasts w) (record { keys = keys; pasts = pasts }) rest is) part_in in
-    (past, past_in, at_next part.keys past w (instead keys next w) same (instead_there keys part.keys next w apart))))
+    with_past keys pasts nexts rest next w (instead keys next w) shared next_in is (instead_here keys next w)
+    (instead_there keys (other_keys keys) next w (λ key here. rw here refl))
 
 -- and one that has another past of the first
 pub with_other : (keys : Keys) (pasts nexts : List Choice) (rest : List Part) (w past : Choice)

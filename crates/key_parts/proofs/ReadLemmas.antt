@@ -45,7 +45,7 @@ module _ (keys : Keys) (place : ℕ) (calls more : List KeyedCall) (past next w 
     accepted = accepted;
   }
 
-  read_goes_on : GoesOn w more → GoesOn (instead keys next w) more
+  pub read_goes_on : GoesOn w more → GoesOn (instead keys next w) more
   read_goes_on goes_on =
       goes_on_next keys place calls more past next w b b read_taken goes_on read_fits (λ key is.
       subst (λ (v : Option ℕ). FitInTurn key v (map (masked_by (taken_by keys b)) goes_on.1.0))

@@ -1,5 +1,5 @@
--- A read that was answered, taken at keys at rest. `at_taken`: two choices that differ by it. `read_back`: one goes on where the other
--- does, which has taken it.
+-- A read that was answered, taken at keys at rest, and a call without effect, taken at any time. `at_taken`: two choices that differ by it.
+-- `read_back`, `none_back`: one goes on where the other does, which has taken it.
 use Rattle.std.proofs.Common.{◌≡◌, ℕ, ◌==◌, ◌<◌, Bool, true, false, not, ◌&&◌, ◌||◌, cond, List, [], ◌∷◌, ◌++◌, map, Option, inl, inr, refl, sym, ap, ◌∙◌, subst, ⊎_elim, arith}
 use Rattle.std.specs.Prelude.{◌≢◌, ◌⊎◌, All, Contains}
 use Rattle.std.proofs.lemmas.Bool.{eqb-true, eq-eqb, and_parts}
@@ -17,7 +17,8 @@ use Rattle.key_effects.proofs.DeadLemmas.{bool_cases, response_of}
 use Rattle.key_effects.proofs.OrderLemmas.{same_call, ends_at}
 use Rattle.key_effects.proofs.RestLemmas.{none_none, refused_none}
 use Rattle.key_parts.specs.Laws.{ReadsAreTakenAtRest}
-use Rattle.key_parts.specs.Parts.{IsAt, IsOneOf, choices_of}
+use Rattle.key_parts.specs.CallLaws.{CallsWithoutEffectAreTaken}
+use Rattle.key_parts.specs.Parts.{Part, IsAt, IsOneOf, choices_of, StandFor}
 use Rattle.key_parts.specs.Steps.{IsAfterCall, IsReadAt, IsAtRest}
 use Rattle.key_parts.proofs.PartLemmas.{at_back, instead, instead_here, instead_there, keys_shared, with_instead, with_other, part_steps}
 use Rattle.key_parts.proofs.FirstLemmas.{completed_stays}
@@ -87,18 +88,20 @@ record AtRead (keys : Keys) (more : List KeyedCall) (w v : Choice) (b : KeyedCal
   quiet : (key : ℕ) → keys key ≡ true → IsQuiet (rest_of w b) key
   fits : (key : ℕ) → keys key ≡ true → ((rest_of w b).effect key).fits (w.holds key) ≡ true
 
--- calls in turn, each of which is the same at a key in another list, or quiet there, and has no effect in the other list
-quiet_moved : (key : ℕ) (f : KeyedCall → KeyedCall) (xs : List KeyedCall) (value : Option ℕ)
-    → ((x : KeyedCall) → Contains xs x → ((f x).effect key ≡ x.effect key) ⊎ (IsQuiet x key × ((f x).effect key ≡ no_effect)))
+-- calls in turn, each of which is the same at a key in another list, or has no effect there in either
+none_moved : (key : ℕ) (f : KeyedCall → KeyedCall) (xs : List KeyedCall) (value : Option ℕ)
+    → ((x : KeyedCall) → Contains xs x → ((f x).effect key ≡ x.effect key) ⊎ (IsNoEffect (x.effect key) × IsNoEffect ((f x).effect key)))
     → FitInTurn key value xs → FitInTurn key value (map f xs)
-quiet_moved key f [] value each fit = tt
-quiet_moved key f (x ∷ xs) value each fit =
+none_moved key f [] value each fit = tt
+none_moved key f (x ∷ xs) value each fit =
     let rest : FitInTurn key ((x.effect key).leaves value) (map f xs) =
-    quiet_moved key f xs ((x.effect key).leaves value) (λ y y_in. each y (Contains-later x xs y y_in)) fit.1 in
+    none_moved key f xs ((x.effect key).leaves value) (λ y y_in. each y (Contains-later x xs y y_in)) fit.1 in
     ⊎_elim
     (λ same. subst (λ (e : Effect). (e.fits value ≡ true) × FitInTurn key (e.leaves value) (map f xs)) (sym same) (fit.0, rest))
-    (λ quiet. subst (λ (e : Effect). (e.fits value ≡ true) × FitInTurn key (e.leaves value) (map f xs)) (sym quiet.1)
-    (refl, subst (λ (u : Option ℕ). FitInTurn key u (map f xs)) (quiet.0 value fit.0) rest))
+    (λ none. (
+      none.1.fits value,
+      subst (λ (u : Option ℕ). FitInTurn key u (map f xs)) (none.0.leaves value ∙ sym (none.1.leaves value)) rest,
+    ))
     (each x (Contains-first x xs))
 
 -- calls in turn of which one has no effect at a key, and is quiet there in the other list, where all before it are
@@ -110,7 +113,7 @@ given_fit : (key : ℕ) (f : KeyedCall → KeyedCall) (b : KeyedCall) (back fron
 given_fit key f b back [] value before after none quiet fits fit = (
   fits,
   subst (λ (u : Option ℕ). FitInTurn key u (map f back)) (sym (quiet value fits))
-      (quiet_moved key f back value (λ x x_in. inl (after x x_in))
+      (none_moved key f back value (λ x x_in. inl (after x x_in))
       (subst (λ (u : Option ℕ). FitInTurn key u back) (none.leaves value) fit.1)),
 )
 given_fit key f b back (x ∷ front) value before after none quiet fits fit =
@@ -140,10 +143,6 @@ given_back w b x = record {
   concerns = λ key. cond (x.inv == b.inv) ((rest_of w b).concerns key) (x.concerns key);
   effect = λ key. cond (x.inv == b.inv) ((rest_of w b).effect key) (x.effect key);
 }
-
--- which are taken besides
-abbrev besides : Keys → KeyedCall → ℕ → ℕ → Bool
-besides keys b inv key = (inv == b.inv) && keys key
 
 or_none : (t e k : Bool) → e ≡ false → (t || (e && k)) ≡ t
 or_none true e k is = refl
@@ -205,6 +204,63 @@ module _ (keys : Keys) (more : List KeyedCall) (w v : Choice) (b : KeyedCall) (a
     fit = fit;
   }
 
+  the_read : (order : List KeyedCall) → IsKeyedOrder v.holds (map (rest_of v) more) order → (x : KeyedCall) → Contains order x
+      → (x.inv == b.inv) ≡ true → rest_of v b ≡ x
+  the_read order is x x_in named =
+      let (d, d_in, d_is) = Contains-from_map (rest_of v) more x (is.known x x_in) in
+      let one : d ≡ b = only_read d d_in (subst (λ (z : KeyedCall). (z.inv == b.inv) ≡ true) (sym d_is) named) in
+      ap (λ (z : KeyedCall). rest_of v z) (sym one) ∙ d_is
+
+  -- a choice goes on where the other does, if the read may be given back
+  goes_back : (some : GoesOn v more) → ((key : ℕ) → FitInTurn key (w.holds key) (map (given_back w b) some.1.0)) → GoesOn w more
+  goes_back some fit = (
+    All-from_contains (Agrees w) more (λ d d_in. agrees_back d (All-contains (Agrees v) more d some.0 d_in)),
+    (map (given_back w b) some.1.0, order_back some.1.0 some.1.1 fit),
+  )
+
+  -- at the keys nothing of the read is left by the second choice
+  masked_none : (key : ℕ) → keys key ≡ true → IsNoEffect ((rest_of v b).effect key)
+  masked_none key here = by_taken (v.taken b.inv key) (at.taken.taken b.inv key ∙ all (w.taken b.inv key) (eq-eqb b.inv b.inv refl))
+    where
+      all : (t : Bool) → (b.inv == b.inv) ≡ true → (t || ((b.inv == b.inv) && keys key)) ≡ true
+      all true named = refl
+      all false named = rw named here
+
+      by_taken : (t : Bool) → t ≡ true → IsNoEffect (cond t no_effect (b.effect key))
+      by_taken t taken = rw taken none_none
+
+  -- and at others the same
+  same_out : (order : List KeyedCall) → IsKeyedOrder v.holds (map (rest_of v) more) order → (key : ℕ) → keys key ≡ false → (x : KeyedCall)
+      → Contains order x → (given_back w b x).effect key ≡ x.effect key
+  same_out order is key out x x_in = by_name (bool_cases (x.inv == b.inv))
+    where
+      by_name : ((x.inv == b.inv) ≡ true) ⊎ ((x.inv == b.inv) ≡ false) → (given_back w b x).effect key ≡ x.effect key
+      by_name (inr other) = rw other refl
+      by_name (inl named) =
+          let same : v.taken b.inv key ≡ w.taken b.inv key =
+          at.taken.taken b.inv key ∙ out_none (w.taken b.inv key) (b.inv == b.inv) (keys key) out in
+          rw named (ap (λ (t : Bool). cond t no_effect (b.effect key)) (sym same)
+          ∙ ap (λ (z : KeyedCall). z.effect key) (the_read order is x x_in named))
+
+  -- it may where it has no effect at the keys
+  none_back : ((key : ℕ) → keys key ≡ true → IsNoEffect ((rest_of w b).effect key)) → GoesOn v more → GoesOn w more
+  none_back none some =
+      goes_back some (λ key. none_moved key (given_back w b) some.1.0 (w.holds key) (λ x x_in. each x key x_in (bool_cases (keys key)))
+      (subst (λ (u : Option ℕ). FitInTurn key u some.1.0) (at.taken.holds key) (some.1.1.fit key)))
+    where
+      each : (x : KeyedCall) (key : ℕ) → Contains some.1.0 x → (keys key ≡ true) ⊎ (keys key ≡ false)
+          → ((given_back w b x).effect key ≡ x.effect key) ⊎ (IsNoEffect (x.effect key) × IsNoEffect ((given_back w b x).effect key))
+      each x key x_in (inr out) = inl (same_out some.1.0 some.1.1 key out x x_in)
+      each x key x_in (inl here) = by_name (bool_cases (x.inv == b.inv))
+        where
+          by_name : ((x.inv == b.inv) ≡ true) ⊎ ((x.inv == b.inv) ≡ false)
+              → ((given_back w b x).effect key ≡ x.effect key) ⊎ (IsNoEffect (x.effect key) × IsNoEffect ((given_back w b x).effect key))
+          by_name (inr other) = inl (rw other refl)
+          by_name (inl named) = inr (
+            subst (λ (z : KeyedCall). IsNoEffect (z.effect key)) (the_read some.1.0 some.1.1 x x_in named) (masked_none key here),
+            rw named (none key here),
+          )
+
   module _ (rests : (d : KeyedCall) (key : ℕ) → Contains more d → keys key ≡ true → precedes b d ≡ false → IsQuiet (rest_of v d) key)
       (order front back : List KeyedCall) (is : IsKeyedOrder v.holds (map (rest_of v) more) order) (parts : order ≡ front ++ rest_of v b ∷ back) where
     unnamed : (x : KeyedCall) (key : ℕ) → x.inv ≢ b.inv → (given_back w b x).effect key ≡ x.effect key
@@ -237,16 +293,6 @@ module _ (keys : Keys) (more : List KeyedCall) (w v : Choice) (b : KeyedCall) (a
     itself : (key : ℕ) → (given_back w b (rest_of v b)).effect key ≡ (rest_of w b).effect key
     itself key = rw (eq-eqb b.inv b.inv refl) refl
 
-    masked_none : (key : ℕ) → keys key ≡ true → IsNoEffect ((rest_of v b).effect key)
-    masked_none key here = by_taken (v.taken b.inv key) (at.taken.taken b.inv key ∙ all (w.taken b.inv key) (eq-eqb b.inv b.inv refl))
-      where
-        all : (t : Bool) → (b.inv == b.inv) ≡ true → (t || ((b.inv == b.inv) && keys key)) ≡ true
-        all true named = refl
-        all false named = rw named here
-
-        by_taken : (t : Bool) → t ≡ true → IsNoEffect (cond t no_effect (b.effect key))
-        by_taken t taken = rw taken none_none
-
     at_key : (key : ℕ) → (keys key ≡ true) ⊎ (keys key ≡ false) → FitInTurn key (w.holds key) order
         → FitInTurn key (w.holds key) (map (given_back w b) order)
     at_key key (inl here) fit =
@@ -273,18 +319,7 @@ module _ (keys : Keys) (more : List KeyedCall) (w v : Choice) (b : KeyedCall) (a
         given_quiet : IsQuiet (given_back w b (rest_of v b)) key
         given_quiet = subst (λ (e : Effect). (value : Option ℕ) → e.fits value ≡ true → e.leaves value ≡ value) (sym (itself key)) (at.quiet key here)
     at_key key (inr out) fit =
-        quiet_moved key (given_back w b) order (w.holds key) (λ x x_in. inl (each x x_in (bool_cases (x.inv == b.inv)))) fit
-      where
-        each : (x : KeyedCall) → Contains order x → ((x.inv == b.inv) ≡ true) ⊎ ((x.inv == b.inv) ≡ false)
-            → (given_back w b x).effect key ≡ x.effect key
-        each x x_in (inr other) = rw other refl
-        each x x_in (inl named) =
-            let (d, d_in, d_is) = Contains-from_map (rest_of v) more x (is.known x x_in) in
-            let one : d ≡ b = only_read d d_in (subst (λ (z : KeyedCall). (z.inv == b.inv) ≡ true) (sym d_is) named) in
-            let x_is : rest_of v b ≡ x = ap (λ (z : KeyedCall). rest_of v z) (sym one) ∙ d_is in
-            let same : v.taken b.inv key ≡ w.taken b.inv key =
-            at.taken.taken b.inv key ∙ out_none (w.taken b.inv key) (b.inv == b.inv) (keys key) out in
-            rw named (ap (λ (t : Bool). cond t no_effect (b.effect key)) (sym same) ∙ ap (λ (z : KeyedCall). z.effect key) x_is)
+        none_moved key (given_back w b) order (w.holds key) (λ x x_in. inl (same_out order is key out x x_in)) fit
 
   read_back : ((d : KeyedCall) (key : ℕ) → Contains more d → keys key ≡ true → precedes b d ≡ false → IsQuiet (rest_of v d) key)
       → GoesOn v more → GoesOn w more
@@ -292,14 +327,9 @@ module _ (keys : Keys) (more : List KeyedCall) (w v : Choice) (b : KeyedCall) (a
       let order = some.1.0 in
       let is : IsKeyedOrder v.holds (map (rest_of v) more) order = some.1.1 in
       let in_order : Contains order (rest_of v b) = is.complete (rest_of v b) (Contains-map (rest_of v) more b at.b_in) at.completed in
-      let (front, back, parts) = Contains-split order (rest_of v b) in_order in (
-        All-from_contains (Agrees w) more (λ d d_in. agrees_back d (All-contains (Agrees v) more d some.0 d_in)),
-        (
-          map (given_back w b) order,
-          order_back order is (λ key. at_key rests order front back is parts key (bool_cases (keys key))
-              (subst (λ (u : Option ℕ). FitInTurn key u order) (at.taken.holds key) (is.fit key))),
-        ),
-      )
+      let (front, back, parts) = Contains-split order (rest_of v b) in_order in
+      goes_back some (λ key. at_key rests order front back is parts key (bool_cases (keys key))
+      (subst (λ (u : Option ℕ). FitInTurn key u order) (at.taken.holds key) (is.fit key)))
 
 -- ---- keys at rest
 
@@ -363,8 +393,15 @@ at_rest place calls more keys past next v b grown b_in completed rest after same
 apart_others : (keys : Keys) → AreApart keys (other_keys keys)
 apart_others keys key is = rw is refl
 
-pub reads_at_rest : ReadsAreTakenAtRest
-reads_at_rest held place calls keys past next others rest b b_in completed accepted read fits quiet after stand =
+-- a read is taken at keys, where each choice that has it goes on as the one that leaves it
+read_taken : (held : ℕ → Option ℕ) (place : ℕ) (calls : List KeyedCall) (keys : Keys) (past next : Choice) (others : List Choice) (rest : List Part)
+    (b : KeyedCall) → Contains calls b → is_completed b ≡ true → b.refused ≡ false → IsReadAt keys past b
+    → ((key : ℕ) → keys key ≡ true → ((rest_of past b).effect key).fits (past.holds key) ≡ true) → IsAfterCall keys past b next
+    → ((w v : Choice) (more : List KeyedCall) → HaveGrown place calls more → IsAt keys past w → IsAt keys next v
+    → AtRead (concerned keys b) more w v b → GoesOn v more → GoesOn w more)
+    → StandFor held place calls (record { keys = keys; pasts = past ∷ others } ∷ rest)
+    → StandFor held place calls (record { keys = keys; pasts = next ∷ others } ∷ rest)
+read_taken held place calls keys past next others rest b b_in completed accepted read fits after given stand =
     part_steps held place calls keys (past ∷ others) (next ∷ others) rest
     (read_comes place calls keys past next others rest b b_in completed accepted read fits after stand.shared) back stand
   where
@@ -396,10 +433,24 @@ reads_at_rest held place calls keys past next others rest b b_in completed accep
           instead keys past v,
           with_instead keys (next ∷ others) (past ∷ others) rest past v
               (keys_shared keys (past ∷ others) (next ∷ others) rest stand.shared) (Contains-first past others) v_is,
-          read_back (concerned keys b) more (instead keys past v) v b
+          given (instead keys past v) v more grown (instead_here keys past v) second
               (at_read (instead keys past v) v more grown (instead_here keys past v) second
               (at_back (other_keys keys) v (instead keys past v) (instead_there keys (other_keys keys) past v (apart_others keys))))
-              (at_rest place calls more keys past next v b grown b_in completed quiet after second) goes_on,
+              goes_on,
         ))
         (λ later. (v, with_other keys (next ∷ others) (past ∷ others) rest v p v_is (Contains-later past others p later) same, goes_on))
         (Contains-cases next others p p_in)
+
+pub reads_at_rest : ReadsAreTakenAtRest
+reads_at_rest held place calls keys past next others rest b b_in completed accepted read fits quiet after =
+    read_taken held place calls keys past next others rest b b_in completed accepted read fits after (λ w v more grown first second at.
+    read_back (concerned keys b) more w v b at (at_rest place calls more keys past next v b grown b_in completed quiet after second))
+
+-- a call that has no effect at the keys is a read there, and gains and loses nothing as it is taken
+pub calls_without_effect : CallsWithoutEffectAreTaken
+calls_without_effect held place calls keys past next others rest b b_in completed accepted none after =
+    read_taken held place calls keys past next others rest b b_in completed accepted
+    (λ key is value fit. (none key is).leaves value) (λ key is. (none key is).fits (past.holds key)) after (λ w v more grown first second at.
+    none_back (concerned keys b) more w v b at (λ key here.
+    let is : keys key ≡ true = (and_parts (keys key) (b.concerns key) here).0 in
+    subst (λ (t : Bool). IsNoEffect (cond t no_effect (b.effect key))) (sym (first.taken b.inv key is)) (none key is)))

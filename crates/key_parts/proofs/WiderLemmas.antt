@@ -17,8 +17,8 @@ use Rattle.key_effects.proofs.EffectLemmas.{same_values}
 use Rattle.key_effects.proofs.RestLemmas.{none_none}
 use Rattle.key_effects.proofs.TurnLemmas.{fit-back}
 use Rattle.key_parts.specs.Parts.{Part, IsAt, IsOneOf, choices_of, StandFor, left_at, AgreesAt, SomePastGoesOn}
-use Rattle.key_parts.specs.Steps.{IsLeftAt, MayComeNext, IsAfterCall}
-use Rattle.key_parts.specs.Laws.{PartsMayBeTied, PastsMayStay, EarlyReadsGain}
+use Rattle.key_parts.specs.Steps.{IsLeftAt, NoneIsLeftAt, MayComeNext, IsAfterCall}
+use Rattle.key_parts.specs.Laws.{PartsMayBeTied, PastsMayStay, TiedCallsMayWait, EarlyReadsGain}
 use Rattle.key_parts.proofs.PartLemmas.{all_keys, at_self, at_back, same_goes_on, fit_none, none_left_out}
 use Rattle.key_parts.proofs.StepLemmas.{parts_begin, parts_stay, parts_unite}
 
@@ -589,3 +589,104 @@ parts_may_be_tied rule =
     (goes_on_first zero_keys order_of_zero)
     (All-cons (SomePastGoesOn tied) (first_part rest_keys) [] (goes_on_first rest_keys order_of_rest)
     (All-nil (SomePastGoesOn tied)))))
+
+-- ---- the later of these inserts and the scan: the insert must come first, though only the scan may come next at key 0
+
+abbrev seen : List KeyedCall
+seen = scan ∷ second ∷ []
+
+formed_seen : All IsFormed seen
+formed_seen = All-cons IsFormed scan (second ∷ []) (All-contains IsFormed tied scan formed_tied scan_in)
+    (All-cons IsFormed second [] (All-contains IsFormed tied second formed_tied second_in) (All-nil IsFormed))
+
+keyed_seen : AreKeyedCalls seen
+keyed_seen = keyed_two scan second (omega arith) refl refl
+
+grown_seen : HaveGrown 6 seen seen
+grown_seen = grown_same 6 seen
+    (All-cons (λ a. a.inv < 6) scan (second ∷ []) (omega arith) (All-cons (λ a. a.inv < 6) second [] (omega arith) (All-nil (λ a. a.inv < 6))))
+    (λ a res a_in is. each_of_two (λ x. x.res ≡ Some res → res < 6) scan second
+    (λ e. let r : 5 ≡ res = same_Some 5 res e in omega arith) (λ e. let r : 4 ≡ res = same_Some 4 res e in omega arith) a a_in is)
+    formed_seen keyed_seen
+
+order_of_seen : HasKeyedOrder nothing seen
+order_of_seen = (
+  second ∷ scan ∷ [],
+  record {
+    known = λ a a_in. each_of_two (λ x. Contains seen x) second scan
+        (Contains-later scan (second ∷ []) second (Contains-first second [])) (Contains-first scan (second ∷ [])) a a_in;
+    distinct = AllPairs-cons (λ x y. x.inv ≢ y.inv) second (scan ∷ [])
+        (All-cons (λ y. second.inv ≢ y.inv) scan [] (λ same. omega (arith, same)) (All-nil (λ y. second.inv ≢ y.inv)))
+        (keyed_one scan refl).distinct;
+    precedence = AllPairs-cons (λ x y. precedes y x ≡ false) second (scan ∷ [])
+        (All-cons (λ y. precedes y second ≡ false) scan [] refl (All-nil (λ y. precedes y second ≡ false)))
+        (AllPairs-cons (λ x y. precedes y x ≡ false) scan [] (All-nil (λ y. precedes y scan ≡ false))
+        (AllPairs-nil (λ x y. precedes y x ≡ false)));
+    complete = λ a a_in completed. each_of_two (λ x. Contains (second ∷ scan ∷ []) x) scan second
+        (Contains-later second (scan ∷ []) scan (Contains-first scan [])) (Contains-first second (scan ∷ [])) a a_in;
+    fit = λ key. by_key key (bool_cases (0 == key)) (bool_cases (1 == key));
+  },
+)
+  where
+    by_key : (key : ℕ) → ((0 == key) ≡ true) ⊎ ((0 == key) ≡ false) → ((1 == key) ≡ true) ⊎ ((1 == key) ≡ false)
+        → FitInTurn key None (second ∷ scan ∷ [])
+    by_key key (inl is) one = subst (λ (k : ℕ). FitInTurn k None (second ∷ scan ∷ [])) (eqb-true 0 key is) (refl, (refl, tt))
+    by_key key (inr is) (inl one) = subst (λ (k : ℕ). FitInTurn k None (second ∷ scan ∷ [])) (eqb-true 1 key one) (refl, (refl, tt))
+    by_key key (inr is) (inr not_one) = (rw not_one refl, (rw (is, not_one) refl, tt))
+
+-- what comes of taking the scan, which finds nothing at key 1
+abbrev with_scan : Choice
+with_scan = record {
+  taken = λ inv key. (inv == 0) && scan.concerns key;
+  found = λ inv key. None;
+  holds = λ key. (scan.effect key).leaves None;
+}
+
+after_scan : IsAfterCall all_keys (at_first nothing) scan with_scan
+after_scan = record {
+  taken = λ inv key is. refl;
+  holds = λ key is. refl;
+  found_before = λ inv key is taken. cc;
+  found = λ key is taken concerned. refl;
+}
+
+scan_comes : MayComeNext zero_keys (at_first nothing) seen scan
+scan_comes = record {
+  is_left = (0, refl, refl);
+  accepted = refl;
+  fits = λ key is. let here : (0 == key) ≡ true = is in rw here refl;
+  first = λ b b_in before. absurd (each_of_two (λ z. precedes z scan ≡ true → ⊥) scan second (λ never. cc) (λ never. cc) b b_in before);
+}
+
+second_elsewhere : NoneIsLeftAt zero_keys (at_first nothing) second
+second_elsewhere key is = subst (λ (k : ℕ). (1 == k) ≡ false) (eqb-true 0 key is) refl
+
+pub tied_calls_may_wait : TiedCallsMayWait
+tied_calls_may_wait rule =
+    let stand = rule nothing 6 6 seen all_keys zero_keys (at_first nothing) [] (with_scan ∷ []) [] scan (λ key is. refl)
+    (Contains-first scan (second ∷ [])) refl refl (0, refl, refl)
+    (λ a a_in begun accepted. each_of_two (λ x. IsLeftAt zero_keys (at_first nothing) x ⊎ NoneIsLeftAt zero_keys (at_first nothing) x) scan second
+    (inl (0, refl, refl)) (inr second_elsewhere) a a_in)
+    (λ a a_in may. (
+      with_scan,
+      Contains-first with_scan [],
+      each_of_two (λ x. IsLeftAt zero_keys (at_first nothing) x → IsAfterCall all_keys (at_first nothing) x with_scan) scan second
+          (λ is. after_scan) (λ is. absurd (not_left is)) a a_in may.is_left,
+    ))
+    (λ next next_in. (
+      scan,
+      Contains-first scan (second ∷ []),
+      scan_comes,
+      ⊎_elim (λ e. subst (λ (v : Choice). IsAfterCall all_keys (at_first nothing) scan v) e after_scan)
+          (λ later. absurd (Contains-nil next later)) (Contains-cases with_scan [] next next_in),
+    ))
+    (stands_first 6 seen formed_seen keyed_seen) in
+    let (w, w_is, goes_on) = stand.above seen grown_seen order_of_seen in
+    let same : IsAt all_keys with_scan w = only_past with_scan w w_is in
+    let fits : (scan.effect 1).fits (w.found 0 1) ≡ true = (All-head (Agrees w) scan (second ∷ []) goes_on.0).fits 1 (same.taken 0 1 refl) in
+    let never : is_same_value (Some 5) None ≡ true =
+    subst (λ (v : Option ℕ). (scan.effect 1).fits v ≡ true) (same.found 0 1 refl refl) fits in cc
+  where
+    not_left : IsLeftAt zero_keys (at_first nothing) second → ⊥
+    not_left (key, is, there) =
+        let out : (1 == key) ≡ false = second_elsewhere key is in let here : (1 == key) ≡ true = there in cc

@@ -1,5 +1,5 @@
 -- Laws of what is left at some keys, as events come.
-use Rattle.std.specs.Prelude.{◌≡◌, ◌⊎◌, ℕ, ◌<◌, ◌≤◌, true, false, ◌||◌, List, [], ◌∷◌, ◌++◌, Option, Some, None, All, AllPairs, Contains}
+use Rattle.std.specs.Prelude.{◌≡◌, ◌≢◌, ◌⊎◌, ℕ, ◌<◌, ◌≤◌, true, false, ◌||◌, List, [], ◌∷◌, ◌++◌, Option, Some, None, All, AllPairs, Contains}
 use Rattle.events.specs.declared.operation.Operation.{Operation}
 use Rattle.events.specs.declared.operation.Response.{Response}
 use Rattle.map_object.specs.MapObject.{Contents, IsRising, value_at}
@@ -11,7 +11,7 @@ use Rattle.key_effects.specs.Cuts.{Keys}
 use Rattle.key_effects.specs.Apart.{AreApart, IsRead}
 use Rattle.key_parts.specs.Parts.{Part, IsAt, StandFor, AgreesAt}
 use Rattle.key_parts.specs.Steps.{IsAfterCall}
-use Rattle.key_parts.specs.Left.{IsLeft, HasKeysIn, HasNoKeyIn, IsNotTakenAt, IsTakenAt, answered, AreTogether, pairs_at}
+use Rattle.key_parts.specs.Left.{IsLeft, HasKeysIn, HaveTheirKeys, HasNoKeyIn, IsNotTakenAt, IsTakenAt, answered, AreTogether, pairs_at}
 
 -- before any event nothing is left
 abbrev pub NothingIsLeft : Type 0
@@ -42,13 +42,12 @@ AnsweredCallsAreLeft =
     → HasKeysIn keys o → IsNotTakenAt keys past o.inv → IsLeft keys past limit (front ++ keyed o ∷ back) pairs (before ++ o ∷ after)
     → IsLeft keys past limit (front ++ keyed (answered response o) ∷ back) pairs (before ++ answered response o ∷ after)
 
--- a read of these keys that was not among what is left comes to it as it is answered
+-- a call of these keys that was not among what is left comes to it as it is answered, as a read may
 abbrev pub AnsweredReadsAreLeft : Type 0
 AnsweredReadsAreLeft =
     (keys : Keys) (past : Choice) (limit : ℕ) (front back : List KeyedCall) (pairs : Contents) (before after : List Operation) (o : Operation)
-    (response : Response) (key : ℕ) → AreKeyedCalls (front ++ keyed o ∷ back) → o.response ≡ None → is_refusal response.reply ≡ false
-    → HasForm o.call (Some response) → concerns_key o.call key ≡ true → HasKeysIn keys o → IsNotTakenAt keys past o.inv
-    → All (λ p. p.inv < o.inv) before → All (λ p. o.inv < p.inv) after
+    (response : Response) (key : ℕ) → is_refusal response.reply ≡ false → HasForm o.call (Some response) → concerns_key o.call key ≡ true
+    → HasKeysIn keys o → IsNotTakenAt keys past o.inv → All (λ p. p.inv < o.inv) before → All (λ p. o.inv < p.inv) after
     → IsLeft keys past limit (front ++ keyed o ∷ back) pairs (before ++ after)
     → IsLeft keys past limit (front ++ keyed (answered response o) ∷ back) pairs (before ++ answered response o ∷ after)
 
@@ -69,22 +68,22 @@ OtherCallsAreAnswered =
     → IsLeft keys past limit (front ++ keyed o ∷ back) pairs left
     → IsLeft keys past limit (front ++ keyed (answered response o) ∷ back) pairs left
 
--- a call that is refused is left no more; nor is a read that was not among what is left
+-- a call that is refused is left no more; nor is one that was not among what is left
 abbrev pub RefusedCallsAreNotLeft : Type 0
 RefusedCallsAreNotLeft =
     (keys : Keys) (past : Choice) (limit : ℕ) (front back : List KeyedCall) (pairs : Contents) (before after : List Operation) (o : Operation)
-    (response : Response) → AreKeyedCalls (front ++ keyed o ∷ back) → o.response ≡ None → is_refusal response.reply ≡ true
-    → IsNotTakenAt keys past o.inv
-    → (IsLeft keys past limit (front ++ keyed o ∷ back) pairs (before ++ o ∷ after)
+    (response : Response) → is_refusal response.reply ≡ true → IsNotTakenAt keys past o.inv
+    → (AreKeyedCalls (front ++ keyed o ∷ back) → IsLeft keys past limit (front ++ keyed o ∷ back) pairs (before ++ o ∷ after)
     → IsLeft keys past limit (front ++ keyed (answered response o) ∷ back) pairs (before ++ after))
-    × (IsRead (keyed o) → IsLeft keys past limit (front ++ keyed o ∷ back) pairs (before ++ after)
+    × (((p : Operation) → Contains (before ++ after) p → p.inv ≢ o.inv)
+    → IsLeft keys past limit (front ++ keyed o ∷ back) pairs (before ++ after)
     → IsLeft keys past limit (front ++ keyed (answered response o) ∷ back) pairs (before ++ after))
 
 -- a call that was answered and has no effect at some keys is taken there at any time
 abbrev pub CallsWithoutEffectAreTaken : Type 0
 CallsWithoutEffectAreTaken =
-    (held : ℕ → Option ℕ) (place : ℕ) (calls : List KeyedCall) (keys : Keys) (past next : Choice) (others : List Choice) (rest : List Part) (b : KeyedCall)
-    → Contains calls b → is_completed b ≡ true → b.refused ≡ false
+    (held : ℕ → Option ℕ) (place : ℕ) (calls : List KeyedCall) (keys : Keys) (past next : Choice) (others : List Choice) (rest : List Part)
+    (b : KeyedCall) → Contains calls b → is_completed b ≡ true → b.refused ≡ false
     → ((key : ℕ) → keys key ≡ true → IsNoEffect ((rest_of past b).effect key)) → IsAfterCall keys past b next
     → StandFor held place calls (record { keys = keys; pasts = past ∷ others } ∷ rest)
     → StandFor held place calls (record { keys = keys; pasts = next ∷ others } ∷ rest)
@@ -93,7 +92,7 @@ CallsWithoutEffectAreTaken =
 abbrev pub LeftCallsUnite : Type 0
 LeftCallsUnite =
     (keys others : Keys) (a b c : Choice) (limit : ℕ) (calls : List KeyedCall) (pairs other_pairs both : Contents)
-    (left other_left all : List Operation) → AreApart keys others → AreKeyedCalls calls → IsAt keys a c → IsAt others b c
+    (left other_left all : List Operation) → IsAt keys a c → IsAt others b c
     → All (HasKeysIn keys) left → All (HasKeysIn others) other_left → AreTogether keys pairs other_pairs both left other_left all
     → IsLeft keys a limit calls pairs left → IsLeft others b limit calls other_pairs other_left
     → IsLeft (λ key. keys key || others key) c limit calls both all
@@ -102,7 +101,7 @@ LeftCallsUnite =
 abbrev pub LeftCallsPart : Type 0
 LeftCallsPart =
     (keys others : Keys) (past : Choice) (limit : ℕ) (calls : List KeyedCall) (pairs : Contents) (left some : List Operation)
-    → AreApart keys others → AllPairs (λ o p. o.inv < p.inv) some
+    → AreApart keys others → AllPairs (λ o p. o.inv < p.inv) some → HaveTheirKeys calls left
     → ((o : Operation) → Contains left o → (HasKeysIn keys o × Contains some o) ⊎ HasKeysIn others o)
     → ((o : Operation) → Contains some o → HasKeysIn keys o × Contains left o)
     → IsLeft (λ key. keys key || others key) past limit calls pairs left

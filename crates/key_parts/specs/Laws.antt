@@ -3,16 +3,16 @@ use Rattle.std.specs.Prelude.{◌≡◌, ◌⊎◌, ◌↔◌, ℕ, ◌<◌, ◌
 use Rattle.events.specs.declared.operation.Operation.{Operation}
 use Rattle.map_object.specs.MapObject.{Contents}
 use Rattle.orders.specs.Orders.{IsLinearizable, after_call}
-use Rattle.key_effects.specs.KeyedCalls.{KeyedCall, is_completed, ends_before, keyed, IsFormed}
+use Rattle.key_effects.specs.KeyedCalls.{KeyedCall, IsFormed, is_completed, ends_before, keyed}
 use Rattle.key_effects.specs.KeyedOrders.{HasKeyedOrder, AreKeyedCalls}
 use Rattle.key_effects.specs.Growth.{HaveGrown}
 use Rattle.key_effects.specs.Choices.{Choice, at_first, rest_of}
 use Rattle.key_effects.specs.Cuts.{Keys}
 use Rattle.key_effects.specs.Apart.{AreApart, IsAlikeAt}
-use Rattle.key_parts.specs.Parts.{Part, IsOneOf, ShareKeys, StandFor, GoesOnAt, SomePastGoesOn, AreOfOnePart, left_at, AgreesAt}
+use Rattle.key_parts.specs.Parts.{Part, IsOneOf, ShareKeys, StandFor, GoesOnAt, SomePastGoesOn, AreOfOnePart, AgreesAt, left_at}
 use Rattle.key_parts.specs.Steps.{IsLeftAt, MayComeNext, IsAfterCall, AreKnownAt, ArePartedBefore, IsReadAt, IsAtRest, AreJoined}
 use Rattle.key_parts.specs.Operations.{AreLeftCalls, AreOfLeftCalls, AreAllLeft, OperationMayCome, without_call}
-use Rattle.key_parts.specs.Wider.{AnyPartsDecide, PendingCallsMustCome, ReadsAreTakenAtOnce}
+use Rattle.key_parts.specs.Wider.{AnyPartsDecide, PendingCallsMustCome, TiedCallsComeNext, ReadsAreTakenAtOnce}
 
 -- before any event all keys are one part, of one past: no call is taken, and the keys hold what they hold at the start
 abbrev pub PartsBegin : Type 0
@@ -47,18 +47,19 @@ DeadPastsGo =
     → StandFor held place calls (record { keys = keys; pasts = pasts } ∷ rest)
     → StandFor held place calls (record { keys = keys; pasts = left } ∷ rest)
 
--- where some call that was answered must still come, a past becomes those that it comes to by each call that may come next: these began before
--- that answer
+-- where some call that was answered must still come at some of a part's keys, a past becomes those that it comes to by each call that may come
+-- next there: these began before that answer
 abbrev pub CallsComeNext : Type 0
 CallsComeNext =
-    (held : ℕ → Option ℕ) (place limit : ℕ) (calls : List KeyedCall) (keys : Keys) (past : Choice) (others nexts : List Choice) (rest : List Part)
-    (ended : KeyedCall) → Contains calls ended → ends_before ended.res limit ≡ true → ended.refused ≡ false
-    → IsLeftAt keys past ended → AreKnownAt keys limit past calls
-    → ArePartedBefore keys limit (record { keys = keys; pasts = past ∷ [] } ∷ rest) calls
-    → ((a : KeyedCall) → Contains calls a → MayComeNext keys past calls a
+    (held : ℕ → Option ℕ) (place limit : ℕ) (calls : List KeyedCall) (keys some : Keys) (past : Choice) (others nexts : List Choice)
+    (rest : List Part) (ended : KeyedCall) → ((key : ℕ) → some key ≡ true → keys key ≡ true)
+    → Contains calls ended → ends_before ended.res limit ≡ true → ended.refused ≡ false
+    → IsLeftAt some past ended → AreKnownAt some limit past calls
+    → ArePartedBefore some limit (record { keys = keys; pasts = past ∷ [] } ∷ rest) calls
+    → ((a : KeyedCall) → Contains calls a → MayComeNext some past calls a
     → (next : Choice) × Contains nexts next × IsAfterCall keys past a next)
     → ((next : Choice) → Contains nexts next
-    → (a : KeyedCall) × Contains calls a × MayComeNext keys past calls a × IsAfterCall keys past a next)
+    → (a : KeyedCall) × Contains calls a × MayComeNext some past calls a × IsAfterCall keys past a next)
     → StandFor held place calls (record { keys = keys; pasts = past ∷ others } ∷ rest)
     → StandFor held place calls (record { keys = keys; pasts = nexts ++ others } ∷ rest)
 
@@ -66,12 +67,13 @@ CallsComeNext =
 abbrev pub CallsAreKnown : Type 0
 CallsAreKnown = (keys : Keys) (place : ℕ) (past : Choice) (calls : List Operation) → AreKnownAt keys place past (map keyed calls)
 
--- a read that was answered, and may come next, may be taken at once, and no other call in its stead
+-- a read that was answered, and may come next at some of a part's keys, may be taken at once, and no other call in its stead
 abbrev pub ReadsComeNext : Type 0
 ReadsComeNext =
-    (held : ℕ → Option ℕ) (place limit : ℕ) (calls : List KeyedCall) (keys : Keys) (past next : Choice) (others : List Choice) (rest : List Part)
-    (b : KeyedCall) → Contains calls b → is_completed b ≡ true → b.inv < limit → MayComeNext keys past calls b → IsReadAt keys past b
-    → IsAfterCall keys past b next → ArePartedBefore keys limit (record { keys = keys; pasts = past ∷ [] } ∷ rest) calls
+    (held : ℕ → Option ℕ) (place limit : ℕ) (calls : List KeyedCall) (keys some : Keys) (past next : Choice) (others : List Choice)
+    (rest : List Part) (b : KeyedCall) → ((key : ℕ) → some key ≡ true → keys key ≡ true)
+    → Contains calls b → is_completed b ≡ true → b.inv < limit → MayComeNext some past calls b → IsReadAt some past b
+    → IsAfterCall keys past b next → ArePartedBefore some limit (record { keys = keys; pasts = past ∷ [] } ∷ rest) calls
     → StandFor held place calls (record { keys = keys; pasts = past ∷ others } ∷ rest)
     → StandFor held place calls (record { keys = keys; pasts = next ∷ others } ∷ rest)
 
@@ -105,6 +107,10 @@ PartsMayBeTied = AnyPartsDecide → ⊥
 -- where no call that is left was answered, none need come, and a past that goes may be lost
 abbrev pub PastsMayStay : Type 0
 PastsMayStay = PendingCallsMustCome → ⊥
+
+-- where a call is left at some keys and at others, it may have to wait for calls at the others, and a past that goes may be lost
+abbrev pub TiedCallsMayWait : Type 0
+TiedCallsMayWait = TiedCallsComeNext → ⊥
 
 -- and a read that is taken too early may gain an order
 abbrev pub EarlyReadsGain : Type 0

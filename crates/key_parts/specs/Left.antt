@@ -23,6 +23,12 @@ HasKeysIn keys o = (key : ℕ) → concerns_key o.call key ≡ true → keys key
 abbrev pub HasNoKeyIn : Keys → Operation → Type 0
 HasNoKeyIn keys o = (key : ℕ) → keys key ≡ true → concerns_key o.call key ≡ false
 
+-- an operation that is left has all keys of the call of its name
+abbrev pub HaveTheirKeys : List KeyedCall → List Operation → Type 0
+HaveTheirKeys calls left =
+    (o : Operation) (a : KeyedCall) → Contains left o → Contains calls a → a.inv ≡ o.inv → (key : ℕ) → a.concerns key ≡ true
+    → concerns_key o.call key ≡ true
+
 -- a call that is pending is not taken at any of these keys, or it is at all of its own
 abbrev pub IsNotTakenAt : Keys → Choice → ℕ → Type 0
 IsNotTakenAt keys past inv = (key : ℕ) → keys key ≡ true → past.taken inv key ≡ false

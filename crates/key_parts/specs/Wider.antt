@@ -1,6 +1,6 @@
 -- Rules that go further than the laws, and are false.
 use Rattle.std.specs.Prelude.{◌≡◌, ℕ, ◌<◌, true, false, List, [], ◌∷◌, ◌++◌, Option, All, AllPairs, Contains}
-use Rattle.key_effects.specs.KeyedCalls.{KeyedCall, is_completed}
+use Rattle.key_effects.specs.KeyedCalls.{KeyedCall, ends_before, is_completed}
 use Rattle.key_effects.specs.KeyedOrders.{HasKeyedOrder}
 use Rattle.key_effects.specs.Growth.{HaveGrown}
 use Rattle.key_effects.specs.Choices.{Choice, rest_of}
@@ -25,6 +25,20 @@ PendingCallsMustCome =
     → (next : Choice) × Contains nexts next × IsAfterCall keys past a next)
     → ((next : Choice) → Contains nexts next
     → (a : KeyedCall) × Contains calls a × MayComeNext keys past calls a × IsAfterCall keys past a next)
+    → StandFor held place calls (record { keys = keys; pasts = past ∷ others } ∷ rest)
+    → StandFor held place calls (record { keys = keys; pasts = nexts ++ others } ∷ rest)
+
+-- that a past becomes those that it comes to by each call that may come next at some keys, though a call is left at these and at others
+abbrev pub TiedCallsComeNext : Type 0
+TiedCallsComeNext =
+    (held : ℕ → Option ℕ) (place limit : ℕ) (calls : List KeyedCall) (keys some : Keys) (past : Choice) (others nexts : List Choice)
+    (rest : List Part) (ended : KeyedCall) → ((key : ℕ) → some key ≡ true → keys key ≡ true)
+    → Contains calls ended → ends_before ended.res limit ≡ true → ended.refused ≡ false
+    → IsLeftAt some past ended → AreKnownAt some limit past calls
+    → ((a : KeyedCall) → Contains calls a → MayComeNext some past calls a
+    → (next : Choice) × Contains nexts next × IsAfterCall keys past a next)
+    → ((next : Choice) → Contains nexts next
+    → (a : KeyedCall) × Contains calls a × MayComeNext some past calls a × IsAfterCall keys past a next)
     → StandFor held place calls (record { keys = keys; pasts = past ∷ others } ∷ rest)
     → StandFor held place calls (record { keys = keys; pasts = nexts ++ others } ∷ rest)
 

@@ -21,7 +21,7 @@ pub fn answered_calls_are_left()
     ensures { AnsweredCallsAreLeft }
 {}
 
-/// A read may come to what is left as it is answered.
+/// A call that was not among what is left comes to it as it is answered, as a read may.
 pub fn answered_reads_are_left()
     ensures { AnsweredReadsAreLeft }
 {}

@@ -1,5 +1,5 @@
 // Laws of parts, each the contract of a function that does nothing.
-ghost use Rattle.key_parts.specs.Laws.{CallsAreKnown, CallsComeNext, DeadPastsGo, EarlyReadsGain, OperationsDecide, PartsBegin, PartsDecide, PartsInAnyOrder, PartsMayBeTied, PartsStay, PartsUnite, PastsMayStay, ReadsAreTakenAtRest, ReadsComeNext, OperationsComeNext, OperationsMayCome};
+ghost use Rattle.key_parts.specs.Laws.{CallsAreKnown, CallsComeNext, DeadPastsGo, EarlyReadsGain, OperationsComeNext, OperationsDecide, OperationsMayCome, PartsBegin, PartsDecide, PartsInAnyOrder, PartsMayBeTied, PartsStay, PartsUnite, PastsMayStay, ReadsAreTakenAtRest, ReadsComeNext, TiedCallsMayWait};
 
 /// Before any event all keys are one part, of one past.
 pub fn parts_begin()
@@ -26,7 +26,8 @@ pub fn dead_pasts_go()
     ensures { DeadPastsGo }
 {}
 
-/// Where a call that was answered must still come, a past becomes those that it comes to by each call that may come next.
+/// Where a call that was answered must still come at some of a part's keys, a past becomes those that it comes to by each call that may come next
+/// there.
 pub fn calls_come_next()
     ensures { CallsComeNext }
 {}
@@ -36,7 +37,7 @@ pub fn calls_are_known()
     ensures { CallsAreKnown }
 {}
 
-/// A read that was answered, and may come next, may be taken at once.
+/// A read that was answered, and may come next at some of a part's keys, may be taken at once.
 pub fn reads_come_next()
     ensures { ReadsComeNext }
 {}
@@ -64,6 +65,11 @@ pub fn parts_may_be_tied()
 /// Where no call that is left was answered, none need come, and a past that goes may be lost.
 pub fn pasts_may_stay()
     ensures { PastsMayStay }
+{}
+
+/// Where a call is left at some keys and at others, a past that goes may be lost.
+pub fn tied_calls_may_wait()
+    ensures { TiedCallsMayWait }
 {}
 
 /// And a read that is taken too early may gain an order.
