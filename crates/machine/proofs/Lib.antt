@@ -5,3 +5,4 @@ mod RecordLemmas
 mod RunningLemmas
 mod StartingLemmas
 mod ReadMomentLemmas
+mod NextStepLemmas

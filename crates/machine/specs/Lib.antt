@@ -9,3 +9,4 @@ pub mod Starting
 pub mod Serial
 pub mod ReadMoments
 pub mod Linearizable
+pub mod NextSteps

@@ -3,6 +3,7 @@
 
 mod machine_turn;
 mod machines;
+mod next_steps;
 mod opening;
 mod recorded;
 mod runner;
@@ -13,4 +14,5 @@ mod table;
 mod turns;
 
 pub use machines::Machine;
+pub use next_steps::NextStep;
 pub use plans::{MachineFault, RunFault};

@@ -2,4 +2,4 @@ pub mod AmongLemmas
 pub mod JsonLemmas
 pub mod PlanTextLemmas
 pub mod WrittenPlanLemmas
-mod PlanSizeLemmas
+pub mod PlanSizeLemmas

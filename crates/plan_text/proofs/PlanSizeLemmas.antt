@@ -28,7 +28,7 @@ digits n h = let below : n < 2 ^ 32 = ltb-true n (2 ^ 32) h in length-decimal-le
 value_digits : (n : ℕ) → nat_lt n (2 ^ 30) ≡ true → length (decimal n) ≤ 10
 value_digits n h = let below : n < 2 ^ 30 = ltb-true n (2 ^ 30) h in length-decimal-le 10 n (omega arith) (omega arith) (omega arith)
 
-size-call : (call : Call) → is_tree_call call ≡ true → length (compact_text (call_data call)) ≤ 44
+pub size-call : (call : Call) → is_tree_call call ≡ true → length (compact_text (call_data call)) ≤ 44
 unfolding serde_json_on_literals
 size-call (Get key) h = omega (arith, length-append (decimal key) (93 ∷ []), digits key h)
 size-call (Remove key) h = omega (arith, length-append (decimal key) (93 ∷ []), digits key h)
@@ -66,7 +66,7 @@ size-call (Replace key old new) h =
     )
 
 -- what stands before an item
-size-comma : (later : Bool) (xs : List ℕ) → length (comma_if later ++ xs) ≤ length xs + 1
+pub size-comma : (later : Bool) (xs : List ℕ) → length (comma_if later ++ xs) ≤ length xs + 1
 size-comma true xs = omega arith
 size-comma false xs = omega arith
 
@@ -86,7 +86,7 @@ size-calls later (call ∷ calls) h =
     )
 
 -- all scripts, with the closing bracket
-size-scripts : (later : Bool) (scripts : List (List Call)) → AreTreeCalls scripts
+pub size-scripts : (later : Bool) (scripts : List (List Call)) → AreTreeCalls scripts
     → length (items_text later (items_of (map script_data scripts))) ≤ 45 * sum (map (λ script. length script) scripts) + 3
     * length scripts + 1
 size-scripts later [] h = omega arith

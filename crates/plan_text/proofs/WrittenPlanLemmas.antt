@@ -17,7 +17,7 @@ use Rattle.plan_text.specs.PlanTexts.{plan_data, is_plain_script, are_plain_scri
 has_float-script : (calls : List Call) → has_float (script_data calls) ≡ false
 has_float-script calls = items_have_float-map call_data has_float-call calls
 
-has_float-scripts : (scripts : List (List Call)) → has_float (scripts_data scripts) ≡ false
+pub has_float-scripts : (scripts : List (List Call)) → has_float (scripts_data scripts) ≡ false
 has_float-scripts scripts = items_have_float-map script_data has_float-script scripts
 
 -- a plan has no float
@@ -27,7 +27,7 @@ has_float-plan scripts = rw (has_float-scripts scripts) refl
 depth-script : (calls : List Call) → depth (script_data calls) ≤ 3
 depth-script calls = omega (arith, items_depth-map call_data 2 depth-call calls)
 
-depth-scripts : (scripts : List (List Call)) → depth (scripts_data scripts) ≤ 4
+pub depth-scripts : (scripts : List (List Call)) → depth (scripts_data scripts) ≤ 4
 depth-scripts scripts = omega (arith, items_depth-map script_data 3 depth-script scripts)
 
 -- a plan nests five deep at most
@@ -49,7 +49,7 @@ any_script (call ∷ calls) h = rw (
       (All-tail IsTreeCall call calls h),
 ) refl
 
-any_scripts : (scripts : List (List Call)) → AreTreeCalls scripts → are_scripts true scripts ≡ true
+pub any_scripts : (scripts : List (List Call)) → AreTreeCalls scripts → are_scripts true scripts ≡ true
 any_scripts [] h = refl
 any_scripts (calls ∷ scripts) h =
     rw (any_script calls (All-head (All IsTreeCall) calls scripts h), any_scripts scripts (All-tail (All IsTreeCall) calls scripts h)) refl
@@ -64,7 +64,7 @@ plain_script (call ∷ calls) h plain =
     let parts = and_parts (not (is_replace call)) (is_plain_script calls) plain in
     rw (plain_call call (All-head IsTreeCall call calls h) parts.0, plain_script calls (All-tail IsTreeCall call calls h) parts.1) refl
 
-plain_scripts : (scripts : List (List Call)) → AreTreeCalls scripts → are_plain_scripts scripts ≡ true → are_scripts false scripts ≡ true
+pub plain_scripts : (scripts : List (List Call)) → AreTreeCalls scripts → are_plain_scripts scripts ≡ true → are_scripts false scripts ≡ true
 plain_scripts [] h plain = refl
 plain_scripts (calls ∷ scripts) h plain =
     let parts = and_parts (is_plain_script calls) (are_plain_scripts scripts) plain in

@@ -9,4 +9,4 @@ mod write_text;
 pub use read_scripts::scripts_of;
 pub use read_text::read_plan;
 pub use text_laws::{one_plan, one_plan_fault};
-pub use write_text::write_plan;
+pub use write_text::{are_plain_scripts, scripts_value, write_plan};

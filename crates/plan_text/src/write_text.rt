@@ -51,7 +51,7 @@ fn plan_object(alloc: Global, scripts: Value, version: u64) -> Result<Value, All
 }
 
 /// Whether no call of any script is a replace.
-fn are_plain_scripts(scripts: &[Vec<TreeCall>]) -> bool
+pub fn are_plain_scripts(scripts: &[Vec<TreeCall>]) -> bool
     ensures { result ≡ are_plain_scripts (map (λ script. script.items) scripts.now) }
 {
     for script in scripts {
@@ -80,7 +80,7 @@ fn is_plain_call(call: &TreeCall) -> bool
 }
 
 /// The JSON value of the scripts.
-fn scripts_value(alloc: Global, scripts: &[Vec<TreeCall>]) -> Result<Value, AllocError>
+pub fn scripts_value(alloc: Global, scripts: &[Vec<TreeCall>]) -> Result<Value, AllocError>
     ensures { IfOk result (λ value. view value ≡ scripts_data (map (λ script. script.items) scripts.now)) }
 {
     let mut items = Vec::new(alloc);

@@ -26,6 +26,8 @@ mod plan_texts;
 #[cfg(test)]
 mod recorded;
 #[cfg(test)]
+mod replay_texts;
+#[cfg(test)]
 mod shapes;
 #[cfg(test)]
 mod subjects;

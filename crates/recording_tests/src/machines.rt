@@ -2,7 +2,8 @@
 use crate::shapes::eights;
 use art::Variant;
 use art_core::Item;
-use machine::{Machine, MachineFault, RunFault};
+use art_steps::Access;
+use machine::{Machine, MachineFault, NextStep, RunFault};
 use plan_text::read_plan;
 use std::alloc::{AllocError, Global};
 use std::process::Abort;
@@ -91,5 +92,30 @@ fn a_row_grows_from_4_to_16_to_48_children(rt: HostRuntime) -> Result<(), Fail> 
     let mut machine = open_machine(rt.alloc(), INSERTS)?;
     make_all_turns(&rt, rt.alloc(), &mut machine);
     check_grown(&rt, machine.words());
+    Ok(())
+}
+
+/// What a process does next: a digit for each kind of step, and 9 where it loads a word.
+fn kind_of_step(step: NextStep) -> u32 {
+    match step {
+        NextStep::Nothing => 0,
+        NextStep::Stamp => 1,
+        NextStep::Access(Access::Load { word: _ }) => 9,
+        NextStep::Access(_) => 2,
+    }
+}
+
+#[test]
+fn a_machine_says_what_comes_next(rt: HostRuntime) -> Result<(), Fail> {
+    let alloc = rt.alloc();
+    let mut machine = open_machine(alloc, r#"{"scripts":[[["get",5]],[]],"version":1}"#)?;
+    assert_eq!(rt; kind_of_step(machine.next_step(0)), 1);
+    assert_eq!(rt; kind_of_step(machine.next_step(1)), 0);
+    assert_eq!(rt; kind_of_step(machine.next_step(2)), 0);
+    assert_eq!(rt; machine.turn(alloc, 0), Ok(()));
+    assert_eq!(rt; kind_of_step(machine.next_step(0)), 9);
+    let end = [Item::End { process: 0 }];
+    assert_eq!(rt; machine.run(alloc, &end), Ok(()));
+    assert_eq!(rt; kind_of_step(machine.next_step(0)), 0);
     Ok(())
 }

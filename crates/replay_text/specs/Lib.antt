@@ -4,3 +4,4 @@ pub mod ReplayTexts
 pub mod ReplayTextFaults
 pub mod ReplayTextLaws
 pub mod Settings
+pub mod WrittenReplays
