@@ -23,14 +23,7 @@ fn drawn(alloc: Global, strategy: Strategy) -> Result<Replay, Fail> {
         depth: 3,
     };
     let variant = Variant::Optimistic;
-    Ok(drawn_replay(
-        alloc,
-        eights(),
-        variant,
-        100_000,
-        scripts,
-        &draw,
-    )?)
+    Ok(drawn_replay(alloc, eights(), variant, 100_000, scripts, &draw)?)
 }
 
 /// The same schedule is drawn again. All its turns are made, and each call is answered.
