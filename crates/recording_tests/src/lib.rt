@@ -10,6 +10,8 @@
 #[cfg(test)]
 mod arenas;
 #[cfg(test)]
+mod drawn;
+#[cfg(test)]
 mod draws;
 #[cfg(test)]
 mod ends;

@@ -1,0 +1,128 @@
+// The replay of a schedule that is drawn.
+ghost use Rattle.std.specs.Prelude.{◌≡◌, ◌≤◌, ◌<◌, map, length, IfOk, OnErr, IfErr};
+ghost use Rattle.art_core.specs.Core.{opened};
+ghost use Rattle.art_core.specs.Plans.{IsPlan};
+ghost use Rattle.art_rows.specs.Table.{IsWithinLimits};
+ghost use Rattle.machine.specs.Running.{plan_of};
+ghost use Rattle.plans.specs.Plans.{AreScripts};
+ghost use Rattle.replay_text.specs.Replays.{turn_limit, item_limit};
+ghost use Rattle.replay_text.specs.ReplayViews.{shown};
+ghost use Rattle.drawn_schedules.specs.Drawn.{CanBeMade, IsDrawnReplay, IsScheduleOf, IsUndrawn};
+
+use crate::choice::Choice;
+use crate::draw::{Draw, Strategy};
+use crate::fault::DrawFault;
+use crate::items::items_of;
+use crate::turns::drawn_turns;
+use art_core::Item;
+use art_rows::Shape;
+use art_steps::{TreeCall, Variant};
+use events::Memory;
+use machine::Machine;
+use replay_text::{MAX_ITEMS, Replay};
+use std::alloc::Global;
+
+/// A replay of the scripts, without starting pairs, by a schedule that is drawn: each turn of it can be made. It has at most
+/// this many turns. It ends earlier where no process has anything left to do, or where each that has waits for a lock.
+pub fn drawn_replay(
+    alloc: Global,
+    shape: Shape,
+    variant: Variant,
+    limit: u32,
+    scripts: Vec<Vec<TreeCall>>,
+    draw: &Draw,
+) -> Result<Replay, DrawFault>
+    requires shape { IsWithinLimits shape }
+    requires scripts { AreScripts (map (λ script. script.items) scripts.items) }
+    requires some_turn { 1 ≤ limit }
+    requires few_turns { limit ≤ turn_limit }
+    ensures drawn { IfOk result (λ r. IsDrawnReplay shape variant limit (map (λ script. script.items) scripts.items) (shown r)) }
+    ensures refused { IfErr result (IsUndrawn shape variant limit (map (λ script. script.items) scripts.items)) }
+{
+    let schedule = drawn_schedule(alloc, shape, variant, limit, &scripts, draw)?;
+    if schedule.len() > MAX_ITEMS {
+        return Err(DrawFault::TooManyItems);
+    }
+    Ok(Replay {
+        limit,
+        shape,
+        variant,
+        start: Vec::new(alloc),
+        scripts,
+        schedule,
+    })
+}
+
+/// The items of a schedule of the scripts that is drawn.
+fn drawn_schedule(
+    alloc: Global,
+    shape: Shape,
+    variant: Variant,
+    limit: u32,
+    scripts: &[Vec<TreeCall>],
+    draw: &Draw,
+) -> Result<Vec<Item>, Memory>
+    requires shape { IsWithinLimits shape }
+    requires scripts { AreScripts (map (λ script. script.items) scripts.now) }
+    ensures { IfOk result (λ items. IsScheduleOf (plan_of shape variant (map (λ script. script.items) scripts.now)) limit items.items) }
+{
+    let changes = changes_before(alloc, shape, variant, limit, scripts, draw)?;
+    let turns = run_of(alloc, shape, variant, limit, scripts, draw, changes)?;
+    items_of(alloc, &turns)
+}
+
+/// Before which turn priorities change: with `Pct` before the end of a schedule without changes, else before none.
+fn changes_before(
+    alloc: Global,
+    shape: Shape,
+    variant: Variant,
+    limit: u32,
+    scripts: &[Vec<TreeCall>],
+    draw: &Draw,
+) -> Result<u32, Memory>
+    requires shape { IsWithinLimits shape }
+    requires scripts { AreScripts (map (λ script. script.items) scripts.now) }
+{
+    match draw.strategy {
+        Strategy::Pct => {
+            let turns = run_of(alloc, shape, variant, limit, scripts, draw, 0)?;
+            Ok(turns.len() as u32)
+        }
+        _ => Ok(0),
+    }
+}
+
+/// The turns of the scripts that are drawn, with changes of priorities before this turn.
+fn run_of(
+    alloc: Global,
+    shape: Shape,
+    variant: Variant,
+    limit: u32,
+    scripts: &[Vec<TreeCall>],
+    draw: &Draw,
+    changes: u32,
+) -> Result<Vec<usize>, Memory>
+    requires shape { IsWithinLimits shape }
+    requires scripts { AreScripts (map (λ script. script.items) scripts.now) }
+    ensures made { IfOk result (λ turns. CanBeMade (plan_of shape variant (map (λ script. script.items) scripts.now))
+        (opened (plan_of shape variant (map (λ script. script.items) scripts.now))) turns.items) }
+    ensures few { IfOk result (λ turns. length turns.items ≤ limit) }
+{
+    let mut choice = Choice::new(alloc, draw, scripts.len(), changes)?;
+    let copies = copied(alloc, scripts)?;
+    match Machine::open(alloc, shape, variant, copies, limit) {
+        Ok(mut machine) => drawn_turns(alloc, &mut machine, &mut choice, limit),
+        Err(_) => Err(Memory),
+    }
+}
+
+/// The scripts again.
+fn copied(alloc: Global, scripts: &[Vec<TreeCall>]) -> Result<Vec<Vec<TreeCall>>, Memory>
+    ensures { IfOk result (λ copies. map (λ script. script.items) copies.items ≡ map (λ script. script.items) scripts.now) }
+{
+    let mut copies = Vec::new(alloc);
+    for script in scripts {
+        copies.push(Vec::from_slice(alloc, script)?)?;
+    }
+    Ok(copies)
+}

@@ -1,0 +1,22 @@
+// Why no schedule is drawn.
+use events::Memory;
+
+/// Why no schedule is drawn.
+#[derive(Clone, Copy, Debug, PartialEq, Eq)]
+pub enum DrawFault {
+    /// It has more items than a replay may have.
+    TooManyItems,
+    /// Memory ran out.
+    Memory,
+}
+
+impl From<Memory> for DrawFault {
+    ghost use Rattle.std.specs.Prelude.{◌≡◌};
+    ghost use Rattle.drawn_schedules.specs.declared.fault.DrawFault.TheVariants as faults;
+
+    ghost from_gives = { λ _ e. e ≡ faults.Memory };
+
+    fn from(_error: Memory) -> DrawFault {
+        DrawFault::Memory
+    }
+}
