@@ -89,8 +89,8 @@ impl Choice {
     /// Notes the turn of this number, from 0: the step of a process, after which the machine is as it is.
     pub(crate) fn note(&mut self, machine: &Machine, process: usize, step: NextStep, turn: u32) {
         match self.strategy {
-            Strategy::Walk => self.draw_anew(machine, process, step, true),
-            Strategy::Pos => self.draw_anew(machine, process, step, false),
+            Strategy::Walk => self.draw_again(machine, process, step, true),
+            Strategy::Pos => self.draw_again(machine, process, step, false),
             Strategy::Pct => self.change(process, turn),
         }
         if let Some(chosen) = self.processes.get_mut(process) {
@@ -98,8 +98,8 @@ impl Choice {
         }
     }
 
-    /// Draws the priorities of a process, and of those that race with its step or of all, anew.
-    fn draw_anew(&mut self, machine: &Machine, process: usize, step: NextStep, all: bool) {
+    /// Draws new priorities: of the process that made this step, and of each process whose next step races with it, or of all.
+    fn draw_again(&mut self, machine: &Machine, process: usize, step: NextStep, all: bool) {
         for other in 0..self.processes.len() {
             if all || other == process || races(step, machine.next_step(other)) {
                 let priority = self.drawn_priority();

@@ -3,11 +3,13 @@
 /// How the process is chosen that makes the next turn. Each process has a priority, and the greatest goes first.
 #[derive(Clone, Copy)]
 pub enum Strategy {
-    /// After each turn all priorities are drawn anew: a random walk.
+    /// A random walk: all priorities are drawn again after each turn.
     Walk,
-    /// After each turn those of its process and of the processes whose next step races with it are drawn anew.
+    /// Partial order sampling. After each turn new priorities are drawn for its process, and for each process whose next step
+    /// races with the turn.
     Pos,
-    /// Priorities stay, but at a few drawn turns that of the turn's process becomes less than all others.
+    /// Probabilistic concurrency testing. At a few drawn turns the priority of the turn's process drops below all others. No
+    /// other priority changes.
     Pct,
 }
 

@@ -11,17 +11,17 @@ pub fn begun_calls_are_left()
     ensures { BegunCallsAreLeft }
 {}
 
-/// A call of other keys changes nothing as it begins, and so does a read after the limit.
+/// A call of other keys changes nothing when it begins. Neither does a read that begins after the limit.
 pub fn other_calls_begin()
     ensures { OtherCallsBegin }
 {}
 
-/// A call that is left is left with its answer.
+/// An answer leaves the call where it was left.
 pub fn answered_calls_are_left()
     ensures { AnsweredCallsAreLeft }
 {}
 
-/// A call that was not among what is left comes to it as it is answered, as a read may.
+/// A call that was not among those left, such as a read, may join them when it is answered.
 pub fn answered_reads_are_left()
     ensures { AnsweredReadsAreLeft }
 {}
@@ -31,17 +31,17 @@ pub fn taken_calls_are_answered()
     ensures { TakenCallsAreAnswered }
 {}
 
-/// A call of other keys changes nothing as it is answered, unless it is refused and was taken at these.
+/// The answer of a call of other keys changes nothing, unless it refuses a call that was taken at these keys.
 pub fn other_calls_are_answered()
     ensures { OtherCallsAreAnswered }
 {}
 
-/// A call that is refused is left no more.
+/// A refused call is no longer left.
 pub fn refused_calls_are_not_left()
     ensures { RefusedCallsAreNotLeft }
 {}
 
-/// A call that was answered and has no effect at some keys is taken there at any time.
+/// An answered call without effect at some keys may be taken there at any time.
 pub fn calls_without_effect_are_taken()
     ensures { CallsWithoutEffectAreTaken }
 {}
@@ -51,7 +51,7 @@ pub fn left_calls_unite()
     ensures { LeftCallsUnite }
 {}
 
-/// It falls apart where each call that is left has keys of one of both alone.
+/// It can be divided again if each call that is left has keys of only one of the two sets.
 pub fn left_calls_part()
     ensures { LeftCallsPart }
 {}

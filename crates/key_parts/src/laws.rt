@@ -6,33 +6,32 @@ pub fn parts_begin()
     ensures { PartsBegin }
 {}
 
-/// Parts that stand for the calls do so with further events.
+/// Further events leave true what parts say of the calls.
 pub fn parts_stay()
     ensures { PartsStay }
 {}
 
-/// In any order.
+/// The order of parts does not matter.
 pub fn parts_in_any_order()
     ensures { PartsInAnyOrder }
 {}
 
-/// The calls have an order exactly where each part has a past that goes on to one.
+/// The calls have an order exactly if each part has a past that goes on to one.
 pub fn parts_decide()
     ensures { PartsDecide }
 {}
 
-/// A past that goes on to no order may go, and so may one that is there twice.
+/// A past that goes on to no order may be dropped, and so may a duplicate.
 pub fn dead_pasts_go()
     ensures { DeadPastsGo }
 {}
 
-/// Where a call that was answered must still come at some of a part's keys, a past becomes those that it comes to by each call that may come next
-/// there.
+/// If an answered call is left at some of a part's keys, a past may be replaced by the pasts after each call that may come next there.
 pub fn calls_come_next()
     ensures { CallsComeNext }
 {}
 
-/// Of calls of a history it is known whether something is left of them.
+/// It is decidable whether something is left of a call of a history.
 pub fn calls_are_known()
     ensures { CallsAreKnown }
 {}
@@ -42,7 +41,7 @@ pub fn reads_come_next()
     ensures { ReadsComeNext }
 {}
 
-/// A read that was answered is taken at keys at rest, even though it is left at others.
+/// An answered read may be taken at keys at rest, even while it is left at others.
 pub fn reads_are_taken_at_rest()
     ensures { ReadsAreTakenAtRest }
 {}
@@ -52,32 +51,32 @@ pub fn parts_unite()
     ensures { PartsUnite }
 {}
 
-/// What is left at some keys has an order exactly where it has one as calls of a map that has these keys alone.
+/// What is left at some keys has an order exactly if its operations have one on a map of only these keys.
 pub fn operations_decide()
     ensures { OperationsDecide }
 {}
 
-/// But where a call is left at the keys of two parts, each may have a past that goes on, and the calls no order.
+/// If a call is left at the keys of two parts, each part may have a past that goes on while the calls have no order.
 pub fn parts_may_be_tied()
     ensures { PartsMayBeTied }
 {}
 
-/// Where no call that is left was answered, none need come, and a past that goes may be lost.
+/// If no call that is left was answered, the step to the next calls may lose an order.
 pub fn pasts_may_stay()
     ensures { PastsMayStay }
 {}
 
-/// Where a call is left at some keys and at others, a past that goes may be lost.
+/// If a call is left at these keys and at others, the step may lose an order.
 pub fn tied_calls_may_wait()
     ensures { TiedCallsMayWait }
 {}
 
-/// And a read that is taken too early may gain an order.
+/// A read that is taken too early may add an order.
 pub fn early_reads_gain()
     ensures { EarlyReadsGain }
 {}
 
-/// Those calls may come next at some of the keys whose operations may.
+/// A call may come next at some of the keys exactly if its operation may.
 pub fn operations_may_come()
     ensures { OperationsMayCome }
 {}

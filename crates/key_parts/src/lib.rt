@@ -1,8 +1,9 @@
-//! What may be kept of the calls of a stream, part by part of the keys: laws alone.
+//! Laws of what a monitor may save of the calls of a stream, for each part of the keys.
 //!
 //! A part is some keys, with the pasts that these may have. A past says which calls took effect at the keys, what they found there, and what the
-//! keys hold. Parts stand for the calls so far if the pasts of all parts together stand above the calls, and below them. A law lets one part take
-//! a step, whatever the others hold; or it makes one part of two, or judges by all of them.
+//! keys hold. The pasts of all parts together represent the calls so far (`StandFor`): whatever events follow, the calls have an order exactly if
+//! some of these pasts go on to one. One group of laws lets a part take a step, whatever the others hold. The others unite two parts, or judge by
+//! all of them.
 #![tactic(auto)]
 
 mod call_laws;
