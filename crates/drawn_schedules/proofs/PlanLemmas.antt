@@ -1,12 +1,16 @@
--- Scripts on a tree within the limits are a plan, and a replay of them starts with nothing.
-use Rattle.std.proofs.Common.{List}
+-- Scripts on a tree within the limits are a plan, and a machine that was opened with them has turns to make.
+use Rattle.std.proofs.Common.{◌≡◌, ℕ, List, length, arith, ◌∙◌}
+use Rattle.std.proofs.lemmas.List.{length-replicate}
 use Rattle.events.specs.declared.event.Call.{Call}
 use Rattle.art_rows.specs.Table.{IsWithinLimits}
 use Rattle.art_rows.specs.declared.table.Shape.{Shape}
 use Rattle.art_steps.specs.declared.variant.Variant.{Variant}
 use Rattle.art_core.specs.Plans.{IsPlan}
-use Rattle.machine.specs.Running.{plan_of}
+use Rattle.art_core.specs.Core.{opened, idle}
+use Rattle.machine.specs.declared.machines.Machine.{Machine}
+use Rattle.machine.specs.Running.{plan_of, IsOpened}
 use Rattle.plans.specs.Plans.{AreScripts}
+use Rattle.drawn_schedules.specs.Turns.{HasTurns}
 
 pub is-plan : (shape : Shape) (variant : Variant) (scripts : List (List Call)) → IsWithinLimits shape → AreScripts scripts
     → IsPlan (plan_of shape variant scripts)
@@ -16,4 +20,14 @@ is-plan shape variant scripts within are = record {
   few_scripts = are.few.few_scripts;
   few_calls = are.few.few_calls;
   calls = are.calls;
+}
+
+pub has-turns : (shape : Shape) (variant : Variant) (scripts : List (List Call)) (limit : ℕ) (m : Machine) (n : ℕ)
+    → IsOpened shape variant scripts limit m → length scripts ≡ n → HasTurns n limit m
+has-turns shape variant scripts limit m n o many = record {
+  plan = plan_of shape variant scripts;
+  state = opened (plan_of shape variant scripts);
+  shows = o.shows;
+  many = length-replicate (length scripts) idle ∙ many;
+  left = omega (arith, o.left);
 }

@@ -1,13 +1,17 @@
 -- The turns that a machine has made.
-use Rattle.std.proofs.Common.{◌∙◌, ℕ, List, [], ◌∷◌, ◌++◌, ap}
-use Rattle.std.specs.Prelude.{IsSomeAnd, Some}
+use Rattle.std.proofs.Common.{◌∙◌, ◌≡◌, ◌<◌, ℕ, List, [], ◌∷◌, ◌++◌, ap, refl, arith}
+use Rattle.std.specs.Prelude.{IsSomeAnd, IsSome, Option, Some, None, is_some, slice_get}
+use Rattle.std.proofs.lemmas.Option.{slice_get_within}
 use Rattle.list_laws.proofs.NumberLemmas.{some_at}
-use Rattle.art_core.specs.Core.{Plan, State, step}
+use Rattle.art_core.specs.declared.process.Process.{Process}
+use Rattle.art_core.specs.Core.{Plan, State, step, next_move}
 use Rattle.art_core.specs.Runs.{Gives, run_on}
 use Rattle.art_core.proofs.RunLemmas.{run-on-append}
 use Rattle.machine.specs.declared.machines.Machine.{Machine}
 use Rattle.machine.specs.Machines.{Shows}
-use Rattle.drawn_schedules.specs.Drawn.{CanBeMade}
+use Rattle.machine.specs.Refusals.{HasMove, IsRefusedIn}
+use Rattle.plans.specs.declared.fault.MachineFault.{MachineFault}
+use Rattle.plans.specs.declared.fault.MachineFault.TheVariants as faults
 
 -- turns that a machine has made, from the first state on
 pub record HasTurned (plan : Plan) (first : State) (turns : List ℕ) (m : Machine) : Type 0 where
@@ -27,6 +31,21 @@ turned-more plan first turns p m next h stepped =
       shows = x.2;
     }
 
--- so they can be made
-pub can-be-made : (plan : Plan) (first : State) (turns : List ℕ) (m : Machine) → HasTurned plan first turns m → CanBeMade plan first turns
-can-be-made plan first turns m h = record { state = h.state; gives = h.gives }
+-- a process that has something to do, with a turn left, is refused for want of memory only
+pub only-memory : (plan : Plan) (s : State) (left p : ℕ) (fault : MachineFault) → HasMove plan s p → 0 < left
+    → IsRefusedIn plan s left p fault → fault ≡ faults.Memory
+only-memory plan s left p faults.NoProcess move some refused =
+    let x = some_at (slice_get s.processes p) (λ q. IsSome (next_move plan p q)) move in
+    let within = slice_get_within s.processes p x.0 x.1 in
+    absurd (omega arith)
+only-memory plan s left p faults.NothingToDo move some refused = absurd (go (slice_get s.processes p) move refused)
+  where
+    go : (o : Option Process) → IsSomeAnd o (λ q. IsSome (next_move plan p q)) → IsSomeAnd o (λ q. next_move plan p q ≡ None) → ⊥
+    go None move none = move
+    go (Some q) move none = let e = ap (λ o. is_some o) none in cc
+only-memory plan s left p faults.TurnLimit move some refused = absurd (omega arith)
+only-memory plan s left p faults.Memory move some refused = refl
+only-memory plan s left p faults.TooLong move some refused = absurd refused
+only-memory plan s left p faults.NotJson move some refused = absurd refused
+only-memory plan s left p faults.Shape move some refused = absurd refused
+only-memory plan s left p faults.StartRefused move some refused = absurd refused

@@ -1,5 +1,5 @@
 -- Schedules that a machine can make, and the replays of them.
-use Rattle.std.specs.Prelude.{◌≡◌, ⊤, ℕ, ◌<◌, ◌≤◌, List, [], length, flat_map, replicate, IsTrue, All}
+use Rattle.std.specs.Prelude.{◌≡◌, ⊤, ℕ, ◌<◌, ◌≤◌, ◌⊎◌, List, [], length, flat_map, replicate, IsTrue, All}
 use Rattle.events.specs.declared.event.Call.{Call}
 use Rattle.art_rows.specs.declared.table.Shape.{Shape}
 use Rattle.art_steps.specs.declared.variant.Variant.{Variant}
@@ -12,11 +12,18 @@ use Rattle.replay_text.specs.Replays.{ReplayView, is_item, item_limit}
 use Rattle.replay_text.specs.WrittenReplays.{AreHeld}
 use Rattle.drawn_schedules.specs.declared.fault.DrawFault.{DrawFault}
 use Rattle.drawn_schedules.specs.declared.fault.DrawFault.TheVariants.{TooManyItems, Memory}
+use Rattle.drawn_schedules.specs.Rest.{NoneGoesOn}
 
 -- some state is what these turns give: each of them can be made
 pub record CanBeMade (plan : Plan) (first : State) (turns : List ℕ) : Type 0 where
   pub state : State
   pub gives : Gives plan first turns state
+
+-- Turns from this state on that can be made. They are as many as the limit, or fewer where no process goes on after them.
+pub record IsDrawnRun (plan : Plan) (first : State) (limit : ℕ) (turns : List ℕ) : Type 0 where
+  pub made : CanBeMade plan first turns
+  pub few : length turns ≤ limit
+  pub ended : (length turns ≡ limit) ⊎ NoneGoesOn plan made.state
 
 -- the turns that an item names by its number alone
 abbrev pub turns_in : Item → List ℕ
@@ -30,12 +37,11 @@ pub record Name (items : List Item) (turns : List ℕ) : Type 0 where
   pub standing : All (λ item. IsTrue (is_item item)) items
   pub held : AreHeld items
 
--- a schedule of this plan, of no more turns than the limit, each of which can be made
+-- a schedule of this plan under the limit, from the opening on: its items name such turns
 pub record IsScheduleOf (plan : Plan) (limit : ℕ) (items : List Item) : Type 0 where
   pub turns : List ℕ
   pub name : Name items turns
-  pub few : length turns ≤ limit
-  pub made : CanBeMade plan (opened plan) turns
+  pub run : IsDrawnRun plan (opened plan) limit turns
 
 -- a replay of these scripts without starting pairs, by such a schedule
 pub record IsDrawnReplay (shape : Shape) (variant : Variant) (limit : ℕ) (scripts : List (List Call)) (r : ReplayView) : Type 0 where

@@ -1,1 +1,3 @@
+pub mod Rest
 pub mod Drawn
+pub mod Turns

@@ -1,4 +1,10 @@
-// The choice of the process that makes the next turn. Nothing is promised of it: any choice makes a schedule.
+// The choice of the process that makes the next turn. It is a process with something to do, and none is chosen only where no
+// process goes on. Which of them it is, no contract says.
+ghost use Rattle.std.specs.Prelude.{◌≡◌, ◌≢◌, IsTrue, IsFalse, slice_index};
+ghost use Rattle.art_rows.specs.Words.{is_locked};
+ghost use Rattle.machine.specs.declared.next_steps.NextStep.TheVariants as steps;
+ghost use Rattle.drawn_schedules.specs.Rest.{DoesNotGoOn};
+
 use crate::draw::{Draw, Strategy};
 use art::Access;
 use art_rows::version_is_locked;
@@ -26,13 +32,22 @@ pub(crate) struct Choice {
 }
 
 impl Choice {
+    ghost use Rattle.std.specs.Prelude.{◌+◌, ◌≤◌, length, slice_get, IfOk, OnOk, IfSome};
+    ghost use Rattle.art_core.specs.Core.{Plan, State};
+    ghost use Rattle.machine.specs.Machines.{Shows};
+    ghost use Rattle.machine.specs.NextSteps.{next_step_of};
+    ghost use Rattle.machine.specs.Refusals.{HasMove};
+    ghost use Rattle.drawn_schedules.specs.Rest.{NoneGoesOn};
+
     /// The choice before the first turn, with the changes of priorities at turns below this number.
     pub(crate) fn new(
         alloc: Global,
         draw: &Draw,
         processes: usize,
         turns: u32,
-    ) -> Result<Choice, Memory> {
+    ) -> Result<Choice, Memory>
+        ensures { IfOk result (λ choice. length choice.processes.items ≡ processes) }
+    {
         let mut choice = Choice {
             strategy: draw.strategy,
             generator: Lcg64Xsh32::new(draw.seed, 0),
@@ -44,7 +59,9 @@ impl Choice {
         Ok(choice)
     }
 
-    fn add_processes(&mut self, processes: usize) -> Result<(), Memory> {
+    fn add_processes(&mut self, processes: usize) -> Result<(), Memory>
+        ensures { OnOk result (length self.new.processes.items ≡ length self.old.processes.items + processes) }
+    {
         for _ in 0..processes {
             let priority = self.drawn_priority();
             self.processes.push(Chosen {
@@ -55,7 +72,9 @@ impl Choice {
         Ok(())
     }
 
-    fn add_changes(&mut self, depth: u32, turns: u32) -> Result<(), Memory> {
+    fn add_changes(&mut self, depth: u32, turns: u32) -> Result<(), Memory>
+        ensures { self.new.processes ≡ self.old.processes }
+    {
         for _ in 1..depth {
             let turn = match self.generator.next_word().checked_rem(turns) {
                 Some(turn) => turn,
@@ -67,27 +86,70 @@ impl Choice {
     }
 
     /// A priority above that of every change.
-    fn drawn_priority(&mut self) -> u64 {
+    fn drawn_priority(&mut self) -> u64
+        ensures { self.new.processes ≡ self.old.processes }
+    {
         u64::from(self.generator.next_word()) + (1 << 32)
     }
 
     /// The process with the greatest priority, of those that go on. There is none where no process has anything left to do, or
     /// where each that has waits for a lock.
-    pub(crate) fn next_process(&self, machine: &Machine) -> Option<usize> {
-        let mut greatest = 0;
+    pub(crate) fn next_process(&self, machine: &Machine) -> Option<usize>
+        ensures some { (plan : Plan) (s : State) → Shows plan machine.now s → IfSome result (λ p. HasMove plan s p) }
+        ensures none { (plan : Plan) (s : State) → Shows plan machine.now s
+            → length s.processes ≤ length self.now.processes.items → result ≡ None → NoneGoesOn plan s }
+    {
         let mut found = None;
         for (process, chosen) in self.processes.iter().enumerate() {
-            let is_greater = found.is_none() || chosen.priority > greatest;
-            if is_greater && goes_on(machine, process, chosen.loaded) {
-                greatest = chosen.priority;
-                found = Some(process);
-            }
+            found = self.first_of(machine, found, process, chosen.loaded);
         }
         found
     }
 
+    /// The process that was found, or this one, where it goes on and is to go first. Its last step loaded this word.
+    fn first_of(
+        &self,
+        machine: &Machine,
+        found: Option<usize>,
+        process: usize,
+        loaded: Option<usize>,
+    ) -> Option<usize>
+        ensures some { (plan : Plan) (s : State) → Shows plan machine.now s → IfSome found (λ p. HasMove plan s p)
+            → IfSome result (λ p. HasMove plan s p) }
+        ensures none { (plan : Plan) (s : State) → Shows plan machine.now s → result ≡ None
+            → (found ≡ None) × DoesNotGoOn s.words (next_step_of plan process (slice_get s.processes process)) }
+    {
+        if !goes_on(machine.words(), machine.next_step(process), loaded) {
+            return found;
+        }
+        if self.is_first(process, found) {
+            Some(process)
+        } else {
+            found
+        }
+    }
+
+    /// Whether a process has a greater priority than the one that was found, if one was.
+    fn is_first(&self, process: usize, found: Option<usize>) -> bool
+        ensures { found ≡ None → IsTrue result }
+    {
+        match found {
+            Some(found) => self.priority(process) > self.priority(found),
+            None => true,
+        }
+    }
+
+    fn priority(&self, process: usize) -> u64 {
+        match self.processes.get(process) {
+            Some(chosen) => chosen.priority,
+            None => 0,
+        }
+    }
+
     /// Notes the turn of this number, from 0: the step of a process, after which the machine is as it is.
-    pub(crate) fn note(&mut self, machine: &Machine, process: usize, step: NextStep, turn: u32) {
+    pub(crate) fn note(&mut self, machine: &Machine, process: usize, step: NextStep, turn: u32)
+        ensures { length self.new.processes.items ≡ length self.old.processes.items }
+    {
         match self.strategy {
             Strategy::Walk => self.draw_again(machine, process, step, true),
             Strategy::Pos => self.draw_again(machine, process, step, false),
@@ -99,7 +161,9 @@ impl Choice {
     }
 
     /// Draws new priorities: of the process that made this step, and of each process whose next step races with it, or of all.
-    fn draw_again(&mut self, machine: &Machine, process: usize, step: NextStep, all: bool) {
+    fn draw_again(&mut self, machine: &Machine, process: usize, step: NextStep, all: bool)
+        ensures { length self.new.processes.items ≡ length self.old.processes.items }
+    {
         for other in 0..self.processes.len() {
             if all || other == process || races(step, machine.next_step(other)) {
                 let priority = self.drawn_priority();
@@ -109,38 +173,51 @@ impl Choice {
     }
 
     /// Gives a process a priority below all others, where one changes at this turn.
-    fn change(&mut self, process: usize, turn: u32) {
+    fn change(&mut self, process: usize, turn: u32)
+        ensures { length self.new.processes.items ≡ length self.old.processes.items }
+    {
         if let Some(place) = self.changes.iter().position(|change| *change == turn) {
             self.set_priority(process, place as u64);
         }
     }
 
-    fn set_priority(&mut self, process: usize, priority: u64) {
+    fn set_priority(&mut self, process: usize, priority: u64)
+        ensures { length self.new.processes.items ≡ length self.old.processes.items }
+    {
         if let Some(chosen) = self.processes.get_mut(process) {
             chosen.priority = priority;
         }
     }
 }
 
-/// Whether a process has something to do, and does not load a locked word again.
-fn goes_on(machine: &Machine, process: usize, loaded: Option<usize>) -> bool {
-    match machine.next_step(process) {
+/// Whether a process with this next step has something to do, and does not load a locked word again.
+fn goes_on(words: &[u64], step: NextStep, loaded: Option<usize>) -> bool
+    ensures some { IsTrue result → step ≢ steps.Nothing }
+    ensures none { IsFalse result → DoesNotGoOn words.now step }
+{
+    match step {
         NextStep::Nothing => false,
         NextStep::Stamp => true,
-        NextStep::Access(access) => {
-            let word = loaded_word(access);
-            word.is_none() || word != loaded || !is_locked(machine.words(), word)
-        }
+        NextStep::Access(access) => !waits(words, access, loaded),
+    }
+}
+
+/// Whether an access loads a locked word again.
+fn waits(words: &[u64], access: Access, loaded: Option<usize>) -> bool
+    ensures { IsTrue result → DoesNotGoOn words.now (steps.Access access) }
+{
+    match access {
+        Access::Load { word } => loaded == Some(word) && is_locked(words, word),
+        _ => false,
     }
 }
 
 /// Whether there is a word at this place of a table that says that its row is locked.
-fn is_locked(words: &[u64], word: Option<usize>) -> bool {
-    match word {
-        Some(word) => match words.get(word) {
-            Some(version) => version_is_locked(*version),
-            None => false,
-        },
+fn is_locked(words: &[u64], word: usize) -> bool
+    ensures { result ≡ is_locked (slice_index words.now word) }
+{
+    match words.get(word) {
+        Some(version) => version_is_locked(*version),
         None => false,
     }
 }

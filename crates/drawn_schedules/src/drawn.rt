@@ -7,11 +7,11 @@ ghost use Rattle.machine.specs.Running.{plan_of};
 ghost use Rattle.plans.specs.Plans.{AreScripts};
 ghost use Rattle.replay_text.specs.Replays.{turn_limit, item_limit};
 ghost use Rattle.replay_text.specs.ReplayViews.{shown};
-ghost use Rattle.drawn_schedules.specs.Drawn.{CanBeMade, IsDrawnReplay, IsScheduleOf, IsUndrawn};
+ghost use Rattle.drawn_schedules.specs.Drawn.{IsDrawnReplay, IsDrawnRun, IsScheduleOf, IsUndrawn};
 
 use crate::choice::Choice;
 use crate::draw::{Draw, Strategy};
-use crate::fault::DrawFault;
+use crate::fault::{DrawFault, out_of_memory};
 use crate::items::items_of;
 use crate::turns::drawn_turns;
 use art_core::Item;
@@ -104,15 +104,14 @@ fn run_of(
 ) -> Result<Vec<usize>, Memory>
     requires shape { IsWithinLimits shape }
     requires scripts { AreScripts (map (λ script. script.items) scripts.now) }
-    ensures made { IfOk result (λ turns. CanBeMade (plan_of shape variant (map (λ script. script.items) scripts.now))
-        (opened (plan_of shape variant (map (λ script. script.items) scripts.now))) turns.items) }
-    ensures few { IfOk result (λ turns. length turns.items ≤ limit) }
+    ensures { IfOk result (λ turns. IsDrawnRun (plan_of shape variant (map (λ script. script.items) scripts.now))
+        (opened (plan_of shape variant (map (λ script. script.items) scripts.now))) limit turns.items) }
 {
     let mut choice = Choice::new(alloc, draw, scripts.len(), changes)?;
     let copies = copied(alloc, scripts)?;
     match Machine::open(alloc, shape, variant, copies, limit) {
         Ok(mut machine) => drawn_turns(alloc, &mut machine, &mut choice, limit),
-        Err(_) => Err(Memory),
+        Err(fault) => Err(out_of_memory(fault)),
     }
 }
 

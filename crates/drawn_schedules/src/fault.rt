@@ -1,5 +1,9 @@
 // Why no schedule is drawn.
+ghost use Rattle.std.specs.Prelude.{◌≡◌};
+ghost use Rattle.plans.specs.declared.fault.MachineFault.TheVariants as machines;
+
 use events::Memory;
+use plans::MachineFault;
 
 /// Why no schedule is drawn.
 #[derive(Clone, Copy, Debug, PartialEq, Eq)]
@@ -18,5 +22,15 @@ impl From<Memory> for DrawFault {
 
     fn from(_error: Memory) -> DrawFault {
         DrawFault::Memory
+    }
+}
+
+/// Memory ran out, where a machine has no other fault.
+pub(crate) fn out_of_memory(fault: MachineFault) -> Memory
+    requires { fault ≡ machines.Memory }
+{
+    match fault {
+        MachineFault::Memory => Memory,
+        _ => unreachable!(),
     }
 }

@@ -1,10 +1,12 @@
 // The turns that are drawn.
-ghost use Rattle.std.specs.Prelude.{◌≤◌, length, IfOk, IsSomeAnd, OnOk};
+ghost use Rattle.std.specs.Prelude.{◌≡◌, ◌+◌, length, IfOk, IsSomeAnd, OnOk};
 ghost use Rattle.art_core.specs.Core.{Plan, State, step};
-ghost use Rattle.machine.specs.Machines.{Shows};
-ghost use Rattle.drawn_schedules.specs.Drawn.{CanBeMade};
+ghost use Rattle.machine.specs.Machines.{Shows, turns_left};
+ghost use Rattle.drawn_schedules.specs.Drawn.{IsDrawnRun};
+ghost use Rattle.drawn_schedules.specs.Turns.{HasTurns, MayTurn};
 
 use crate::choice::Choice;
+use crate::fault::out_of_memory;
 use events::Memory;
 use machine::Machine;
 use std::alloc::Global;
@@ -16,14 +18,15 @@ pub(crate) fn drawn_turns(
     choice: &mut Choice,
     limit: u32,
 ) -> Result<Vec<usize>, Memory>
-    ensures made { (plan : Plan) (first : State) → Shows plan machine.old first
-        → IfOk result (λ turns. CanBeMade plan first turns.items) }
-    ensures few { IfOk result (λ turns. length turns.items ≤ limit) }
+    requires { HasTurns (length choice.old.processes.items) limit machine.old }
+    ensures { (plan : Plan) (first : State) → Shows plan machine.old first
+        → IfOk result (λ turns. IsDrawnRun plan first limit turns.items) }
 {
     let mut turns = Vec::new(alloc);
     for turn in 0..limit {
-        let Some(process) = choice.next_process(machine) else {
-            return Ok(turns);
+        let process = match choice.next_process(machine) {
+            Some(process) => process,
+            None => return Ok(turns),
         };
         let next = machine.next_step(process);
         make_turn(alloc, machine, process)?;
@@ -33,13 +36,15 @@ pub(crate) fn drawn_turns(
     Ok(turns)
 }
 
-/// Makes a turn of a process that goes on.
+/// Makes a turn of a process that has something to do.
 fn make_turn(alloc: Global, machine: &mut Machine, process: usize) -> Result<(), Memory>
-    ensures { (plan : Plan) (s : State) → Shows plan machine.old s
+    requires { MayTurn process machine.old }
+    ensures moved { (plan : Plan) (s : State) → Shows plan machine.old s
         → OnOk result (IsSomeAnd (step plan s process) (λ next. Shows plan machine.new next)) }
+    ensures left { OnOk result (turns_left machine.new + 1 ≡ turns_left machine.old) }
 {
     match machine.turn(alloc, process) {
         Ok(()) => Ok(()),
-        Err(_) => Err(Memory),
+        Err(fault) => Err(out_of_memory(fault)),
     }
 }
