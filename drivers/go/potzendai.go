@@ -2744,8 +2744,8 @@ func (o *options) fit(has functions, canReopen bool) {
 		fail(badWords, "--reopen: the map has no function Reopen")
 	case o.isStream && o.rounds > 0:
 		fail(badWords, "--rounds: a stream has none; --seconds, or --calls of each thread")
-	case !o.isStream && o.threads > processes-2:
-		fail(badWords, "--threads: at most 62 in rounds; --stream has no such limit")
+	case !o.isStream && o.threads >= processes:
+		fail(badWords, "--threads: at most 63 in rounds; --stream has no such limit")
 	case !o.isStream && o.keys > most:
 		fail(badWords, "--keys: %s, with a get of each key at its end; --stream has no such limit", size)
 	case !o.isStream && o.calls > most:

@@ -2237,7 +2237,7 @@ public final class Potzendai {
             wrong(isStream && rounds > 0, "--rounds: a stream has none; --seconds, or --calls of each thread");
             long most = CALLS / (threads + 1);
             String size = "at most " + most + " with " + threads + " threads, since a round has at most " + CALLS + " calls";
-            wrong(!isStream && threads > PROCESSES - 2, "--threads: at most 62 in rounds; --stream has no such limit");
+            wrong(!isStream && threads >= PROCESSES, "--threads: at most 63 in rounds; --stream has no such limit");
             wrong(!isStream && keys > most, "--keys: " + size + ", with a get of each key at its end; --stream has no such limit");
             wrong(!isStream && calls > most, "--calls: " + size + "; --stream has no such limit");
             hasDel = has.contains(Kind.DEL);

@@ -1618,8 +1618,8 @@ def fit(options, has, can_reopen):
     options.calls = options.calls or (0 if options.stream else min(CALLS // (options.threads + 2), 200))
     most = CALLS // (options.threads + 1)
     size = "at most %d with %d threads, since a round has at most %d calls" % (most, options.threads, CALLS)
-    if not options.stream and options.threads > PROCESSES - 2:
-        wrong("--threads", "at most 62 in rounds; --stream has no such limit")
+    if not options.stream and options.threads >= PROCESSES:
+        wrong("--threads", "at most 63 in rounds; --stream has no such limit")
     if not options.stream and options.keys > most:
         wrong("--keys", size + ", with a get of each key at its end; --stream has no such limit")
     if not options.stream and options.calls > most:

@@ -2767,7 +2767,7 @@ impl Options {
             (self.is_stream && self.is_reopened, "--reopen: not with --stream, which is of one map"),
             (self.is_reopened && !can_reopen, "--reopen: the map has no function reopen"),
             (self.is_stream && self.rounds > 0, "--rounds: a stream has none; --seconds, or --calls of each thread"),
-            (!self.is_stream && threads > PROCESSES as u64 - 2, "--threads: at most 62 in rounds; --stream has no such limit"),
+            (!self.is_stream && threads >= PROCESSES as u64, "--threads: at most 63 in rounds; --stream has no such limit"),
             (!self.is_stream && self.keys > most, &many_keys),
             (!self.is_stream && self.calls > most, &many_calls),
         ];
