@@ -2414,7 +2414,7 @@ func (r *run) shownLeft(left string) []string {
 	if !strings.Contains(explained, "\n{\"answer\":") {
 		return []string{fmt.Sprintf("few calls are not shown: they are not found within a budget of %d", r.program.more()), r.keep(".json", left)}
 	}
-	return append([]string{saidAnew}, r.shown(left, explained, r.noted(roundOf(left)))...)
+	return append([]string{saidRenumbered}, r.shown(left, explained, r.noted(roundOf(left)))...)
 }
 
 // The calls that a follower still had, with their notes.
@@ -2554,8 +2554,8 @@ func (o *options) less(how int) *options {
 	return &less
 }
 
-const saidAnew = "events and processes are numbered anew here and in the files, for the calls \"invoked\" above that had not taken effect, in " +
-	"that order:"
+const saidRenumbered = "here and in the files, events and processes have new numbers. The calls are those \"invoked\" above that had not taken " +
+	"effect, in that order:"
 const saidAgain = "  again (draws the same calls; threads may interleave otherwise): "
 
 // The words that repeat the draws of a run of so many rounds.
