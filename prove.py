@@ -106,14 +106,8 @@ def chains(crates, weights):
     return behind
 
 
-def main(name):
-    # What was started ends with this, however this ends: at an interrupt too.
-    rt.rtlib.guarded()
-    signal.signal(signal.SIGINT, signal.SIG_DFL)
-    crates = Crate(f"{TOP}/crates/{name}", TOP, {}).below()
-    held = rt.rtlib.lock(crates)
-    for it in crates:
-        rt.rtlib.stop_on_links(it.folder)
+def prove(crates):
+    """Proves and builds those of the libraries that are not built. Returns whether all are then."""
     lacking = [it for it in crates if not it.is_built()]
     weights = {it.name: START + it.count(rb"\n") for it in lacking}
     progress = Progress(weights)
@@ -141,7 +135,25 @@ def main(name):
     for it in sorted(lacking, key=lambda it: -behind[it.name]):
         waits = [(lower.name, "proof") for lower in it.below() if lower.name in weights]
         tasks[it.name, "proof"] = waits, weights[it.name], rt.need(it), lambda given, jobs, it=it, waits=waits: work(it, waits, given, jobs)
-    return 0 if all(rt.in_lanes(tasks).values()) and held else NOT_PROVED
+    return all(rt.in_lanes(tasks).values())
+
+
+def main(*names):
+    """Proves and builds the libraries below these crates. One lock of their folders keeps other runs out until it ends."""
+    # What was started ends with this, however this ends: at an interrupt too.
+    rt.rtlib.guarded()
+    signal.signal(signal.SIGINT, signal.SIG_DFL)
+    known, crates = {}, []
+    for name in names:
+        crates += [it for it in Crate(f"{TOP}/crates/{name}", TOP, known).below() if it not in crates]
+    held = rt.rtlib.lock(crates)
+    try:
+        for it in crates:
+            rt.rtlib.stop_on_links(it.folder)
+        return 0 if prove(crates) else NOT_PROVED
+    finally:
+        for it in held:
+            os.close(it)
 
 
 rt.rtlib.Crate = Crate

@@ -208,7 +208,7 @@ static inline void potzendai_tell_left(struct potzendai_following *f, const char
     left.length = left.text ? strlen(left.text) : 0;
     enum potzendai_status status = left.text ? potzendai_explained(f->tester->options, &left) : POTZENDAI_NO_MEMORY;
     if (status <= POTZENDAI_IS_UNDECIDED && strstr(left.report, "\n{\"answer\":")) {
-        fputs("events and processes are numbered anew here and in the files, for the calls \"invoked\" above that had not taken effect, "
+        fputs("here and in the files, events and processes have new numbers. The calls are those \"invoked\" above that had not taken effect, "
               "in that order:\n", stderr);
         potzendai_tell_no(f->tester, &left, false);
     } else {

@@ -1,137 +1,69 @@
 // RocksDB, tested: puts and deletes in transactions that read first, and tell. With the word `plain` in front they are single ones, which
 // tell nothing. README.md says how it is built, and what the other words set.
-#include "../cpp/potzendai_test.hpp"
-#include "settings.h"
-#include <memory>
+#include "folder_map.hpp"
 #include <rocksdb/utilities/transaction.h>
 #include <rocksdb/utilities/transaction_db.h>
-#include <stdexcept>
-#include <string>
 
 using namespace rocksdb;
 
-static TransactionDB *base;
 enum { PLAIN, SYNC, NO_LOG, MANUAL_LOG, SETTINGS };
 
 static bool is_set[SETTINGS];
 
-// Of each write: whether it is logged, and the log is synced.
-static WriteOptions writes()
-{
-    WriteOptions options;
-    options.sync = is_set[SYNC];
-    options.disableWAL = is_set[NO_LOG];
-    return options;
-}
+struct Engine {
+    typedef TransactionDB Store;
+    typedef rocksdb::Iterator Iterator;
 
-// Numbers as bytes, the highest first, so that they rise as the numbers do.
-static std::string bytes_of(uint64_t number)
-{
-    std::string bytes;
-    for (int i = 56; i >= 0; i -= 8)
-        bytes += static_cast<char>(number >> i & 255);
-    return bytes;
-}
-
-static uint64_t number_in(const Slice &bytes)
-{
-    uint64_t number = 0;
-    for (size_t i = 0; i < bytes.size(); i++)
-        number = number << 8 | static_cast<unsigned char>(bytes[i]);
-    return number;
-}
-
-static map_said told(const Status &status, const std::string &value, uint64_t &found)
-{
-    if (status.ok())
-        found = number_in(value);
-    return status.ok() ? MAP_TOLD : status.IsNotFound() ? MAP_NONE : MAP_REFUSED;
-}
-
-// Looks what is there under the key's lock, and then puts a value or deletes; a replace only where the old value is there. Nothing has changed
-// where the transaction has expired or met a conflict; of a commit that fails otherwise nobody knows.
-static map_said change(uint64_t key, const uint64_t *value, const uint64_t *old, uint64_t &found)
-{
-    std::string before, at = bytes_of(key);
-    std::unique_ptr<Transaction> transaction(base->BeginTransaction(writes()));
-    map_said said = told(transaction->GetForUpdate(ReadOptions(), at, &before), before, found);
-    if (said == MAP_REFUSED)
-        return said;
-    Status status;
-    if (!old || (said == MAP_TOLD && found == *old))
-        status = value ? transaction->Put(at, bytes_of(*value)) : transaction->Delete(at);
-    if (!status.ok())
-        return MAP_REFUSED;
-    status = transaction->Commit();
-    return status.ok() ? said : status.IsExpired() || status.IsBusy() || status.IsTryAgain() ? MAP_REFUSED : MAP_UNKNOWN;
-}
-
-// A map in a folder of its own.
-class Rocks {
-    std::string folder;
-
-    void open()
+    static Status open(const std::string &folder, Store *&base)
     {
         Options options;
         options.create_if_missing = true;
         options.manual_wal_flush = is_set[MANUAL_LOG];
-        if (!TransactionDB::Open(options, TransactionDBOptions(), folder, &base).ok())
-            throw std::runtime_error("rocksdb: does not open");
+        return Store::Open(options, TransactionDBOptions(), folder, &base);
+    }
+
+    static void destroy(const std::string &folder) { DestroyDB(folder, Options()); }
+
+    // Of each write: whether it is logged, and the log is synced.
+    static WriteOptions writes()
+    {
+        WriteOptions options;
+        options.sync = is_set[SYNC];
+        options.disableWAL = is_set[NO_LOG];
+        return options;
+    }
+};
+
+class Rocks : public FolderMap<Engine> {
+    // Looks what is there under the key's lock, and then puts a value or deletes; a replace only where the old value is there. Nothing has changed
+    // where the transaction has expired or met a conflict; of a commit that fails otherwise nobody knows.
+    map_said change(uint64_t key, const uint64_t *value, const uint64_t *old, uint64_t &found)
+    {
+        std::string before, at = bytes_of(key);
+        std::unique_ptr<Transaction> transaction(base->BeginTransaction(Engine::writes()));
+        map_said said = told(transaction->GetForUpdate(ReadOptions(), at, &before), before, found);
+        if (said == MAP_REFUSED)
+            return said;
+        Status status;
+        if (!old || (said == MAP_TOLD && found == *old))
+            status = value ? transaction->Put(at, bytes_of(*value)) : transaction->Delete(at);
+        if (!status.ok())
+            return MAP_REFUSED;
+        status = transaction->Commit();
+        return status.ok() ? said : status.IsExpired() || status.IsBusy() || status.IsTryAgain() ? MAP_REFUSED : MAP_UNKNOWN;
     }
 
 public:
-    Rocks() : folder(potzendai_store() ? potzendai_store() : "/tmp/potzendai-rocksdb-XXXXXX")
-    {
-        if (!potzendai_store() && !mkdtemp(&folder[0]))
-            throw std::runtime_error("rocksdb: no folder");
-        open();
-    }
-
-    ~Rocks()
-    {
-        delete base;
-        DestroyDB(folder, Options());
-    }
-
-    void reopen()
-    {
-        delete base;
-        base = nullptr;
-        open();
-    }
-
-    map_said get(uint64_t key, uint64_t &found)
-    {
-        std::string value;
-        Status status = base->Get(ReadOptions(), bytes_of(key), &value);
-        return told(status, value, found);
-    }
+    Rocks() : FolderMap("rocksdb") {}
 
     map_said put(uint64_t key, uint64_t value, uint64_t &found)
     {
-        if (!is_set[PLAIN])
-            return change(key, &value, nullptr, found);
-        return base->Put(writes(), bytes_of(key), bytes_of(value)).ok() ? MAP_DONE : MAP_UNKNOWN;
+        return is_set[PLAIN] ? FolderMap::put(key, value, found) : change(key, &value, nullptr, found);
     }
 
-    map_said del(uint64_t key, uint64_t &found)
-    {
-        if (!is_set[PLAIN])
-            return change(key, nullptr, nullptr, found);
-        return base->Delete(writes(), bytes_of(key)).ok() ? MAP_DONE : MAP_UNKNOWN;
-    }
+    map_said del(uint64_t key, uint64_t &found) { return is_set[PLAIN] ? FolderMap::del(key, found) : change(key, nullptr, nullptr, found); }
 
     map_said replace(uint64_t key, uint64_t old, uint64_t value, uint64_t &found) { return change(key, &value, &old, found); }
-
-    // An iterator has a snapshot of its own.
-    map_said scan(uint64_t low, uint64_t high, std::vector<recording_pair> &pairs)
-    {
-        std::unique_ptr<Iterator> at(base->NewIterator(ReadOptions()));
-        potzendai_taken();
-        for (at->Seek(bytes_of(low)); at->Valid() && number_in(at->key()) <= high; at->Next())
-            pairs.push_back({number_in(at->key()), number_in(at->value())});
-        return at->status().ok() ? MAP_TOLD : MAP_REFUSED;
-    }
 };
 
 int main(int argc, char **argv)

@@ -2414,7 +2414,7 @@ func (r *run) shownLeft(left string) []string {
 	if !strings.Contains(explained, "\n{\"answer\":") {
 		return []string{fmt.Sprintf("few calls are not shown: they are not found within a budget of %d", r.program.more()), r.keep(".json", left)}
 	}
-	return append([]string{saidAnew}, r.shown(left, explained, r.noted(roundOf(left)))...)
+	return append([]string{saidRenumbered}, r.shown(left, explained, r.noted(roundOf(left)))...)
 }
 
 // The calls that a follower still had, with their notes.
@@ -2554,8 +2554,8 @@ func (o *options) less(how int) *options {
 	return &less
 }
 
-const saidAnew = "events and processes are numbered anew here and in the files, for the calls \"invoked\" above that had not taken effect, in " +
-	"that order:"
+const saidRenumbered = "here and in the files, events and processes have new numbers. The calls are those \"invoked\" above that had not taken " +
+	"effect, in that order:"
 const saidAgain = "  again (draws the same calls; threads may interleave otherwise): "
 
 // The words that repeat the draws of a run of so many rounds.
@@ -2744,8 +2744,8 @@ func (o *options) fit(has functions, canReopen bool) {
 		fail(badWords, "--reopen: the map has no function Reopen")
 	case o.isStream && o.rounds > 0:
 		fail(badWords, "--rounds: a stream has none; --seconds, or --calls of each thread")
-	case !o.isStream && o.threads > processes-2:
-		fail(badWords, "--threads: at most 62 in rounds; --stream has no such limit")
+	case !o.isStream && o.threads >= processes:
+		fail(badWords, "--threads: at most 63 in rounds; --stream has no such limit")
 	case !o.isStream && o.keys > most:
 		fail(badWords, "--keys: %s, with a get of each key at its end; --stream has no such limit", size)
 	case !o.isStream && o.calls > most:

@@ -169,8 +169,9 @@ public final class Potzendai {
     /** How many calls a stream has on behalf of one; of how many of its events the notes are kept; how many other open calls are shown. */
     private static final int BESIDE = 32, NOTES = 1000000, OPEN_SHOWN = 6;
     private static final int BATCH_ROUNDS = 64, BATCH_CALLS = 256; // so many rounds are judged together, of so many calls
-    private static final String ANEW =
-        "events and processes are numbered anew here and in the files, for the calls \"invoked\" above that had not taken effect, in that order:";
+    private static final String RENUMBERED =
+        "here and in the files, events and processes have new numbers. The calls are those \"invoked\" above that had not taken effect, "
+        + "in that order:";
     private static final String AGAIN = "  again (draws the same calls; threads may interleave otherwise): ";
     private static final Set<String> LESS = Set.of("\"done\"", "\"found\"", "\"other\"");
     private static final Map<String, Kind> BREAKS = new LinkedHashMap<>();
@@ -2006,7 +2007,7 @@ public final class Potzendai {
         }
         if (!explained.contains("\n{\"answer\":"))
             return List.of("few calls are not shown: they are not found within a budget of " + run.program.more(), keep(run, ".json", left));
-        List<String> said = new ArrayList<>(List.of(ANEW));
+        List<String> said = new ArrayList<>(List.of(RENUMBERED));
         Round round = new Round(left);
         List<?> keys = (List<?>) ((Map<?, ?>) Json.of(run.report.lines().findFirst().orElse(""))).get("keys");
         round.note((List<?>) ((Map<?, ?>) keys.get(0)).get("invoked"), run.notes);
@@ -2237,7 +2238,7 @@ public final class Potzendai {
             wrong(isStream && rounds > 0, "--rounds: a stream has none; --seconds, or --calls of each thread");
             long most = CALLS / (threads + 1);
             String size = "at most " + most + " with " + threads + " threads, since a round has at most " + CALLS + " calls";
-            wrong(!isStream && threads > PROCESSES - 2, "--threads: at most 62 in rounds; --stream has no such limit");
+            wrong(!isStream && threads >= PROCESSES, "--threads: at most 63 in rounds; --stream has no such limit");
             wrong(!isStream && keys > most, "--keys: " + size + ", with a get of each key at its end; --stream has no such limit");
             wrong(!isStream && calls > most, "--calls: " + size + "; --stream has no such limit");
             hasDel = has.contains(Kind.DEL);

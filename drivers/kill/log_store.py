@@ -6,14 +6,18 @@ wrong in one of four ways, none of which shows while it stays open:
     torn      a record is two writes, and opening does not cut off a torn record
     buffered  puts are answered from a buffer that is written each 5 milliseconds
 """
-import argparse
+import contextlib
 import os
 import random
-import signal
 import struct
 import sys
 import threading
 import time
+
+sys.dont_write_bytecode = True
+sys.path.insert(0, os.path.dirname(os.path.abspath(__file__)))
+
+import child  # noqa: E402
 
 RECORD = struct.Struct("<QQQ")  # 1 and a pair, or 2 and a key that is removed
 PUT, REMOVE = 1, 2
@@ -61,30 +65,30 @@ class Store:
         if self.is_synced:
             os.fdatasync(self.log)
 
-    def change(self, kind, key, value):
-        record = RECORD.pack(kind, key, value)
+    def change(self, key, value):
+        record = RECORD.pack(REMOVE, key, 0) if value is None else RECORD.pack(PUT, key, value)
         if self.plant == "seen":
             with self.writers[key % 64]:  # the log has each key's order of the map, but readers do not wait for it
-                before = self.changed(kind, key, value)
+                before = self.changed(key, value)
                 self.point()
                 self.append(record)
         elif self.plant == "order":
-            before = self.changed(kind, key, value)
+            before = self.changed(key, value)
             self.point()
             self.append(record)
         else:
             with self.lock:
                 self.append(record)
-                before = self.swapped(kind, key, value)
+                before = self.swapped(key, value)
         return before
 
-    def changed(self, kind, key, value):
+    def changed(self, key, value):
         with self.lock:
-            return self.swapped(kind, key, value)
+            return self.swapped(key, value)
 
-    def swapped(self, kind, key, value):
+    def swapped(self, key, value):
         before = self.pairs.pop(key, None)
-        if kind == PUT:
+        if value is not None:
             self.pairs[key] = value
         return before
 
@@ -101,81 +105,19 @@ class Store:
         os.close(self.log)
 
 
-def note(process, member):
-    os.write(1, b'{"process":%d,%s}\n' % (process, member.encode()))
-
-
-def text(answer):
-    return "null" if answer is None else str(answer).replace(" ", "")
-
-
-def options_of():
-    parser = argparse.ArgumentParser(allow_abbrev=False)
-    parser.add_argument("--plant", choices=("seen", "order", "torn", "buffered"))
-    parser.add_argument("--sync", action="store_true", help="sync the log at each put")
-    parser.add_argument("--delay", type=float, default=0, help="the greatest delay within a put, in seconds [0]")
-    parser.add_argument("--threads", type=int, default=4)
-    parser.add_argument("word", choices=("run", "read"))
-    parser.add_argument("number", type=int)
-    return parser.parse_args()
-
-
-def call(store, process, draws, value):
-    """Makes one drawn call. A put writes this value."""
-    key, draw = draws.randrange(16), draws.random()
-    if draw < .05:
-        high = draws.randrange(key, 16)
-        note(process, '"invoke":["scan",%d,%d]' % (key, high))
-        answer = store.scan(key, high)
-    elif draw < .5:
-        note(process, '"invoke":["get",%d]' % key)
-        answer = store.get(key)
-    elif draw < .9:
-        note(process, '"invoke":["insert",%d,%d]' % (key, value))
-        answer = store.change(PUT, key, value)
-    else:
-        note(process, '"invoke":["remove",%d]' % key)
-        answer = store.change(REMOVE, key, 0)
-    note(process, '"answer":' + text(answer))
-
-
-def run(store, life, count, is_over):
-    """Makes calls in so many threads until the life is over."""
-    seed = int(os.environ["POTZENDAI_SEED"])
-
-    def calls(process):
-        draws, n = random.Random((seed * 100003 + life) * 64 + process), 0
-        while not is_over.is_set():
-            n += 1
-            call(store, process, draws, (life * 64 + process) << 32 | n)
-
-    threads = [threading.Thread(target=calls, args=(process,)) for process in range(count)]
-    for thread in threads:
-        thread.start()
-    for thread in threads:
-        thread.join()
-
-
-def read(store, keys):
-    """Gets each key once."""
-    for key in range(keys):
-        note(65535, '"invoke":["get",%d]' % key)
-        note(65535, '"answer":' + text(store.get(key)))
-
-
 def main():
-    options, is_over = options_of(), threading.Event()
-    signal.signal(signal.SIGTERM, lambda *_: is_over.set())
+    arguments = child.arguments()
+    arguments.add_argument("--plant", choices=("seen", "order", "torn", "buffered"))
+    arguments.add_argument("--sync", action="store_true", help="sync the log at each put")
+    arguments.add_argument("--delay", type=float, default=0, help="the greatest delay within a put, in seconds [0]")
+    options = arguments.parse_args()
 
     def point():
         if options.delay and random.random() < 0.5:
             time.sleep(random.random() * options.delay)
 
     store = Store(os.environ["POTZENDAI_STORE"], options.plant, options.sync, point)
-    if options.word == "read":
-        read(store, options.number)
-    else:
-        run(store, options.number, options.threads, is_over)
+    child.main(options, lambda: contextlib.nullcontext(store))
     store.close()
 
 

@@ -539,8 +539,8 @@ def stamps(processes):
 
 
 RUNNING, OVER, FAILED = range(3)
-ANEW = ("events and processes are numbered anew here and in the files, for the calls \"invoked\" above that had not taken effect, in that "
-        "order:")
+RENUMBERED = ("here and in the files, events and processes have new numbers. The calls are those \"invoked\" above that had not taken effect, in "
+              "that order:")
 AGAIN = "  again (draws the same calls; threads may interleave otherwise): "
 OPEN_SHOWN = 6  # of the other calls that were open
 REPORT_SHOWN = 1000  # characters of the report of a stream without order
@@ -1618,8 +1618,8 @@ def fit(options, has, can_reopen):
     options.calls = options.calls or (0 if options.stream else min(CALLS // (options.threads + 2), 200))
     most = CALLS // (options.threads + 1)
     size = "at most %d with %d threads, since a round has at most %d calls" % (most, options.threads, CALLS)
-    if not options.stream and options.threads > PROCESSES - 2:
-        wrong("--threads", "at most 62 in rounds; --stream has no such limit")
+    if not options.stream and options.threads >= PROCESSES:
+        wrong("--threads", "at most 63 in rounds; --stream has no such limit")
     if not options.stream and options.keys > most:
         wrong("--keys", size + ", with a get of each key at its end; --stream has no such limit")
     if not options.stream and options.calls > most:
@@ -1726,7 +1726,7 @@ def shown_left(run, left):
     for number, event in zip(invoked, calls if len(calls) == len(invoked) else []):
         if number in run.notes:
             event["note"] = run.notes[number]
-    return [ANEW] + shown(run, left, told_of, types.SimpleNamespace(
+    return [RENUMBERED] + shown(run, left, told_of, types.SimpleNamespace(
         events=whole["events"], start=dict(whole.get("start", [])), at_start="before these calls", nobody="none of these calls"))
 
 

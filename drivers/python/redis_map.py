@@ -9,26 +9,21 @@ import sys
 import potzendai
 from potzendai import DONE, FOUND, NONE, told
 
-PORT, TIMEOUT = 7379, 5
+TIMEOUT = 5
 
 
-class Connection:
-    """One behind another: where a request has no answer in time, its connection is not used any more, since the answer may still come."""
-    wire = None
+class Client:
+    """One connection after another: if a request has no answer in time, its connection is closed, since the answer may still come."""
+    port, wire = None, None
 
-    def ask(self, *words):
+    def exchange(self, request, read):
+        """Sends a request, and returns what `read` makes of the answer's lines."""
         try:
             if self.wire is None:
-                self.wire = socket.create_connection(("127.0.0.1", PORT), TIMEOUT)
+                self.wire = socket.create_connection(("127.0.0.1", self.port), TIMEOUT)
                 self.lines = self.wire.makefile("rb")
-            parts = [str(word).encode() for word in words]
-            self.wire.sendall(b"*%d\r\n" % len(parts) + b"".join(b"$%d\r\n%s\r\n" % (len(part), part) for part in parts))
-            line = self.lines.readline()
-            if line[:1] not in (b"$", b":", b"+"):
-                raise OSError(line)
-            if line[:1] != b"$":
-                return line[1:-2]
-            return None if line == b"$-1\r\n" else self.lines.read(int(line[1:]) + 2)[:-2]
+            self.wire.sendall(request)
+            return read(self.lines)
         except OSError:
             self.close()
             raise
@@ -37,6 +32,24 @@ class Connection:
         if self.wire is not None:
             self.wire.close()
         self.wire = None
+
+
+def answer_in(lines):
+    """What Redis says: a number or a word as bytes, or a value as bytes or None."""
+    line = lines.readline()
+    if line[:1] not in (b"$", b":", b"+"):
+        raise OSError(line)
+    if line[:1] != b"$":
+        return line[1:-2]
+    return None if line == b"$-1\r\n" else lines.read(int(line[1:]) + 2)[:-2]
+
+
+class Connection(Client):
+    port = 7379
+
+    def ask(self, *words):
+        parts = [str(word).encode() for word in words]
+        return self.exchange(b"*%d\r\n" % len(parts) + b"".join(b"$%d\r\n%s\r\n" % (len(part), part) for part in parts), answer_in)
 
     def get(self, key):
         found = self.ask("GET", key)

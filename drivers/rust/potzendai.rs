@@ -145,8 +145,8 @@ const OPEN_SHOWN: usize = 6;
 const BATCH_ROUNDS: usize = 64;
 const BATCH_CALLS: usize = 256;
 const AGAIN: &str = "  again (draws the same calls; threads may interleave otherwise): ";
-const ANEW: &str = "events and processes are numbered anew here and in the files, for the calls \"invoked\" above that had not taken effect, in \
-                    that order:";
+const RENUMBERED: &str = "here and in the files, events and processes have new numbers. The calls are those \"invoked\" above that had not \
+                          taken effect, in that order:";
 const AHEAD: u64 = 8192;
 const BATCH: usize = 65536;
 
@@ -2522,7 +2522,7 @@ fn shown_left(run: &Run, left: &str, program: &Program) -> Vec<String> {
         let line = format!("few calls are not shown: they are not found within a budget of {}", program.more());
         return vec![line, keep(run, ".json", left)];
     }
-    let mut said = vec![ANEW.to_string()];
+    let mut said = vec![RENUMBERED.to_string()];
     let mut round = Round::read(left);
     round.note(run.report.lines().next().unwrap_or(""), &run.notes);
     said.extend(shown(run, left, &explained, &round, program));
@@ -2767,7 +2767,7 @@ impl Options {
             (self.is_stream && self.is_reopened, "--reopen: not with --stream, which is of one map"),
             (self.is_reopened && !can_reopen, "--reopen: the map has no function reopen"),
             (self.is_stream && self.rounds > 0, "--rounds: a stream has none; --seconds, or --calls of each thread"),
-            (!self.is_stream && threads > PROCESSES as u64 - 2, "--threads: at most 62 in rounds; --stream has no such limit"),
+            (!self.is_stream && threads >= PROCESSES as u64, "--threads: at most 63 in rounds; --stream has no such limit"),
             (!self.is_stream && self.keys > most, &many_keys),
             (!self.is_stream && self.calls > most, &many_calls),
         ];

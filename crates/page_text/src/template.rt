@@ -113,15 +113,15 @@ tr>\n          <tr><td><kbd>↑ ↓</kbd></td><td>another process</td></tr>\n   
 /tr>\n          <tr><td><kbd>+ - 0</kbd></td><td>zoom in or out, fit. The wheel zooms; with Shift it moves, with Alt it scrolls the processes</td></\
 tr>\n          <tr><td><kbd>E A F</kbd></td><td>explaining calls, all calls, the fault among all calls</td></tr>\n          <tr><td><kbd>/</kbd></td\
 ><td>search: 3164 a value, #12 a call, @40 an event, k5 a key, p3 a process, or words of a call or a note</td></tr>\n          <tr><td><kbd>n N</kbd\
-></td><td>the next or the last call that was found</td></tr>\n          <tr><td><kbd>D</kbd></td><td>light or dark</td></tr>\n          <tr><td><kbd\
->Esc</kbd></td><td>let go of the search, then of the selected call</td></tr>\n        </table>\n        <h2>What is drawn</h2>\n        <p>A bar is \
-a call, from its invocation to its response, in the lane of its process. It is open at the right if it is pending. Columns are events in their order\
-, not time. Filled circles are places in an order.</p>\n        <p>Thick frames: the calls that explain the verdict. Dashed frames: calls that they \
-miss, or that wrote what they read. Red stripes: where it goes wrong. A green arrow goes from a writer to its reader, a red one to who missed it. Be\
-low the lanes stands what a key holds along the order.</p>\n        <p><button id=\"close-help\">Close</button></p>\n      </div>\n    </div>\n    <\
-noscript><p>This page draws with JavaScript. The texts of the program are in its source, in the blocks history, judge, locate, explain and order.</p\
-></noscript>\n    <!-- Each block has a text of the program as it is, except that each \"<\" is written \\u003c, which JSON reads as the same. -->\
-\n    <script type=\"application/json\" id=\"history\">";
+></td><td>the next or the previous call that was found</td></tr>\n          <tr><td><kbd>D</kbd></td><td>light or dark</td></tr>\n          <tr><td>\
+<kbd>Esc</kbd></td><td>clear the search, then deselect the call</td></tr>\n        </table>\n        <h2>What is drawn</h2>\n        <p>A bar is a c\
+all, from its invocation to its response, in the lane of its process. It is open at the right if it is pending. Columns are events in their order, n\
+ot time. Filled circles are places in an order.</p>\n        <p>Thick frames: the calls that explain the verdict. Dashed frames: calls that they mis\
+s, or that wrote what they read. Red stripes: where it goes wrong. A green arrow goes from a writer to its reader, a red one to who missed it. The s\
+trip below the lanes shows what a key holds along the order.</p>\n        <p><button id=\"close-help\">Close</button></p>\n      </div>\n    </div>\
+\n    <noscript><p>This page draws with JavaScript. The texts of the program are in its source, in the blocks history, judge, locate, explain and or\
+der.</p></noscript>\n    <!-- Each block has a text of the program as it is, except that each \"<\" is written \\u003c, which JSON reads as the same\
+. -->\n    <script type=\"application/json\" id=\"history\">";
 
 /// The part between the history and the line of `judge`.
 pub const BEFORE_JUDGE: &str = "\

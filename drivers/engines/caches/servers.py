@@ -6,7 +6,6 @@
 A port other than 7380 of memcached and 7379 of Redis stands after the name.
 """
 import os
-import socket
 import sys
 
 sys.path.insert(0, os.path.join(os.path.dirname(os.path.abspath(__file__)), "..", "..", "python"))
@@ -15,7 +14,6 @@ import potzendai  # noqa: E402
 import redis_map  # noqa: E402
 from potzendai import DONE, FOUND, NONE, OTHER, REFUSED  # noqa: E402
 
-TIMEOUT = 5
 MEMCACHED_VALUE, REDIS_VALUE = 30000, 20000  # bytes of a value, so that a small server has to evict
 NO_MEMORY = b"SERVER_ERROR out of memory storing object".split()
 
@@ -36,35 +34,26 @@ class Redis(redis_map.Redis):
     connection = Evicting
 
 
-class Connection:
-    """A request that fails ends its connection, since its answer may still come. A write that memcached has no memory for is refused: then it has
-    stored nothing. A `set` has dropped the value before, which a cache may lose at any time."""
-    port, wire = 7380, None
+def answer_in(lines):
+    """The words of the first line that memcached answers, and the value below it."""
+    words = lines.readline().split()
+    if not words or b"ERROR" in words[0] and words != NO_MEMORY:
+        raise OSError(b" ".join(words))
+    found = None
+    if words[0] == b"VALUE":
+        found = int(lines.read(int(words[3]) + 2))
+        lines.readline()
+    return words, found
+
+
+class Connection(redis_map.Client):
+    """A write that memcached has no memory for is refused: then it has stored nothing. A `set` has dropped the value before, which a cache may
+    lose at any time."""
+    port = 7380
 
     def ask(self, line, value=None):
-        """Sends a request, and returns the words of the answer's first line, and the value below it."""
-        try:
-            if self.wire is None:
-                self.wire = socket.create_connection(("127.0.0.1", self.port), TIMEOUT)
-                self.lines = self.wire.makefile("rb")
-            data = b"" if value is None else str(value).ljust(MEMCACHED_VALUE).encode() + b"\r\n"
-            self.wire.sendall(line.encode() + b"\r\n" + data)
-            words = self.lines.readline().split()
-            if not words or b"ERROR" in words[0] and words != NO_MEMORY:
-                raise OSError(b" ".join(words))
-            found = None
-            if words[0] == b"VALUE":
-                found = int(self.lines.read(int(words[3]) + 2))
-                self.lines.readline()
-            return words, found
-        except OSError:
-            self.close()
-            raise
-
-    def close(self):
-        if self.wire is not None:
-            self.wire.close()
-        self.wire = None
+        data = b"" if value is None else str(value).ljust(MEMCACHED_VALUE).encode() + b"\r\n"
+        return self.exchange(line.encode() + b"\r\n" + data, answer_in)
 
     def get(self, key):
         return potzendai.told(self.ask(f"get {key}")[1])
@@ -101,10 +90,8 @@ def main(words):
     if name not in ("memcached", "redis") or not (port or "1").isdecimal():
         print("servers.py: the first argument is memcached or redis, or one of them with a port, such as redis:7379", file=sys.stderr)
         sys.exit(5)
-    if port and name == "redis":
-        redis_map.PORT = int(port)
-    elif port:
-        Connection.port = int(port)
+    if port:
+        (redis_map.Connection if name == "redis" else Connection).port = int(port)
     potzendai.main(Redis if name == "redis" else Memcached, words[1:])
 
 
