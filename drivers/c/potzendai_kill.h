@@ -28,7 +28,7 @@ struct potzendai_killing {
     char folder[POTZENDAI_PATH], store[POTZENDAI_PATH + 16], shadow[POTZENDAI_PATH + 16], library[POTZENDAI_PATH + 16];
     char **words, *words_text;
     size_t words_count;
-    uint64_t *counted, state, first_writes, writes, syncs, at_write, readings;
+    uint64_t *counted, state, first_writes, writes, syncs, at_write, readings, changes;
     unsigned char *functions; /* of each process its last call */
     bool is_getting, is_kept; /* whether the open call of a reading is a get, and whether the folder stays */
 };
@@ -206,6 +206,7 @@ static inline void potzendai_count_line(struct potzendai_killing *k, const char 
     enum map_said said = *word == 'n' ? MAP_NONE : *word == 'd' ? MAP_DONE : *word == 'f' ? MAP_FOUND : *word == 'o' ? MAP_OTHER
                        : *word != 'r' ? MAP_TOLD : potzendai_writes((enum potzendai_function)k->functions[process]) ? MAP_REFUSED : MAP_DONE;
     counts->sayings[said]++;
+    k->changes += said != MAP_REFUSED && potzendai_writes((enum potzendai_function)k->functions[process]);
     counts->hits += k->functions[process] == POTZENDAI_GET && (said == MAP_TOLD || said == MAP_FOUND);
 }
 
@@ -375,6 +376,15 @@ static inline int potzendai_is_there(const char *path, const struct stat *file, 
     return 1;
 }
 
+/* Whether writes were seen, of a run that looks for them: not before a change was answered or the run is over. */
+static inline int potzendai_check_seen(struct potzendai_killing *k, bool is_over)
+{
+    if (!k->counted || k->writes > 0 || (!is_over && k->changes == 0))
+        return 0;
+    return potzendai_fail(k->tester->run, POTZENDAI_BAD_WORDS, "no write of the store was seen: it writes by direct system calls, through mmap or "
+                                                               "stdio, or not in potzendai_store()");
+}
+
 /* Takes the end of a life: -1 where it was no kill, or where nothing of the store was seen. */
 static inline int potzendai_take_end(struct potzendai_killing *k, const struct potzendai_following *f, bool is_killed, uint64_t kill_at)
 {
@@ -392,9 +402,8 @@ static inline int potzendai_take_end(struct potzendai_killing *k, const struct p
     if (!(is_killed || is_at_write) || !WIFSIGNALED(k->child.ended) || WTERMSIG(k->child.ended) != SIGKILL)
         return potzendai_fail(run, POTZENDAI_BAD_WORDS, "life %" PRIu64 " ended on its own%s", run->round,
                               f->meetings.calls ? "" : ", before its first call");
-    if (k->counted && k->writes == 0)
-        return potzendai_fail(run, POTZENDAI_BAD_WORDS, "no write of the store was seen: it writes by direct system calls, through mmap or stdio, "
-                                                        "or not in potzendai_store()");
+    if (potzendai_check_seen(k, false))
+        return -1;
     if (f->meetings.calls > 0 && potzendai_for_names(k->store, "", potzendai_is_there) != 1)
         return potzendai_fail(run, POTZENDAI_BAD_WORDS, "begin opened no store in potzendai_store()");
     return potzendai_lose_power(k);
@@ -514,6 +523,7 @@ static inline int potzendai_kill_lives(struct potzendai_tester *tester)
         status = potzendai_one_life(k);
     if (status == 0 && tester->run->counts.calls == 0)
         status = potzendai_fail(tester->run, POTZENDAI_IS_UNDECIDED, "no life had a call: nothing was tested");
+    status = status ? status : potzendai_check_seen(k, true);
     potzendai_tell_writes(k);
     potzendai_close_kills(k);
     return status == 0 && tester->undecided > 0 ? POTZENDAI_IS_UNDECIDED : status;

@@ -196,7 +196,7 @@ class Run:
         os.mkdir(self.store)
         self.environment = {**os.environ, "POTZENDAI_STORE": self.store, "POTZENDAI_SEED": str(options.seed)}
         self.lives, self.calls, self.open_at_kill, self.full, self.empty = 0, 0, 0, 0, 0
-        self.seen, self.syncs, self.first_writes, self.at_write = 0, 0, 0, 0
+        self.seen, self.syncs, self.first_writes, self.at_write, self.changes = 0, 0, 0, 0, 0
         self.is_kept = False
         self.begun = time.monotonic()
         if options.kill_at_write or options.power:
@@ -386,15 +386,21 @@ class Run:
         self.open_at_kill += len(events.opened)
         self.empty += not events.calls
         self.full += bool(events.calls) and not events.opened
-        if (options.kill_at_write or options.power) and not self.seen:
-            raise Stop(WORDS, "no write of the store was seen: the child writes by direct system calls, through mmap or stdio, or not below "
-                              "POTZENDAI_STORE")
+        self.changes += sum(call[0] not in ("get", "scan") for call, _ in events.answers)
+        if self.changes:
+            self.check_seen()
         reading, why = self.read()
         if reading is None:
             self.keep(life, head, events.lines)
             print("does not open after %s %d: %s" % ("stop" if options.stop else "kill", life, why))
             return NO, None
         return self.judge(life, head, events, reading), reading
+
+    def check_seen(self):
+        """Whether writes were seen, if the run looks for them."""
+        if (self.options.kill_at_write or self.options.power) and not self.seen:
+            raise Stop(WORDS, "no write of the store was seen: the child writes by direct system calls, through mmap or stdio, or not below "
+                              "POTZENDAI_STORE")
 
     def all_lives(self):
         options = self.options
@@ -412,6 +418,7 @@ class Run:
         if not self.calls:
             print("no life had a call: nothing was tested")
             return UNDECIDED
+        self.check_seen()
         return YES
 
     def keep(self, life, head, lines):
