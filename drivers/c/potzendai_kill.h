@@ -28,9 +28,9 @@ struct potzendai_killing {
     char folder[POTZENDAI_PATH], store[POTZENDAI_PATH + 16], shadow[POTZENDAI_PATH + 16], library[POTZENDAI_PATH + 16];
     char **words, *words_text;
     size_t words_count;
-    uint64_t *counted, state, first_writes, writes, syncs, at_write;
+    uint64_t *counted, state, first_writes, writes, syncs, at_write, readings, changes;
     unsigned char *functions; /* of each process its last call */
-    bool is_kept;
+    bool is_getting, is_kept; /* whether the open call of a reading is a get, and whether the folder stays */
 };
 
 /* Runs a program to its end: 0 where that is a success. */
@@ -81,7 +81,7 @@ static inline int potzendai_build_library(struct potzendai_killing *k)
         return potzendai_fail(k->tester->run, POTZENDAI_BAD_FILE, "no file in %.100s", k->folder);
     k->counted = (uint64_t *)counted;
     snprintf(k->library, sizeof k->library, "%s/count.so", k->folder);
-    const char *const words[] = {"cc", "-std=c11", "-O2", "-shared", "-fPIC", "-o", k->library, source, "-ldl", "-lpthread", NULL};
+    const char *const words[] = {"cc", "-std=c11", "-shared", "-fPIC", "-o", k->library, source, "-ldl", "-lpthread", NULL};
     if (access(source, R_OK) == 0 && potzendai_execute(words) == 0)
         return 0;
     return potzendai_fail(k->tester->run, POTZENDAI_BAD_WORDS, "--kill-at-write and --power need cc and %.90s: run where it was compiled", source);
@@ -126,9 +126,10 @@ static inline int potzendai_open_kills(struct potzendai_killing *k)
 static inline int potzendai_start_child(struct potzendai_killing *k, const char *word, uint64_t number, uint64_t kill_at)
 {
     int ends[2];
-    char digits[32], at[32];
+    char digits[32], at[32], readings[32];
     snprintf(digits, sizeof digits, "%" PRIu64, number);
     snprintf(at, sizeof at, "%" PRIu64, kill_at);
+    snprintf(readings, sizeof readings, "%" PRIu64, k->readings);
     k->words[k->words_count] = (char *)word;
     k->words[k->words_count + 1] = digits;
     k->child.waits = 0;
@@ -140,7 +141,8 @@ static inline int potzendai_start_child(struct potzendai_killing *k, const char 
     k->child.process = fork();
     if (k->child.process == 0) {
         setsid();
-        bool is_set = setenv("POTZENDAI_STORE", k->store, 1) == 0 && setenv("POTZENDAI_KILL_AT", at, 1) == 0;
+        bool is_set = setenv("POTZENDAI_STORE", k->store, 1) == 0 && setenv("POTZENDAI_KILL_AT", at, 1) == 0
+            && setenv("POTZENDAI_READINGS", readings, 1) == 0;
         if (*k->library)
             is_set = is_set && setenv("LD_PRELOAD", k->library, 1) == 0;
         close(ends[0]);
@@ -187,7 +189,7 @@ static inline void potzendai_heard(struct potzendai_child *c, ssize_t length)
     memmove(c->text, c->text + length, c->waits);
 }
 
-/* Counts a line by its function, and by what it was answered. */
+/* Counts a line by its function, and by what it was answered. A read that says nothing is written as refused. */
 static inline void potzendai_count_line(struct potzendai_killing *k, const char *line, uint64_t process)
 {
     static const char *const calls[] = {"get", "insert", "remove", "scan", "replace", NULL};
@@ -202,8 +204,9 @@ static inline void potzendai_count_line(struct potzendai_killing *k, const char 
         return;
     }
     enum map_said said = *word == 'n' ? MAP_NONE : *word == 'd' ? MAP_DONE : *word == 'f' ? MAP_FOUND : *word == 'o' ? MAP_OTHER
-                       : *word == 'r' ? MAP_REFUSED : MAP_TOLD;
+                       : *word != 'r' ? MAP_TOLD : potzendai_writes((enum potzendai_function)k->functions[process]) ? MAP_REFUSED : MAP_DONE;
     counts->sayings[said]++;
+    k->changes += said != MAP_REFUSED && potzendai_writes((enum potzendai_function)k->functions[process]);
     counts->hits += k->functions[process] == POTZENDAI_GET && (said == MAP_TOLD || said == MAP_FOUND);
 }
 
@@ -254,19 +257,25 @@ static inline bool potzendai_hear_life(struct potzendai_killing *k, struct potze
     return is_killed;
 }
 
-/* Takes the lines of a reading: the next start has what the get of each key found. */
-static inline void potzendai_take_read(struct potzendai_tester *tester, const char *line)
+/* Takes the lines of a reading: the next start has what the get of each key found, or what was put where a get does not tell. */
+static inline void potzendai_take_read(struct potzendai_killing *k, const char *line)
 {
-    static const char call[] = "{\"invoke\":[\"get\",", answer[] = "{\"answer\":";
-    for (; *line && strchr(line, '\n'); line = strchr(line, '\n') + 1) {
+    static const char get[] = "{\"invoke\":[\"get\",", put[] = "{\"invoke\":[\"insert\",", answer[] = "{\"answer\":";
+    struct potzendai_tester *tester = k->tester;
+    for (; *line && strchr(line, '\n') && tester->pairs_next < tester->options->keys; line = strchr(line, '\n') + 1) {
         struct recording_pair *pair = &tester->next_start[tester->pairs_next];
-        if (tester->pairs_next >= tester->options->keys)
-            return;
-        if (strncmp(line, call, sizeof call - 1) == 0)
-            pair->key = strtoull(line + sizeof call - 1, NULL, 10);
-        else if (strncmp(line, answer, sizeof answer - 1) == 0 && line[sizeof answer - 1] != 'n') {
-            pair->value = strtoull(line + sizeof answer - 1, NULL, 10);
+        char *end = NULL;
+        if (strncmp(line, get, sizeof get - 1) == 0) {
+            pair->key = strtoull(line + sizeof get - 1, NULL, 10);
+            k->is_getting = true;
+        } else if (strncmp(line, put, sizeof put - 1) == 0) {
+            pair->key = strtoull(line + sizeof put - 1, &end, 10);
+            pair->value = strtoull(end + (*end == ','), NULL, 10);
             tester->pairs_next++;
+        } else if (strncmp(line, answer, sizeof answer - 1) == 0) {
+            pair->value = strtoull(line + sizeof answer - 1, NULL, 10);
+            tester->pairs_next += k->is_getting && line[sizeof answer - 1] != 'n';
+            k->is_getting = false;
         }
     }
 }
@@ -279,10 +288,11 @@ static inline const char *potzendai_hear_reading(struct potzendai_killing *k, st
     k->tester->pairs_next = 0;
     if (potzendai_start_child(k, "read", k->tester->options->keys, 0))
         return "no process was started";
+    k->readings++;
     while ((length = potzendai_hear(&k->child, due)) != 0 && potzendai_now() < due) {
         if (length < 0)
             continue;
-        potzendai_take_read(k->tester, k->child.text);
+        potzendai_take_read(k, k->child.text);
         if (f)
             potzendai_relay(f, k->child.text, (size_t)length);
         potzendai_heard(&k->child, length);
@@ -366,6 +376,15 @@ static inline int potzendai_is_there(const char *path, const struct stat *file, 
     return 1;
 }
 
+/* Whether writes were seen, of a run that looks for them: not before a change was answered or the run is over. */
+static inline int potzendai_check_seen(struct potzendai_killing *k, bool is_over)
+{
+    if (!k->counted || k->writes > 0 || (!is_over && k->changes == 0))
+        return 0;
+    return potzendai_fail(k->tester->run, POTZENDAI_BAD_WORDS, "no write of the store was seen: it writes by direct system calls, through mmap or "
+                                                               "stdio, or not in potzendai_store()");
+}
+
 /* Takes the end of a life: -1 where it was no kill, or where nothing of the store was seen. */
 static inline int potzendai_take_end(struct potzendai_killing *k, const struct potzendai_following *f, bool is_killed, uint64_t kill_at)
 {
@@ -383,9 +402,8 @@ static inline int potzendai_take_end(struct potzendai_killing *k, const struct p
     if (!(is_killed || is_at_write) || !WIFSIGNALED(k->child.ended) || WTERMSIG(k->child.ended) != SIGKILL)
         return potzendai_fail(run, POTZENDAI_BAD_WORDS, "life %" PRIu64 " ended on its own%s", run->round,
                               f->meetings.calls ? "" : ", before its first call");
-    if (k->counted && k->writes == 0)
-        return potzendai_fail(run, POTZENDAI_BAD_WORDS, "no write of the store was seen: it writes by direct system calls, through mmap or stdio, "
-                                                        "or not in potzendai_store()");
+    if (potzendai_check_seen(k, false))
+        return -1;
     if (f->meetings.calls > 0 && potzendai_for_names(k->store, "", potzendai_is_there) != 1)
         return potzendai_fail(run, POTZENDAI_BAD_WORDS, "begin opened no store in potzendai_store()");
     return potzendai_lose_power(k);
@@ -505,6 +523,7 @@ static inline int potzendai_kill_lives(struct potzendai_tester *tester)
         status = potzendai_one_life(k);
     if (status == 0 && tester->run->counts.calls == 0)
         status = potzendai_fail(tester->run, POTZENDAI_IS_UNDECIDED, "no life had a call: nothing was tested");
+    status = status ? status : potzendai_check_seen(k, true);
     potzendai_tell_writes(k);
     potzendai_close_kills(k);
     return status == 0 && tester->undecided > 0 ? POTZENDAI_IS_UNDECIDED : status;

@@ -5,36 +5,39 @@
 
 #include "potzendai_follow.h"
 
-/* Reads the words of such a process, the last of which are `run LIFE` or `read KEYS`; the seed is in the environment. */
+/* Reads the words of such a process, the last of which are `run LIFE` or `read KEYS`. The environment has the seed, and how many readings were. */
 static inline int potzendai_read_life(struct potzendai_options *o, int argc, char **argv, const struct potzendai_map *map)
 {
-    const char *seed = getenv("POTZENDAI_SEED"), *word = argc > 2 ? argv[argc - 2] : "";
+    const char *seed = getenv("POTZENDAI_SEED"), *readings = getenv("POTZENDAI_READINGS"), *word = argc > 2 ? argv[argc - 2] : "";
     bool is_reading = strcmp(word, "read") == 0;
     uint64_t number = 0, drawn = 0;
     if ((!is_reading && strcmp(word, "run") != 0) || potzendai_read_number(argv[argc - 1], UINT32_MAX / 2, &number))
         return potzendai_complain("POTZENDAI_STORE", "where it is set, the last words are `run LIFE` or `read KEYS`, and main hands all words on");
     int status = potzendai_read_words(o, argc - 2, argv, map);
     o->is_reading = is_reading;
-    o->life = number;
     o->seed = seed && potzendai_read_number(seed, UINT64_MAX, &drawn) == 0 ? drawn : o->seed;
     if (status == 0 && is_reading && number != o->keys)
         return potzendai_complain("read", "not as many keys as by --keys");
+    o->life = is_reading ? 0 : number;
+    if (is_reading && readings)
+        potzendai_read_number(readings, UINT32_MAX / 2, &o->life);
     return status;
 }
 
-/* Gets a key: nothing but a value or none is an answer. */
+/* Finds out what a key holds. Nothing else is called meanwhile, so the call may be written behind its answer. */
 static inline int potzendai_read_key(struct potzendai_tester *tester, uint64_t key, unsigned process)
 {
     struct potzendai_run *run = tester->run;
     struct potzendai_request request = {POTZENDAI_GET, key, 0, 0};
     struct potzendai_answer answer;
-    const uint64_t words[3] = {key, 0, 0};
-    if (potzendai_note_call(run, process, RECORDING_GET, words))
+    uint64_t words[3];
+    if (potzendai_find_out(tester, &request, &answer))
+        return -1;
+    const struct potzendai_row *row = &potzendai_rows[request.function][answer.said];
+    potzendai_words(&request, &answer, row->call, words);
+    if (potzendai_note_call(run, process, row->call, words) || potzendai_note_answer(run, process, row->answer, &request, &answer))
         return potzendai_fail(run, POTZENDAI_BAD_FILE, "no event was written");
-    potzendai_ask_at_rest(tester, &request, &answer);
-    if (answer.said != MAP_TOLD && answer.said != MAP_NONE)
-        return potzendai_fail(run, POTZENDAI_BAD_WORDS, "get of %" PRIu64 " did not tell, at rest", key);
-    return potzendai_note_answer(run, process, potzendai_rows[POTZENDAI_GET][answer.said].answer, &request, &answer);
+    return 0;
 }
 
 /* Has the threads make calls until the process is killed, or the one that started it has ended. */
@@ -61,7 +64,7 @@ static inline int potzendai_live(struct potzendai_tester *tester)
     if (run->events < 0 || dup2(2, 1) < 0)
         return potzendai_fail(run, POTZENDAI_BAD_FILE, "no descriptor for events");
     run->round = o->life;
-    run->values_from = o->life << 32;
+    run->values_from = o->life << 32 | (uint64_t)o->is_reading << 31;
     atomic_store(&run->next_process, run->threads);
     atomic_store(&run->processes, run->threads + POTZENDAI_OTHERS);
     int status = potzendai_begin_map(tester);

@@ -149,7 +149,25 @@ static inline bool potzendai_is_known(const struct potzendai_options *o, const s
     return said == MAP_TOLD || is_none || (!is_get && (said == MAP_DONE || said == MAP_FOUND));
 }
 
-/* Finds out at rest what a key holds: by a get, or by a write if the get does not say. Unless `process` is NULL, these are its calls. */
+/* Asks at rest what a key holds: by a get, or by a write if the get does not say. The request is the call that says it. */
+static inline int potzendai_find_out(struct potzendai_tester *tester, struct potzendai_request *request, struct potzendai_answer *answer)
+{
+    struct potzendai_run *run = tester->run;
+    potzendai_ask_at_rest(tester, request, answer);
+    bool is_late = answer->said == MAP_NONE && run->options->cache == POTZENDAI_CACHE_LATE;
+    bool is_hidden = answer->said == MAP_DONE || answer->said == MAP_FOUND || is_late;
+    if (is_hidden && (run->truly->put || run->truly->del)) {
+        potzendai_write_at_rest(run, request->key, request);
+        potzendai_ask_at_rest(tester, request, answer);
+    }
+    if (potzendai_is_known(run->options, request, answer->said))
+        return 0;
+    return potzendai_fail(run, POTZENDAI_BAD_WORDS, "%s of %" PRIu64 " said %s at rest, where it has to tell",
+                          potzendai_functions[request->function], request->key,
+                          (unsigned)answer->said < POTZENDAI_SAYINGS ? potzendai_sayings[answer->said] : "no answer");
+}
+
+/* Finds out at rest what a key holds. Unless `process` is NULL, these are its calls. */
 static inline int potzendai_know(struct potzendai_tester *tester, uint64_t key, const unsigned *process, struct recording_pair *pair, bool *is_there)
 {
     struct potzendai_run *run = tester->run;
@@ -158,16 +176,8 @@ static inline int potzendai_know(struct potzendai_tester *tester, uint64_t key, 
     uint64_t words[3];
     if (process && recording_hold(run->recording, *process))
         return -1;
-    potzendai_ask_at_rest(tester, &request, &answer);
-    bool is_hidden = answer.said == MAP_DONE || answer.said == MAP_FOUND || (answer.said == MAP_NONE && run->options->cache == POTZENDAI_CACHE_LATE);
-    if (is_hidden && (run->truly->put || run->truly->del)) {
-        potzendai_write_at_rest(run, key, &request);
-        potzendai_ask_at_rest(tester, &request, &answer);
-    }
-    if (!potzendai_is_known(run->options, &request, answer.said))
-        return potzendai_fail(run, POTZENDAI_BAD_WORDS, "%s of %" PRIu64 " said %s at rest, where it has to tell",
-                              potzendai_functions[request.function], key,
-                              (unsigned)answer.said < POTZENDAI_SAYINGS ? potzendai_sayings[answer.said] : "no answer");
+    if (potzendai_find_out(tester, &request, &answer))
+        return -1;
     enum recording_note note;
     const struct potzendai_row *row = potzendai_row_of_cache(run->options->cache, request.function, answer.said,
                                                              &potzendai_rows[request.function][answer.said], &note);

@@ -56,7 +56,7 @@ struct potzendai_options {
     bool is_steps, is_stream, has_mix, has_void, has_seed, is_reopened, is_killed_at_write, has_power;
     double kill;          /* seconds, or 0 */
     bool is_reading;      /* of a process that is killed: whether it reads the keys, */
-    uint64_t life;        /* or which life it is of */
+    uint64_t life;        /* and which life it is of, or which reading it is */
     struct potzendai_schedule_words schedule;
     const char *out, *bench;
 };
@@ -545,8 +545,8 @@ static inline int potzendai_read_words(struct potzendai_options *o, int argc, ch
     int status = potzendai_check_schedule(o);
     status = status ? status : potzendai_check_shares(o, map);
     status = status ? status : potzendai_check_break(o);
-    status = status ? status : potzendai_check_maps(o, map);
     status = status ? status : potzendai_check_kill(o, map);
+    status = status ? status : potzendai_check_maps(o, map);
     status = status ? status : potzendai_check_sizes(o);
     o->span = potzendai_span(o);
     return status || potzendai_store() ? status : potzendai_check_out(o);

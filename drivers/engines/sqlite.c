@@ -1,11 +1,13 @@
-/* A test of SQLite: each thread has a connection to one file with a write-ahead log. With the first word `plain`, each call is one statement, and
- * says as much as that does. Without it, writes read first, in one transaction. README.md says how it is built. */
+/* A test of SQLite: each thread has a connection to one file. With the word `plain`, each call is one statement, and says as much as that does.
+ * Without it, writes read first, in one transaction. With `pairs`, each of these writes two tables, and a key of which these differ has a value that
+ * nobody wrote. Other words set the journal and when it is synced. README.md says how it is built. */
 #include "../c/potzendai_test.h"
+#include "settings.h"
 #include <sqlite3.h>
 
 enum { GET, PUT, DEL, REPLACE, ABSENT, RANGE, CEILING, FLOOR, POP, BEGIN, COMMIT, ROLLBACK, STATEMENTS };
 
-static const char *const texts[STATEMENTS] = {
+static const char *texts[STATEMENTS] = {
     "SELECT k, v FROM m WHERE k = ?1", "INSERT OR REPLACE INTO m VALUES (?1, ?2)", "DELETE FROM m WHERE k = ?1",
     "UPDATE m SET v = ?2 WHERE k = ?1 AND v = ?3", "INSERT OR IGNORE INTO m VALUES (?1, ?2)",
     "SELECT k, v FROM m WHERE k BETWEEN ?1 AND ?2 ORDER BY k", "SELECT k, v FROM m WHERE k >= ?1 ORDER BY k LIMIT 1",
@@ -13,12 +15,18 @@ static const char *const texts[STATEMENTS] = {
     "BEGIN IMMEDIATE", "COMMIT", "ROLLBACK"
 };
 
-static const char first[] =
-    "PRAGMA journal_mode = WAL; PRAGMA synchronous = OFF; CREATE TABLE IF NOT EXISTS m (k INTEGER PRIMARY KEY, v INTEGER)";
+/* Two tables: each write of the first is done in the second, and a get compares them. */
+static const char second[] =
+    "; CREATE TABLE IF NOT EXISTS n (k INTEGER PRIMARY KEY, v INTEGER)"
+    "; CREATE TRIGGER IF NOT EXISTS puts AFTER INSERT ON m BEGIN INSERT OR REPLACE INTO n VALUES (new.k, new.v); END"
+    "; CREATE TRIGGER IF NOT EXISTS dels AFTER DELETE ON m BEGIN DELETE FROM n WHERE k = old.k; END";
+static const char get_of_both[] =
+    "SELECT k, CASE count(*) * (min(v) = max(v)) WHEN 2 THEN v ELSE 1 << 62 END FROM (SELECT * FROM m UNION ALL SELECT * FROM n)"
+    " WHERE k = ?1 GROUP BY k";
 
 struct connection { sqlite3 *base; sqlite3_stmt *all[STATEMENTS]; };
 
-static char file[POTZENDAI_PATH];
+static char file[POTZENDAI_PATH], first[1024];
 static bool is_plain;
 
 /* Runs a statement to its end, which commits it if no transaction is open, and reads its pairs. Returns MAP_REFUSED if it is busy: then nothing has
@@ -174,12 +182,23 @@ static void *reopen(void *opened)
 
 int main(int argc, char **argv)
 {
-    struct potzendai_map map = {.name = "sqlite", .value_bits = 63, .open = open_connection, .close = close_connection, .get = get, .put = put,
+    struct potzendai_map map = {.name = "sqlite", .value_bits = 62, .open = open_connection, .close = close_connection, .get = get, .put = put,
                                 .del = del, .scan = scan, .replace = replace, .put_if_absent = put_if_absent, .floor = floor_of,
                                 .ceiling = ceiling_of, .pop_first = pop_first, .begin = begin, .end = end_map, .reopen = reopen};
-    char again[] = "sqlite plain";
-    is_plain = argc > 1 && strcmp(argv[1], "plain") == 0;
-    if (is_plain)
-        argv[1] = again;
-    return potzendai_test_main(argc - is_plain, argv + is_plain, &map);
+    static const char *const names[] = {"plain", "pairs", "normal", "full", "delete", "truncate", "persist", "memory", "none", NULL};
+    bool is_set[9] = {false};
+    int count = take_settings(argc, argv, names, is_set), journal = 4;
+    while (journal < 8 && !is_set[journal])
+        journal++;
+    bool is_log = !is_set[journal], is_pairs = is_set[1];
+    is_plain = is_set[0];
+    snprintf(first, sizeof first,
+             "PRAGMA journal_mode = %s; PRAGMA synchronous = %s; CREATE TABLE IF NOT EXISTS m (k INTEGER PRIMARY KEY, v INTEGER)%s",
+             is_log ? "WAL" : journal == 8 ? "OFF" : names[journal], is_set[3] ? "FULL" : is_set[2] ? "NORMAL" : "OFF", is_pairs ? second : "");
+    if (is_pairs) {
+        texts[GET] = get_of_both;
+        map = (struct potzendai_map){.name = "sqlite", .value_bits = 62, .open = open_connection, .close = close_connection, .get = get, .put = put,
+                                     .del = del, .begin = begin, .end = end_map, .reopen = reopen};
+    }
+    return potzendai_test_main(argc - count, argv + count, &map);
 }

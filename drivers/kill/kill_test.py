@@ -4,9 +4,10 @@
     kill_test.py [OPTIONS] -- COMMAND..
 
 `COMMAND run LIFE` opens the store, makes calls without end, and writes each event as a line to descriptor 1, unbuffered: the invocation before
-its call, the answer after it. `COMMAND read KEYS` opens the store again, gets the keys from 0 to KEYS - 1, writes these events too, and ends.
-Lines are those of a stream of version 3 (docs/FORMATS.md) without its first. The environment has POTZENDAI_STORE, the folder of the store,
-which is empty at first, and POTZENDAI_SEED, a number that with LIFE decides what a child draws.
+its call, the answer after it. `COMMAND read KEYS` opens the store again, gets the keys from 0 to KEYS - 1, writes these events too, and ends. If
+a get does not tell what it found, the reading puts or removes that key instead. Lines are those of a stream of version 3 (docs/FORMATS.md) without
+its first. The environment has POTZENDAI_STORE, the folder of the store, which is empty at first, POTZENDAI_SEED, a number that with LIFE decides
+what a child draws, and POTZENDAI_READINGS, how many readings came before.
 
 Each life is one stream: from the pairs that the reading before it found to those that the reading after it finds. Calls that are open at a
 kill stay open in that life, and are no part of the next.
@@ -105,8 +106,9 @@ class Program:
         self.path = options.bench or os.environ.get("POTZENDAI_BENCH") or self.found()
         self.ask("follow", b"")
         folder, script = os.path.split(self.path)
-        outs = [os.path.join(folder, "crates", name, "out", "") for name in ("history_bench", "bench")]
-        built = [(os.path.getmtime(out + "built"), out + name) for name, out in zip(("history_bench", "bench"), outs)
+        parts = ("judge_bench", "bench")  # those that follow streams
+        outs = [os.path.join(folder, "crates", name, "out", "") for name in parts]
+        built = [(os.path.getmtime(out + "built"), out + name) for name, out in zip(parts, outs)
                  if script == "bench" and os.access(out + name, os.X_OK) and os.path.isfile(out + "built")]
         self.path = max(built, default=(0, self.path))[1]  # what the repository's `bench` has just built
 
@@ -194,7 +196,7 @@ class Run:
         os.mkdir(self.store)
         self.environment = {**os.environ, "POTZENDAI_STORE": self.store, "POTZENDAI_SEED": str(options.seed)}
         self.lives, self.calls, self.open_at_kill, self.full, self.empty = 0, 0, 0, 0, 0
-        self.seen, self.syncs, self.first_writes, self.at_write = 0, 0, 0, 0
+        self.seen, self.syncs, self.first_writes, self.at_write, self.changes = 0, 0, 0, 0, 0
         self.is_kept = False
         self.begun = time.monotonic()
         if options.kill_at_write or options.power:
@@ -204,7 +206,7 @@ class Run:
         """Compiles the library that is loaded into each child."""
         library = os.path.join(self.folder, name + ".so")
         try:
-            made = subprocess.run(["cc", "-std=c11", "-O2", "-shared", "-fPIC", "-o", library, os.path.join(HERE, name + ".c"), "-ldl", "-lpthread"],
+            made = subprocess.run(["cc", "-std=c11", "-shared", "-fPIC", "-o", library, os.path.join(HERE, name + ".c"), "-ldl", "-lpthread"],
                                   stdout=subprocess.PIPE, stderr=subprocess.STDOUT)
         except OSError:
             raise Stop(WORDS, "--kill-at-write and --power need the compiler cc, which is not there")
@@ -221,9 +223,10 @@ class Run:
         if "LD_PRELOAD" in self.environment:
             with open(self.writes, "wb") as file:
                 file.write(bytes(16))
+        environment = {**self.environment, "POTZENDAI_KILL_AT": str(kill_at), "POTZENDAI_READINGS": str(self.lives)}
         try:
             return subprocess.Popen([*self.options.command, word, str(number)], stdin=subprocess.DEVNULL, stdout=subprocess.PIPE,
-                                    env={**self.environment, "POTZENDAI_KILL_AT": str(kill_at)}, start_new_session=True)
+                                    env=environment, start_new_session=True)
         except OSError as error:
             raise Stop(WORDS, "%s: %s" % (self.options.command[0], error.strerror))
 
@@ -274,8 +277,9 @@ class Run:
         if sorted(call[1] for call, _ in events.answers) != list(range(self.options.keys)) or events.opened:
             raise Stop(WORDS, "`read %d` has to get each key from 0 to %d once" % (self.options.keys, self.options.keys - 1))
         for call, answer in events.answers:
-            if call[0] != "get" or not (answer is None or is_number(answer)):
-                raise Stop(WORDS, "`read` made the call %s, answered %s: only gets are allowed, each answered by a value or null" % (
+            is_told = answer is None or is_number(answer)
+            if not (is_told and call[0] == "get" or (is_told or answer in ("done", "found")) and call[0] in ("insert", "remove")):
+                raise Stop(WORDS, "`read` made the call %s, answered %s: a get has to tell, or an insert or a remove takes its place" % (
                     json.dumps(call), json.dumps(answer)))
         return events, ""
 
@@ -371,7 +375,8 @@ class Run:
     def one_life(self, life, before):
         """Runs a life from the pairs of the reading before it, and judges it. Returns the status, and the reading after it."""
         options = self.options
-        start = sorted((call[1], answer) for call, answer in before.answers if answer is not None)
+        held = {call[1]: answer if call[0] == "get" else call[2] if call[0] == "insert" else None for call, answer in before.answers}
+        start = [pair for pair in sorted(held.items()) if pair[1] is not None]
         head = b'{"start":%s,"version":3}' % json.dumps(start, separators=(",", ":")).encode()
         events = self.live(life)
         if options.power:
@@ -381,15 +386,21 @@ class Run:
         self.open_at_kill += len(events.opened)
         self.empty += not events.calls
         self.full += bool(events.calls) and not events.opened
-        if (options.kill_at_write or options.power) and not self.seen:
-            raise Stop(WORDS, "no write of the store was seen: the child writes by direct system calls, through mmap or stdio, or not below "
-                              "POTZENDAI_STORE")
+        self.changes += sum(call[0] not in ("get", "scan") for call, _ in events.answers)
+        if self.changes:
+            self.check_seen()
         reading, why = self.read()
         if reading is None:
             self.keep(life, head, events.lines)
             print("does not open after %s %d: %s" % ("stop" if options.stop else "kill", life, why))
             return NO, None
         return self.judge(life, head, events, reading), reading
+
+    def check_seen(self):
+        """Whether writes were seen, if the run looks for them."""
+        if (self.options.kill_at_write or self.options.power) and not self.seen:
+            raise Stop(WORDS, "no write of the store was seen: the child writes by direct system calls, through mmap or stdio, or not below "
+                              "POTZENDAI_STORE")
 
     def all_lives(self):
         options = self.options
@@ -407,6 +418,7 @@ class Run:
         if not self.calls:
             print("no life had a call: nothing was tested")
             return UNDECIDED
+        self.check_seen()
         return YES
 
     def keep(self, life, head, lines):

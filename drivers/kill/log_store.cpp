@@ -5,6 +5,8 @@
 //     order     puts are logged outside of the lock, so the log may have another order than the map
 //     torn      a record is two writes, and opening does not cut off a torn record
 //     buffered  puts are answered from a buffer that is written each 5 milliseconds
+//
+// The word `vague` leaves it right, but its gets do not say what they found.
 #include "../cpp/potzendai_test.hpp"
 #include <atomic>
 #include <chrono>
@@ -110,7 +112,7 @@ public:
         off_t whole = 0;
         for (; pread(log, &record, sizeof record, whole) == static_cast<ssize_t>(sizeof record); whole += sizeof record)
             apply(record);
-        if (plant != "torn" && ftruncate(log, whole))
+        if (plant != "torn" && lseek(log, 0, SEEK_END) > whole && ftruncate(log, whole))
             throw std::runtime_error("log store: the log is not cut");
         if (plant == "buffered")
             flusher = std::thread(&Store::flush_often, this);
@@ -131,7 +133,7 @@ public:
         std::lock_guard<std::mutex> guard(lock);
         auto at = pairs.find(key);
         found = at == pairs.end() ? 0 : at->second;
-        return at == pairs.end() ? MAP_NONE : MAP_TOLD;
+        return plant == "vague" ? MAP_DONE : at == pairs.end() ? MAP_NONE : MAP_TOLD;
     }
 
     map_said put(uint64_t key, uint64_t value, uint64_t &found) { return change({1, key, value}, found); }
