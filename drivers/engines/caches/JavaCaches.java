@@ -64,11 +64,14 @@ public final class JavaCaches {
         };
     }
 
-    public static void main(String[] words) {
+    /** Makes a run, and returns its status. */
+    public static int run(String[] words) {
         if (words.length == 0 || !Arrays.asList("caffeine", "guava", "caffeine-loading", "guava-loading").contains(words[0])) {
             System.err.println("JavaCaches: the first argument is caffeine, guava, caffeine-loading or guava-loading");
-            System.exit(5);
+            return 5;
         }
-        System.exit(Potzendai.run(words[0], () -> made(words[0]), Arrays.copyOfRange(words, 1, words.length)));
+        return Potzendai.run(words[0], () -> made(words[0]), Arrays.copyOfRange(words, 1, words.length));
     }
+
+    public static void main(String[] words) { System.exit(run(words)); }
 }
