@@ -75,10 +75,14 @@ pub record IsPastAfter (kept : KeptPast) (o : Operation) (next : KeptPast) : Typ
   pub left : next.left ≡ without_call o.inv kept.left
   pub found : (f : FoundAt) → Contains next.found f ↔ (Contains kept.found f ⊎ Contains (found_by kept.pairs o o.response) f)
 
--- two pasts are kept alike: the same calls are left, and the same was found
+-- some operation of a list has this invocation
+abbrev pub HasInvocation : List Operation → ℕ → Type 0
+HasInvocation left inv = (o : Operation) × Contains left o × (o.inv ≡ inv)
+
+-- two pasts are kept alike: calls of the same invocations are left, and the same was found
 pub record AreKeptAlike (kept other : KeptPast) : Type 0 where
   pub pairs : other.pairs ≡ kept.pairs
-  pub left : (o : Operation) → Contains kept.left o ↔ Contains other.left o
+  pub left : (inv : ℕ) → HasInvocation kept.left inv ↔ HasInvocation other.left inv
   pub found : (f : FoundAt) → Contains kept.found f ↔ Contains other.found f
 
 -- pending reads of these keys began no earlier than a place
