@@ -3,14 +3,14 @@
 #![tactic(auto)]
 
 mod cuts;
-mod events;
+mod event_laws;
 mod unions;
 
 pub use cuts::{
     alike_pasts_go, alike_pasts_stand, dead_pasts_go, pasts_come_next, pasts_in_any_order,
     reads_of_pasts_come_next,
 };
-pub use events::{
+pub use event_laws::{
     answered_calls_are_kept, answered_reads_are_kept, begun_calls_are_kept, nothing_is_kept,
     others_are_answered, others_begin, refused_calls_are_not_kept, refused_reads_are_not_kept,
     taken_calls_agree, taken_calls_disagree, untold_reads_are_taken,
