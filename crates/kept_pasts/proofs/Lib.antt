@@ -1,0 +1,4 @@
+pub mod PastLemmas
+pub mod EventLemmas
+pub mod TakenLemmas
+pub mod UnionLemmas
