@@ -1,0 +1,5 @@
+pub mod DropLemmas
+pub mod AlikeLemmas
+pub mod LimitLemmas
+pub mod AfterLemmas
+pub mod NextLemmas

@@ -6,7 +6,7 @@ use Rattle.events.specs.declared.operation.Response.{Response}
 use Rattle.events.specs.Keys.{low_key, high_key}
 use Rattle.map_object.specs.MapObject.{Contents, value_at}
 use Rattle.orders.specs.Orders.{after_call}
-use Rattle.key_effects.specs.KeyedCalls.{KeyedCall, is_completed}
+use Rattle.key_effects.specs.KeyedCalls.{KeyedCall, is_completed, keyed}
 use Rattle.key_effects.specs.Choices.{Choice}
 use Rattle.key_effects.specs.Cuts.{Keys}
 use Rattle.key_effects.specs.Apart.{IsAlikeAt, IsRead}
