@@ -11,7 +11,6 @@ use Rattle.events.specs.declared.operation.Operation.{Operation}
 use Rattle.map_object.specs.MapObject.{Contents, value_at}
 use Rattle.key_effects.specs.KeyedCalls.{KeyedCall, keyed}
 use Rattle.key_effects.specs.KeyedOrders.{AreDistinct}
-use Rattle.key_effects.specs.Growth.{HaveGrown}
 use Rattle.key_effects.specs.Choices.{Choice}
 use Rattle.key_effects.specs.Cuts.{Keys}
 use Rattle.key_effects.specs.Apart.{AreApart, IsAlikeAt}
@@ -22,12 +21,13 @@ use Rattle.key_parts.specs.Steps.{AreJoined}
 use Rattle.key_parts.specs.Operations.{AreOfLeftCalls}
 use Rattle.key_parts.specs.Left.{IsLeft, HasKeysIn}
 use Rattle.key_parts.proofs.EventLemmas.{not_both, middle, beside}
-use Rattle.key_parts.proofs.PartLemmas.{at_self, instead, instead_here, instead_there}
-use Rattle.key_parts.proofs.StepLemmas.{dead_pasts_go, parts_unite}
+use Rattle.key_parts.proofs.PartLemmas.{instead, instead_here, instead_there}
+use Rattle.key_parts.proofs.StepLemmas.{parts_unite}
 use Rattle.key_parts.proofs.UniteLemmas.{left_calls_unite, left_calls_part}
-use Rattle.kept_pasts.specs.Cuts.{AlikePastsStand}
 use Rattle.kept_pasts.specs.Pasts.{KeptPast, AreFound, AreAllKept, IsPast, ArePasts, AreKeptAlike}
 use Rattle.kept_pasts.specs.Unions.{both_keys, IsTogether, ArePairs, PastsUnite, FallsApart, PastsFallApart}
+use Rattle.kept_pasts.proofs.AlikeLemmas.{alike_pasts_stand}
+use Rattle.kept_pasts.proofs.DropLemmas.{pasts_in_any_order}
 use Rattle.kept_pasts.proofs.PastLemmas.{IsFit, AreKnown, fit_of, left_of, past_from}
 
 -- an operation that is left is alike to the call of its name
@@ -330,20 +330,20 @@ falls_together keys others calls a b c w falls is first second = record {
 -- ---- a part falls apart
 
 -- one past after another is replaced
-all_stand : AlikePastsStand → (held : ℕ → Option ℕ) (place : ℕ) (calls : List KeyedCall) (keys : Keys) (rest : List Part)
-    → HaveGrown place calls calls → (kept : List KeptPast) (pasts twins done : List Choice) → ArePasts keys calls kept pasts
-    → ArePasts keys calls kept twins → StandFor held place calls (record { keys = keys; pasts = pasts ++ done } ∷ rest)
+all_stand : (held : ℕ → Option ℕ) (place : ℕ) (calls : List KeyedCall) (keys : Keys) (rest : List Part) (kept : List KeptPast)
+    (pasts twins done : List Choice) → ArePasts keys calls kept pasts → ArePasts keys calls kept twins
+    → StandFor held place calls (record { keys = keys; pasts = pasts ++ done } ∷ rest)
     → StandFor held place calls (record { keys = keys; pasts = twins ++ done } ∷ rest)
-all_stand alike held place calls keys rest grown [] [] [] done first second stand = stand
-all_stand alike held place calls keys rest grown [] [] (t ∷ twins) done first second stand = absurd second
-all_stand alike held place calls keys rest grown [] (p ∷ pasts) twins done first second stand = absurd first
-all_stand alike held place calls keys rest grown (k ∷ kept) [] twins done first second stand = absurd first
-all_stand alike held place calls keys rest grown (k ∷ kept) (p ∷ pasts) [] done first second stand = absurd second
-all_stand alike held place calls keys rest grown (k ∷ kept) (p ∷ pasts) (t ∷ twins) done first second stand =
-    moved (twins ++ t ∷ done) (t ∷ twins ++ done) (from_middle twins) (to_middle twins)
-    (all_stand alike held place calls keys rest grown kept pasts twins (t ∷ done) first.1 second.1
-    (moved (t ∷ pasts ++ done) (pasts ++ t ∷ done) (to_middle pasts) (from_middle pasts)
-    (alike held place calls keys k k p t (pasts ++ done) rest grown itself first.0 second.0 stand)))
+all_stand held place calls keys rest [] [] [] done first second stand = stand
+all_stand held place calls keys rest [] [] (t ∷ twins) done first second stand = absurd second
+all_stand held place calls keys rest [] (p ∷ pasts) twins done first second stand = absurd first
+all_stand held place calls keys rest (k ∷ kept) [] twins done first second stand = absurd first
+all_stand held place calls keys rest (k ∷ kept) (p ∷ pasts) [] done first second stand = absurd second
+all_stand held place calls keys rest (k ∷ kept) (p ∷ pasts) (t ∷ twins) done first second stand =
+    pasts_in_any_order held place calls keys (twins ++ t ∷ done) (t ∷ twins ++ done) rest (from_middle twins) (to_middle twins)
+    (all_stand held place calls keys rest kept pasts twins (t ∷ done) first.1 second.1
+    (pasts_in_any_order held place calls keys (t ∷ pasts ++ done) (pasts ++ t ∷ done) rest (to_middle pasts) (from_middle pasts)
+    (alike_pasts_stand held place calls keys k k p t (pasts ++ done) rest itself first.0 second.0 stand)))
   where
     itself : AreKeptAlike k k
     itself = record { pairs = refl; left = λ inv. (λ h. h, λ h. h); found = λ f. (λ h. h, λ h. h) }
@@ -359,13 +359,6 @@ all_stand alike held place calls keys rest grown (k ∷ kept) (p ∷ pasts) (t �
         (λ same. subst (λ (v : Choice). Contains (t ∷ ps ++ done) v) same (Contains-first t (ps ++ done)))
         (λ others. Contains-later t (ps ++ done) q others)
         (Contains-around ps t done q q_in)
-
-    moved : (xs ys : List Choice) → ((q : Choice) → Contains xs q → Contains ys q) → ((q : Choice) → Contains ys q → Contains xs q)
-        → StandFor held place calls (record { keys = keys; pasts = xs } ∷ rest)
-        → StandFor held place calls (record { keys = keys; pasts = ys } ∷ rest)
-    moved xs ys forth back stands =
-        dead_pasts_go held place calls keys xs ys rest (λ q q_in. inl (q, forth q q_in, at_self keys q))
-        (λ q q_in. (q, back q q_in, at_self keys q)) stands
 
 module _ (keys others : Keys) (calls : List KeyedCall) (a : KeptPast) (w : Choice) (distinct : AreDistinct calls) (apart : AreApart keys others)
     (first : IsPast keys calls a w) where
@@ -397,11 +390,11 @@ module _ (keys others : Keys) (calls : List KeyedCall) (a : KeptPast) (w : Choic
         twins_past all kept both falls.1 are.1,
       )
 
-pub fall_apart : AlikePastsStand → PastsFallApart
-fall_apart alike held place calls keys others a [] kept both rest grown apart some falls are stand = absurd (some refl)
-fall_apart alike held place calls keys others a (c ∷ all) [] both rest grown apart some falls are stand = absurd falls
-fall_apart alike held place calls keys others a (c ∷ all) (b ∷ kept) [] rest grown apart some falls are stand = absurd are
-fall_apart alike held place calls keys others a (c ∷ all) (b ∷ kept) (w ∷ both) rest grown apart some falls are stand = (
+pub pasts_fall_apart : PastsFallApart
+pasts_fall_apart held place calls keys others a [] kept both rest grown apart some falls are stand = absurd (some refl)
+pasts_fall_apart held place calls keys others a (c ∷ all) [] both rest grown apart some falls are stand = absurd falls
+pasts_fall_apart held place calls keys others a (c ∷ all) (b ∷ kept) [] rest grown apart some falls are stand = absurd are
+pasts_fall_apart held place calls keys others a (c ∷ all) (b ∷ kept) (w ∷ both) rest grown apart some falls are stand = (
   w,
   w ∷ both,
   first,
@@ -409,7 +402,7 @@ fall_apart alike held place calls keys others a (c ∷ all) (b ∷ kept) (w ∷ 
   (parts_unite held place calls (record { keys = keys; pasts = w ∷ [] }) (record { keys = others; pasts = w ∷ both })
       (record { keys = both_keys keys others; pasts = pairs_of keys (w ∷ []) (w ∷ both) }) rest apart
       (joined keys others (w ∷ []) (w ∷ both) apart)).1
-      (all_stand alike held place calls (both_keys keys others) rest grown (c ∷ all) (w ∷ both) (map (instead keys w) (w ∷ both)) [] are
+      (all_stand held place calls (both_keys keys others) rest (c ∷ all) (w ∷ both) (map (instead keys w) (w ∷ both)) [] are
       (twins_past keys others calls a w grown.alone apart first (c ∷ all) (b ∷ kept) (w ∷ both) falls are)
       (subst (λ (ps : List Choice). StandFor held place calls (record { keys = both_keys keys others; pasts = ps } ∷ rest))
       (sym (append-nil (w ∷ both))) stand)),

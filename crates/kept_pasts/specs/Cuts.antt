@@ -4,7 +4,6 @@ use Rattle.events.specs.declared.operation.Operation.{Operation}
 use Rattle.orders.specs.Orders.{IsLinearizable}
 use Rattle.key_effects.specs.KeyedCalls.{KeyedCall, IsFormed, is_completed, place_of, keyed}
 use Rattle.key_effects.specs.KeyedOrders.{AreKeyedCalls}
-use Rattle.key_effects.specs.Growth.{HaveGrown}
 use Rattle.key_effects.specs.Choices.{Choice}
 use Rattle.key_effects.specs.Cuts.{Keys}
 use Rattle.key_effects.specs.Apart.{IsRead}
@@ -45,7 +44,7 @@ ReadsOfPastsComeNext =
 abbrev pub AlikePastsStand : Type 0
 AlikePastsStand =
     (held : ℕ → Option ℕ) (place : ℕ) (calls : List KeyedCall) (keys : Keys) (kept other : KeptPast) (past twin : Choice) (others : List Choice)
-    (rest : List Part) → HaveGrown place calls calls → AreKeptAlike kept other → IsPast keys calls kept past → IsPast keys calls other twin
+    (rest : List Part) → AreKeptAlike kept other → IsPast keys calls kept past → IsPast keys calls other twin
     → StandFor held place calls (record { keys = keys; pasts = past ∷ others } ∷ rest)
     → StandFor held place calls (record { keys = keys; pasts = twin ∷ others } ∷ rest)
 
@@ -53,7 +52,7 @@ AlikePastsStand =
 abbrev pub AlikePastsGo : Type 0
 AlikePastsGo =
     (held : ℕ → Option ℕ) (place : ℕ) (calls : List KeyedCall) (keys : Keys) (kept other : KeptPast) (past twin : Choice) (others : List Choice)
-    (rest : List Part) → HaveGrown place calls calls → AreKeptAlike kept other → IsPast keys calls kept past → IsPast keys calls other twin
+    (rest : List Part) → AreKeptAlike kept other → IsPast keys calls kept past → IsPast keys calls other twin
     → StandFor held place calls (record { keys = keys; pasts = past ∷ twin ∷ others } ∷ rest)
     → StandFor held place calls (record { keys = keys; pasts = twin ∷ others } ∷ rest)
 
@@ -61,7 +60,7 @@ AlikePastsGo =
 abbrev pub DeadPastsGo : Type 0
 DeadPastsGo =
     (held : ℕ → Option ℕ) (place : ℕ) (calls : List KeyedCall) (keys : Keys) (kept : KeptPast) (past : Choice) (others : List Choice)
-    (rest : List Part) → HaveGrown place calls calls → AllPairs (λ a b. a.inv < b.inv) calls → (IsLinearizable kept.pairs kept.left → ⊥)
+    (rest : List Part) → AreKeyedCalls calls → AllPairs (λ a b. a.inv < b.inv) calls → (IsLinearizable kept.pairs kept.left → ⊥)
     → IsPast keys calls kept past → StandFor held place calls (record { keys = keys; pasts = past ∷ others } ∷ rest)
     → StandFor held place calls (record { keys = keys; pasts = others } ∷ rest)
 
