@@ -42,7 +42,7 @@ last_or_old xs x z h =
 
 -- all that is known of the calls so far, of which the new one is none
 module _ (keys : Keys) (calls : List KeyedCall) (kept : KeptPast) (past : Choice) (o : Operation) (later : All (λ a. a.inv < o.inv) calls)
-    (pending : o.response ≡ None) (is : IsPast keys calls kept past) where
+    (is : IsPast keys calls kept past) where
   new_name : (a : KeyedCall) → Contains calls a → a.inv ≡ o.inv → ⊥
   new_name a a_in same = let less : a.inv < o.inv = All-contains (λ b. b.inv < o.inv) calls a later a_in in omega (arith, less, same)
 
@@ -99,11 +99,11 @@ begun_calls_are_kept keys calls pairs left found past o later pending one here i
     (λ accepted some. inl (o, middle left o [], own_alike keys past o inside free)))
     (last_or_old calls (keyed o) a a_in))
     (λ p p_in. ⊎_elim
-    (λ old. fit_then keys calls kept past o later pending is p old)
+    (λ old. fit_then keys calls kept past o later is p old)
     (λ same. subst (λ (q : Operation). IsFit keys (calls ++ keyed o ∷ []) past q) same itself)
     (last_or_old left o p p_in))
-    (known_then keys calls kept past o later pending is)
-    (found_then keys calls kept past o later pending is)
+    (known_then keys calls kept past o later is)
+    (found_then keys calls kept past o later is)
   where
     kept : KeptPast
     kept = record { pairs = pairs; left = left; found = found }
@@ -112,12 +112,12 @@ begun_calls_are_kept keys calls pairs left found past o later pending one here i
     inside key concerned = subst (λ (k : ℕ). keys k ≡ true) (one_key o.call key one concerned) here
 
     free : IsNotTakenAt keys past o.inv
-    free = new_free keys calls (record { pairs = pairs; left = left; found = found }) past o later pending is
+    free = new_free keys calls (record { pairs = pairs; left = left; found = found }) past o later is
 
     itself : IsFit keys (calls ++ keyed o ∷ []) past o
     itself = record {
       own = λ a a_in same key concerned. ⊎_elim
-          (λ old. absurd (new_name keys calls (record { pairs = pairs; left = left; found = found }) past o later pending is a old same))
+          (λ old. absurd (new_name keys calls (record { pairs = pairs; left = left; found = found }) past o later is a old same))
           (λ new. subst (λ (z : KeyedCall). z.concerns key ≡ true) (sym new) concerned)
           (last_or_old calls (keyed o) a a_in);
       within = inside;
@@ -139,14 +139,14 @@ others_begin keys calls kept past o later pending idle is =
     (λ read. inr (ap (λ (r : Option Response). is_some (place_of r)) pending, read))
     idle))
     (last_or_old calls (keyed o) a a_in))
-    (fit_then keys calls kept past o later pending is)
-    (known_then keys calls kept past o later pending is)
-    (found_then keys calls kept past o later pending is)
+    (fit_then keys calls kept past o later is)
+    (known_then keys calls kept past o later is)
+    (found_then keys calls kept past o later is)
 
 -- ---- a call is answered
 
 pub answered_calls_are_kept : AnsweredCallsAreKept
-answered_calls_are_kept keys front back pairs before after found past o response apart pending accepted form is =
+answered_calls_are_kept keys front back pairs before after found past o response apart accepted form is =
     past_from keys (front ++ keyed (answered response o) ∷ back)
     (record { pairs = pairs; left = before ++ answered response o ∷ after; found = found }) past
     (answered_calls_are_left keys past 0 front back pairs before after o response apart accepted form itself.within itself.untaken
@@ -218,7 +218,7 @@ answered_reads_are_kept keys front back pairs before after found past o response
     }
 
 pub others_are_answered : OthersAreAnswered
-others_are_answered keys front back kept past o response apart pending out is =
+others_are_answered keys front back kept past o response apart out is =
     past_from keys (front ++ keyed (answered response o) ∷ back) kept past
     (other_calls_are_answered keys past 0 front back kept.pairs kept.left o response out
     (λ key here taken. absurd (not_both (concerns_key o.call key)
@@ -235,7 +235,7 @@ others_are_answered keys front back kept past o response apart pending out is =
 -- ---- a call is refused
 
 pub refused_calls_are_not_kept : RefusedCallsAreNotKept
-refused_calls_are_not_kept keys front back pairs before after found past o response apart pending refused is =
+refused_calls_are_not_kept keys front back pairs before after found past o response apart refused is =
     past_from keys (front ++ keyed (answered response o) ∷ back) (record { pairs = pairs; left = before ++ after; found = found }) past
     ((refused_calls_are_not_left keys past 0 front back pairs before after o response refused free).0 apart
     (left_of keys (front ++ keyed o ∷ back) kept past is))
@@ -259,7 +259,7 @@ refused_calls_are_not_kept keys front back pairs before after found past o respo
     free key here = is.untaken o key (middle before o after) here
 
 pub refused_reads_are_not_kept : RefusedReadsAreNotKept
-refused_reads_are_not_kept keys front back kept past o response apart pending refused none none_found is =
+refused_reads_are_not_kept keys front back kept past o response pending refused none none_found is =
     past_from keys (front ++ keyed (answered response o) ∷ back) kept past
     ((refused_calls_are_not_left keys past 0 front back kept.pairs [] kept.left o response refused
     (found_is_free keys (front ++ keyed o ∷ back) past kept.found o is.found (middle front (keyed o) back) pending none_found)).1 none

@@ -28,7 +28,7 @@ use Rattle.kept_pasts.proofs.PastLemmas.{one_key, AreKnown, fit_of, left_of, pas
 -- ---- a call that was taken
 
 pub taken_calls_agree : TakenCallsAgree
-taken_calls_agree keys front back pairs left found others past o response f apart pending one accepted f_in named fits others_are is =
+taken_calls_agree keys front back pairs left found others past o response f apart one accepted f_in named fits others_are is =
     past_from keys (front ++ keyed (answered response o) ∷ back) (record { pairs = pairs; left = left; found = others }) past
     (taken_calls_are_answered keys past 0 front back pairs left o response taken agrees (left_of keys (front ++ keyed o ∷ back) kept past is))
     (whole_on keys front back past o response left left (λ c p c_in p_in alike. p_in) (λ told some. absurd (none_left some)) is.whole)
@@ -80,7 +80,7 @@ taken_calls_agree keys front back pairs left found others past o response f apar
         not_both (past.taken o.inv key) (taken key here parts.1) (not-true (past.taken o.inv key) parts.0)
 
 pub taken_calls_disagree : TakenCallsDisagree
-taken_calls_disagree held place keys front back kept past others rest o response f grown f_in named wrong is stand =
+taken_calls_disagree held place keys front back kept past others rest o response f f_in named wrong is stand =
     dead_pasts_go held place (front ++ keyed (answered response o) ∷ back) keys (past ∷ others) others rest
     (λ p p_in. ⊎_elim
     (λ same. inr (subst (λ (q : Choice). GoesOnAt keys q (front ++ keyed (answered response o) ∷ back) → ⊥) same dead))

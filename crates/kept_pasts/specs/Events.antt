@@ -6,7 +6,6 @@ use Rattle.events.specs.Keys.{low_key, high_key}
 use Rattle.map_object.specs.MapObject.{Contents, IsRising, value_at}
 use Rattle.key_effects.specs.KeyedCalls.{KeyedCall, IsNoEffect, is_refusal, effect_at, keyed}
 use Rattle.key_effects.specs.KeyedOrders.{AreKeyedCalls}
-use Rattle.key_effects.specs.Growth.{HaveGrown}
 use Rattle.key_effects.specs.Forms.{HasForm}
 use Rattle.key_effects.specs.Choices.{Choice, at_first}
 use Rattle.key_effects.specs.Cuts.{Keys}
@@ -41,7 +40,7 @@ OthersBegin =
 abbrev pub AnsweredCallsAreKept : Type 0
 AnsweredCallsAreKept =
     (keys : Keys) (front back : List KeyedCall) (pairs : Contents) (before after : List Operation) (found : List FoundAt) (past : Choice)
-    (o : Operation) (response : Response) → AreKeyedCalls (front ++ keyed o ∷ back) → o.response ≡ None → is_refusal response.reply ≡ false
+    (o : Operation) (response : Response) → AreKeyedCalls (front ++ keyed o ∷ back) → is_refusal response.reply ≡ false
     → HasForm o.call (Some response)
     → IsPast keys (front ++ keyed o ∷ back) (record { pairs = pairs; left = before ++ o ∷ after; found = found }) past
     → IsPast keys (front ++ keyed (answered response o) ∷ back)
@@ -62,14 +61,14 @@ AnsweredReadsAreKept =
 abbrev pub OthersAreAnswered : Type 0
 OthersAreAnswered =
     (keys : Keys) (front back : List KeyedCall) (kept : KeptPast) (past : Choice) (o : Operation) (response : Response)
-    → AreKeyedCalls (front ++ keyed o ∷ back) → o.response ≡ None → HasNoKeyIn keys o → IsPast keys (front ++ keyed o ∷ back) kept past
+    → AreKeyedCalls (front ++ keyed o ∷ back) → HasNoKeyIn keys o → IsPast keys (front ++ keyed o ∷ back) kept past
     → IsPast keys (front ++ keyed (answered response o) ∷ back) kept past
 
 -- a call that was taken is answered: where its answer fits what it found, that need not be kept
 abbrev pub TakenCallsAgree : Type 0
 TakenCallsAgree =
     (keys : Keys) (front back : List KeyedCall) (pairs : Contents) (left : List Operation) (found others : List FoundAt) (past : Choice)
-    (o : Operation) (response : Response) (f : FoundAt) → AreKeyedCalls (front ++ keyed o ∷ back) → o.response ≡ None
+    (o : Operation) (response : Response) (f : FoundAt) → AreKeyedCalls (front ++ keyed o ∷ back)
     → low_key o.call ≡ high_key o.call → is_refusal response.reply ≡ false → Contains found f → f.inv ≡ o.inv
     → (effect_at o.call (Some response) f.key).fits f.value ≡ true
     → ((g : FoundAt) → Contains others g ↔ (Contains found g × (g.inv ≢ o.inv)))
@@ -80,9 +79,7 @@ TakenCallsAgree =
 abbrev pub TakenCallsDisagree : Type 0
 TakenCallsDisagree =
     (held : ℕ → Option ℕ) (place : ℕ) (keys : Keys) (front back : List KeyedCall) (kept : KeptPast) (past : Choice) (others : List Choice)
-    (rest : List Part) (o : Operation) (response : Response) (f : FoundAt) → HaveGrown place
-    (front ++ keyed (answered response o) ∷ back) (front ++ keyed (answered response o) ∷ back)
-    → Contains kept.found f → f.inv ≡ o.inv
+    (rest : List Part) (o : Operation) (response : Response) (f : FoundAt) → Contains kept.found f → f.inv ≡ o.inv
     → (is_refusal response.reply ≡ true) ⊎ ((effect_at o.call (Some response) f.key).fits f.value ≡ false)
     → IsPast keys (front ++ keyed o ∷ back) kept past
     → StandFor held place (front ++ keyed (answered response o) ∷ back) (record { keys = keys; pasts = past ∷ others } ∷ rest)
@@ -92,7 +89,7 @@ TakenCallsDisagree =
 abbrev pub RefusedCallsAreNotKept : Type 0
 RefusedCallsAreNotKept =
     (keys : Keys) (front back : List KeyedCall) (pairs : Contents) (before after : List Operation) (found : List FoundAt) (past : Choice)
-    (o : Operation) (response : Response) → AreKeyedCalls (front ++ keyed o ∷ back) → o.response ≡ None → is_refusal response.reply ≡ true
+    (o : Operation) (response : Response) → AreKeyedCalls (front ++ keyed o ∷ back) → is_refusal response.reply ≡ true
     → IsPast keys (front ++ keyed o ∷ back) (record { pairs = pairs; left = before ++ o ∷ after; found = found }) past
     → IsPast keys (front ++ keyed (answered response o) ∷ back) (record { pairs = pairs; left = before ++ after; found = found }) past
 
@@ -100,7 +97,7 @@ RefusedCallsAreNotKept =
 abbrev pub RefusedReadsAreNotKept : Type 0
 RefusedReadsAreNotKept =
     (keys : Keys) (front back : List KeyedCall) (kept : KeptPast) (past : Choice) (o : Operation) (response : Response)
-    → AreKeyedCalls (front ++ keyed o ∷ back) → o.response ≡ None → is_refusal response.reply ≡ true
+    → o.response ≡ None → is_refusal response.reply ≡ true
     → ((p : Operation) → Contains kept.left p → p.inv ≢ o.inv) → ((f : FoundAt) → Contains kept.found f → f.inv ≢ o.inv)
     → IsPast keys (front ++ keyed o ∷ back) kept past
     → IsPast keys (front ++ keyed (answered response o) ∷ back) kept past

@@ -2,11 +2,11 @@
 //! that took effect. As events come, and at a cut, the code changes these alone, and the laws say what that means for the pasts.
 #![tactic(auto)]
 
-mod cuts;
+mod cut_laws;
 mod event_laws;
-mod unions;
+mod union_laws;
 
-pub use cuts::{
+pub use cut_laws::{
     alike_pasts_go, alike_pasts_stand, dead_pasts_go, pasts_come_next, pasts_in_any_order,
     reads_of_pasts_come_next,
 };
@@ -15,4 +15,4 @@ pub use event_laws::{
     others_are_answered, others_begin, refused_calls_are_not_kept, refused_reads_are_not_kept,
     taken_calls_agree, taken_calls_disagree, untold_reads_are_taken,
 };
-pub use unions::{pasts_fall_apart, pasts_unite};
+pub use union_laws::{pasts_fall_apart, pasts_unite};
