@@ -1,0 +1,151 @@
+-- A kept past at some of its keys, up to a limit before which no pending read of these keys began: what is left there of the calls that began before
+-- it is known by the operations alone.
+use Rattle.std.proofs.Common.{◌≡◌, ℕ, ◌+◌, ◌<◌, ◌≤◌, Bool, true, false, not, ◌&&◌, List, [], ◌∷◌, None, inl, inr}
+use Rattle.std.proofs.Common.{refl, sym, ◌∙◌, subst, ⊎_elim, arith}
+use Rattle.std.specs.Prelude.{◌⊎◌, Contains}
+use Rattle.std.proofs.lemmas.Bool.{and_parts, cases_eq}
+use Rattle.std.proofs.lemmas.List.Elements.{All-head}
+use Rattle.list_laws.proofs.Lists.{Contains-nil, Contains-first, Contains-later, Contains-cases}
+use Rattle.events.specs.declared.operation.Operation.{Operation}
+use Rattle.key_effects.specs.KeyedCalls.{KeyedCall, concerns_key, keyed}
+use Rattle.key_effects.specs.KeyedOrders.{AreKeyedCalls}
+use Rattle.key_effects.specs.Choices.{Choice, at_first, rest_of}
+use Rattle.key_effects.specs.Cuts.{Keys}
+use Rattle.key_effects.specs.Apart.{IsAlikeAt}
+use Rattle.key_effects.proofs.DeadLemmas.{bool_cases}
+use Rattle.key_effects.proofs.OrderLemmas.{same_call}
+use Rattle.key_parts.specs.Parts.{Part, IsAt, IsOneOf, choices_of, left_at}
+use Rattle.key_parts.specs.Steps.{IsLeftAt, AreKnownAt, ArePartedBefore}
+use Rattle.key_parts.specs.Operations.{AreAllLeft, HasSomeKeyIn}
+use Rattle.key_parts.specs.Left.{HaveKeysTogether}
+use Rattle.key_parts.proofs.EventLemmas.{not_both}
+use Rattle.key_parts.proofs.FewerLemmas.{AreAmong}
+use Rattle.key_parts.proofs.KnownLemmas.{calls_are_known}
+use Rattle.kept_pasts.specs.Pasts.{KeptPast, IsOpenRead, IsPast, OpenReadsBeganAfter}
+
+-- ---- an operation of a name that has some key among these, or none
+
+-- an operation as it is while it is pending
+abbrev pending : Operation → Operation
+pending o = record { inv = o.inv; call = o.call; response = None }
+
+some_key : (keys : Keys) (o : Operation) → HasSomeKeyIn keys o ⊎ (HasSomeKeyIn keys o → ⊥)
+some_key keys o =
+    ⊎_elim
+    (λ has. inl has)
+    (λ none. inr (λ has. not_both (concerns_key o.call has.0) has.2 (none has.0 has.1)))
+    (calls_are_known keys (o.inv + 1) (at_first (λ (key : ℕ). None)) (pending o ∷ []) (keyed (pending o)) (Contains-first (keyed (pending o)) [])
+    (omega arith) refl)
+
+-- an operation of this name that has some key among these
+abbrev IsNamed : Keys → ℕ → Operation → Type 0
+IsNamed keys inv o = (o.inv ≡ inv) × HasSomeKeyIn keys o
+
+is_named : (keys : Keys) (inv : ℕ) (o : Operation) → IsNamed keys inv o ⊎ (IsNamed keys inv o → ⊥)
+is_named keys inv o =
+    ⊎_elim
+    (λ same. ⊎_elim (λ has. inl (same, has)) (λ none. inr (λ both. none both.1)) (some_key keys o))
+    (λ differ. inr (λ both. differ both.0))
+    (cases_eq o.inv inv)
+
+named_or_none : (keys : Keys) (inv : ℕ) (left : List Operation)
+    → ((o : Operation) × Contains left o × IsNamed keys inv o) ⊎ ((o : Operation) → Contains left o → IsNamed keys inv o → ⊥)
+named_or_none keys inv [] = inr (λ o o_in named. Contains-nil o o_in)
+named_or_none keys inv (o ∷ left) = by_first (is_named keys inv o) (named_or_none keys inv left)
+  where
+    by_first : IsNamed keys inv o ⊎ (IsNamed keys inv o → ⊥)
+        → ((p : Operation) × Contains left p × IsNamed keys inv p) ⊎ ((p : Operation) → Contains left p → IsNamed keys inv p → ⊥)
+        → ((p : Operation) × Contains (o ∷ left) p × IsNamed keys inv p)
+        ⊎ ((p : Operation) → Contains (o ∷ left) p → IsNamed keys inv p → ⊥)
+    by_first (inl named) rest = inl (o, Contains-first o left, named)
+    by_first (inr differ) (inl (p, p_in, named)) = inl (p, Contains-later o left p p_in, named)
+    by_first (inr differ) (inr none) = inr (λ p p_in named. ⊎_elim
+        (λ same. differ (subst (IsNamed keys inv) (sym same) named))
+        (λ later. none p later named)
+        (Contains-cases o left p p_in))
+
+-- a choice of parts of which the first has one past is this past at its keys
+only_past : (keys : Keys) (past : Choice) (rest : List Part) (w : Choice) → choices_of (record { keys = keys; pasts = past ∷ [] } ∷ rest) w
+    → IsAt keys past w
+only_past keys past rest w w_is =
+    let (p, p_in, at_p) = All-head (λ part. IsOneOf part.keys part.pasts w) (record { keys = keys; pasts = past ∷ [] }) rest w_is in
+    ⊎_elim (λ first. subst (λ (q : Choice). IsAt keys q w) (sym first) at_p) (λ later. absurd (Contains-nil p later)) (Contains-cases past [] p p_in)
+
+-- ---- calls that began before the limit
+
+-- All that is known of a past and of the limit.
+pub record IsPastBefore (keys some : Keys) (limit : ℕ) (calls : List KeyedCall) (kept : KeptPast) (past : Choice) : Type 0 where
+  pub is : IsPast keys calls kept past
+  pub apart : AreKeyedCalls calls
+  pub among : AreAmong some keys
+  pub together : HaveKeysTogether some limit kept.left
+  pub late : OpenReadsBeganAfter keys limit calls
+
+module _ (keys some : Keys) (limit : ℕ) (calls : List KeyedCall) (kept : KeptPast) (past : Choice)
+    (at : IsPastBefore keys some limit calls kept past) where
+  -- each of which something is left is among the operations
+  pub all_left : AreAllLeft keys past limit calls kept.left
+  all_left a a_in early accepted is_left =
+      ⊎_elim (λ shown. shown) (λ open_read. absurd (never open_read)) (at.is.whole a a_in accepted is_left)
+    where
+      never : IsOpenRead a → ⊥
+      never open_read =
+          let concerned : a.concerns is_left.0 ≡ true = (and_parts (not (past.taken a.inv is_left.0)) (a.concerns is_left.0) is_left.2).1 in
+          let later : limit ≤ a.inv = at.late a is_left.0 a_in open_read is_left.1 concerned in
+          omega arith
+
+  -- an operation that has some key among these has all keys of its call there
+  keys_inside : (o : Operation) (a : KeyedCall) → Contains kept.left o → Contains calls a → a.inv ≡ o.inv → o.inv < limit → HasSomeKeyIn some o
+      → (key : ℕ) → a.concerns key ≡ true → some key ≡ true
+  keys_inside o a o_in a_in same early has key concerned = at.together o o_in early has key (at.is.own o a o_in a_in same key concerned)
+
+  -- so its call is left there
+  pub left_there : (o : Operation) → Contains kept.left o → o.inv < limit → HasSomeKeyIn some o
+      → (a : KeyedCall) × Contains calls a × (a.refused ≡ false) × IsLeftAt some past a × IsAlikeAt keys (left_at keys past a) (keyed o)
+  left_there o o_in early has =
+      let (a, a_in, accepted, is_left, alike) = at.is.owned o o_in in
+      let concerned : a.concerns is_left.0 ≡ true = (and_parts (not (past.taken a.inv is_left.0)) (a.concerns is_left.0) is_left.2).1 in
+      (a, a_in, accepted, (is_left.0, keys_inside o a o_in a_in (sym alike.inv) early has is_left.0 concerned, is_left.2), alike)
+
+  -- a call of which something is left there has an operation that has some key there
+  named_there : (a : KeyedCall) → Contains calls a → a.inv < limit → a.refused ≡ false → IsLeftAt some past a
+      → (o : Operation) × Contains kept.left o × IsNamed some a.inv o
+  named_there a a_in early accepted is_left =
+      let (o, o_in, alike) = all_left a a_in early accepted (is_left.0, at.among is_left.0 is_left.1, is_left.2) in
+      let concerned : a.concerns is_left.0 ≡ true = (and_parts (not (past.taken a.inv is_left.0)) (a.concerns is_left.0) is_left.2).1 in
+      (o, o_in, (alike.inv, (is_left.0, is_left.1, at.is.own o a o_in a_in (sym alike.inv) is_left.0 concerned)))
+
+  pub known_at : AreKnownAt some limit past calls
+  known_at a a_in early accepted =
+      ⊎_elim
+      (λ found.
+      let (o, o_in, named) = found in
+      let same : o.inv ≡ a.inv = named.0 in
+      let (b, b_in, b_accepted, is_left, alike) = left_there o o_in (omega arith) named.1 in
+      let one : b ≡ a = same_call calls b a at.apart.distinct b_in a_in (sym alike.inv ∙ same) in
+      inl (subst (IsLeftAt some past) one is_left))
+      (λ none. inr (λ key here. ⊎_elim
+      (λ left.
+      let (o, o_in, named) = named_there a a_in early accepted (key, here, left) in
+      absurd (none o o_in named))
+      (λ free. free)
+      (bool_cases ((rest_of past a).concerns key))))
+      (named_or_none some a.inv kept.left)
+
+  -- and is left at these keys alone, or at others alone
+  pub parted_before : (rest : List Part) → ArePartedBefore some limit (record { keys = keys; pasts = past ∷ [] } ∷ rest) calls
+  parted_before rest w b w_is b_in early accepted =
+      ⊎_elim
+      (λ is_left.
+      let (o, o_in, named) = named_there b b_in early accepted is_left in
+      let same : o.inv ≡ b.inv = named.0 in
+      inl (λ key out. ⊎_elim
+      (λ left.
+      absurd (not_both (some key) (keys_inside o b o_in b_in (sym same) (omega arith) named.1 key
+      (and_parts (not (w.taken b.inv key)) (b.concerns key) left).1) out))
+      (λ free. free)
+      (bool_cases ((rest_of w b).concerns key))))
+      (λ none. inr (λ key here.
+      subst (λ (t : Bool). (not t && b.concerns key) ≡ false) (sym ((only_past keys past rest w w_is).taken b.inv key (at.among key here)))
+      (none key here)))
+      (known_at b b_in early accepted)

@@ -1,0 +1,4 @@
+pub mod Pasts
+pub mod Cuts
+pub mod Events
+pub mod Unions

@@ -1,0 +1,32 @@
+// Laws of cuts, each the contract of a function that does nothing.
+ghost use Rattle.kept_pasts.specs.Cuts.{AlikePastsGo, AlikePastsStand, DeadPastsGo, PastsComeNext, PastsInAnyOrder, ReadsOfPastsComeNext};
+
+/// If an answered operation of some of the keys is left, a past may be replaced by those after each operation that may come next there.
+pub fn pasts_come_next()
+    ensures { PastsComeNext }
+{}
+
+/// An answered read that may come next at some of the keys may be taken at once.
+pub fn reads_of_pasts_come_next()
+    ensures { ReadsOfPastsComeNext }
+{}
+
+/// A past may be replaced by one that is kept alike.
+pub fn alike_pasts_stand()
+    ensures { AlikePastsStand }
+{}
+
+/// Of two pasts that are kept alike one may be dropped.
+pub fn alike_pasts_go()
+    ensures { AlikePastsGo }
+{}
+
+/// A past of which what is left has no order may be dropped.
+pub fn dead_pasts_go()
+    ensures { DeadPastsGo }
+{}
+
+/// The order of pasts does not matter, nor how often one is listed.
+pub fn pasts_in_any_order()
+    ensures { PastsInAnyOrder }
+{}
