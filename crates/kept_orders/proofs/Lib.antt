@@ -1,0 +1,9 @@
+mod StandingLemmas
+mod ClosedLemmas
+mod JoinLemmas
+mod AnswerLemmas
+mod BeginLemmas
+mod GuessLemmas
+mod LeftLemmas
+mod TakeLemmas
+mod FindLemmas

@@ -1,0 +1,27 @@
+-- What is known of an order of calls.
+use Rattle.std.specs.Prelude.{◌≡◌, ℕ, List}
+use Rattle.events.specs.declared.operation.Operation.{Operation}
+use Rattle.map_object.specs.MapObject.{Contents}
+use Rattle.orders.specs.Orders.{IsOrder, IsLinearizable}
+use Rattle.configurations.specs.Counts.{ReachesMoreThan}
+use Rattle.kept_orders.specs.Views.{KeptOrderView}
+use Rattle.kept_orders.specs.declared.kept.Kept.{Kept}
+use Rattle.kept_orders.specs.declared.kept.Kept.TheVariants.{Order, NoOrder, Spent}
+
+-- an order of these calls is kept
+pub record Keeps (start : Contents) (calls : List Operation) (kept : KeptOrderView) : Type 0 where
+  pub same_start : kept.start ≡ start
+  pub same_calls : kept.calls ≡ calls
+  pub is_order : IsOrder start calls kept.order
+
+-- more configurations are reachable than the budget, and the calls are handed back
+pub record IsSpent (start : Contents) (calls : List Operation) (budget : ℕ) (start_back : Contents) (calls_back : List Operation) : Type 0 where
+  pub reaches : ReachesMoreThan start calls budget
+  pub same_start : start_back ≡ start
+  pub same_calls : calls_back ≡ calls
+
+-- what each answer says of the calls
+abbrev pub IsAnswer : Contents → List Operation → ℕ → Kept → Type 0
+IsAnswer start calls budget (Order kept) = Keeps start calls kept
+IsAnswer start calls budget NoOrder = IsLinearizable start calls → ⊥
+IsAnswer start calls budget (Spent start_back calls_back) = IsSpent start calls budget start_back calls_back.items

@@ -1,0 +1,4 @@
+pub mod Views
+pub mod Standing
+pub mod Closed
+pub mod Answers

@@ -1,0 +1,96 @@
+// A call is answered.
+ghost use Rattle.std.specs.Prelude.{◌≡◌, ◌<◌, ◌++◌, true, length, IfOk, OnOk};
+ghost use Rattle.kept_orders.specs.Views.{answered, MayBeAnswered};
+ghost use Rattle.kept_orders.specs.Closed.{IsClosed};
+ghost use Rattle.kept_orders.specs.Standing.{places, Stands, AreCalls, IsWhole, again_or};
+ghost use Rattle.kept_orders.specs.Answers.{IsAnswer};
+
+use crate::finding::search_on;
+use crate::front::Front;
+use crate::kept::Kept;
+use crate::kept_order::KeptOrder;
+use crate::pushing::{push_all, take_back};
+use events::{Memory, Operation, Response};
+use std::alloc::Global;
+
+impl KeptOrder {
+    /// A call is answered, and the order is mended. At the end of the order that costs one call.
+    /// Otherwise it costs the calls of the order from this one on, or searches. `Memory` where a
+    /// growth was refused: then the order is lost.
+    pub fn answer(
+        self,
+        alloc: Global,
+        place: usize,
+        response: Response,
+        budget: u32,
+    ) -> Result<Kept, Memory>
+        requires { MayBeAnswered self.calls place response }
+        ensures { IfOk result (IsAnswer self.start (answered self.calls place response) budget) }
+    {
+        let KeptOrder {
+            mut calls,
+            mut front,
+        } = self;
+        let in_order = answer_in_order(alloc, &mut calls, &mut front, place, response)?;
+        if in_order {
+            let kept = KeptOrder::keep(calls, front);
+            return Ok(Kept::Order(kept));
+        }
+        search_on(alloc, calls, front, budget)
+    }
+}
+
+/// A call is answered, and says whether the order goes on with it as it was, or with it at its end.
+fn answer_in_order(
+    alloc: Global,
+    calls: &mut [Operation],
+    front: &mut Front,
+    place: usize,
+    response: Response,
+) -> Result<bool, Memory>
+    requires calls { AreCalls calls.old }
+    requires stands { Stands calls.old front.old }
+    requires whole { IsWhole calls.old front.old }
+    requires answer { MayBeAnswered calls.old place response }
+    requires known { place < length calls.old }
+    ensures calls { OnOk result (calls.new ≡ answered calls.old place response) }
+    ensures are_calls { OnOk result (AreCalls calls.new) }
+    ensures stands { OnOk result (Stands calls.new front.new) }
+    ensures start { OnOk result (front.new.start ≡ front.old.start) }
+    ensures whole { IfOk result (λ done. done ≡ true → IsWhole calls.new front.new) }
+{
+    let again = take_back(alloc, calls, front, place)?;
+    write_answer(calls, place, response);
+    let pushed = push_again(alloc, calls, front, place as u32, &again)?;
+    Ok(pushed)
+}
+
+/// Answers the call at a place.
+fn write_answer(calls: &mut [Operation], place: usize, response: Response)
+    requires { place < length calls.old }
+    ensures { calls.new ≡ answered calls.old place response }
+{
+    calls[place].response = Some(response);
+}
+
+/// Pushes the calls that were taken back, or, where none were, the call that was answered.
+fn push_again(
+    alloc: Global,
+    calls: &[Operation],
+    front: &mut Front,
+    place: u32,
+    again: &[u32],
+) -> Result<bool, Memory>
+    requires stands { Stands calls.now front.old }
+    requires closed { IsClosed calls.now
+        (places front.old.levels.items ++ again_or place again.now) }
+    ensures stands { OnOk result (Stands calls.now front.new) }
+    ensures start { OnOk result (front.new.start ≡ front.old.start) }
+    ensures all { IfOk result (λ all. all ≡ true → places front.new.levels.items
+        ≡ places front.old.levels.items ++ again_or place again.now) }
+{
+    if again.is_empty() {
+        return push_all(alloc, calls, front, &[place]);
+    }
+    push_all(alloc, calls, front, again)
+}

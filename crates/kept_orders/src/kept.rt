@@ -1,0 +1,18 @@
+// What is known of an order of calls.
+use crate::kept_order::KeptOrder;
+use events::Operation;
+use map_object::SortedMap;
+
+/// What is known of an order of calls.
+#[derive(Drop)]
+pub enum Kept {
+    /// The calls have this order.
+    Order(KeptOrder),
+    /// The calls have no order.
+    NoOrder,
+    /// More configurations were met than the budget. Here are the pairs and the calls again.
+    Spent {
+        start: SortedMap,
+        calls: Vec<Operation>,
+    },
+}
