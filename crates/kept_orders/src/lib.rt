@@ -15,6 +15,8 @@ mod guessing;
 mod kept;
 mod kept_order;
 mod pushing;
+#[cfg(test)]
+mod tests;
 mod windows;
 
 pub use kept::Kept;
