@@ -1,9 +1,9 @@
 -- A pending call is answered after all else: which call precedes which stays, and so do fronts without it.
 use Rattle.std.proofs.Common.{◌≡◌, ℕ, ◌+◌, ◌<◌, ◌≤◌, Bool, true, false, List, Some, [], ◌∷◌, ◌++◌, length, take, drop, set, refl, sym, ap, ◌∙◌}
-use Rattle.std.proofs.Common.{subst, inl, inr, ⊎_elim, arith, nat_lt}
+use Rattle.std.proofs.Common.{subst, inl, inr, ⊎_elim, arith, nat_eq, nat_lt}
 use Rattle.std.specs.Prelude.{◌≢◌, ◌⊎◌, ◌^◌, slice_get, IsTrue, IsSomeAnd, All, Contains}
 use Rattle.std.specs.List.{cons_option}
-use Rattle.std.proofs.lemmas.Bool.{false_from_ne_true, cases_order, cases_lt}
+use Rattle.std.proofs.lemmas.Bool.{false_from_ne_true, both_ways, cases_order, cases_lt}
 use Rattle.std.proofs.lemmas.Bool.Decides.{nat_tests}
 use Rattle.std.proofs.lemmas.List.{append-nil, drop_all, take_all, length-set, get_or-set_same, get_or-set_other, get_or_default, take-append-le, take_at}
 use Rattle.std.proofs.lemmas.List.Elements.{Contains-push, Contains-push_cases, Contains-append_left, Contains-append_right, All-push}
@@ -13,18 +13,19 @@ use Rattle.events.specs.declared.operation.Operation.{Operation}
 use Rattle.events.specs.declared.operation.Response.{Response}
 use Rattle.events.specs.Precedence.{is_completed, is_before, precedes}
 use Rattle.map_object.specs.MapObject.{Contents}
-use Rattle.orders.specs.Orders.{calls_at, after_calls, IsLegal, IsCompletedAt, IsOrder}
+use Rattle.orders.specs.Orders.{calls_at, after_calls, IsLegal, IsCompletedAt}
 use Rattle.configurations.specs.Fronts.{PrecedesAt, IsFront}
-use Rattle.configurations.proofs.FrontLemmas.{IsCompletedAt-from_PrecedesAt, IsOrder-from_front}
+use Rattle.configurations.proofs.FrontLemmas.{IsCompletedAt-from_PrecedesAt}
 use Rattle.search.specs.Undo.{undone}
 use Rattle.call_search.specs.Standing.{AreMarked}
 use Rattle.list_laws.proofs.Lists.{AllPairs-at, AllPairs-from_at, All-at, All-from_contains, Contains-at, Contains-first, Contains-later}
 use Rattle.list_laws.proofs.Lists.{place_of-Contains, place_before-Contains, place-push}
 use Rattle.list_laws.proofs.FilterLemmas.{Contains-map}
 use Rattle.kept_orders.specs.Views.{answered_call, answered, set_answer, MayBeAnswered}
-use Rattle.kept_orders.specs.Standing.{places, StandsWith, AreCalls, again_or, IsFromOn}
-use Rattle.kept_orders.specs.Closed.{IsClosed}
-use Rattle.kept_orders.specs.declared.front.Level.{Level}
+use Rattle.kept_fronts.specs.Standing.{places, StandsWith, AreCalls, again_or, IsFromOn}
+use Rattle.kept_fronts.specs.Closed.{IsClosed}
+use Rattle.kept_fronts.specs.Mending.{HasCompleted}
+use Rattle.kept_fronts.specs.declared.front.Level.{Level}
 
 slice_get-set_same : (xs : List Operation) (n : ℕ) (a : Operation) → n < length xs → slice_get (set xs n a) n ≡ Some a
 slice_get-set_same xs n a lt =
@@ -166,12 +167,6 @@ module _ (calls : List Operation) (n : ℕ) (response : Response) (may : MayBeAn
       (slice_get-set_other calls n k (answered_call may.call response) other) done))
       (cases_order k n)
 
-  -- a front that has all that an order had, and the call, is an order
-  pub whole_after : (start : Contents) (path : List ℕ) → IsFront start after path → Contains path n
-      → ((k : ℕ) → IsCompletedAt calls k → Contains path k) → IsOrder start after path
-  whole_after start path front has complete = IsOrder-from_front start after path front
-      (λ k done. ⊎_elim (λ same. subst (Contains path) (sym same) has) (λ old. complete k old) (completed_before k done))
-
   -- an order goes on with the call
   pub closed_push : (path : List ℕ) → IsClosed calls path → (Contains path n → ⊥) → ((k : ℕ) → IsCompletedAt calls k → Contains path k)
       → IsClosed after (path ++ n ∷ [])
@@ -202,12 +197,13 @@ module _ (calls : List Operation) (n : ℕ) (response : Response) (may : MayBeAn
   all_again path [] k h = Contains-append_left path (n ∷ []) k (subst (λ p. Contains p k) (append-nil path) h)
   all_again path (j ∷ again) k h = h
 
-  pub whole_again : (start : Contents) (path again order : List ℕ) → order ≡ path ++ again → IsFromOn n again
-      → ((k : ℕ) → IsCompletedAt calls k → Contains order k) → IsFront start after (path ++ again_or n again)
-      → IsOrder start after (path ++ again_or n again)
-  whole_again start path again order is on complete front =
-      whole_after start (path ++ again_or n again) front (has_again path again on)
-      (λ k done. all_again path again k (subst (λ p. Contains p k) is (complete k done)))
+  -- these are all completed calls of the order, and the call
+  pub complete_again : (path again order : List ℕ) → order ≡ path ++ again → IsFromOn n again → HasCompleted calls order
+      → HasCompleted after (path ++ again_or n again)
+  complete_again path again order is on complete k done = ⊎_elim
+      (λ same. subst (Contains (path ++ again_or n again)) (sym same) (has_again path again on))
+      (λ old. all_again path again k (subst (λ p. Contains p k) is (complete k old)))
+      (completed_before k done)
 
   -- the calls stay what an order can be sought of
   pub are_calls_after : AreCalls calls → AreCalls after
@@ -239,6 +235,11 @@ pub length_answered : (calls : List Operation) (n : ℕ) (response : Response) �
     → length (answered calls n response) ≡ length calls
 length_answered calls n response may = ap (λ (xs : List Operation). length xs) (answered_is calls n response may)
     ∙ same_length calls n response may
+
+-- calls that were taken back are pushed again
+pub again_or-some : (place : ℕ) (again : List ℕ) (empty : Bool) → empty ≡ nat_eq (length again) 0 → empty ≡ false → again_or place again ≡ again
+again_or-some place [] empty is some = absurd (both_ways empty some is)
+again_or-some place (n ∷ again) empty is some = refl
 
 -- a list that was lent whole, and written
 pub written : (old new : List Operation) (size : ℕ) → size ≡ length old → length new ≡ length old

@@ -20,8 +20,8 @@ use Rattle.list_laws.specs.Lists.{has_number}
 use Rattle.list_laws.proofs.Lists.{Contains-at, place_before-Contains, place-push, slice_get-append_left, slice_get-middle, All-from_contains}
 use Rattle.list_laws.proofs.FilterLemmas.{Contains-map}
 use Rattle.list_laws.proofs.NumberLemmas.{has_number-Contains, some_at}
-use Rattle.kept_orders.specs.Standing.{places, StandsWith, AreCalls}
-use Rattle.kept_orders.specs.declared.front.Level.{Level}
+use Rattle.kept_fronts.specs.Standing.{places, StandsWith, AreCalls}
+use Rattle.kept_fronts.specs.declared.front.Level.{Level}
 
 -- one mark more, of a call that is not in the front
 marked_more : (size : ℕ) (path : List ℕ) (taken : List Bool) (low : ℕ) → All (λ k. k < size) path → AreMarked size path taken low

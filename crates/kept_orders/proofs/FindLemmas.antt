@@ -4,9 +4,10 @@ use Rattle.events.specs.declared.operation.Operation.{Operation}
 use Rattle.map_object.specs.MapObject.{Contents}
 use Rattle.orders.specs.Orders.{IsOrder}
 use Rattle.kept_orders.specs.Views.{KeptOrderView}
-use Rattle.kept_orders.specs.Standing.{places, IsWhole, view_of}
+use Rattle.kept_fronts.specs.Standing.{places, IsWhole}
+use Rattle.kept_orders.specs.Keeping.{view_of}
 use Rattle.kept_orders.specs.Answers.{Keeps}
-use Rattle.kept_orders.specs.declared.front.Front.{Front}
+use Rattle.kept_fronts.specs.declared.front.Front.{Front}
 
 -- what holds of a map and a list of calls holds of the same ones
 pub over : (P : Contents → List Operation → Type 0) (m start : Contents) (list calls : List Operation) → m ≡ start → list ≡ calls → P m list

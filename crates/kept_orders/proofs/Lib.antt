@@ -1,9 +1,5 @@
-mod StandingLemmas
-mod ClosedLemmas
-mod JoinLemmas
 mod AnswerLemmas
 mod BeginLemmas
-mod GuessLemmas
-mod LeftLemmas
-mod TakeLemmas
 mod FindLemmas
+mod MoveLemmas
+mod InsertLemmas

@@ -4,7 +4,7 @@ use Rattle.events.specs.declared.operation.Operation.{Operation}
 use Rattle.map_object.specs.MapObject.{Contents}
 use Rattle.orders.specs.Orders.{IsOrder, IsLinearizable}
 use Rattle.configurations.specs.Counts.{ReachesMoreThan}
-use Rattle.kept_orders.specs.Views.{KeptOrderView}
+use Rattle.kept_orders.specs.Views.{KeptOrderView, HasCome}
 use Rattle.kept_orders.specs.declared.kept.Kept.{Kept}
 use Rattle.kept_orders.specs.declared.kept.Kept.TheVariants.{Order, NoOrder, Spent}
 
@@ -13,6 +13,12 @@ pub record Keeps (start : Contents) (calls : List Operation) (kept : KeptOrderVi
   pub same_start : kept.start ≡ start
   pub same_calls : kept.calls ≡ calls
   pub is_order : IsOrder start calls kept.order
+
+-- they have none, and are handed back
+pub record HaveNoOrder (start : Contents) (calls : List Operation) (start_back : Contents) (calls_back : List Operation) : Type 0 where
+  pub none : IsLinearizable start calls → ⊥
+  pub same_start : start_back ≡ start
+  pub same_calls : calls_back ≡ calls
 
 -- more configurations are reachable than the budget, and the calls are handed back
 pub record IsSpent (start : Contents) (calls : List Operation) (budget : ℕ) (start_back : Contents) (calls_back : List Operation) : Type 0 where
@@ -23,5 +29,11 @@ pub record IsSpent (start : Contents) (calls : List Operation) (budget : ℕ) (s
 -- what each answer says of the calls
 abbrev pub IsAnswer : Contents → List Operation → ℕ → Kept → Type 0
 IsAnswer start calls budget (Order kept) = Keeps start calls kept
-IsAnswer start calls budget NoOrder = IsLinearizable start calls → ⊥
+IsAnswer start calls budget (NoOrder start_back calls_back) = HaveNoOrder start calls start_back calls_back.items
 IsAnswer start calls budget (Spent start_back calls_back) = IsSpent start calls budget start_back calls_back.items
+
+-- what each answer says of the calls and one that came to them
+pub record IsAnswerWith (operation : Operation) (start : Contents) (calls : List Operation) (budget : ℕ) (kept : Kept) : Type 0 where
+  pub more : List Operation
+  pub came : HasCome operation calls more
+  pub answer : IsAnswer start more budget kept

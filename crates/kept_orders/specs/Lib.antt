@@ -1,4 +1,4 @@
 pub mod Views
-pub mod Standing
-pub mod Closed
+pub mod Keeping
+pub mod Moving
 pub mod Answers

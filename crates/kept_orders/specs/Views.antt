@@ -1,8 +1,8 @@
 -- A kept order, as its callers see it.
-use Rattle.std.specs.Prelude.{◌≡◌, ℕ, ◌<◌, List, Option, Some, None, slice_get, slice_set, All, AllPairs, ⊤}
+use Rattle.std.specs.Prelude.{◌≡◌, ◌≢◌, ℕ, ◌<◌, false, List, ◌∷◌, ◌++◌, Option, Some, None, slice_get, slice_set, All, AllPairs, ⊤}
 use Rattle.events.specs.declared.operation.Operation.{Operation}
 use Rattle.events.specs.declared.operation.Response.{Response}
-use Rattle.events.specs.Precedence.{NonePrecedesItself}
+use Rattle.events.specs.Precedence.{precedes, NonePrecedesItself}
 use Rattle.map_object.specs.MapObject.{Contents}
 use Rattle.orders.specs.Orders.{IsOrder}
 
@@ -42,3 +42,20 @@ pub record MayBeAnswered (calls : List Operation) (place : ℕ) (response : Resp
   pub pending : call.response ≡ None
   pub after_invocations : All (λ a. a.inv < response.res) calls
   pub after_responses : All (λ a. IsAbove response.res a.response) calls
+
+-- a completed call may come to the calls: none has its invocation, all were invoked before its response, and it does not precede itself
+pub record MayCome (calls : List Operation) (operation : Operation) : Type 0 where
+  pub response : Response
+  pub completed : operation.response ≡ Some response
+  pub other : All (λ a. a.inv ≢ operation.inv) calls
+  pub after_invocations : All (λ a. a.inv < response.res) calls
+  pub apart : precedes operation operation ≡ false
+
+-- a call came to the calls, at its place by rising invocation
+pub record HasCome (operation : Operation) (calls more : List Operation) : Type 0 where
+  pub front : List Operation
+  pub back : List Operation
+  pub before : calls ≡ front ++ back
+  pub less : All (λ a. a.inv < operation.inv) front
+  pub greater : All (λ a. operation.inv < a.inv) back
+  pub after : more ≡ front ++ operation ∷ back

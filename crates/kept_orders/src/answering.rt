@@ -1,22 +1,22 @@
 // A call is answered.
 ghost use Rattle.std.specs.Prelude.{◌≡◌, ◌<◌, ◌++◌, true, length, IfOk, OnOk};
 ghost use Rattle.kept_orders.specs.Views.{answered, MayBeAnswered};
-ghost use Rattle.kept_orders.specs.Closed.{IsClosed};
-ghost use Rattle.kept_orders.specs.Standing.{places, Stands, AreCalls, IsWhole, again_or};
+ghost use Rattle.kept_fronts.specs.Closed.{IsClosed};
+ghost use Rattle.kept_fronts.specs.Mending.{HasCompleted};
+ghost use Rattle.kept_fronts.specs.Standing.{places, Stands, AreCalls, IsWhole, again_or};
 ghost use Rattle.kept_orders.specs.Answers.{IsAnswer};
 
 use crate::finding::search_on;
-use crate::front::Front;
 use crate::kept::Kept;
 use crate::kept_order::KeptOrder;
-use crate::pushing::{push_all, take_back};
 use events::{Memory, Operation, Response};
+use kept_fronts::{Front, mend, push_all, take_back};
 use std::alloc::Global;
 
 impl KeptOrder {
-    /// A call is answered, and the order is mended. At the end of the order that costs one call.
-    /// Otherwise it costs the calls of the order from this one on, or searches. `Memory` where a
-    /// growth was refused: then the order is lost.
+    /// A call is answered, and the order is mended. At the end of the order that costs one call. At
+    /// an earlier place it costs the calls after it, and again those of each try in vain. Otherwise
+    /// it costs searches. `Memory` if memory runs out: then the order is lost.
     pub fn answer(
         self,
         alloc: Global,
@@ -40,7 +40,8 @@ impl KeptOrder {
     }
 }
 
-/// A call is answered, and says whether the order goes on with it as it was, or with it at its end.
+/// A call is answered, and says whether the order goes on with it: where it was, or else at the
+/// last place that allows it.
 fn answer_in_order(
     alloc: Global,
     calls: &mut [Operation],
@@ -73,7 +74,8 @@ fn write_answer(calls: &mut [Operation], place: usize, response: Response)
     calls[place].response = Some(response);
 }
 
-/// Pushes the calls that were taken back, or, where none were, the call that was answered.
+/// Pushes the calls that were taken back, or, if none were, puts the call that was answered, and
+/// says whether the order goes on so.
 fn push_again(
     alloc: Global,
     calls: &[Operation],
@@ -84,13 +86,15 @@ fn push_again(
     requires stands { Stands calls.now front.old }
     requires closed { IsClosed calls.now
         (places front.old.levels.items ++ again_or place again.now) }
+    requires complete { HasCompleted calls.now
+        (places front.old.levels.items ++ again_or place again.now) }
     ensures stands { OnOk result (Stands calls.now front.new) }
     ensures start { OnOk result (front.new.start ≡ front.old.start) }
-    ensures all { IfOk result (λ all. all ≡ true → places front.new.levels.items
-        ≡ places front.old.levels.items ++ again_or place again.now) }
+    ensures whole { IfOk result (λ whole. whole ≡ true → IsWhole calls.now front.new) }
 {
     if again.is_empty() {
-        return push_all(alloc, calls, front, &[place]);
+        return mend(alloc, calls, front, place);
     }
-    push_all(alloc, calls, front, again)
+    let pushed = push_all(alloc, calls, front, again)?;
+    Ok(pushed)
 }

@@ -3,23 +3,20 @@ ghost use Rattle.std.specs.Prelude.{◌≡◌, ◌<◌, AllPairs, IfOk};
 ghost use Rattle.events.specs.Precedence.{NonePrecedesItself};
 ghost use Rattle.orders.specs.Orders.{IsOrder};
 ghost use Rattle.kept_orders.specs.Answers.{IsAnswer};
-ghost use Rattle.kept_orders.specs.Standing.{places, Stands, AreCalls};
+ghost use Rattle.kept_fronts.specs.Standing.{places, Stands, AreCalls};
 
-use crate::front::Front;
-use crate::guessing::{follow, is_whole};
 use crate::kept::Kept;
 use crate::kept_order::KeptOrder;
-use crate::pushing::push_all;
-use crate::windows::mend;
 use call_search::{SearchEnd, search_calls};
 use events::{Memory, Operation};
+use kept_fronts::{Front, follow, is_whole, push_all, search_windows};
 use map_object::SortedMap;
 use std::alloc::Global;
 
 impl KeptOrder {
     /// An order of calls by rising invocation, if they have one. `guess` has places of calls in the
     /// order in which they are tried first. Any numbers are allowed: one that names no call, or
-    /// a call that may not come next, is passed over. `Memory` where a growth was refused, and at
+    /// a call that may not come next, is passed over. `Memory` if memory runs out, and at
     /// 4,294,967,295 calls or more, which no memory holds.
     pub fn find(
         alloc: Global,
@@ -73,8 +70,8 @@ pub(crate) fn search_on(
     requires stands { Stands calls.items front }
     ensures { IfOk result (IsAnswer front.start calls.items budget) }
 {
-    let mended = mend(alloc, &calls, &mut front, budget)?;
-    if mended {
+    let found = search_windows(alloc, &calls, &mut front, budget)?;
+    if found {
         let kept = KeptOrder::keep(calls, front);
         return Ok(Kept::Order(kept));
     }
@@ -98,7 +95,7 @@ fn search_all(
             let kept = KeptOrder::keep(calls, front);
             Ok(Kept::Order(kept))
         }
-        SearchEnd::NoOrder => Ok(Kept::NoOrder),
+        SearchEnd::NoOrder => Ok(Kept::NoOrder { start, calls }),
         SearchEnd::Spent => Ok(Kept::Spent { start, calls }),
     }
 }

@@ -8,8 +8,11 @@ use map_object::SortedMap;
 pub enum Kept {
     /// The calls have this order.
     Order(KeptOrder),
-    /// The calls have no order.
-    NoOrder,
+    /// The calls have no order. Here are the pairs and the calls again.
+    NoOrder {
+        start: SortedMap,
+        calls: Vec<Operation>,
+    },
     /// More configurations were met than the budget. Here are the pairs and the calls again.
     Spent {
         start: SortedMap,

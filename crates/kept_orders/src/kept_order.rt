@@ -1,16 +1,16 @@
 // An order of calls that is kept.
 ghost use Rattle.std.specs.Prelude.{◌≡◌, ◌<◌, ◌++◌, ◌∷◌, [], None, All, IfOk, OnOk, OnErr};
 ghost use Rattle.kept_orders.specs.Views.{IsKeptOrder};
-ghost use Rattle.kept_orders.specs.Standing.{places};
+ghost use Rattle.kept_fronts.specs.Standing.{places};
 
-use crate::front::{Front, Level};
 use events::{Memory, Operation};
+use kept_fronts::{Front, Level};
 use map_object::SortedMap;
 use std::alloc::Global;
 use std::marker::Model;
 
 /// The most calls but one: each has a place of 32 bits.
-const CALL_LIMIT: usize = u32::MAX as usize - 1;
+pub(crate) const CALL_LIMIT: usize = u32::MAX as usize - 1;
 
 /// Calls by rising invocation, of which some may be pending, and one order of them, kept. Contracts
 /// see the pairs that they start from, the calls, and the order by places.
@@ -22,7 +22,7 @@ pub struct KeptOrder {
 
 impl Model for KeptOrder {
     ghost use Rattle.kept_orders.specs.Views.{KeptOrderView};
-    ghost use Rattle.kept_orders.specs.Standing.{IsKept, view_of};
+    ghost use Rattle.kept_orders.specs.Keeping.{IsKept, view_of};
 
     ghost Value = { KeptOrderView };
 
@@ -32,6 +32,16 @@ impl Model for KeptOrder {
 }
 
 impl KeptOrder {
+    /// The order of no calls.
+    pub fn new(alloc: Global, start: SortedMap) -> Result<KeptOrder, Memory>
+        ensures { IfOk result (λ kept. kept
+            ≡ record { start = start; calls = []; order = [] }) }
+    {
+        let calls = Vec::new(alloc);
+        let front = Front::none(alloc, start, &calls)?;
+        Ok(KeptOrder::keep(calls, front))
+    }
+
     /// The pairs that the calls start from.
     pub fn start(&self) -> &SortedMap
         ensures { result.now ≡ self.now.start }
@@ -68,8 +78,8 @@ impl KeptOrder {
     }
 
     /// A call begins: it is pending, and its invocation is above all others. The order stays.
-    /// `Memory` where a growth was refused, and at 4,294,967,294 calls, which no memory holds; then
-    /// nothing has changed.
+    /// `Memory` if memory runs out, and at 4,294,967,294 calls, which no memory holds; then nothing
+    /// has changed.
     pub fn begin(&mut self, operation: Operation) -> Result<(), Memory>
         requires pending { operation.response ≡ None }
         requires last { All (λ a. a.inv < operation.inv) self.old.calls }
@@ -92,7 +102,7 @@ impl KeptOrder {
 }
 
 impl KeptOrder {
-    ghost use Rattle.kept_orders.specs.Standing.{IsKept, view_of};
+    ghost use Rattle.kept_orders.specs.Keeping.{IsKept, view_of};
 
     /// The order that a front is.
     pub(crate) fn keep(calls: Vec<Operation>, front: Front) -> KeptOrder

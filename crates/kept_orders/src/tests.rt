@@ -1,17 +1,17 @@
 // Orders that are kept, by hand: no clause says that one is found, nor which one a guess leads to.
-ghost use Rattle.std.specs.Prelude.{◌≡◌, ◌↔◌, ◌<◌, true, All, IsTrue};
-ghost use Rattle.kept_orders.specs.Views.{IsAbove, MayBeAnswered};
+ghost use Rattle.std.specs.Prelude.{◌≡◌, ◌≢◌, ◌↔◌, ◌<◌, true, All, IsTrue};
+ghost use Rattle.kept_orders.specs.Views.{IsAbove, MayBeAnswered, MayCome};
 
 use crate::{Kept, KeptOrder};
-use events::{Call, Memory, Operation, Reply, Response};
+use events::{Call, Memory, Operation, Pairs, Reply, Response};
 use map_object::SortedMap;
 use std::alloc::Global;
 use std::process::Abort;
 use std::test::Fail;
 
-const BUDGET: u32 = 1_000;
+const BUDGET: u32 = 3_000;
 
-/// Whether a call was invoked before a place, and not answered behind it.
+/// Whether a call was invoked before a place, and not answered after it.
 fn is_before(call: &Operation, place: usize) -> bool
     ensures { IsTrue result ↔ ((call.now.inv < place) × IsAbove place call.now.response) }
 {
@@ -68,7 +68,7 @@ fn answer(
 fn order_of(kept: Kept) -> Result<KeptOrder, Fail> {
     match kept {
         Kept::Order(order) => Ok(order),
-        Kept::NoOrder => Err("no order")?,
+        Kept::NoOrder { .. } => Err("no order")?,
         Kept::Spent {
             start: _start,
             calls: _calls,
@@ -90,8 +90,7 @@ fn order_after(
 
 /// The order of no calls, from the empty map.
 fn none(alloc: Global) -> Result<KeptOrder, Fail> {
-    let start = SortedMap::new(alloc);
-    order_of(KeptOrder::find(alloc, start, Vec::new(alloc), &[], BUDGET)?)
+    Ok(KeptOrder::new(alloc, SortedMap::new(alloc))?)
 }
 
 /// Whether the order is this one.
@@ -99,7 +98,7 @@ fn is_order(alloc: Global, order: &KeptOrder, places: &[u32]) -> Result<bool, Me
     Ok(order.order(alloc)?.as_slice() == places)
 }
 
-// A get that read the first of two inserts ends behind both.
+// A get that read the first of two inserts ends after both.
 #[test]
 fn a_get_is_answered_in_the_middle(rt: HostRuntime) -> Result<(), Fail> {
     let alloc = rt.alloc();
@@ -146,7 +145,7 @@ fn a_value_that_nobody_wrote_has_no_order(rt: HostRuntime) -> Result<(), Fail> {
     begin(&rt, &mut order, Call::Insert(1, 5), 0)?;
     begin(&rt, &mut order, Call::Get(1), 1)?;
     let kept = answer(&rt, alloc, order, 1, 2, Reply::Some(9))?;
-    assert!(rt; matches!(kept, Kept::NoOrder));
+    assert!(rt; matches!(kept, Kept::NoOrder { .. }));
     Ok(())
 }
 
@@ -158,8 +157,8 @@ fn gets(
     count: usize,
     from: usize,
 ) -> Result<KeptOrder, Fail>
-    requires count { count < 1000 }
-    requires from { from < 1000 }
+    requires count { count < 2000 }
+    requires from { from < 10000 }
 {
     for turn in 0..count {
         let place = order.calls().len();
@@ -176,16 +175,247 @@ fn stands_before(alloc: Global, order: &KeptOrder, place: u32, later: u32) -> Re
     Ok(places.iter().position(|it| *it == place) < places.iter().position(|it| *it == later))
 }
 
-// A get that read nothing stands before an insert that 20 calls follow.
+/// A call begins and is answered, and nothing comes between.
+fn call(
+    rt: &impl Abort,
+    alloc: Global,
+    mut order: KeptOrder,
+    call: Call,
+    inv: usize,
+    reply: Reply,
+) -> Result<KeptOrder, Fail>
+    requires { inv < 10000 }
+{
+    let place = order.calls().len();
+    begin(rt, &mut order, call, inv)?;
+    order_after(rt, alloc, order, place, inv + 1, reply)
+}
+
+/// Two inserts of other keys that overlap, in the order that a search would not try first.
+fn turned(rt: &impl Abort, alloc: Global) -> Result<KeptOrder, Fail> {
+    let mut order = none(alloc)?;
+    begin(rt, &mut order, Call::Insert(3, 1), 0)?;
+    begin(rt, &mut order, Call::Insert(4, 1), 1)?;
+    let order = order_after(rt, alloc, order, 0, 2, Reply::None)?;
+    let order = order_after(rt, alloc, order, 1, 3, Reply::None)?;
+    let (start, calls, _order) = order.into_parts(alloc)?;
+    order_of(KeptOrder::find(alloc, start, calls, &[1, 0], BUDGET)?)
+}
+
+// An insert that found what the second of three inserts wrote comes between that and the third.
+#[test]
+fn an_insert_is_put_in_the_middle(rt: HostRuntime) -> Result<(), Fail> {
+    let alloc = rt.alloc();
+    let mut order = turned(&rt, alloc)?;
+    begin(&rt, &mut order, Call::Insert(1, 5), 4)?;
+    let order = call(&rt, alloc, order, Call::Insert(1, 6), 5, Reply::None)?;
+    let order = call(&rt, alloc, order, Call::Insert(1, 7), 7, Reply::Done)?;
+    assert!(rt; is_order(alloc, &order, &[1, 0, 3, 4])?);
+    let order = order_after(&rt, alloc, order, 2, 9, Reply::Some(6))?;
+    assert!(rt; is_order(alloc, &order, &[1, 0, 3, 2, 4])?);
+    Ok(())
+}
+
+// A get that read nothing comes before an insert that 20 calls follow, and the others stay.
+#[test]
+fn a_get_is_put_before_many_calls(rt: HostRuntime) -> Result<(), Fail> {
+    let alloc = rt.alloc();
+    let mut order = gets(&rt, alloc, turned(&rt, alloc)?, 2, 4)?;
+    begin(&rt, &mut order, Call::Get(1), 8)?;
+    let order = call(&rt, alloc, order, Call::Insert(1, 5), 9, Reply::None)?;
+    let order = gets(&rt, alloc, order, 20, 11)?;
+    let order = order_after(&rt, alloc, order, 4, 60, Reply::None)?;
+    let places = [
+        1, 0, 2, 3, 4, 5, 6, 7, 8, 9, 10, 11, 12, 13, 14, 15, 16, 17, 18, 19, 20, 21, 22, 23, 24,
+        25,
+    ];
+    assert!(rt; is_order(alloc, &order, &places)?);
+    Ok(())
+}
+
+/// So many gets, then two inserts whose answers say nothing, then so many gets. A get that the two
+/// precede is answered last, and read the first of them. So no place in that order allows it.
+fn reread(rt: &impl Abort, alloc: Global, before: usize, after: usize) -> Result<KeptOrder, Fail>
+    requires before { before < 1500 }
+    requires after { after < 1500 }
+{
+    let mut order = gets(rt, alloc, turned(rt, alloc)?, before, 4)?;
+    begin(rt, &mut order, Call::Insert(1, 5), 4_000)?;
+    begin(rt, &mut order, Call::Insert(1, 6), 4_001)?;
+    let order = order_after(rt, alloc, order, before + 2, 4_002, Reply::Done)?;
+    let mut order = order_after(rt, alloc, order, before + 3, 4_003, Reply::Done)?;
+    begin(rt, &mut order, Call::Get(1), 4_004)?;
+    let order = gets(rt, alloc, order, after, 4_005)?;
+    order_after(rt, alloc, order, before + 4, 8_000, Reply::Some(5))
+}
+
+// The last 64 calls are searched, but not the first two.
 #[test]
 fn a_window_goes_back(rt: HostRuntime) -> Result<(), Fail> {
     let alloc = rt.alloc();
-    let mut order = gets(&rt, alloc, none(alloc)?, 60, 0)?;
-    begin(&rt, &mut order, Call::Get(1), 200)?;
-    begin(&rt, &mut order, Call::Insert(1, 5), 201)?;
-    let order = order_after(&rt, alloc, order, 61, 202, Reply::None)?;
-    let order = gets(&rt, alloc, order, 20, 300)?;
-    let order = order_after(&rt, alloc, order, 60, 400, Reply::None)?;
-    assert!(rt; stands_before(alloc, &order, 60, 61)?);
+    let order = reread(&rt, alloc, 60, 20)?;
+    assert!(rt; stands_before(alloc, &order, 63, 62)? && stands_before(alloc, &order, 62, 64)?);
+    assert!(rt; stands_before(alloc, &order, 1, 0)?);
+    Ok(())
+}
+
+// The last 1,024 calls are searched, but not the first two.
+#[test]
+fn a_long_window_goes_back(rt: HostRuntime) -> Result<(), Fail> {
+    let alloc = rt.alloc();
+    let order = reread(&rt, alloc, 1_200, 300)?;
+    assert!(rt; stands_before(alloc, &order, 1_203, 1_202)?);
+    assert!(rt; stands_before(alloc, &order, 1_202, 1_204)?);
+    assert!(rt; stands_before(alloc, &order, 1, 0)?);
+    Ok(())
+}
+
+/// Two inserts of 5, so many gets of another key, a get of 5, and an insert that found 5. A removal
+/// that found 5 is answered last, and has one place in that order: between the first two. Each
+/// place after that but the last allows the removal, but not the calls after it.
+fn removed(rt: &impl Abort, alloc: Global, count: usize) -> Result<KeptOrder, Fail>
+    requires { count < 500 }
+{
+    let mut order = turned(rt, alloc)?;
+    begin(rt, &mut order, Call::Remove(1), 4)?;
+    let order = call(rt, alloc, order, Call::Insert(1, 5), 5, Reply::None)?;
+    let order = call(rt, alloc, order, Call::Insert(1, 5), 7, Reply::Done)?;
+    let order = gets(rt, alloc, order, count, 9)?;
+    let order = call(rt, alloc, order, Call::Get(1), 2_000, Reply::Some(5))?;
+    let order = call(rt, alloc, order, Call::Insert(1, 8), 2_002, Reply::Some(5))?;
+    order_after(rt, alloc, order, 2, 2_004, Reply::Some(5))
+}
+
+#[test]
+fn few_tries_in_vain_lead_to_the_place(rt: HostRuntime) -> Result<(), Fail> {
+    let alloc = rt.alloc();
+    let order = removed(&rt, alloc, 5)?;
+    assert!(rt; is_order(alloc, &order, &[1, 0, 3, 2, 4, 5, 6, 7, 8, 9, 10, 11])?);
+    Ok(())
+}
+
+// 100 tries of up to 100 calls each are too many. So all calls are searched, and the first two of
+// the order do not stay.
+#[test]
+fn many_tries_in_vain_end(rt: HostRuntime) -> Result<(), Fail> {
+    let alloc = rt.alloc();
+    let order = removed(&rt, alloc, 100)?;
+    assert!(rt; stands_before(alloc, &order, 3, 2)? && stands_before(alloc, &order, 2, 4)?);
+    assert!(rt; stands_before(alloc, &order, 0, 1)?);
+    Ok(())
+}
+
+/// Whether all calls were invoked before a response, and none at an invocation.
+fn are_others(calls: &[Operation], inv: usize, res: usize) -> bool
+    ensures other { IsTrue result → All (λ a. a.inv ≢ inv) calls.now }
+    ensures before { IsTrue result → All (λ a. a.inv < res) calls.now }
+{
+    calls.iter().all(|call| call.inv != inv && call.inv < res)
+}
+
+/// Whether a call may be inserted.
+fn may_come(calls: &[Operation], operation: &Operation) -> bool
+    ensures { IsTrue result → MayCome calls.now operation.now }
+{
+    let Some(response) = &operation.response else {
+        return false;
+    };
+    operation.inv <= response.res && are_others(calls, operation.inv, response.res)
+}
+
+/// A scan of the keys from 0 to 9, with the pairs that it reported.
+fn scan_of(
+    alloc: Global,
+    inv: usize,
+    res: usize,
+    pairs: &[(u64, u64)],
+) -> Result<Operation, Memory> {
+    let reply = Reply::Pairs(Pairs::new(Vec::from_slice(alloc, pairs)?));
+    Ok(Operation {
+        call: Call::Scan(0, 9),
+        inv,
+        response: Some(Response { res, reply }),
+    })
+}
+
+/// What is known after a call was inserted.
+fn insert(
+    rt: &impl Abort,
+    alloc: Global,
+    order: KeptOrder,
+    operation: Operation,
+    budget: u32,
+) -> Result<Kept, Fail> {
+    assert!(rt; may_come(order.calls(), &operation));
+    Ok(order.insert(alloc, operation, budget)?)
+}
+
+/// An insert at 2 that was answered at 4, one at 5 that was answered at 6, and a get at 7.
+fn two_inserts(rt: &impl Abort, alloc: Global) -> Result<KeptOrder, Fail> {
+    let mut order = none(alloc)?;
+    begin(rt, &mut order, Call::Insert(1, 5), 2)?;
+    order = order_after(rt, alloc, order, 0, 4, Reply::None)?;
+    begin(rt, &mut order, Call::Insert(2, 6), 5)?;
+    order = order_after(rt, alloc, order, 1, 6, Reply::None)?;
+    begin(rt, &mut order, Call::Get(1), 7)?;
+    Ok(order)
+}
+
+// No configuration is searched, since none is allowed. Then the get is answered at its new place.
+#[test]
+fn a_scan_of_all_goes_to_the_end(rt: HostRuntime) -> Result<(), Fail> {
+    let alloc = rt.alloc();
+    let order = two_inserts(&rt, alloc)?;
+    let scan = scan_of(alloc, 1, 8, &[(1, 5), (2, 6)])?;
+    let order = order_of(insert(&rt, alloc, order, scan, 0)?)?;
+    assert!(rt; is_order(alloc, &order, &[1, 2, 0])?);
+    let order = order_after(&rt, alloc, order, 3, 9, Reply::Some(5))?;
+    assert!(rt; is_order(alloc, &order, &[1, 2, 0, 3])?);
+    Ok(())
+}
+
+// The get that was answered stays the last call. Again no configuration is searched.
+#[test]
+fn a_scan_of_the_first_of_two_inserts_goes_before_the_last_calls(
+    rt: HostRuntime,
+) -> Result<(), Fail> {
+    let alloc = rt.alloc();
+    let order = two_inserts(&rt, alloc)?;
+    let order = order_after(&rt, alloc, order, 2, 8, Reply::Some(5))?;
+    let scan = scan_of(alloc, 3, 9, &[(1, 5)])?;
+    let order = order_of(insert(&rt, alloc, order, scan, 0)?)?;
+    assert!(rt; is_order(alloc, &order, &[0, 1, 2, 3])?);
+    Ok(())
+}
+
+/// Two inserts that overlap, in the order of their invocations, and a scan that overlaps them and
+/// reported the second alone. So no place in that order allows it, and the other order does.
+fn scanned_in_turn(rt: &impl Abort, alloc: Global, budget: u32) -> Result<Kept, Fail> {
+    let mut order = none(alloc)?;
+    begin(rt, &mut order, Call::Insert(1, 5), 1)?;
+    begin(rt, &mut order, Call::Insert(2, 6), 2)?;
+    let order = order_after(rt, alloc, order, 0, 3, Reply::None)?;
+    let order = order_after(rt, alloc, order, 1, 4, Reply::None)?;
+    let scan = scan_of(alloc, 0, 5, &[(2, 6)])?;
+    insert(rt, alloc, order, scan, budget)
+}
+
+#[test]
+fn a_scan_that_no_place_allows_is_searched_for(rt: HostRuntime) -> Result<(), Fail> {
+    let alloc = rt.alloc();
+    let order = order_of(scanned_in_turn(&rt, alloc, BUDGET)?)?;
+    assert!(rt; is_order(alloc, &order, &[2, 0, 1])?);
+    let kept = scanned_in_turn(&rt, alloc, 0)?;
+    assert!(rt; matches!(kept, Kept::Spent { .. }));
+    Ok(())
+}
+
+#[test]
+fn a_scan_of_the_second_of_two_inserts_alone_has_no_order(rt: HostRuntime) -> Result<(), Fail> {
+    let alloc = rt.alloc();
+    let order = two_inserts(&rt, alloc)?;
+    let scan = scan_of(alloc, 1, 8, &[(2, 6)])?;
+    let kept = insert(&rt, alloc, order, scan, BUDGET)?;
+    assert!(rt; matches!(kept, Kept::NoOrder { .. }));
     Ok(())
 }

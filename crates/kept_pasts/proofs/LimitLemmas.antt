@@ -21,7 +21,7 @@ use Rattle.key_parts.specs.Left.{HaveKeysTogether}
 use Rattle.key_parts.proofs.EventLemmas.{not_both}
 use Rattle.key_parts.proofs.FewerLemmas.{AreAmong}
 use Rattle.key_parts.proofs.KnownLemmas.{calls_are_known}
-use Rattle.kept_pasts.specs.Pasts.{KeptPast, IsOpenRead, IsPast, OpenReadsBeganAfter}
+use Rattle.kept_pasts.specs.Pasts.{KeptPast, IsPast, IsNameKept, OpenReadsBeganAfter}
 
 -- ---- an operation of a name that has some key among these, or none
 
@@ -38,7 +38,7 @@ some_key keys o =
     (omega arith) refl)
 
 -- an operation of this name that has some key among these
-abbrev IsNamed : Keys → ℕ → Operation → Type 0
+abbrev pub IsNamed : Keys → ℕ → Operation → Type 0
 IsNamed keys inv o = (o.inv ≡ inv) × HasSomeKeyIn keys o
 
 is_named : (keys : Keys) (inv : ℕ) (o : Operation) → IsNamed keys inv o ⊎ (IsNamed keys inv o → ⊥)
@@ -48,7 +48,7 @@ is_named keys inv o =
     (λ differ. inr (λ both. differ both.0))
     (cases_eq o.inv inv)
 
-named_or_none : (keys : Keys) (inv : ℕ) (left : List Operation)
+pub named_or_none : (keys : Keys) (inv : ℕ) (left : List Operation)
     → ((o : Operation) × Contains left o × IsNamed keys inv o) ⊎ ((o : Operation) → Contains left o → IsNamed keys inv o → ⊥)
 named_or_none keys inv [] = inr (λ o o_in named. Contains-nil o o_in)
 named_or_none keys inv (o ∷ left) = by_first (is_named keys inv o) (named_or_none keys inv left)
@@ -73,26 +73,42 @@ only_past keys past rest w w_is =
 
 -- ---- calls that began before the limit
 
+false_of : (b : Bool) → not b ≡ true → b ≡ false
+false_of true is = sym is
+false_of false is = refl
+
 -- All that is known of a past and of the limit.
 pub record IsPastBefore (keys some : Keys) (limit : ℕ) (calls : List KeyedCall) (kept : KeptPast) (past : Choice) : Type 0 where
   pub is : IsPast keys calls kept past
   pub apart : AreKeyedCalls calls
   pub among : AreAmong some keys
   pub together : HaveKeysTogether some limit kept.left
-  pub late : OpenReadsBeganAfter keys limit calls
+  pub late : OpenReadsBeganAfter keys limit calls kept
 
 module _ (keys some : Keys) (limit : ℕ) (calls : List KeyedCall) (kept : KeptPast) (past : Choice)
     (at : IsPastBefore keys some limit calls kept past) where
   -- each of which something is left is among the operations
   pub all_left : AreAllLeft keys past limit calls kept.left
   all_left a a_in early accepted is_left =
-      ⊎_elim (λ shown. shown) (λ open_read. absurd (never open_read)) (at.is.whole a a_in accepted is_left)
+      ⊎_elim (λ shown. shown) (λ open_read. by_late (at.late a is_left.0 a_in open_read is_left.1 concerned)) (at.is.whole a a_in accepted is_left)
     where
-      never : IsOpenRead a → ⊥
-      never open_read =
-          let concerned : a.concerns is_left.0 ≡ true = (and_parts (not (past.taken a.inv is_left.0)) (a.concerns is_left.0) is_left.2).1 in
-          let later : limit ≤ a.inv = at.late a is_left.0 a_in open_read is_left.1 concerned in
-          omega arith
+      concerned : a.concerns is_left.0 ≡ true
+      concerned = (and_parts (not (past.taken a.inv is_left.0)) (a.concerns is_left.0) is_left.2).1
+
+      -- a pending read that is kept was not taken, and so it is left
+      by_late : (limit ≤ a.inv) ⊎ IsNameKept kept a → (o : Operation) × Contains kept.left o × IsAlikeAt keys (left_at keys past a) (keyed o)
+      by_late (inl later) = absurd (omega arith)
+      by_late (inr (inl (o, o_in, same))) =
+          let (b, b_in, b_accepted, b_left, alike) = at.is.owned o o_in in
+          let one : b ≡ a = same_call calls b a at.apart.distinct b_in a_in (sym alike.inv ∙ same) in
+          (o, o_in, subst (λ (z : KeyedCall). IsAlikeAt keys (left_at keys past z) (keyed o)) one alike)
+      by_late (inr (inr (f, f_in, named, here))) =
+          let taken = (at.is.found.right f f_in).1 in
+          let own : past.taken a.inv is_left.0 ≡ true =
+          subst (λ (n : ℕ). past.taken n is_left.0 ≡ true) named
+          (subst (λ (k : ℕ). past.taken f.inv k ≡ true) (here is_left.0 concerned) taken) in
+          absurd (not_both (past.taken a.inv is_left.0) own
+          (false_of (past.taken a.inv is_left.0) (and_parts (not (past.taken a.inv is_left.0)) (a.concerns is_left.0) is_left.2).0))
 
   -- an operation that has some key among these has all keys of its call there
   keys_inside : (o : Operation) (a : KeyedCall) → Contains kept.left o → Contains calls a → a.inv ≡ o.inv → o.inv < limit → HasSomeKeyIn some o

@@ -28,26 +28,26 @@ use Rattle.kept_pasts.proofs.LimitLemmas.{IsPastBefore, all_left, left_there, kn
 -- ---- lists, item by item
 
 -- each item of a list has one that it goes with
-each_one : {A B : Type 0} (R : A → B → Type 0) (xs : List A) → ((x : A) → Contains xs x → (y : B) × R x y) → (ys : List B) × AllZip R xs ys
+pub each_one : {A B : Type 0} (R : A → B → Type 0) (xs : List A) → ((x : A) → Contains xs x → (y : B) × R x y) → (ys : List B) × AllZip R xs ys
 each_one R [] pick = ([], tt)
 each_one R (x ∷ xs) pick =
     let (y, here) = pick x (Contains-first x xs) in
     let (ys, further) = each_one R xs (λ z z_in. pick z (Contains-later x xs z z_in)) in
     (y ∷ ys, (here, further))
 
-zip_weaker : {A B : Type 0} (R S : A → B → Type 0) (xs : List A) (ys : List B) → ((x : A) (y : B) → R x y → S x y) → AllZip R xs ys → AllZip S xs ys
+pub zip_weaker : {A B : Type 0} (R S : A → B → Type 0) (xs : List A) (ys : List B) → ((x : A) (y : B) → R x y → S x y) → AllZip R xs ys → AllZip S xs ys
 zip_weaker R S [] [] weaker each = tt
 zip_weaker R S [] (y ∷ ys) weaker each = absurd each
 zip_weaker R S (x ∷ xs) [] weaker each = absurd each
 zip_weaker R S (x ∷ xs) (y ∷ ys) weaker each = (weaker x y each.0, zip_weaker R S xs ys weaker each.1)
 
-zip_there : {A B : Type 0} (R : A → B → Type 0) (xs : List A) (ys : List B) (x : A) → AllZip R xs ys → Contains xs x → (y : B) × Contains ys y × R x y
+pub zip_there : {A B : Type 0} (R : A → B → Type 0) (xs : List A) (ys : List B) (x : A) → AllZip R xs ys → Contains xs x → (y : B) × Contains ys y × R x y
 zip_there R xs ys x each x_in =
     let (i, at) = place_of-Contains xs x x_in in
     let (y, y_at, is) = zip_left R xs ys i x each at in
     (y, Contains-at ys i y y_at, is)
 
-zip_back : {A B : Type 0} (R : A → B → Type 0) (xs : List A) (ys : List B) (y : B) → AllZip R xs ys → Contains ys y → (x : A) × Contains xs x × R x y
+pub zip_back : {A B : Type 0} (R : A → B → Type 0) (xs : List A) (ys : List B) (y : B) → AllZip R xs ys → Contains ys y → (x : A) × Contains xs x × R x y
 zip_back R xs ys y each y_in =
     let (i, at) = place_of-Contains ys y y_in in
     let (x, x_at, is) = zip_right R xs ys i y each at in
@@ -56,18 +56,18 @@ zip_back R xs ys y each y_in =
 -- ---- a step by an operation
 
 -- A past that is kept so, and that a past comes to by the call of an operation.
-record IsNext (keys some : Keys) (calls : List KeyedCall) (kept : KeptPast) (past : Choice) (o : Operation) (next : KeptPast) (after : Choice)
+pub record IsNext (keys some : Keys) (calls : List KeyedCall) (kept : KeptPast) (past : Choice) (o : Operation) (next : KeptPast) (after : Choice)
     : Type 0 where
-  call : KeyedCall
-  is : IsPast keys calls next after
-  call_in : Contains calls call
-  alike : IsAlikeAt keys (left_at keys past call) (keyed o)
-  may : MayComeNext some past calls call
-  taken : IsAfterCall keys past call after
-  next_is : IsPastAfter kept o next
+  pub call : KeyedCall
+  pub is : IsPast keys calls next after
+  pub call_in : Contains calls call
+  pub alike : IsAlikeAt keys (left_at keys past call) (keyed o)
+  pub may : MayComeNext some past calls call
+  pub taken : IsAfterCall keys past call after
+  pub next_is : IsPastAfter kept o next
 
 -- by the call of some operation
-abbrev ComesNext : Keys → Keys → List KeyedCall → KeptPast → Choice → KeptPast → Choice → Type 0
+abbrev pub ComesNext : Keys → Keys → List KeyedCall → KeptPast → Choice → KeptPast → Choice → Type 0
 ComesNext keys some calls kept past next after = (o : Operation) × IsNext keys some calls kept past o next after
 
 -- what is left of the call of a read is a read
@@ -80,7 +80,7 @@ read_there keys past a o alike read key here value fits =
 
 module _ (keys some : Keys) (limit : ℕ) (calls : List KeyedCall) (kept : KeptPast) (past : Choice) (formed : All IsFormed calls)
     (at : IsPastBefore keys some limit calls kept past) where
-  next_by : (o : Operation) (next : KeptPast) → Contains kept.left o → o.inv < limit → OperationMayCome some kept.pairs kept.left o
+  pub next_by : (o : Operation) (next : KeptPast) → Contains kept.left o → o.inv < limit → OperationMayCome some kept.pairs kept.left o
       → IsPastAfter kept o next → (after : Choice) × IsNext keys some calls kept past o next after
   next_by o next o_in early may_come next_is =
       let (a, a_in, alike, within, may) =
@@ -112,7 +112,7 @@ module _ (keys some : Keys) (limit : ℕ) (calls : List KeyedCall) (kept : KeptP
       )
 
   -- where the same is kept after two operations, their calls are one
-  one_call : (a : KeyedCall) (o p : Operation) (next : KeptPast) (after : Choice) → Contains calls a → Contains kept.left o
+  pub one_call : (a : KeyedCall) (o p : Operation) (next : KeptPast) (after : Choice) → Contains calls a → Contains kept.left o
       → IsAlikeAt keys (left_at keys past a) (keyed o) → IsPastAfter kept o next → (is : IsNext keys some calls kept past p next after)
       → is.call ≡ a
   one_call a o p next after a_in o_in alike next_is is =

@@ -46,7 +46,7 @@ AnsweredCallsAreKept =
     → IsPast keys (front ++ keyed (answered response o) ∷ back)
     (record { pairs = pairs; left = before ++ answered response o ∷ after; found = found }) past
 
--- a scan that was pending is left at these keys from its answer on, where it was told pairs
+-- a scan that was pending, and reported pairs, is left at these keys from its answer on
 abbrev pub AnsweredReadsAreKept : Type 0
 AnsweredReadsAreKept =
     (keys : Keys) (front back : List KeyedCall) (pairs : Contents) (before after : List Operation) (found : List FoundAt) (past : Choice)
@@ -85,7 +85,7 @@ TakenCallsDisagree =
     → StandFor held place (front ++ keyed (answered response o) ∷ back) (record { keys = keys; pasts = past ∷ others } ∷ rest)
     → StandFor held place (front ++ keyed (answered response o) ∷ back) (record { keys = keys; pasts = others } ∷ rest)
 
--- a call that is left is refused: it is left no more
+-- a call that is left is refused: it is no longer left
 abbrev pub RefusedCallsAreNotKept : Type 0
 RefusedCallsAreNotKept =
     (keys : Keys) (front back : List KeyedCall) (pairs : Contents) (before after : List Operation) (found : List FoundAt) (past : Choice)
@@ -102,7 +102,7 @@ RefusedReadsAreNotKept =
     → IsPast keys (front ++ keyed o ∷ back) kept past
     → IsPast keys (front ++ keyed (answered response o) ∷ back) kept past
 
--- such a read that was answered, and told nothing, is taken at once
+-- such a read that was answered, and reported nothing, is taken at once
 abbrev pub UntoldReadsAreTaken : Type 0
 UntoldReadsAreTaken =
     (held : ℕ → Option ℕ) (place : ℕ) (keys : Keys) (front back : List KeyedCall) (kept : KeptPast) (past : Choice) (others : List Choice)

@@ -75,6 +75,10 @@ pub record IsPastAfter (kept : KeptPast) (o : Operation) (next : KeptPast) : Typ
   pub left : next.left ≡ without_call o.inv kept.left
   pub found : (f : FoundAt) → Contains next.found f ↔ (Contains kept.found f ⊎ Contains (found_by kept.pairs o o.response) f)
 
+-- a past has a call left, or keeps what it found at its key
+abbrev pub IsLeftOrFound : KeptPast → Operation → Type 0
+IsLeftOrFound kept o = Contains kept.left o ⊎ ((f : FoundAt) × Contains kept.found f × (f.inv ≡ o.inv) × (f.key ≡ low_key o.call))
+
 -- some operation of a list has this invocation
 abbrev pub HasInvocation : List Operation → ℕ → Type 0
 HasInvocation left inv = (o : Operation) × Contains left o × (o.inv ≡ inv)
@@ -85,7 +89,13 @@ pub record AreKeptAlike (kept other : KeptPast) : Type 0 where
   pub left : (inv : ℕ) → HasInvocation kept.left inv ↔ HasInvocation other.left inv
   pub found : (f : FoundAt) → Contains kept.found f ↔ Contains other.found f
 
--- pending reads of these keys began no earlier than a place
-abbrev pub OpenReadsBeganAfter : Keys → ℕ → List KeyedCall → Type 0
-OpenReadsBeganAfter keys limit calls =
-    (a : KeyedCall) (key : ℕ) → Contains calls a → IsOpenRead a → keys key ≡ true → a.concerns key ≡ true → limit ≤ a.inv
+-- a past has a call of one key left, or keeps what it found there
+abbrev pub IsNameKept : KeptPast → KeyedCall → Type 0
+IsNameKept kept a =
+    HasInvocation kept.left a.inv
+    ⊎ ((f : FoundAt) × Contains kept.found f × (f.inv ≡ a.inv) × ((key : ℕ) → a.concerns key ≡ true → f.key ≡ key))
+
+-- pending reads of these keys began no earlier than a place; but for such as are kept in the past, as a call may be that replaces a value by itself
+abbrev pub OpenReadsBeganAfter : Keys → ℕ → List KeyedCall → KeptPast → Type 0
+OpenReadsBeganAfter keys limit calls kept =
+    (a : KeyedCall) (key : ℕ) → Contains calls a → IsOpenRead a → keys key ≡ true → a.concerns key ≡ true → (limit ≤ a.inv) ⊎ IsNameKept kept a

@@ -1,9 +1,14 @@
 // Laws of cuts, each the contract of a function that does nothing.
-ghost use Rattle.kept_pasts.specs.Cuts.{AlikePastsGo, AlikePastsStand, DeadPastsGo, PastsComeNext, PastsInAnyOrder, ReadsOfPastsComeNext};
+ghost use Rattle.kept_pasts.specs.Cuts.{AlikePastsGo, AlikePastsStand, DeadPastsGo, PastsComeNext, PastsInAnyOrder, ReadsOfPastsComeNext, UnbarredPastsComeNext};
 
 /// If an answered operation of some of the keys is left, a past may be replaced by those after each operation that may come next there.
 pub fn pasts_come_next()
     ensures { PastsComeNext }
+{}
+
+/// If the first operation that ended has some of the keys, only operations of these come next. An operation of these keys and others must be barred there.
+pub fn unbarred_pasts_come_next()
+    ensures { UnbarredPastsComeNext }
 {}
 
 /// An answered read that may come next at some of the keys may be taken at once.

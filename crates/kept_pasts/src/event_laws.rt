@@ -51,7 +51,7 @@ pub fn refused_reads_are_not_kept()
     ensures { RefusedReadsAreNotKept }
 {}
 
-/// A read that told nothing may be taken at once.
+/// A read that reported nothing may be taken at once.
 pub fn untold_reads_are_taken()
     ensures { UntoldReadsAreTaken }
 {}

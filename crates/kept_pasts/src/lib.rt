@@ -8,7 +8,7 @@ mod union_laws;
 
 pub use cut_laws::{
     alike_pasts_go, alike_pasts_stand, dead_pasts_go, pasts_come_next, pasts_in_any_order,
-    reads_of_pasts_come_next,
+    reads_of_pasts_come_next, unbarred_pasts_come_next,
 };
 pub use event_laws::{
     answered_calls_are_kept, answered_reads_are_kept, begun_calls_are_kept, nothing_is_kept,

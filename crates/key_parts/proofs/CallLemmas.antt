@@ -14,7 +14,7 @@ use Rattle.key_effects.proofs.TurnLemmas.{fit-back}
 use Rattle.key_parts.specs.Parts.{Part, IsAt, IsOneOf, ShareKeys, choices_of}
 use Rattle.key_parts.specs.Steps.{IsLeftAt, MayComeNext, IsAfterCall, ArePartedBefore}
 use Rattle.key_parts.specs.Laws.{CallsComeNext, ReadsComeNext}
-use Rattle.key_parts.proofs.FewerLemmas.{AreAmong, AtSome, after_fewer, steps_forth, steps_back, taken_then, goes_on_before}
+use Rattle.key_parts.proofs.FewerLemmas.{AreAmong, AtSome, after_fewer, is_alone, steps_forth, steps_back, taken_then, goes_on_before}
 use Rattle.key_parts.proofs.FirstLemmas.{begun_before, completed_stays, AtEnded, IsNotLeft, not_left_none, first_left, may_come}
 use Rattle.key_parts.proofs.MaskLemmas.{masked_by, first_masked}
 use Rattle.key_parts.proofs.NextLemmas.{taken_by, IsTaken, rest_leaves, taken_none, goes_on_next}
@@ -34,7 +34,7 @@ module _ (keys : Keys) (place limit : ℕ) (calls more : List KeyedCall) (past w
   front_none : (key : ℕ) → keys key ≡ true → (y : KeyedCall) → Contains front y → IsNoEffect (y.effect key)
   front_none key is y y_in = not_left_none keys place limit calls more goes_on.1.0 past w ended at y (passed y y_in) key is
 
-  first_fits : (key : ℕ) → keys key ≡ true → ((rest_of w d).effect key).fits (w.holds key) ≡ true
+  pub first_fits : (key : ℕ) → keys key ≡ true → ((rest_of w d).effect key).fits (w.holds key) ≡ true
   first_fits key is =
       subst (λ (v : Option ℕ). ((rest_of w d).effect key).fits v ≡ true) (none_left key front (w.holds key) (front_none key is))
       (fit-back key (w.holds key) front (rest_of w d ∷ back) (whole key)).0
@@ -49,7 +49,7 @@ module _ (keys : Keys) (place limit : ℕ) (calls more : List KeyedCall) (past w
       (AllPairs-back (λ x z. x.inv ≢ z.inv) front (rest_of w d ∷ back)
       (subst (λ (xs : List KeyedCall). AreDistinct xs) parts goes_on.1.1.distinct))) y_in (later.inv ∙ sym (eqb-true y.inv a.inv named)))
 
-  first_goes_on : (next : Choice) → IsAfterCall keys past a next → GoesOn (instead keys next w) more
+  pub first_goes_on : (next : Choice) → IsAfterCall keys past a next → GoesOn (instead keys next w) more
   first_goes_on next after =
       goes_on_next keys place calls more past next w a d taken goes_on first_fits (λ key is.
       subst (λ (xs : List KeyedCall). FitInTurn key (next.holds key) (map (masked_by (taken_by keys a)) xs)) (sym parts)
@@ -62,7 +62,7 @@ module _ (keys : Keys) (place limit : ℕ) (calls more : List KeyedCall) (past w
       taken = record { same = at.same; after = after; grown = at.grown; in_more = d_in; later = later; accepted = accepted }
 
 -- a call that may come next began before any place before which one ended that is left
-begun_first : (keys : Keys) (limit : ℕ) (calls : List KeyedCall) (past : Choice) (ended a : KeyedCall) → Contains calls ended
+pub begun_first : (keys : Keys) (limit : ℕ) (calls : List KeyedCall) (past : Choice) (ended a : KeyedCall) → Contains calls ended
     → ends_before ended.res limit ≡ true → ended.refused ≡ false → IsLeftAt keys past ended → MayComeNext keys past calls a → a.inv < limit
 begun_first keys limit calls past ended a ended_in ended_before accepted is_left may =
     begun_before ended.res a.inv limit ended_before (false_from_ne_true (precedes ended a) (λ before.
@@ -74,7 +74,7 @@ begun_first keys limit calls past ended a ended_in ended_before accepted is_left
     (may.first ended ended_in before)))
 
 -- a choice that goes on after a call goes on before it
-goes_before : (keys some : Keys) (place limit : ℕ) (calls more : List KeyedCall) (past next : Choice) (rest : List Part) (a d : KeyedCall)
+pub goes_before : (keys some : Keys) (place limit : ℕ) (calls more : List KeyedCall) (past next : Choice) (rest : List Part) (a d : KeyedCall)
     → AtSome keys some place limit calls more past next rest a d → (pasts nexts : List Choice) (v : Choice)
     → ShareKeys (record { keys = keys; pasts = pasts } ∷ rest) → choices_of (record { keys = keys; pasts = pasts } ∷ rest) v → IsAt keys next v
     → Contains nexts past → GoesOn v more → SomeGoesOn (choices_of (record { keys = keys; pasts = nexts } ∷ rest)) more
@@ -144,9 +144,9 @@ calls_come_next
       is = goes_on.1.1;
     }) in (
       instead some next w,
-      steps_forth keys some place limit calls more past next rest a d step (past ∷ others) (nexts ++ others) w stand.shared w_is
-          (with_other keys (past ∷ others) (past ∷ []) rest w past w_is (Contains-first past []) same) same answered
-          (Contains-append_left nexts others next next_in),
+      steps_forth keys some place past next a d (is_alone keys some place limit calls more past next rest a d step w
+          (with_other keys (past ∷ others) (past ∷ []) rest w past w_is (Contains-first past []) same) same answered) (past ∷ others)
+          (nexts ++ others) rest w stand.shared w_is same (Contains-append_left nexts others next next_in),
       goes,
     ))
     (λ other. (w, with_other keys (past ∷ others) (nexts ++ others) rest w p w_is (Contains-append_right nexts others p other) at_p, goes_on))
@@ -185,9 +185,9 @@ reads_come_next held place limit calls keys some past next others rest b inside 
     let same : IsAt keys past w = subst (λ (q : Choice). IsAt keys q w) (sym first) at_p in
     let in_more : Contains more b = completed_stays place calls more b grown b_in completed in (
       instead some next w,
-      steps_forth keys some place limit calls more past next rest b b (step more grown b in_more itself) (past ∷ others) (next ∷ others) w
-          stand.shared w_is (with_other keys (past ∷ others) (past ∷ []) rest w past w_is (Contains-first past []) same) same may.accepted
-          (Contains-first next others),
+      steps_forth keys some place past next b b (is_alone keys some place limit calls more past next rest b b (step more grown b in_more itself) w
+          (with_other keys (past ∷ others) (past ∷ []) rest w past w_is (Contains-first past []) same) same may.accepted) (past ∷ others)
+          (next ∷ others) rest w stand.shared w_is same (Contains-first next others),
       read_goes_on some place calls more past next w b (at_fewer keys some past w inside same) grown in_more may.accepted read may.fits
           (after_fewer keys some past b next inside after) goes_on,
     ))

@@ -74,6 +74,34 @@ at_step keys some past next w inside same still =
     (at_fewer keys (but_for some keys) past w (λ key is. (and_parts (keys key) (not (some key)) is).0) same)
     (instead_there some (but_for some keys) next w (λ key is. but_apart (keys key) (some key) is))))
 
+-- elsewhere a choice that took a step at some keys is what it was
+elsewhere : (keys some : Keys) (p w : Choice) → AreAmong some keys → IsAt (other_keys keys) w (instead some p w)
+elsewhere keys some p w inside = instead_there some (other_keys keys) p w (λ key is. let here : keys key ≡ true = inside key is in rw here refl)
+
+-- All that is known of a call that is left at some of a part's keys, and not at its others, now and later.
+pub record IsAlone (keys some : Keys) (place : ℕ) (past next : Choice) (a d : KeyedCall) : Type 0 where
+  pub inside : AreAmong some keys
+  pub none : NoneIsLeftAt (but_for some keys) past a
+  pub after : IsAfterCall keys past a next
+  pub formed : IsFormed d
+  pub later : IsLater place a d
+  pub accepted : d.refused ≡ false
+
+module _ (keys some : Keys) (place : ℕ) (past next : Choice) (a d : KeyedCall) (alone : IsAlone keys some place past next a d) where
+  -- at the others the past and the next are the same
+  still : IsAt (but_for some keys) past next
+  still =
+      after_none (but_for some keys) place past a d next alone.formed alone.later alone.accepted alone.none
+      (after_fewer keys (but_for some keys) past a next (λ key is. (and_parts (keys key) (not (some key)) is).0) alone.after)
+
+  -- a choice that takes the step at some keys
+  pub steps_forth : (pasts nexts : List Choice) (rest : List Part) (w : Choice) → ShareKeys (record { keys = keys; pasts = pasts } ∷ rest)
+      → choices_of (record { keys = keys; pasts = pasts } ∷ rest) w → IsAt keys past w → Contains nexts next
+      → choices_of (record { keys = keys; pasts = nexts } ∷ rest) (instead some next w)
+  steps_forth pasts nexts rest w shared w_is same next_in =
+      with_past keys pasts nexts rest next w (instead some next w) shared next_in w_is (at_step keys some past next w alone.inside same still)
+      (elsewhere keys some next w alone.inside)
+
 -- All that is known of a call, now and later, by which a past comes to the next at some of a part's keys.
 pub record AtSome (keys some : Keys) (place limit : ℕ) (calls more : List KeyedCall) (past next : Choice) (rest : List Part) (a d : KeyedCall)
     : Type 0 where
@@ -103,31 +131,19 @@ module _ (keys some : Keys) (place limit : ℕ) (calls more : List KeyedCall) (p
           let here : (not (past.taken a.inv key) && a.concerns key) ≡ true = left in cc
 
   -- so nothing of it is left at the others
-  pub none_but : (w : Choice) → choices_of (record { keys = keys; pasts = past ∷ [] } ∷ rest) w → IsAt keys past w
-      → NoneIsLeftAt (but_for some keys) past a
-  none_but w w_is same key is =
-      let (there, out) = and_parts (keys key) (not (some key)) is in
-      subst (λ (t : Bool). (not t && a.concerns key) ≡ false) (same.taken a.inv key there)
-      (within_some w w_is same key (not-true (some key) out))
-
-  pub still : (w : Choice) → choices_of (record { keys = keys; pasts = past ∷ [] } ∷ rest) w → IsAt keys past w → d.refused ≡ false
-      → IsAt (but_for some keys) past next
-  still w w_is same accepted =
-      after_none (but_for some keys) place past a d next (All-contains IsFormed more d at.grown.formed at.d_in) at.later accepted
-      (none_but w w_is same) (after_fewer keys (but_for some keys) past a next (λ key is. (and_parts (keys key) (not (some key)) is).0) at.after)
-
-  -- elsewhere a choice that took the step is what it was
-  elsewhere : (p w : Choice) → IsAt (other_keys keys) w (instead some p w)
-  elsewhere p w = instead_there some (other_keys keys) p w (λ key is. let here : keys key ≡ true = at.inside key is in rw here refl)
-
-  -- a choice that takes the step at some keys
-  pub steps_forth : (pasts nexts : List Choice) (w : Choice) → ShareKeys (record { keys = keys; pasts = pasts } ∷ rest)
-      → choices_of (record { keys = keys; pasts = pasts } ∷ rest) w → choices_of (record { keys = keys; pasts = past ∷ [] } ∷ rest) w
-      → IsAt keys past w → d.refused ≡ false → Contains nexts next
-      → choices_of (record { keys = keys; pasts = nexts } ∷ rest) (instead some next w)
-  steps_forth pasts nexts w shared w_is first same accepted next_in =
-      with_past keys pasts nexts rest next w (instead some next w) shared next_in w_is
-      (at_step keys some past next w at.inside same (still w first same accepted)) (elsewhere next w)
+  pub is_alone : (w : Choice) → choices_of (record { keys = keys; pasts = past ∷ [] } ∷ rest) w → IsAt keys past w → d.refused ≡ false
+      → IsAlone keys some place past next a d
+  is_alone w w_is same accepted = record {
+    inside = at.inside;
+    none = λ key is.
+        let (there, out) = and_parts (keys key) (not (some key)) is in
+        subst (λ (t : Bool). (not t && a.concerns key) ≡ false) (same.taken a.inv key there)
+        (within_some w w_is same key (not-true (some key) out));
+    after = at.after;
+    formed = All-contains IsFormed more d at.grown.formed at.d_in;
+    later = at.later;
+    accepted = accepted;
+  }
 
   -- a choice that goes on after the call goes on before it
   module _ (pasts : List Choice) (v : Choice) (shared : ShareKeys (record { keys = keys; pasts = pasts } ∷ rest))
@@ -135,13 +151,15 @@ module _ (keys some : Keys) (place limit : ℕ) (calls more : List KeyedCall) (p
     back_at : d.refused ≡ false → IsAt keys past (instead some past v)
     back_at accepted =
         at_step keys some next past v at.inside same (at_back (but_for some keys) past next
-        (still (instead keys past v) (with_instead keys pasts (past ∷ []) rest past v shared (Contains-first past []) v_is)
-        (instead_here keys past v) accepted))
+        (still keys some place past next a d
+        (is_alone (instead keys past v) (with_instead keys pasts (past ∷ []) rest past v shared (Contains-first past []) v_is)
+        (instead_here keys past v) accepted)))
 
     pub steps_back : (nexts : List Choice) → d.refused ≡ false → Contains nexts past
         → choices_of (record { keys = keys; pasts = nexts } ∷ rest) (instead some past v)
     steps_back nexts accepted past_in =
-        with_past keys pasts nexts rest past v (instead some past v) shared past_in v_is (back_at accepted) (elsewhere past v)
+        with_past keys pasts nexts rest past v (instead some past v) shared past_in v_is (back_at accepted)
+        (elsewhere keys some past v at.inside)
 
     pub taken_then : GoesOn v more → d.refused ≡ false
     taken_then goes_on =

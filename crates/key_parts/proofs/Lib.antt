@@ -10,6 +10,7 @@ pub mod InsertLemmas
 pub mod ReadLemmas
 pub mod FewerLemmas
 pub mod CallLemmas
+pub mod BarredLemmas
 pub mod KnownLemmas
 pub mod SomeLemmas
 pub mod OperationLemmas

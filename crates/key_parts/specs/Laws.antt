@@ -1,5 +1,5 @@
 -- Laws of parts.
-use Rattle.std.specs.Prelude.{◌≡◌, ◌⊎◌, ◌↔◌, ℕ, ◌<◌, ◌≤◌, true, false, List, [], ◌∷◌, ◌++◌, map, Option, All, AllPairs, Contains}
+use Rattle.std.specs.Prelude.{◌≡◌, ◌⊎◌, ◌↔◌, ℕ, ◌+◌, ◌<◌, ◌≤◌, true, false, List, [], ◌∷◌, ◌++◌, map, Option, Some, All, AllPairs, Contains}
 use Rattle.events.specs.declared.operation.Operation.{Operation}
 use Rattle.map_object.specs.MapObject.{Contents}
 use Rattle.orders.specs.Orders.{IsLinearizable, after_call}
@@ -10,7 +10,7 @@ use Rattle.key_effects.specs.Choices.{Choice, at_first, rest_of}
 use Rattle.key_effects.specs.Cuts.{Keys, IsWithin}
 use Rattle.key_effects.specs.Apart.{AreApart, IsAlikeAt}
 use Rattle.key_parts.specs.Parts.{Part, IsOneOf, ShareKeys, StandFor, GoesOnAt, SomePastGoesOn, AreOfOnePart, AgreesAt, left_at}
-use Rattle.key_parts.specs.Steps.{IsLeftAt, MayComeNext, IsAfterCall, AreKnownAt, ArePartedBefore, IsReadAt, IsAtRest, AreJoined}
+use Rattle.key_parts.specs.Steps.{IsLeftAt, NoneIsLeftAt, MayComeNext, IsAfterCall, AreKnownAt, ArePartedBefore, AreOwnOrBarred, IsReadAt, IsAtRest, AreJoined}
 use Rattle.key_parts.specs.Operations.{AreLeftCalls, AreOfLeftCalls, AreAllLeft, OperationMayCome, without_call}
 use Rattle.key_parts.specs.Left.{HaveKeysTogether, HaveTheirKeys}
 use Rattle.key_parts.specs.Wider.{AnyPartsDecide, PendingCallsMustCome, TiedCallsComeNext, ReadsAreTakenAtOnce}
@@ -61,6 +61,24 @@ CallsComeNext =
     → (next : Choice) × Contains nexts next × IsAfterCall keys past a next)
     → ((next : Choice) → Contains nexts next
     → (a : KeyedCall) × Contains calls a × MayComeNext some past calls a × IsAfterCall keys past a next)
+    → StandFor held place calls (record { keys = keys; pasts = past ∷ others } ∷ rest)
+    → StandFor held place calls (record { keys = keys; pasts = nexts ++ others } ∷ rest)
+
+-- where that call is the first that ended of those left at the part's keys, a call may be left at these keys and at others of the part if it is barred
+-- at these; then the past becomes those by each call that is left at some of these keys and may come next at all keys of the part
+abbrev pub UnbarredCallsComeNext : Type 0
+UnbarredCallsComeNext =
+    (held : ℕ → Option ℕ) (place answered : ℕ) (calls : List KeyedCall) (keys some : Keys) (past : Choice) (others nexts : List Choice)
+    (rest : List Part) (ended : KeyedCall) → ((key : ℕ) → some key ≡ true → keys key ≡ true)
+    → Contains calls ended → ended.res ≡ Some answered → ended.refused ≡ false → IsLeftAt some past ended
+    → ((b : KeyedCall) → Contains calls b → ends_before b.res answered ≡ true → (b.refused ≡ true) ⊎ NoneIsLeftAt keys past b)
+    → AreKnownAt some (answered + 1) past calls
+    → ArePartedBefore keys (answered + 1) (record { keys = keys; pasts = past ∷ [] } ∷ rest) calls
+    → AreOwnOrBarred keys some (answered + 1) past calls
+    → ((a : KeyedCall) → Contains calls a → IsLeftAt some past a → MayComeNext keys past calls a
+    → (next : Choice) × Contains nexts next × IsAfterCall keys past a next)
+    → ((next : Choice) → Contains nexts next
+    → (a : KeyedCall) × Contains calls a × MayComeNext keys past calls a × IsAfterCall keys past a next)
     → StandFor held place calls (record { keys = keys; pasts = past ∷ others } ∷ rest)
     → StandFor held place calls (record { keys = keys; pasts = nexts ++ others } ∷ rest)
 

@@ -4,7 +4,7 @@ use Rattle.key_effects.specs.KeyedCalls.{KeyedCall, precedes}
 use Rattle.key_effects.specs.Choices.{Choice, rest_of}
 use Rattle.key_effects.specs.Cuts.{Keys, IsWithin, IsOutside}
 use Rattle.key_effects.specs.Apart.{IsQuiet}
-use Rattle.key_parts.specs.Parts.{Part, IsAt, choices_of}
+use Rattle.key_parts.specs.Parts.{Part, IsAt, choices_of, left_at}
 
 -- something of a call is left at these keys
 abbrev pub IsLeftAt : Keys → Choice → KeyedCall → Type 0
@@ -38,6 +38,17 @@ abbrev pub ArePartedBefore : Keys → ℕ → List Part → List KeyedCall → T
 ArePartedBefore keys place parts calls =
     (w : Choice) (b : KeyedCall) → choices_of parts w → Contains calls b → b.inv < place → b.refused ≡ false
     → IsWithin keys (rest_of w b) ⊎ IsOutside keys (rest_of w b)
+
+-- at one of these keys, what is left of a call does not fit what the key holds
+abbrev pub IsBarredAt : Keys → Choice → KeyedCall → Type 0
+IsBarredAt keys past a = (key : ℕ) × (keys key ≡ true) × (((rest_of past a).effect key).fits (past.holds key) ≡ false)
+
+-- calls that began before a place, were not refused, and are left at some of a part's keys, are left at no others of the part, or are barred at
+-- some of these
+abbrev pub AreOwnOrBarred : Keys → Keys → ℕ → Choice → List KeyedCall → Type 0
+AreOwnOrBarred keys some place past calls =
+    (b : KeyedCall) → Contains calls b → b.inv < place → b.refused ≡ false → IsLeftAt some past b
+    → IsWithin some (left_at keys past b) ⊎ IsBarredAt some past b
 
 -- a read at these keys, as far as it is left
 abbrev pub IsReadAt : Keys → Choice → KeyedCall → Type 0

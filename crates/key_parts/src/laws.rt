@@ -1,5 +1,5 @@
 // Laws of parts, each the contract of a function that does nothing.
-ghost use Rattle.key_parts.specs.Laws.{CallsAreKnown, CallsComeNext, DeadPastsGo, EarlyReadsGain, OperationsComeNext, OperationsDecide, OperationsMayCome, PartsBegin, PartsDecide, PartsInAnyOrder, PartsMayBeTied, PartsStay, PartsUnite, PastsMayStay, ReadsAreTakenAtRest, ReadsComeNext, TiedCallsMayWait};
+ghost use Rattle.key_parts.specs.Laws.{CallsAreKnown, CallsComeNext, DeadPastsGo, EarlyReadsGain, OperationsComeNext, OperationsDecide, OperationsMayCome, PartsBegin, PartsDecide, PartsInAnyOrder, PartsMayBeTied, PartsStay, PartsUnite, PastsMayStay, ReadsAreTakenAtRest, ReadsComeNext, TiedCallsMayWait, UnbarredCallsComeNext};
 
 /// Before any event all keys are one part, of one past.
 pub fn parts_begin()
@@ -29,6 +29,12 @@ pub fn dead_pasts_go()
 /// If an answered call is left at some of a part's keys, a past may be replaced by the pasts after each call that may come next there.
 pub fn calls_come_next()
     ensures { CallsComeNext }
+{}
+
+/// If the first call that ended is left at some of a part's keys, only calls that are left there come next. A call that ties these keys to others
+/// must be barred there.
+pub fn unbarred_calls_come_next()
+    ensures { UnbarredCallsComeNext }
 {}
 
 /// It is decidable whether something is left of a call of a history.

@@ -19,5 +19,5 @@ pub use laws::{
     calls_are_known, calls_come_next, dead_pasts_go, early_reads_gain, operations_come_next,
     operations_decide, operations_may_come, parts_begin, parts_decide, parts_in_any_order,
     parts_may_be_tied, parts_stay, parts_unite, pasts_may_stay, reads_are_taken_at_rest,
-    reads_come_next, tied_calls_may_wait,
+    reads_come_next, tied_calls_may_wait, unbarred_calls_come_next,
 };

@@ -2,7 +2,7 @@
 ghost use Rattle.std.specs.Prelude.{◌≡◌, ◌↔◌, ℕ, ◌==◌, ◌&&◌, ◌<◌, ◌≤◌, if◌then◌else◌, [], Option, Some, None, AllPairs, Contains, IfErr, IfOk, OnErr, OnOk};
 ghost use Rattle.std.specs.Option.{IsSome, option_copied};
 ghost use Rattle.std.specs.Result.{is_ok, result_ok};
-ghost use Rattle.packed_map.specs.Entries.{value_at};
+ghost use Rattle.packed_map.specs.Entries.{KeysRise, value_at};
 
 use crate::leaf::Leaf;
 use crate::leaves::{get_in, remove_in, replace_in};
@@ -58,6 +58,7 @@ impl<V: Drop> PackedMap<V> {
         ensures put { OnOk result ((other : ℕ)
             → value_at self.new other
             ≡ (if other == key then Some value else value_at self.old other)) }
+        ensures rising { KeysRise self.new }
         ensures err { OnErr result (self.new ≡ self.old) }
     {
         insert_in(&mut self.leaves, &mut self.near, key, value)
@@ -80,6 +81,7 @@ impl<V: Drop> PackedMap<V> {
         ensures was { result ≡ value_at self.old key }
         ensures removed { (other : ℕ) → value_at self.new other
             ≡ (if other == key then None else value_at self.old other) }
+        ensures rising { KeysRise self.new }
     {
         remove_in(&mut self.leaves, &mut self.near, key)
     }

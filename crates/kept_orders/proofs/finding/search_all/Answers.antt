@@ -4,7 +4,7 @@ use Rattle.events.specs.declared.operation.Operation.{Operation}
 use Rattle.events.specs.Precedence.{NonePrecedesItself}
 use Rattle.orders.specs.Orders.{IsOrder, IsLinearizable}
 use Rattle.configurations.specs.Counts.{ReachesMoreThan}
-use Rattle.kept_orders.specs.Standing.{Stands}
+use Rattle.kept_fronts.specs.Standing.{Stands}
 use Rattle.kept_orders.proofs.FindLemmas.{over, keeps}
 use Rattle.kept_orders.proofs.finding.search_all.Goals as goal
 
@@ -49,9 +49,12 @@ returns-in_ok-front-in-Order c =
     (c.in_ok-map.ensures ∙ sym c.in_ok-front-in-Order.ensures.start) c.deref.ensures.value found))
 
 pub returns-in-NoOrder : goal.returns-in-NoOrder
-returns-in-NoOrder c =
-    over (λ m xs. IsLinearizable m xs → ⊥) c.in_ok-map.map c.args.start c.deref.result.now c.args.calls.items c.in_ok-map.ensures
-    c.deref.ensures.value (rw c.in-NoOrder.is at c.in_ok-order.ensures)
+returns-in-NoOrder c = record {
+  none = over (λ m xs. IsLinearizable m xs → ⊥) c.in_ok-map.map c.args.start c.deref.result.now c.args.calls.items c.in_ok-map.ensures
+      c.deref.ensures.value (rw c.in-NoOrder.is at c.in_ok-order.ensures);
+  same_start = refl;
+  same_calls = refl;
+}
 
 pub returns-in-Spent : goal.returns-in-Spent
 returns-in-Spent c = record {

@@ -2,32 +2,32 @@ use Rattle.std.proofs.Common.{List, sym, ◌∙◌, subst}
 use Rattle.std.specs.Prelude.{IfOk}
 use Rattle.events.specs.declared.operation.Operation.{Operation}
 use Rattle.map_object.specs.MapObject.{Contents}
-use Rattle.kept_orders.specs.Standing.{Stands, AreCalls, IsWhole}
+use Rattle.kept_fronts.specs.Standing.{Stands, AreCalls, IsWhole}
 use Rattle.kept_orders.specs.Answers.{IsAnswer}
 use Rattle.kept_orders.proofs.FindLemmas.{keeps}
 use Rattle.kept_orders.proofs.finding.search_on.Goals as goal
 
-pub mend-requires-clause-calls : goal.mend-requires-clause-calls
-mend-requires-clause-calls c = subst AreCalls (sym c.deref.ensures.value) c.requires.calls
+pub search_windows-requires-clause-calls : goal.search_windows-requires-clause-calls
+search_windows-requires-clause-calls c = subst AreCalls (sym c.deref.ensures.value) c.requires.calls
 
-pub mend-requires-clause-stands : goal.mend-requires-clause-stands
-mend-requires-clause-stands c = subst (λ (xs : List Operation). Stands xs c.args.front) (sym c.deref.ensures.value) c.requires.stands
+pub search_windows-requires-clause-stands : goal.search_windows-requires-clause-stands
+search_windows-requires-clause-stands c = subst (λ (xs : List Operation). Stands xs c.args.front) (sym c.deref.ensures.value) c.requires.stands
 
 pub keep-kept-requires : goal.keep-kept-requires
 keep-kept-requires c = record {
   are_calls = c.requires.calls;
-  stands = subst (λ (xs : List Operation). Stands xs c.mend.new.front) c.deref.ensures.value c.in_ok-mended.ensures.stands;
-  whole = subst (λ (xs : List Operation). IsWhole xs c.mend.new.front) c.deref.ensures.value
-      (c.in_ok-mended.ensures.whole c.if-mended.true);
+  stands = subst (λ (xs : List Operation). Stands xs c.search_windows.new.front) c.deref.ensures.value c.in_ok-found.ensures.stands;
+  whole = subst (λ (xs : List Operation). IsWhole xs c.search_windows.new.front) c.deref.ensures.value
+      (c.in_ok-found.ensures.whole c.if-found.true);
 }
 
-pub returns-then-mended : goal.returns-then-mended
-returns-then-mended c =
-    keeps c.args.front.start c.args.calls.items c.mend.new.front c.keep-kept.result c.keep-kept.ensures c.in_ok-mended.ensures.start
-    (subst (λ (xs : List Operation). IsWhole xs c.mend.new.front) c.deref.ensures.value
-    (c.in_ok-mended.ensures.whole c.if-mended.true))
+pub returns-then-found : goal.returns-then-found
+returns-then-found c =
+    keeps c.args.front.start c.args.calls.items c.search_windows.new.front c.keep-kept.result c.keep-kept.ensures c.in_ok-found.ensures.start
+    (subst (λ (xs : List Operation). IsWhole xs c.search_windows.new.front) c.deref.ensures.value
+    (c.in_ok-found.ensures.whole c.if-found.true))
 
 pub returns : goal.returns
 returns c =
     subst (λ (s : Contents). IfOk c.search_all.result (IsAnswer s c.args.calls.items c.args.budget))
-    (c.into_start.ensures ∙ c.in_ok-mended.ensures.start) c.search_all.ensures
+    (c.into_start.ensures ∙ c.in_ok-found.ensures.start) c.search_all.ensures

@@ -1,5 +1,5 @@
 use Rattle.std.proofs.Common.{◌≡◌, take}
-use Rattle.kept_orders.specs.Standing.{places}
+use Rattle.kept_fronts.specs.Standing.{places}
 use Rattle.kept_orders.proofs.kept_order.order_of.Given as goal
 
 -- the places of the levels so far

@@ -3,7 +3,7 @@ use Rattle.std.specs.Prelude.{◌^◌, AllPairs, IfOk}
 use Rattle.events.specs.declared.operation.Operation.{Operation}
 use Rattle.events.specs.Precedence.{NonePrecedesItself}
 use Rattle.map_object.specs.MapObject.{Contents}
-use Rattle.kept_orders.specs.Standing.{Stands, IsWhole}
+use Rattle.kept_fronts.specs.Standing.{Stands, IsWhole}
 use Rattle.kept_orders.specs.Answers.{IsAnswer}
 use Rattle.kept_orders.proofs.FindLemmas.{keeps}
 use Rattle.kept_orders.proofs.kept_order.KeptOrder.find.Goals as goal

@@ -1,0 +1,6 @@
+use Rattle.std.proofs.Common.{◌≡◌}
+use Rattle.kept_fronts.specs.Standing.{Stands}
+use Rattle.kept_fronts.proofs.guessing.follow.Given as goal
+
+abbrev pub invariant-loop-place : goal.invariant-loop-place
+invariant-loop-place l = Stands l.calls l.front × (l.front.start ≡ l.initial.front.start)

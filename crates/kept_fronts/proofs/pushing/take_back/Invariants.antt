@@ -1,0 +1,11 @@
+use Rattle.std.proofs.Common.{length}
+use Rattle.kept_fronts.specs.Standing.{places}
+use Rattle.kept_fronts.proofs.TakeLemmas.{IsBackTo}
+use Rattle.kept_fronts.proofs.pushing.take_back.Given as goal
+
+-- the calls that were taken back so far, the last one first
+abbrev pub invariant-loop-alloc : goal.invariant-loop-alloc
+invariant-loop-alloc l = IsBackTo l.initial.front.start l.calls (places l.initial.front.levels.items) l.place l.front l.again.items
+
+abbrev pub decreases-loop-alloc : goal.decreases-loop-alloc
+decreases-loop-alloc l = length (places l.front.levels.items)

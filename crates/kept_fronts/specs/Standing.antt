@@ -1,0 +1,57 @@
+-- Where a front stands: what its stack, its map and its marks say of the calls that are in it.
+use Rattle.std.specs.Prelude.{◌≡◌, ℕ, ◌+◌, ◌<◌, ◌^◌, Bool, List, [], ◌∷◌, ◌++◌, length, map, take, Option, Some, None, slice_get, AllPairs, ⊤}
+use Rattle.events.specs.declared.operation.Operation.{Operation}
+use Rattle.events.specs.Precedence.{NonePrecedesItself}
+use Rattle.map_object.specs.MapObject.{Contents}
+use Rattle.orders.specs.Orders.{IsOrder}
+use Rattle.configurations.specs.Fronts.{IsFront}
+use Rattle.search.specs.Standing.{pairs_after}
+use Rattle.search.specs.Undo.{undone}
+use Rattle.call_search.specs.Standing.{AreMarked}
+use Rattle.kept_fronts.specs.declared.front.Level.{Level}
+use Rattle.kept_fronts.specs.declared.front.Front.{Front}
+
+-- the calls of a front, by place
+abbrev pub places : List Level → List ℕ
+places levels = map (λ level. level.place) levels
+
+-- what undoes a call leads back to the pairs before it
+abbrev pub IsUndone : Contents → List Operation → List ℕ → Level → Type 0
+IsUndone start calls path level =
+    undone (pairs_after start calls (path ++ level.place ∷ [])) level.undo ≡ pairs_after start calls path
+
+-- a front stands here
+pub record StandsWith (start : Contents) (calls : List Operation) (levels : List Level) (pairs : Contents) (taken : List Bool)
+    (low : ℕ) : Type 0 where
+  pub is_front : IsFront start calls (places levels)
+  pub holds : pairs ≡ pairs_after start calls (places levels)
+  pub undoes : (i : ℕ) (level : Level) → slice_get levels i ≡ Some level → IsUndone start calls (take i (places levels)) level
+  pub marked : AreMarked (length calls) (places levels) taken low
+
+abbrev pub Stands : List Operation → Front → Type 0
+Stands calls front = StandsWith front.start calls front.levels.items front.map front.taken.items front.low
+
+-- the front is an order of the calls
+abbrev pub IsWhole : List Operation → Front → Type 0
+IsWhole calls front = IsOrder front.start calls (places front.levels.items)
+
+-- calls of which an order can be sought: by rising invocation, none precedes itself, and no more than have numbers
+pub record AreCalls (calls : List Operation) : Type 0 where
+  pub few : length calls + 1 < 2 ^ 32
+  pub rising : AllPairs (λ a b. a.inv < b.inv) calls
+  pub apart : NonePrecedesItself calls
+
+-- the last call of a front was taken back, if it had one
+abbrev pub IsPopped : List ℕ → List ℕ → Option ℕ → Type 0
+IsPopped old new None = (old ≡ []) × (new ≡ [])
+IsPopped old new (Some place) = old ≡ new ++ place ∷ []
+
+-- calls that were taken back from a call on, if any were
+abbrev pub IsFromOn : ℕ → List ℕ → Type 0
+IsFromOn place [] = ⊤
+IsFromOn place (n ∷ again) = n ≡ place
+
+-- the calls that were taken back, or this one where none were
+abbrev pub again_or : ℕ → List ℕ → List ℕ
+again_or place [] = place ∷ []
+again_or place (n ∷ again) = n ∷ again

@@ -1,0 +1,130 @@
+// The calls that are left after a front are searched.
+ghost use Rattle.std.specs.Prelude.{◌≡◌, ◌<◌, ◌++◌, true, IfSome, length, map, slice_index, All, IfOk, OnOk};
+ghost use Rattle.orders.specs.Orders.{calls_at, IsOrder};
+ghost use Rattle.kept_fronts.specs.Closed.{AreLeft};
+ghost use Rattle.kept_fronts.specs.Standing.{places, Stands, AreCalls, IsWhole};
+
+use crate::front::Front;
+use crate::pushing::{go_back, push_all};
+use call_search::{SearchEnd, search_calls};
+use events::{Memory, Operation};
+use std::alloc::Global;
+
+/// How many of the last calls are taken back before each search.
+static WINDOWS: [u32; 5] = [16, 64, 256, 1_024, 4_096];
+
+/// How many configurations such a search may meet besides one for each of these calls.
+const NEAR_BUDGET: u32 = 1_000;
+
+/// Takes the last calls of the front back and searches what is left, with more calls taken back
+/// each time, and says whether that led to an order. When no call of the front would be left, it
+/// takes all back and does not search.
+pub fn search_windows(
+    alloc: Global,
+    calls: &[Operation],
+    front: &mut Front,
+    budget: u32,
+) -> Result<bool, Memory>
+    requires calls { AreCalls calls.now }
+    requires stands { Stands calls.now front.old }
+    ensures stands { OnOk result (Stands calls.now front.new) }
+    ensures start { OnOk result (front.new.start ≡ front.old.start) }
+    ensures whole { IfOk result (λ found. found ≡ true → IsWhole calls.now front.new) }
+{
+    let len = front.levels.len();
+    for window in &WINDOWS {
+        go_back(alloc, calls, front, len.saturating_sub(*window as usize))?;
+        if front.levels.is_empty() {
+            return Ok(false);
+        }
+        let near = window.saturating_add(NEAR_BUDGET);
+        let found = search_left(alloc, calls, front, budget.min(near))?;
+        if found {
+            return Ok(true);
+        }
+    }
+    Ok(false)
+}
+
+/// Searches the calls that are not in the front, and pushes an order of them, if one is found.
+fn search_left(
+    alloc: Global,
+    calls: &[Operation],
+    front: &mut Front,
+    budget: u32,
+) -> Result<bool, Memory>
+    requires calls { AreCalls calls.now }
+    requires stands { Stands calls.now front.old }
+    ensures stands { OnOk result (Stands calls.now front.new) }
+    ensures start { OnOk result (front.new.start ≡ front.old.start) }
+    ensures whole { IfOk result (λ found. found ≡ true → IsWhole calls.now front.new) }
+{
+    let Some(more) = order_left(alloc, calls, front, budget)? else {
+        return Ok(false);
+    };
+    let pushed = push_all(alloc, calls, front, &more)?;
+    Ok(pushed)
+}
+
+/// An order of the calls that are not in the front, by their places, if one is found.
+fn order_left(
+    alloc: Global,
+    calls: &[Operation],
+    front: &Front,
+    budget: u32,
+) -> Result<Option<Vec<u32>>, Memory>
+    requires calls { AreCalls calls.now }
+    requires stands { Stands calls.now front.now }
+    ensures { IfOk result (λ found. IfSome found (λ more. IsOrder front.now.start calls.now
+        (places front.now.levels.items ++ more.items))) }
+{
+    let left = places_left(alloc, calls, front)?;
+    let others = copies_of(alloc, calls, &left)?;
+    let map = front.map.copy(alloc)?;
+    match search_calls(alloc, map, &others, budget)? {
+        SearchEnd::Order(order) => {
+            let more = places_of(alloc, &left, &order)?;
+            Ok(Some(more))
+        }
+        SearchEnd::NoOrder | SearchEnd::Spent => Ok(None),
+    }
+}
+
+/// The places of the calls that are not in the front.
+fn places_left(alloc: Global, calls: &[Operation], front: &Front) -> Result<Vec<u32>, Memory>
+    requires calls { AreCalls calls.now }
+    requires stands { Stands calls.now front.now }
+    ensures { IfOk result (λ left. AreLeft calls.now (places front.now.levels.items) left.items) }
+{
+    let mut left = Vec::new(alloc);
+    for place in front.low..calls.len() {
+        if !front.has(place) {
+            left.push(place as u32)?;
+        }
+    }
+    Ok(left)
+}
+
+/// Copies of the calls at some places.
+fn copies_of(alloc: Global, calls: &[Operation], places: &[u32]) -> Result<Vec<Operation>, Memory>
+    requires { All (λ n. n < length calls.now) places.now }
+    ensures { IfOk result (λ copies. copies.items ≡ calls_at calls.now places.now) }
+{
+    let mut copies = Vec::with_capacity(alloc, places.len())?;
+    for place in places {
+        copies.push(calls[*place as usize].copy(alloc)?)?;
+    }
+    Ok(copies)
+}
+
+/// The places, in the list of all calls, of an order of the calls that are left.
+fn places_of(alloc: Global, left: &[u32], order: &[u32]) -> Result<Vec<u32>, Memory>
+    requires { All (λ n. n < length left.now) order.now }
+    ensures { IfOk result (λ more. more.items ≡ map (slice_index left.now) order.now) }
+{
+    let mut more = Vec::with_capacity(alloc, order.len())?;
+    for place in order {
+        more.push(left[*place as usize])?;
+    }
+    Ok(more)
+}

@@ -1,0 +1,15 @@
+use Rattle.std.proofs.Common.{◌++◌, ap, sym, ◌∙◌, subst}
+use Rattle.std.specs.Prelude.{Contains}
+use Rattle.configurations.proofs.FrontLemmas.{IsOrder-from_front}
+use Rattle.kept_fronts.specs.Standing.{places}
+use Rattle.kept_orders.proofs.AnswerLemmas.{again_or-some}
+use Rattle.kept_orders.proofs.answering.push_again.Goals as goal
+
+pub returns-clause-whole : goal.returns-clause-whole
+returns-clause-whole c = λ yes.
+    let n = c.push_all.new.front in
+    let path = places c.args.front.now.levels.items in
+    let same = again_or-some c.args.place c.args.again.now c.is_empty.result c.is_empty.ensures c.if-is_empty.false in
+    let is = c.in_ok-pushed.ensures.all yes ∙ ap (λ xs. path ++ xs) (sym same) in
+    IsOrder-from_front n.start c.args.calls.now (places n.levels.items) c.in_ok-pushed.ensures.stands.is_front
+    (λ k done. subst (λ xs. Contains xs k) (sym is) (c.requires.complete k done))

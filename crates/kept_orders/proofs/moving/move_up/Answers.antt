@@ -1,0 +1,19 @@
+use Rattle.std.proofs.Common.{◌≡◌, ◌++◌, ◌+◌, ◌<◌, ◌∙◌, ℕ, None, List, length, map, take, drop, get_or, set, ap, arith}
+use Rattle.std.proofs.lemmas.List.{get_or_default}
+use Rattle.std.proofs.lemmas.List.Edits.{map_over_more}
+use Rattle.kept_orders.specs.Moving.{moved}
+use Rattle.kept_fronts.specs.declared.front.Level.{Level}
+use Rattle.kept_orders.proofs.moving.move_up.Goals as goal
+
+-- a call more has moved
+moved_more : (p : ℕ) (xs ys : List Level) (i n : ℕ) (none : Level) → i < length xs → i < length ys
+    → ys ≡ map (moved p) (take i xs) ++ drop i xs → n ≡ (moved p (get_or ys i none)).place
+    → set ys i (record { place = n; undo = (get_or ys i none).undo }) ≡ map (moved p) (take (i + 1) xs) ++ drop (i + 1) xs
+moved_more p xs ys i n none lt there so_far is =
+    ap (λ k. set ys i (record { place = k; undo = (get_or ys i none).undo })) is
+    ∙ map_over_more (moved p) xs ys i (get_or ys i none) lt so_far (get_or_default ys i none (get_or ys i none) there)
+
+pub loop-level-preserved : goal.loop-level-preserved
+loop-level-preserved c =
+    moved_more c.args.place c.args.levels.now c.loop-level.levels c.loop-level.level-index c.place_after-level.result
+    (record { place = 0; undo = None }) (omega arith) (omega arith) c.loop-level.invariant c.place_after-level.ensures

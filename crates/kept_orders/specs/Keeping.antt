@@ -1,0 +1,16 @@
+-- A front that is kept as an order.
+use Rattle.std.specs.Prelude.{List}
+use Rattle.events.specs.declared.operation.Operation.{Operation}
+use Rattle.kept_fronts.specs.Standing.{places, Stands, AreCalls, IsWhole}
+use Rattle.kept_fronts.specs.declared.front.Front.{Front}
+use Rattle.kept_orders.specs.Views.{KeptOrderView}
+
+-- a kept order: a front that is an order of all calls
+pub record IsKept (calls : List Operation) (front : Front) : Type 0 where
+  pub are_calls : AreCalls calls
+  pub stands : Stands calls front
+  pub whole : IsWhole calls front
+
+-- what callers see of it
+abbrev pub view_of : List Operation → Front → KeptOrderView
+view_of calls front = record { start = front.start; calls = calls; order = places front.levels.items }

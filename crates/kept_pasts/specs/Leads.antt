@@ -1,0 +1,39 @@
+-- Pasts that may stand in place of others, wherever a part of their keys stands among others.
+use Rattle.std.specs.Prelude.{◌≡◌, ◌⊎◌, ℕ, List, ◌∷◌, Option, None, All, Contains}
+use Rattle.events.specs.declared.operation.Operation.{Operation}
+use Rattle.key_effects.specs.KeyedCalls.{KeyedCall}
+use Rattle.key_effects.specs.Growth.{HaveGrown}
+use Rattle.key_effects.specs.Choices.{Choice}
+use Rattle.key_effects.specs.Cuts.{Keys}
+use Rattle.key_parts.specs.Parts.{Part, StandFor}
+use Rattle.kept_pasts.specs.Pasts.{FoundAt, KeptPast, ArePasts, OpenReadsBeganAfter, IsLeftOrFound}
+
+-- a part among others, after some calls
+pub record Setting : Type 0 where
+  pub held : ℕ → Option ℕ
+  pub place : ℕ
+  pub calls : List KeyedCall
+  pub keys : Keys
+  pub rest : List Part
+
+abbrev pub IsSetting : Setting → Type 0
+IsSetting s = HaveGrown s.place s.calls s.calls
+
+-- these are the pasts of the part, so far as they are kept, and pending reads of its keys began no earlier than a moment
+abbrev pub Stand : ℕ → Setting → List KeptPast → Type 0
+Stand moment s kept =
+    (pasts : List Choice) × ArePasts s.keys s.calls kept pasts
+    × StandFor s.held s.place s.calls (record { keys = s.keys; pasts = pasts } ∷ s.rest)
+    × All (OpenReadsBeganAfter s.keys moment s.calls) kept
+
+-- where some pasts stand, others do
+abbrev pub Leads : ℕ → List KeptPast → List KeptPast → Type 0
+Leads moment kept nexts = (s : Setting) → IsSetting s → Stand moment s kept → Stand moment s nexts
+
+-- a past that is made of another by calls that took effect: what is left was left, and what is found was found, or by a pending call that was left;
+-- what was found is found still, and a pending call that was left is left, or what it found is kept
+pub record IsMadeOf (past next : KeptPast) : Type 0 where
+  pub left : (o : Operation) → Contains next.left o → Contains past.left o
+  pub found : All (λ f. Contains past.found f ⊎ ((o : Operation) × Contains past.left o × (o.inv ≡ f.inv) × (o.response ≡ None))) next.found
+  pub stay : (f : FoundAt) → Contains past.found f → Contains next.found f
+  pub whole : (o : Operation) → Contains past.left o → o.response ≡ None → IsLeftOrFound next o

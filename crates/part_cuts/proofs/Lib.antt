@@ -1,0 +1,7 @@
+mod ReadLemmas
+mod LeftLemmas
+mod LeadLemmas
+mod StepLemmas
+mod EndLemmas
+mod WalkLemmas
+mod MadeLemmas

@@ -1,0 +1,8 @@
+use Rattle.std.proofs.Common.{◌≡◌, ℕ, ◌<◌, Some}
+use Rattle.std.specs.Prelude.{slice_get}
+use Rattle.part_cuts.specs.declared.past.Found.{Found}
+use Rattle.part_cuts.proofs.position.has.Given as goal
+
+-- none of those so far
+abbrev pub invariant-loop-other : goal.invariant-loop-other
+invariant-loop-other l = (k : ℕ) (f : Found) → k < l.other-index → slice_get l.found k ≡ Some f → f ≡ l.one → ⊥

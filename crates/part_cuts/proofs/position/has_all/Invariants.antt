@@ -1,0 +1,8 @@
+use Rattle.std.proofs.Common.{◌≡◌, ℕ, ◌<◌, Some}
+use Rattle.std.specs.Prelude.{slice_get, Contains}
+use Rattle.part_cuts.specs.declared.past.Found.{Found}
+use Rattle.part_cuts.proofs.position.has_all.Given as goal
+
+-- all of those so far
+abbrev pub invariant-loop-one : goal.invariant-loop-one
+invariant-loop-one l = (k : ℕ) (f : Found) → k < l.one-index → slice_get l.found k ≡ Some f → Contains l.others f

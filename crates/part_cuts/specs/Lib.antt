@@ -1,0 +1,2 @@
+pub mod PartCuts
+pub mod Positions

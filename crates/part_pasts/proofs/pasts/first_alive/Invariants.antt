@@ -1,0 +1,23 @@
+use Rattle.std.proofs.Common.{List, ◌∷◌, ◌++◌, map, length}
+use Rattle.std.specs.Prelude.{All, Contains}
+use Rattle.events.specs.declared.operation.Operation.{Operation}
+use Rattle.map_object.specs.MapObject.{Contents}
+use Rattle.kept_orders.specs.Answers.{IsAnswer}
+use Rattle.part_cuts.specs.PartCuts.{AreShaped, found_at, kept_of}
+use Rattle.part_pasts.specs.Pasts.{lefts, lefts_of_kept}
+use Rattle.part_pasts.proofs.AnsweringLemmas.{SearchesOn}
+use Rattle.part_pasts.proofs.pasts.first_alive.Given as goal
+
+-- the pasts before this one were tried, and are dead
+abbrev pub invariant-loop-kept : goal.invariant-loop-kept
+invariant-loop-kept l = record {
+  shaped : AreShaped l.others.items;
+  goes : (pairs : Contents) (calls : List Operation) → IsAnswer pairs calls l.budget l.fn.kept
+      → SearchesOn l.budget (record { pairs = pairs; left = calls; found = map found_at l.fn.found.items } ∷ map kept_of l.fn.others.items)
+      l.tried.items l.kept l.found.items l.others.items;
+  within : All (Contains (lefts_of_kept l.fn.kept ++ lefts l.fn.others.items)) (lefts_of_kept l.kept ++ lefts l.others.items);
+}
+
+-- the pasts that are left
+abbrev pub decreases-loop-kept : goal.decreases-loop-kept
+decreases-loop-kept l = length l.others.items

@@ -1,0 +1,18 @@
+use Rattle.std.proofs.Common.{length, refl}
+use Rattle.std.proofs.lemmas.Option.{slice_get_read}
+use Rattle.list_laws.proofs.Lists.{All-at}
+use Rattle.part_pasts.proofs.TogetherLemmas.{IsShapedPast, rows_more}
+use Rattle.part_pasts.proofs.uniting.all_pairs.Goals as goal
+
+pub add_row-requires-clause-rising : goal.add_row-requires-clause-rising
+add_row-requires-clause-rising c =
+    let pasts = c.args.pasts.now in
+    let i = c.loop-past.past-index in
+    let past = c.past-item.result in
+    (All-at IsShapedPast pasts i past c.requires.shaped
+    (slice_get_read pasts (length pasts) i past refl c.loop-past-test.true c.past-item.is)).0
+
+pub loop-past-preserved : goal.loop-past-preserved
+loop-past-preserved c =
+    rows_more c.args.pasts.now c.args.others.now c.loop-past.all.items c.add_row.new.all.items c.loop-past.past-index c.past-item.result
+    c.loop-past-test.true c.past-item.is c.in_ok-add_row.ensures c.loop-past.invariant

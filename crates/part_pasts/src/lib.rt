@@ -1,0 +1,20 @@
+//! A part of the keys: its ranges, its pasts, the first one with a kept order; what an answer makes of
+//! pasts, how parts become one, which keys come to rest.
+#![tactic(auto)]
+
+mod moments;
+mod part;
+mod pasts;
+mod ranges;
+mod resting;
+mod uniting;
+
+pub use moments::{OpenRead, is_time, moment_for};
+pub use part::Part;
+pub use pasts::{
+    GoneOn, agrees, answer_pasts, any_alive, first_alive, found_of, place_for, place_of,
+    was_refused,
+};
+pub use ranges::{Range, meet, span};
+pub use resting::{busy_ranges, only_pasts, pairs_within, resting_pairs};
+pub use uniting::{United, places_at, unite};

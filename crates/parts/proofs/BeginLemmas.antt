@@ -1,0 +1,21 @@
+-- A call that begins in each past of a list.
+use Rattle.std.proofs.Common.{◌≡◌, ℕ, suc, ◌<◌, List, [], ◌∷◌, map, length, get_or, refl, ap, ◌∙◌, arith}
+use Rattle.events.specs.declared.operation.Operation.{Operation}
+use Rattle.kept_pasts.specs.Pasts.{KeptPast}
+use Rattle.kept_parts.specs.Events.{with_begun}
+use Rattle.part_cuts.specs.PartCuts.{kept_of}
+use Rattle.part_cuts.specs.declared.past.Past.{Past}
+
+-- where it began in each place, it began in all
+pub begun_in_each : (o : Operation) (olds news : List Past) → length news ≡ length olds
+    → ((k : ℕ) (d : Past) → k < length olds → kept_of (get_or news k d) ≡ with_begun o (kept_of (get_or olds k d)))
+    → map kept_of news ≡ map (with_begun o) (map kept_of olds)
+begun_in_each o [] [] long each = refl
+begun_in_each o [] (new ∷ news) long each = absurd (omega arith)
+begun_in_each o (old ∷ olds) [] long each = absurd (omega arith)
+begun_in_each o (old ∷ olds) (new ∷ news) long each =
+    let head : kept_of new ≡ with_begun o (kept_of old) = each 0 new (omega arith) in
+    let rest : map kept_of news ≡ map (with_begun o) (map kept_of olds) =
+    begun_in_each o olds news (omega arith) (λ k d within. each (suc k) d (omega arith)) in
+    ap (λ (p : KeptPast). p ∷ map kept_of news) head
+    ∙ ap (λ (ps : List KeptPast). with_begun o (kept_of old) ∷ ps) rest

@@ -1,0 +1,11 @@
+use Rattle.std.proofs.Common.{◌≡◌, ℕ, take}
+use Rattle.map_object.specs.MapObject.{IsRising, value_at}
+use Rattle.part_pasts.specs.Ranges.{or_else}
+use Rattle.parts.proofs.settling.add_pairs.Given as goal
+
+-- the pairs so far came to the map
+abbrev pub invariant-loop-pair : goal.invariant-loop-pair
+invariant-loop-pair l = record {
+  rises : IsRising l.fn.rest → IsRising l.rest;
+  values : IsRising l.pairs → (key : ℕ) → value_at l.rest key ≡ or_else (value_at (take l.pair-index l.pairs) key) (value_at l.fn.rest key);
+}

@@ -1,0 +1,30 @@
+use Rattle.std.proofs.Common.{ℕ, Option, Vec, Global, subst}
+use Rattle.std.specs.Prelude.{IfSome}
+use Rattle.std.proofs.lemmas.List.Elements.{All-weaker}
+use Rattle.part_cuts.specs.declared.past.Past.{Past}
+use Rattle.part_pasts.specs.Shapes.{IsPastShaped}
+use Rattle.part_pasts.specs.Moments.{AreBegunAfter}
+use Rattle.part_pasts.specs.Views.{kept_part}
+use Rattle.parts.specs.Shapes.{IsPastBefore}
+use Rattle.parts.specs.Settled.{AreThen}
+use Rattle.parts.proofs.ThenLemmas.{moves_if}
+use Rattle.parts.proofs.settling.moved_on.Goals as goal
+
+pub pasts_then-requires : goal.pasts_then-requires
+pasts_then-requires c =
+    All-weaker (IsPastBefore c.args.now) IsPastShaped (λ past before. record { rising = before.rising; apart = before.apart })
+    (kept_part c.args.part.now).pasts c.requires.pasts
+
+pub parted-requires : goal.parted-requires
+parted-requires c =
+    (subst (λ (o : Option (Vec Past Global)). IfSome o (λ (pasts : Vec Past Global). AreThen c.in-Some.moment c.args.part.now pasts.items))
+    c.in-Some-2.is c.in_ok-pasts.ensures).shaped
+
+pub returns-in-Some-2 : goal.returns-in-Some-2
+returns-in-Some-2 c =
+    let are_then : AreThen c.in-Some.moment c.args.part.now c.in-Some-2.pasts.items =
+    subst (λ (o : Option (Vec Past Global)). IfSome o (λ (pasts : Vec Past Global). AreThen c.in-Some.moment c.args.part.now pasts.items))
+    c.in-Some-2.is c.in_ok-pasts.ensures in
+    moves_if c.args.now c.args.reads.now c.args.part.now c.requires c.in-Some.moment c.in-Some-2.pasts.items are_then c.parted.result
+    (subst (λ (o : Option ℕ). IfSome o (AreBegunAfter c.args.part.now.ranges.items c.args.reads.now)) c.in-Some.is c.in_ok-moment.ensures)
+    c.parted.ensures

@@ -1,0 +1,61 @@
+-- What the state of the monitor says of the calls so far.
+use Rattle.std.specs.Prelude.{◌≡◌, ◌↔◌, ℕ, suc, false, List, ◌∷◌, map, Option, None, Some, All, Contains}
+use Rattle.events.specs.declared.event.Call.{Call}
+use Rattle.events.specs.declared.event.Reply.{Reply}
+use Rattle.events.specs.declared.operation.Operation.{Operation}
+use Rattle.events.specs.declared.operation.Response.{Response}
+use Rattle.events.specs.Keys.{low_key, high_key, may_change}
+use Rattle.map_object.specs.MapObject.{Contents}
+use Rattle.key_parts.specs.Left.{answered}
+use Rattle.kept_parts.specs.KeptParts.{KeptPart, AreKept}
+use Rattle.kept_pasts.specs.Pasts.{KeptPast}
+use Rattle.part_cuts.specs.PartCuts.{kept_of}
+use Rattle.part_pasts.specs.Pasts.{IsDead, AreDoubtful}
+use Rattle.part_pasts.specs.Ranges.{covered}
+use Rattle.part_pasts.specs.declared.moments.OpenRead.{OpenRead}
+use Rattle.parts.specs.declared.state.EndedPart.{EndedPart}
+use Rattle.parts.specs.Views.{PartsView, kept_parts}
+use Rattle.parts.specs.declared.state.Answered.{Answered}
+use Rattle.parts.specs.declared.state.Answered.TheVariants.{Going, Lost, Spent, Unknown}
+
+-- a call as it begins at a place, a response at a place, and a call with it
+abbrev pub begun : Call → ℕ → Operation
+begun call inv = record { call = call; inv = inv; response = None }
+
+abbrev pub reported : Reply → ℕ → Option Response
+reported reply res = Some (record { res = res; reply = reply })
+
+abbrev pub is_reported : Operation → Reply → ℕ → Operation
+is_reported o reply res = answered (record { res = res; reply = reply }) o
+
+-- the pending reads of the calls, with their keys
+abbrev pub AreReadsOf : List Operation → List OpenRead → Type 0
+AreReadsOf calls reads =
+    (inv low high : ℕ)
+    → Contains reads (record { inv = inv; low = low; high = high })
+    ↔ ((o : Operation) × Contains calls o × (o.inv ≡ inv) × (o.response ≡ None) × (may_change o.call ≡ false) × (low_key o.call ≡ low)
+    × (high_key o.call ≡ high))
+
+-- the state after the events of these calls, from these pairs
+pub record IsStateOf (start : Contents) (calls : List Operation) (s : PartsView) : Type 0 where
+  pub kept : AreKept start s.now calls (kept_parts s)
+  pub reads : AreReadsOf calls s.reads
+
+-- one event more was counted
+abbrev pub IsCounted : PartsView → PartsView → Type 0
+IsCounted old new = new.now ≡ suc old.now
+
+-- a part that is kept beside others
+abbrev pub pasts_of : EndedPart → List KeptPast
+pasts_of ended = map kept_of ended.pasts.items
+
+pub record IsKeptBeside (start : Contents) (now : ℕ) (calls : List Operation) (ended : EndedPart) : Type 0 where
+  pub others : List KeptPart
+  pub are_kept : AreKept start now calls (record { keys = covered ended.ranges.items; pasts = pasts_of ended } ∷ others)
+
+-- what an answer makes of the state
+abbrev pub IsAnswered : Contents → ℕ → PartsView → List Operation → Answered → Type 0
+IsAnswered start budget old calls (Going next) = IsStateOf start calls next × IsCounted old next
+IsAnswered start budget old calls (Lost ended) = IsKeptBeside start (suc old.now) calls ended × All IsDead (pasts_of ended)
+IsAnswered start budget old calls (Spent ended) = IsKeptBeside start (suc old.now) calls ended × AreDoubtful budget (pasts_of ended)
+IsAnswered start budget old calls Unknown = ⊥

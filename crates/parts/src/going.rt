@@ -1,0 +1,62 @@
+// A part that an answer came to goes on, or it does not.
+ghost use Rattle.std.specs.Prelude.{◌≡◌, ℕ, suc, List, All, IfOk};
+ghost use Rattle.events.specs.declared.operation.Operation.{Operation as Done};
+ghost use Rattle.map_object.specs.MapObject.{Contents};
+ghost use Rattle.kept_pasts.specs.Pasts.{KeptPast};
+ghost use Rattle.kept_parts.specs.KeptParts.{AreKept};
+ghost use Rattle.part_pasts.specs.Ranges.{covered};
+ghost use Rattle.part_pasts.specs.Pasts.{AreGoneOn, lefts_of};
+ghost use Rattle.parts.specs.Views.{PartsView};
+ghost use Rattle.parts.specs.Keeping.{AreReadsOf, IsAnswered};
+ghost use Rattle.parts.specs.Going.{MayBeLeft, kept_with};
+
+use crate::settling::settle_last;
+use crate::state::{Answered, EndedPart, Parts};
+use events::Memory;
+use part_pasts::{GoneOn, Part, Range};
+use std::alloc::Global;
+
+/// A part that an answer came to goes on at the end of the list, if one of its pasts has an order.
+/// `state` has the other parts, and counts the answer.
+pub(crate) fn go_on(
+    alloc: Global,
+    state: Parts,
+    ranges: Vec<Range>,
+    tried: usize,
+    gone: GoneOn,
+) -> Result<Answered, Memory>
+    requires { All (MayBeLeft state) (lefts_of gone) }
+    ensures { (start : Contents) (budget : ℕ) (old : PartsView) (calls : List Done)
+        (pasts : List KeptPast) → state.now ≡ suc old.now → AreGoneOn budget pasts gone
+        → AreReadsOf calls state.reads
+        → AreKept start state.now calls (kept_with state (covered ranges.items) pasts)
+        → IfOk result (IsAnswered start budget old calls) }
+{
+    match gone {
+        GoneOn::Alive {
+            first,
+            found,
+            others,
+        } => {
+            let _calls = first.calls();
+            let (rest, mut parts, reads, now) = state.apart();
+            parts.push(Part {
+                ranges,
+                first,
+                found,
+                others,
+                tried,
+            })?;
+            let state = Parts {
+                rest,
+                parts,
+                reads,
+                now,
+            };
+            let next = settle_last(alloc, state)?;
+            Ok(Answered::Going(next))
+        }
+        GoneOn::Dead(pasts) => Ok(Answered::Lost(EndedPart { ranges, pasts })),
+        GoneOn::Doubtful(pasts) => Ok(Answered::Spent(EndedPart { ranges, pasts })),
+    }
+}
