@@ -17,7 +17,7 @@ use Rattle.map_object.specs.MapObject.{Contents, IsRising, value_at, within}
 use Rattle.map_object.proofs.MapLemmas.{AreBelow, AreAbove, value_at_found}
 use Rattle.orders.specs.Orders.{IsLegalCall, IsLegal, after_calls, calls_at, IsCompletedAt, IsOrder}
 use Rattle.orders.proofs.OrderLemmas.{IsLegal-back}
-use Rattle.list_laws.proofs.Lists.{All-back, All-from_contains, AllPairs-across, Contains-nil, Contains-cases, Contains-at, Contains-first}
+use Rattle.list_laws.proofs.Lists.{All-back, All-from_contains, Contains-nil, Contains-cases, Contains-at, Contains-first}
 use Rattle.list_laws.proofs.Lists.{Contains-split, place_of-Contains, place_before-Contains, slice_get-append_left, slice_get-middle}
 use Rattle.list_laws.proofs.FilterLemmas.{Contains-from_filter_map}
 use Rattle.list_laws.proofs.NumberLemmas.{slice_get-below}
@@ -32,7 +32,7 @@ use Rattle.call_search.specs.Standing.{Closes, AreNext}
 use Rattle.std.proofs.lemmas.List.Elements.{Contains-push, Contains-push_cases}
 use Rattle.call_search.specs.Idle.{IsOpenNext, IsFree, IsBarred, WaitsForNone, IsDoneNext, AreIdle, IsPassedOver, MissesPair}
 use Rattle.call_search.proofs.ApartLemmas.{goes_before, value_stays}
-use Rattle.call_search.proofs.ReadLemmas.{legal_rest, moves_forward}
+use Rattle.call_search.proofs.ReadLemmas.{not_twice, legal_rest, moves_forward}
 use Rattle.call_search.proofs.EarliestLemmas.{below_or_at}
 use Rattle.call_search.proofs.StandingLemmas.{all_close}
 use Rattle.search.proofs.EarliestLemmas.{IsOrder-not_yet}
@@ -51,11 +51,11 @@ found_pair m key value rising within_m =
     let higher : AreAbove key back = AllPairs-behind (λ (x : ℕ × ℕ) (y : ℕ × ℕ). x.0 < y.0) front (key, value) back rises in
     ap (λ (n : Contents). value_at n key) is ∙ value_at_found key value front back lower higher
 
-abbrev listed : Reply → Contents
+abbrev pub listed : Reply → Contents
 listed (replies.Pairs pairs) = pairs
 listed reply = []
 
-not_refused : (pairs : Contents) → replies.Pairs pairs ≡ replies.Refused → ⊥
+pub not_refused : (pairs : Contents) → replies.Pairs pairs ≡ replies.Refused → ⊥
 not_refused pairs e = cc
 
 pub missing_bars : (m : Contents) (calls : List Operation) (path : List ℕ) (answered low high : ℕ) (a : Operation) (pairs : Contents)
@@ -80,7 +80,7 @@ missing_bars m calls path answered low high a pairs response key value rising ca
 
 -- ---- the first completed call of an order
 
--- a list of calls that holds a completed one: the first of them, behind pending ones
+-- a list of calls that holds a completed one: the first of them, after pending ones
 pub record HasFirstDone (calls : List Operation) (tail : List ℕ) : Type 0 where
   pub front : List ℕ
   pub n : ℕ
@@ -174,10 +174,7 @@ module _ (start : Contents) (calls : List Operation) (path : List ℕ) (answered
             (Contains-append_cases path front r.n within_front)
 
     new_at : (k : ℕ) → Contains (front ++ n ∷ back) k → Contains path k → ⊥
-    new_at k later in_path =
-        All-contains (λ l. k ≢ l) (front ++ n ∷ back) k
-        (All-contains (λ l. All (λ m. l ≢ m) (front ++ n ∷ back)) path k
-        (AllPairs-across (λ l m. l ≢ m) path (front ++ n ∷ back) order.legal_order.distinct) in_path) later refl
+    new_at k later in_path = not_twice path (front ++ n ∷ back) order.legal_order.distinct k in_path later
 
     open_next : (p : Operation) → Contains (calls_at calls front) p → IsOpenNext calls path answered p
     open_next p h =
@@ -263,7 +260,7 @@ tried_close start calls path answered false rest rising apart earliest idles all
 -- ---- calls looked at one by one
 
 -- a call of a later number is not invoked earlier
-begins_later : (calls : List Operation) (i n : ℕ) (a p : Operation) → AllPairs (λ (x : Operation) (y : Operation). x.inv < y.inv) calls
+pub begins_later : (calls : List Operation) (i n : ℕ) (a p : Operation) → AllPairs (λ (x : Operation) (y : Operation). x.inv < y.inv) calls
     → slice_get calls i ≡ Some a → slice_get calls n ≡ Some p → i ≤ n → a.inv ≤ p.inv
 begins_later calls i n a p rising here there le = ⊎_elim
     (λ is. let same = same_Some a p (sym here ∙ (ap (slice_get calls) (sym is) ∙ there)) in

@@ -2,6 +2,7 @@ mod ToldLemmas
 pub mod ReadLemmas
 mod ApartLemmas
 mod IdleLemmas
+mod DeadLemmas
 pub mod MarkLemmas
 pub mod StandingLemmas
 pub mod EarliestLemmas

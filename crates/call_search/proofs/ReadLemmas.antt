@@ -17,7 +17,7 @@ use Rattle.quiet_cuts.proofs.ValueLemmas.{rising_after}
 use Rattle.search.specs.Standing.{pairs_after}
 use Rattle.call_search.specs.Reads.{HasOrderAfter, IsReadNext, ReadsGoFirst}
 
--- an element among others is taken to a place further in front
+-- an element among others is taken to an earlier place
 module _ {X : Type 0} (path front : List X) (x : X) (back : List X) where
   rejoin : (path ++ front) ++ back ≡ path ++ (front ++ back)
   rejoin = append_assoc path front back
@@ -48,6 +48,12 @@ module _ {X : Type 0} (path front : List X) (x : X) (back : List X) where
       (Contains-around front x back y later))
       (Contains-append_cases path (front ++ x ∷ back) y h)
 
+-- no element of distinct ones stands in two parts
+pub not_twice : (path tail : List ℕ) → AllPairs (λ k l. k ≢ l) (path ++ tail) → (k : ℕ) → Contains path k → Contains tail k → ⊥
+not_twice path tail distinct k in_path later =
+    All-contains (λ l. k ≢ l) tail k
+    (All-contains (λ l. All (λ m. l ≢ m) tail) path k (AllPairs-across (λ l m. l ≢ m) path tail distinct) in_path) later refl
+
 -- a legal list stays legal where a call goes first that leaves what it finds there and after those before it
 legal_forward : (m : Contents) (front back : List Operation) (a : Operation) → IsLegalCall m a.call a.response
     → after_call m a.call a.response ≡ m
@@ -60,7 +66,7 @@ legal_forward m front back a legal leaves leaves_there h =
           (IsLegal-append m front back (IsLegal-front m front (a ∷ back) h) (subst (λ n. IsLegal n back) leaves_there rest.1)),
     )
 
--- an order in which a call stands further behind than where a path ends
+-- an order in which a call stands later than where a path ends
 module _ (start : Contents) (calls : List Operation) (path : List ℕ) (n : ℕ) (a : Operation) (here : slice_get calls n ≡ Some a)
     (front back : List ℕ) (order : IsOrder start calls (path ++ (front ++ n ∷ back))) where
   legal_order : IsLegalOrder start calls (path ++ (front ++ n ∷ back))
@@ -72,7 +78,7 @@ module _ (start : Contents) (calls : List Operation) (path : List ℕ) (n : ℕ)
   at_n : calls_at calls (n ∷ back) ≡ a ∷ calls_at calls back
   at_n = rw here refl
 
-  parts : calls_at calls (path ++ (front ++ n ∷ back)) ≡ whole
+  pub parts : calls_at calls (path ++ (front ++ n ∷ back)) ≡ whole
   parts = calls_at-append calls path (front ++ n ∷ back) ∙ ap (λ xs. calls_at calls path ++ xs) (calls_at-append calls front (n ∷ back)
       ∙ ap (λ xs. calls_at calls front ++ xs) at_n)
 
@@ -87,7 +93,7 @@ module _ (start : Contents) (calls : List Operation) (path : List ℕ) (n : ℕ)
   pub legal_rest : IsLegal (pairs_after start calls path) (calls_at calls front ++ a ∷ calls_at calls back)
   legal_rest = IsLegal-back start (calls_at calls path) (calls_at calls front ++ a ∷ calls_at calls back) legal_whole
 
-  -- the call may stand there, where none of those that stood before it precedes it and it is legal there, as the others are behind it
+  -- the call may stand there, where none of those that stood before it precedes it and it is legal there, as the others are after it
   pub moves_forward : All (λ b. precedes b a ≡ false) (calls_at calls front)
       → IsLegal (pairs_after start calls path) (a ∷ (calls_at calls front ++ calls_at calls back))
       → IsOrder start calls (path ++ n ∷ (front ++ back))
@@ -116,10 +122,7 @@ module _ (start : Contents) (calls : List Operation) (path : List ℕ) (n : ℕ)
   module _ (front back : List ℕ) (order : IsOrder start calls (path ++ (front ++ n ∷ back))) where
     -- no call stands twice
     apart : (k : ℕ) → Contains path k → Contains (front ++ n ∷ back) k → ⊥
-    apart k in_path later =
-        All-contains (λ l. k ≢ l) (front ++ n ∷ back) k
-        (All-contains (λ l. All (λ m. l ≢ m) (front ++ n ∷ back)) path k
-        (AllPairs-across (λ l m. l ≢ m) path (front ++ n ∷ back) order.legal_order.distinct) in_path) later refl
+    apart = not_twice path (front ++ n ∷ back) order.legal_order.distinct
 
     -- none of the calls that stood before it precedes it
     free : All (λ b. precedes b a ≡ false) (calls_at calls front)

@@ -23,7 +23,7 @@ use Rattle.search.proofs.FutureLemmas.{same_completion}
 use Rattle.search.specs.Standing.{pairs_after}
 use Rattle.call_search.specs.Reads.{IsReadNext}
 use Rattle.call_search.specs.Standing.{places, IsDead, IsDeadAt, AreNext, Closes, Remembers, IsSettled, AreMarked, StandsWith, AreChoices}
-use Rattle.call_search.specs.Standing.{IsNextOf}
+use Rattle.call_search.specs.Standing.{IsNextOf, IsReduced}
 use Rattle.call_search.specs.Standing.{HasMoved, IsLooked, IsStep, to_try}
 use Rattle.call_search.specs.declared.branch.CallSearch.{CallSearch}
 use Rattle.call_search.specs.declared.branch.SearchStep.{SearchStep}
@@ -88,6 +88,37 @@ module _ (start : Contents) (calls : List Operation) where
   choices_again path rest again to from choices = record {
     next = λ n h. choices.next n (from n h);
     closes = λ dead. choices.closes (λ n h. dead n (to n h));
+  }
+
+  -- some of the calls, where the others are taken in vain
+  pub choices_reduced : (path rest fewer : List ℕ) → IsReduced start calls path rest fewer → AreChoices start calls path rest
+      → AreChoices start calls path fewer
+  choices_reduced path rest fewer reduced choices = record {
+    next = λ n h. choices.next n (reduced.from n h);
+    closes = λ dead. choices.closes (λ n h. ⊎_elim (λ kept. dead n kept) (λ vain. vain) (reduced.others n h));
+  }
+
+  pub reduced-keep : (path rest fewer more : List ℕ) (n : ℕ) → more ≡ fewer ++ n ∷ [] → IsReduced start calls path rest fewer
+      → IsReduced start calls path (rest ++ n ∷ []) more
+  reduced-keep path rest fewer more n is h = subst (IsReduced start calls path (rest ++ n ∷ [])) (sym is) (record {
+    from = λ k in_more. ⊎_elim
+        (λ old. Contains-append_left rest (n ∷ []) k (h.from k old))
+        (λ same. subst (Contains (rest ++ n ∷ [])) same (Contains-push rest n))
+        (Contains-push_cases fewer n k in_more);
+    others = λ k in_rest. ⊎_elim
+        (λ old. ⊎_elim (λ kept. inl (Contains-append_left fewer (n ∷ []) k kept)) (λ vain. inr vain) (h.others k old))
+        (λ same. inl (subst (Contains (fewer ++ n ∷ [])) same (Contains-push fewer n)))
+        (Contains-push_cases rest n k in_rest);
+    few = omega (arith, length-append rest (n ∷ []), length-append fewer (n ∷ []), h.few);
+  })
+
+  pub reduced-leave : (path rest fewer : List ℕ) (n : ℕ) → IsDead start calls (path ++ n ∷ []) → IsReduced start calls path rest fewer
+      → IsReduced start calls path (rest ++ n ∷ []) fewer
+  reduced-leave path rest fewer n vain h = record {
+    from = λ k in_fewer. Contains-append_left rest (n ∷ []) k (h.from k in_fewer);
+    others = λ k in_rest. ⊎_elim (λ old. h.others k old) (λ same. inr (subst (λ j. IsDead start calls (path ++ j ∷ [])) same vain))
+        (Contains-push_cases rest n k in_rest);
+    few = omega (arith, length-append rest (n ∷ []), h.few);
   }
 
   -- ---- at the beginning

@@ -1,4 +1,4 @@
--- Where a call leaves the map as it is, a reply that tells all says so.
+-- Where a call leaves the map as it is, a reply that reports all says so.
 use Rattle.events.specs.declared.event.Reply.TheVariants as replies
 use Rattle.std.proofs.Common.{◌≡◌, ℕ, Bool, true, false, not, ◌==◌, ◌||◌, Option, Some, None, ◌++◌, refl, sym, ap, ◌∙◌, subst, inl, inr, eq-eqb}
 use Rattle.std.proofs.Common.{eqb-true}
@@ -75,7 +75,7 @@ said m call replies.Done told legal same = absurd (false≢true told)
 said m call replies.Found told legal same = absurd (false≢true told)
 said m call replies.Other told legal same = absurd (false≢true told)
 
--- a call that is told all leaves all rising pairs as they are at which its reply is legal, where it leaves some so
+-- a call whose response reports all leaves all rising pairs as they are at which its reply is legal, where it leaves some so
 leaves_by : (m n : Contents) (call : Call) (response : Option Response) → is_told_response response ≡ true → IsLegalCall m call response
     → after_call m call response ≡ m → IsRising n → IsLegalCall n call response → after_call n call response ≡ n
 leaves_by m n call None told legal same rising there = absurd (false≢true told)

@@ -8,7 +8,7 @@ use Rattle.map_object.specs.MapObject.{Contents, value_at}
 use Rattle.orders.specs.Orders.{IsLegalCall, after_calls}
 use Rattle.segments.proofs.RangeLemmas.{IsOutside}
 
--- a pending call that is left, and was not invoked behind a place: it may come next where that is
+-- a pending call that is left, and was not invoked after a place: it may come next where that is
 -- the earliest answer
 pub record IsOpenNext (calls : List Operation) (path : List ℕ) (answered : ℕ) (p : Operation) : Type 0 where
   pub n : ℕ
@@ -26,13 +26,13 @@ abbrev pub IsBarred : Contents → List Operation → List ℕ → ℕ → Opera
 IsBarred m calls path answered a =
     (front : List Operation) → All (IsOpenNext calls path answered) front → IsLegalCall (after_calls m front) a.call a.response → ⊥
 
--- a call waits for none of them: they change none of its keys, or it is not legal behind any of
+-- a call waits for none of them: they change none of its keys, or it is not legal after any of
 -- them
 abbrev pub WaitsForNone : Contents → List Operation → List ℕ → ℕ → Operation → Type 0
 WaitsForNone m calls path answered a =
     IsFree calls path answered (low_key a.call) (high_key a.call) ⊎ IsBarred m calls path answered a
 
--- a completed call that is left, and was not invoked behind the place
+-- a completed call that is left, and was not invoked after the place
 pub record IsDoneNext (calls : List Operation) (path : List ℕ) (answered n : ℕ) (a : Operation) : Type 0 where
   pub here : slice_get calls n ≡ Some a
   pub new : Contains path n → ⊥

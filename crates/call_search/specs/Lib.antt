@@ -1,4 +1,5 @@
 pub mod Reads
 pub mod Found
 pub mod Idle
+pub mod Dead
 pub mod Standing

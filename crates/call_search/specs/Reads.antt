@@ -34,12 +34,12 @@ ReadsGoFirst =
     (start : Contents) (calls : List Operation) (path : List ℕ) (n : ℕ) → IsRising start → IsReadNext start calls path n
     → HasOrderAfter start calls path ↔ HasOrderAfter start calls (path ++ n ∷ [])
 
--- whether a response tells all that the map answers
+-- whether a response reports all that the map answers
 abbrev pub is_told_response : Option Response → Bool
 is_told_response None = false
 is_told_response (Some response) = is_told response.reply
 
--- a call that is told all leaves the pairs as they are wherever it may be answered so, where it
+-- a call with such a response leaves the pairs as they are wherever it may be answered so, where it
 -- leaves them so once
 abbrev pub ToldCallsLeaveAll : Type 0
 ToldCallsLeaveAll =

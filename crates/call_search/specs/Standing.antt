@@ -77,6 +77,12 @@ pub record AreChoices (start : Contents) (calls : List Operation) (path rest : L
   pub next : AreNext start calls path rest
   pub closes : Closes start calls path rest
 
+-- some of these calls, where taking any of the others is a dead end
+pub record IsReduced (start : Contents) (calls : List Operation) (path rest fewer : List ℕ) : Type 0 where
+  pub from : (n : ℕ) → Contains fewer n → Contains rest n
+  pub others : (n : ℕ) → Contains rest n → Contains fewer n ⊎ IsDead start calls (path ++ n ∷ [])
+  pub few : length fewer ≤ length rest
+
 -- a search stands here
 abbrev pub Stands : Contents → List Operation → CallSearch → Type 0
 Stands start calls s = StandsBare start calls s × AreChoices start calls (places s.levels.items) s.rest.items

@@ -26,7 +26,7 @@ pub struct CallSearch {
     pub low: usize,
 }
 
-// All its parts are let go in one place.
+// One pattern drops all its parts.
 impl Drop for CallSearch {
     fn drop(self) {
         let CallSearch {

@@ -1,24 +1,27 @@
 // The calls that may come next.
 ghost use Rattle.std.specs.Prelude.{◌≡◌, ◌+◌, ◌<◌, ◌≤◌, ◌^◌, true, false, length, Some, slice_get, AllPairs, IfOk, MatchOption};
-ghost use Rattle.std.specs.Prelude.{IsSomeAnd};
+ghost use Rattle.std.specs.Prelude.{All, IsSomeAnd, IsPermutation};
 ghost use Rattle.events.specs.Precedence.{NonePrecedesItself};
 ghost use Rattle.map_object.specs.MapObject.{Contents, IsRising};
 ghost use Rattle.orders.specs.Orders.{IsOrder};
 ghost use Rattle.configurations.proofs.FrontLemmas.{IsNext};
 ghost use Rattle.search.specs.Remaining.{IsEarliestAnswer};
 ghost use Rattle.call_search.specs.Idle.{IsPassedOver};
-ghost use Rattle.call_search.specs.Standing.{places, StandsBare, AreChoices};
+ghost use Rattle.call_search.specs.Standing.{places, StandsBare, AreChoices, IsReduced};
 
 use crate::branch::CallSearch;
+use crate::dead::{end_of_look, is_dead_end, is_futile};
 use crate::idle::{are_idle, is_taken};
 use events::{Memory, Operation};
 use orders::may_come_next;
 use quiet_cuts::{earlier_answer, is_behind, is_read};
 use std::alloc::Global;
 
-/// The calls that are to be tried where a search stands, the last one first: one read alone, where
-/// there is one, or else all calls that may come next, of which the pending ones are passed over
-/// where no completed one could wait for them. None where all completed calls are taken.
+/// The calls that are to be tried where a search stands, the last one first: one read alone, if
+/// there is one, or else all calls that may come next. Those that were answered first are tried
+/// first. Pending ones are passed over if no completed one could wait for them, and otherwise tried
+/// last, by invocation. Calls that are seen to be futile are left out, and all if a call that is
+/// left is seen to be stuck. `None` if all completed calls are taken.
 pub(crate) fn choices(
     alloc: Global,
     calls: &[Operation],
@@ -38,9 +41,84 @@ pub(crate) fn choices(
     let Some(answered) = earliest_answer(calls, standing) else {
         return Ok(None);
     };
-    let mut rest = next_calls(alloc, calls, standing, answered)?;
+    let next = next_calls(alloc, calls, standing, answered)?;
+    if is_lone_read(calls, &next) {
+        return Ok(Some(next));
+    }
+    let end = end_of_look(calls, standing);
+    if is_dead_end(calls, standing, end, last_of_look(standing, answered)) {
+        return Ok(Some(Vec::new(alloc)));
+    }
+    let rest = hopeful(alloc, calls, standing, end, &next)?;
+    Ok(Some(by_answer(calls, rest)))
+}
+
+/// Whether a list has one call only, and that was answered that it changed nothing.
+fn is_lone_read(calls: &[Operation], next: &[u32]) -> bool {
+    let [place] = next else {
+        return false;
+    };
+    match calls.get(*place as usize) {
+        Some(call) => is_read(call),
+        None => false,
+    }
+}
+
+/// The place by which calls begin that are asked whether they are stuck: at the start of a search
+/// all calls are, and later those that begin no later than the earliest answer.
+fn last_of_look(standing: &CallSearch, answered: usize) -> usize {
+    if standing.levels.is_empty() {
+        return usize::MAX;
+    }
+    answered
+}
+
+/// The calls of a list that are not seen to be futile.
+fn hopeful(
+    alloc: Global,
+    calls: &[Operation],
+    standing: &CallSearch,
+    end: usize,
+    next: &[u32],
+) -> Result<Vec<u32>, Memory>
+    ghost start: { Contents }
+    requires rising { AllPairs (λ a b. a.inv < b.inv) calls.now }
+    requires start_rises { IsRising start }
+    requires stands { StandsBare start calls.now standing.now }
+    requires from { standing.now.low ≤ end }
+    requires within { end ≤ length calls.now }
+    requires known { All (λ n. n < length calls.now) next.now }
+    ensures { IfOk result (λ v. IsReduced start calls.now (places standing.now.levels.items)
+        next.now v.items) }
+{
+    let mut rest = Vec::new(alloc);
+    for place in next {
+        if !is_futile(calls, standing, end, *place as usize) {
+            rest.push(*place)?;
+        }
+    }
+    Ok(rest)
+}
+
+/// The calls at these places, the one that was answered first last. Pending ones stand before all
+/// others, those that were invoked later first.
+fn by_answer(calls: &[Operation], mut rest: Vec<u32>) -> Vec<u32>
+    ensures { IsPermutation rest.items result.items }
+{
+    rest.sort_unstable_by_key(|place| (answer_of(calls, *place), *place));
     rest.reverse();
-    Ok(Some(rest))
+    rest
+}
+
+/// The place of a call's answer, and of a pending call a place after all answers.
+fn answer_of(calls: &[Operation], place: u32) -> usize {
+    let Some(call) = calls.get(place as usize) else {
+        return usize::MAX;
+    };
+    match &call.response {
+        Some(response) => response.res,
+        None => usize::MAX,
+    }
 }
 
 /// One read that may come next, or else all calls that may, by rising place, but for the pending

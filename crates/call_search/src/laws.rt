@@ -1,4 +1,5 @@
 // Laws of searches, each the contract of a function that does nothing.
+ghost use Rattle.call_search.specs.Dead.{StuckCallsAreDeadEnds};
 ghost use Rattle.call_search.specs.Reads.{ReadsGoFirst, ToldCallsLeaveAll};
 
 /// A completed call that may come next, and leaves each map as it is at which it may be answered
@@ -8,9 +9,16 @@ pub fn reads_go_first()
     ensures { ReadsGoFirst }
 {}
 
-/// A call that is told all that the map answers leaves each map as it is at which it may be
-/// answered so, where it leaves one so. One that is told less does not: an insert of the value that
-/// is there changes nothing there, and of another value it does.
+/// A call whose response reports all that the map answers leaves each map as it is at which it may
+/// be answered so, if it leaves one so. One whose response reports less does not: an insert of the
+/// value that is there changes nothing there, and of another value it does.
 pub fn told_calls_leave_all()
     ensures { ToldCallsLeaveAll }
+{}
+
+/// A call that is left reported that a key had a value, or none. The key does not have that now, and
+/// no call that is left and begins no later than its answer puts it there. Then what is left has no
+/// order.
+pub fn stuck_calls_are_dead_ends()
+    ensures { StuckCallsAreDeadEnds }
 {}

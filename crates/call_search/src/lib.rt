@@ -5,19 +5,26 @@
 //! call that may come next and leaves the map as it is, wherever it may be answered so, is taken at
 //! once, and no other in its stead: what is left has an order exactly where it has one that begins
 //! with this call (`reads_go_first`). Pending calls are tried only where a completed one that could
-//! come next may wait for one of them: else one of the completed ones may go first. So it says of
-//! the calls only whether they have an order, and gives one; which configurations it counts is its
-//! own. The exact search of a segment, which counts what its definitions say, is `search`'s.
+//! come next may wait for one of them: else one of the completed ones may go first.
+//!
+//! A call that is left is stuck if it reported a value that its key does not have, and that no call
+//! puts there before it. Then nothing is tried (`stuck_calls_are_dead_ends`), and a call that would
+//! leave another one stuck is not tried either. So it says of the calls only whether they have an
+//! order, and gives one; which configurations it counts is its own. The exact search of a segment,
+//! which counts what its definitions say, is `search`'s.
 #![tactic(auto)]
 
 mod branch;
 mod choices;
+mod dead;
 mod found;
 mod idle;
 mod laws;
 mod searching;
 mod standing;
+#[cfg(test)]
+mod tests;
 
 pub use found::SearchEnd;
-pub use laws::{reads_go_first, told_calls_leave_all};
+pub use laws::{reads_go_first, stuck_calls_are_dead_ends, told_calls_leave_all};
 pub use searching::search_calls;

@@ -12,12 +12,13 @@ use events::{Memory, Operation};
 use map_object::SortedMap;
 use std::alloc::Global;
 
-/// Searches calls for an order from a map: an order where there is one, `NoOrder` where there is
-/// none, and `Spent` where more configurations were met than the budget. `Memory` where a growth
-/// was refused, and at 4,294,967,295 calls or more, which no memory holds. The calls stand by
-/// rising invocation, at any places. It goes on from each configuration once, and from a call that
-/// may come next and leaves the map as it is to no other. Nothing recurses: the calls taken stand
-/// on a stack of its own.
+/// Searches calls for an order from a map: an order if there is one, `NoOrder` if there is none,
+/// and `Spent` if more configurations were met than the budget. `Memory` if memory runs out, and at
+/// 4,294,967,295 calls or more, which no memory holds. The calls stand by rising invocation, at any
+/// places. It goes on from each configuration once, and from a call that may come next and leaves
+/// the map as it is to no other. A call that was answered earlier is tried earlier. Nothing is
+/// tried where a call is seen to be stuck (`stuck_calls_are_dead_ends`), nor a call that is seen to
+/// leave another one stuck. It does not recurse: it keeps the calls taken in a list.
 pub fn search_calls(
     alloc: Global,
     map: SortedMap,

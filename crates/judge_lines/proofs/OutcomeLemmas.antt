@@ -2,7 +2,7 @@
 use Rattle.std.proofs.Common.{List}
 use Rattle.clap.specs.Words.{Text}
 use Rattle.command_line.specs.declared.line.Line.{Line}
-use Rattle.command_line.specs.declared.line.Line.TheVariants.{Check, Judge, Locate, Explain, Draw, Page, Follow, Generate, Replay, Drive}
+use Rattle.command_line.specs.declared.line.Line.TheVariants.{Check, Judge, Locate, Explain, Draw, Page, Follow, Generate, Schedule, Replay, Drive}
 use Rattle.outcomes.specs.declared.outcome.RunOutcome.{RunOutcome}
 use Rattle.outcomes.specs.Ends.{Change}
 use Rattle.history_engines.specs.Answers.{IsCheckAnswer, IsHistoryRefusal, IsHintedJudgeAnswer}
@@ -34,5 +34,6 @@ judged-words L (Page budget workers) words source outcome here ask comes =
 judged-words L (Follow budget) words source outcome here ask comes =
     hinted-words L (IsFollowAnswer budget) IsStreamRefusal words source outcome ask comes
 judged-words L (Generate seed processes calls get insert remove scan lo hi) words source outcome here ask comes = absurd (here tt)
+judged-words L (Schedule asked) words source outcome here ask comes = absurd (here tt)
 judged-words L Replay words source outcome here ask comes = absurd (here tt)
-judged-words L (Drive tree rows4 rows16 rows48 rows256 limit) words source outcome here ask comes = absurd (here tt)
+judged-words L (Drive asked) words source outcome here ask comes = absurd (here tt)

@@ -41,15 +41,15 @@ fn calls_taken_come_no_more(rt: HostRuntime) -> Result<(), Fail> {
     Ok(())
 }
 
-/// How a key without a value is judged, with a large budget, and then with the least, where a get that found this value and inserts of 1
-/// to 4 run at once.
-fn judged_twice(alloc: Global, found: u64) -> Result<(Judged, Judged), Memory> {
+/// How a key without a value is judged, with a large budget, and then with the least, where three gets that found these values, one after
+/// another, run beside inserts of 1 and 2.
+fn judged_twice(alloc: Global, found: [u64; 3]) -> Result<(Judged, Judged), Memory> {
     let calls = vec![in alloc;
-        answered_call(Call::Get(7), 0, 10, Reply::Some(found)),
-        answered_call(Call::Insert(7, 1), 1, 11, Reply::Done),
-        answered_call(Call::Insert(7, 2), 2, 12, Reply::Done),
-        answered_call(Call::Insert(7, 3), 3, 13, Reply::Done),
-        answered_call(Call::Insert(7, 4), 4, 14, Reply::Done),
+        answered_call(Call::Insert(7, 1), 0, 20, Reply::Done),
+        answered_call(Call::Insert(7, 2), 1, 21, Reply::Done),
+        answered_call(Call::Get(7), 2, 3, Reply::Some(found[0])),
+        answered_call(Call::Get(7), 4, 5, Reply::Some(found[1])),
+        answered_call(Call::Get(7), 6, 7, Reply::Some(found[2])),
     ]?;
     let none = configuration_with(alloc, &[], &[None])?;
     let mut key = key_of(alloc, none, &[0, 1, 2, 3, 4], calls)?;
@@ -58,19 +58,24 @@ fn judged_twice(alloc: Global, found: u64) -> Result<(Judged, Judged), Memory> {
     Ok((first, second))
 }
 
-// Five calls run at once, and a get found what the last of them put there: such an order is guessed, and none is searched for.
+// The gets found 2, then 1: such an order is guessed, and none is searched for.
 #[test]
 fn more_calls_are_guessed(rt: HostRuntime) -> Result<(), Fail> {
-    assert!(rt; matches!(judged_twice(rt.alloc(), 4)?, (Judged::Order, Judged::Order)));
+    assert!(rt;
+        matches!(
+            judged_twice(rt.alloc(), [2, 1, 1])?,
+            (Judged::Order, Judged::Order)
+        )
+    );
     Ok(())
 }
 
-// And a get found what none of them put there: they are searched.
+// They found 1, then 2, and 1 again, which nothing put there again: that is searched for.
 #[test]
 fn more_calls_are_searched(rt: HostRuntime) -> Result<(), Fail> {
     assert!(rt;
         matches!(
-            judged_twice(rt.alloc(), 9)?,
+            judged_twice(rt.alloc(), [1, 2, 1])?,
             (Judged::NoOrder, Judged::Spent)
         )
     );

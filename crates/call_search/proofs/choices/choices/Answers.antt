@@ -1,10 +1,11 @@
-use Rattle.std.proofs.Common.{length, sym, ap, subst, arith}
+use Rattle.std.proofs.Common.{◌<◌, length, subst, arith}
 use Rattle.std.specs.Prelude.{Contains}
-use Rattle.std.proofs.lemmas.List.{length-reverse}
+use Rattle.std.proofs.lemmas.List.Sorted.{IsPermutation-sym, Contains-permutation, length_permutation}
+use Rattle.std.proofs.lemmas.Option.{slice_get_within}
+use Rattle.list_laws.proofs.Lists.{All-from_contains}
 use Rattle.search.proofs.EarliestLemmas.{IsOrder-from_none}
-use Rattle.call_search.specs.Standing.{places}
-use Rattle.search.proofs.WalkLemmas.{Contains-reverse, Contains-from_reverse}
-use Rattle.call_search.proofs.StandingLemmas.{choices_again}
+use Rattle.call_search.specs.Standing.{places, IsReduced}
+use Rattle.call_search.proofs.StandingLemmas.{choices_again, choices_reduced}
 use Rattle.call_search.proofs.choices.choices.Goals as goal
 
 pub returns-in_default : goal.returns-in_default
@@ -18,12 +19,30 @@ next_calls-requires g c = (
   (c.requires.1.0, (c.requires.1.1.0, (c.requires.1.1.1.0, (c.requires.1.1.1.1, rw c.in-Some.is at c.earliest_answer.ensures)))),
 )
 
+pub hopeful-requires : goal.hopeful-requires
+hopeful-requires g c =
+    let calls = c.args.calls.now in
+    let choices = c.in_ok-next.ensures.choices in
+    let known = All-from_contains (λ n. n < length calls) c.deref-2.result.now (λ n h.
+    let next = choices.next n (subst (λ xs. Contains xs n) c.deref-2.ensures.value h) in
+    slice_get_within calls n next.call next.here) in (
+      c.requires.1.1.0,
+      (c.requires.1.1.1.0, (c.requires.1.1.1.1, (c.end_of_look-end.ensures.from, (c.end_of_look-end.ensures.within, known)))),
+    )
+
 pub returns : goal.returns
 returns g c =
+    let calls = c.args.calls.now in
+    let path = places c.args.standing.now.levels.items in
+    let next = c.in_ok-next.next.items in
     let rest = c.in_ok-rest.rest.items in
-    let turned = c.reverse.ensures.items in (
-      choices_again g.start c.args.calls.now (places c.args.standing.now.levels.items) rest c.reverse.new.self.items
-          (λ n h. subst (λ xs. Contains xs n) (sym turned) (Contains-reverse rest n h))
-          (λ n h. Contains-from_reverse rest n (subst (λ xs. Contains xs n) turned h)) c.in_ok-rest.ensures.choices,
-      omega (arith, ap length turned, length-reverse rest, c.in_ok-rest.ensures.few),
+    let tried = c.by_answer.result.items in
+    let moved = c.by_answer.ensures in
+    let reduced : IsReduced g.start calls path next rest =
+    subst (λ xs. IsReduced g.start calls path xs rest) c.deref-2.ensures.value c.in_ok-rest.ensures in (
+      choices_again g.start calls path rest tried
+          (λ n h. Contains-permutation rest tried n moved h)
+          (λ n h. Contains-permutation tried rest n (IsPermutation-sym rest tried moved) h)
+          (choices_reduced g.start calls path next rest reduced c.in_ok-next.ensures.choices),
+      omega (arith, length_permutation rest tried moved, reduced.few, c.in_ok-next.ensures.few),
     )

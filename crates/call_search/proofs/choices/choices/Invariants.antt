@@ -5,3 +5,12 @@ ghost-earliest_answer g a = g.start
 
 abbrev pub ghost-next_calls : goal.ghost-next_calls
 ghost-next_calls g a = g.start
+
+abbrev pub ghost-end_of_look : goal.ghost-end_of_look
+ghost-end_of_look g a = g.start
+
+abbrev pub ghost-is_dead_end : goal.ghost-is_dead_end
+ghost-is_dead_end g a = g.start
+
+abbrev pub ghost-hopeful : goal.ghost-hopeful
+ghost-hopeful g a = g.start
