@@ -183,7 +183,7 @@ static inline ssize_t potzendai_hear(struct potzendai_child *c, double until)
     return whole > 0 ? (ssize_t)whole : -1;
 }
 
-/* Lets go of the lines that were heard. */
+/* Drops the lines that were heard. */
 static inline void potzendai_heard(struct potzendai_child *c, ssize_t length)
 {
     memmove(c->text, c->text + length, c->waits);
@@ -221,7 +221,7 @@ static inline void potzendai_count_lines(struct potzendai_killing *k, const char
     }
 }
 
-/* Hands lines to the follower, and keeps them: -1 where the stream is no yes any more. */
+/* Hands lines to the follower, and saves them: -1 if the stream can get no yes any more. */
 static inline int potzendai_relay(struct potzendai_following *f, const char *text, size_t length)
 {
     potzendai_keep_lines(f, text, length);
@@ -257,7 +257,7 @@ static inline bool potzendai_hear_life(struct potzendai_killing *k, struct potze
     return is_killed;
 }
 
-/* Takes the lines of a reading: the next start has what the get of each key found, or what was put where a get does not tell. */
+/* Takes the lines of a reading: the next start has what the get of each key found, or what was put if a get does not say that. */
 static inline void potzendai_take_read(struct potzendai_killing *k, const char *line)
 {
     static const char get[] = "{\"invoke\":[\"get\",", put[] = "{\"invoke\":[\"insert\",", answer[] = "{\"answer\":";
@@ -348,7 +348,7 @@ static inline int potzendai_lose(const char *path, const struct stat *file, cons
     return S_ISREG(file->st_mode) ? potzendai_give_back(path, shadow, (uint64_t)file->st_ino) : 0;
 }
 
-/* A copy that no file of the store has goes: another file may have its number later. */
+/* Removes a copy whose file is gone, since another file may get its number later. */
 static inline int potzendai_sort_copy(const char *path, const struct stat *file, const char *shadow)
 {
     size_t length = strlen(path);
@@ -376,7 +376,7 @@ static inline int potzendai_is_there(const char *path, const struct stat *file, 
     return 1;
 }
 
-/* Whether writes were seen, of a run that looks for them: not before a change was answered or the run is over. */
+/* Fails if a run looks for writes and has seen none, once a change was answered or the run is over. */
 static inline int potzendai_check_seen(struct potzendai_killing *k, bool is_over)
 {
     if (!k->counted || k->writes > 0 || (!is_over && k->changes == 0))

@@ -24,7 +24,7 @@ static inline int potzendai_read_life(struct potzendai_options *o, int argc, cha
     return status;
 }
 
-/* Finds out what a key holds. Nothing else is called meanwhile, so the call may be written behind its answer. */
+/* Finds out what a key holds. No other call is open meanwhile, so the invocation may be written after the call. */
 static inline int potzendai_read_key(struct potzendai_tester *tester, uint64_t key, unsigned process)
 {
     struct potzendai_run *run = tester->run;

@@ -325,7 +325,7 @@ static inline int potzendai_take_waiting(struct potzendai_tester *tester, struct
     uint64_t rounds = tester->rounds;
     tester->run->counts = waiting->counts;
     tester->run->round = waiting->round;
-    tester->rounds = waiting->round + 1;
+    tester->rounds = tester->options->schedule.has_replay ? 1 : waiting->round + 1;
     int status = potzendai_take_round(tester, &waiting->told);
     if (status)
         return status;

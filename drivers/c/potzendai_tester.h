@@ -162,7 +162,7 @@ static inline int potzendai_find_out(struct potzendai_tester *tester, struct pot
     }
     if (potzendai_is_known(run->options, request, answer->said))
         return 0;
-    return potzendai_fail(run, POTZENDAI_BAD_WORDS, "%s of %" PRIu64 " said %s at rest, where it has to tell",
+    return potzendai_fail(run, POTZENDAI_BAD_WORDS, "%s of %" PRIu64 " said %s at rest: the run has to know what the key holds",
                           potzendai_functions[request->function], request->key,
                           (unsigned)answer->said < POTZENDAI_SAYINGS ? potzendai_sayings[answer->said] : "no answer");
 }

@@ -90,7 +90,7 @@ static const char potzendai_usage[] =
     "  --kill-at-write   it is killed before a drawn write of its store\n"
     "  --power           after a kill each file has what it had at its last sync\n"
     "  --stream          one stream, judged while it is recorded, in place of rounds\n"
-    "  --schedule HOW    the scheduler says which thread runs: mix, pos, pct or walk; with 12 calls and 4 keys\n"
+    "  --schedule [HOW]  the scheduler says which thread runs: mix, pos, pct or walk (mix); with 12 calls and 4 keys\n"
     "  --depth N         of pct: at N - 1 drawn points a priority changes (3)\n"
     "  --points WHICH    where threads may give way: learned, all or atomics (learned, in every second round)\n"
     "  --tso             scheduled atomic stores below seq_cst reach other threads later\n"
@@ -278,6 +278,10 @@ static inline int potzendai_read_word(struct potzendai_options *o, char **words,
         *at += is_late;
         return 0;
     }
+    if (strcmp(word, "--schedule") == 0 && (!words[*at + 1] || strncmp(words[*at + 1], "--", 2) == 0)) {
+        o->schedule.way = POTZENDAI_MIX;
+        return 0;
+    }
     const char *text = words[++*at];
     if (strcmp(word, "--kill") == 0)
         return potzendai_read_kill(o, text);
@@ -445,8 +449,8 @@ static inline int potzendai_check_out(const struct potzendai_options *o)
 {
     char path[POTZENDAI_PATH];
     if (!o->out)
-        return potzendai_complain("--out", "a folder for files, of each round or of the stream, or - for standard output: nobody judges them "
-                                           "here; or --bench, the program that does");
+        return potzendai_complain("--bench", "name the program that judges, such as ../bench; or --out FOLDER for files that nobody judges here, and "
+                                             "--out - for standard output");
     if (strcmp(o->out, "-") == 0)
         return 0;
     int length = snprintf(path, sizeof path, "%s/.potzendai-XXXXXX", o->out);

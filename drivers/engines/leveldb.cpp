@@ -1,4 +1,5 @@
-// LevelDB, tested: puts and deletes that tell nothing, since it has no transactions. README.md says how it is built, and what the word `sync` sets.
+// LevelDB, tested: puts and deletes that do not say what was there, since it has no transactions. README.md says how it is built, and what the word
+// `sync` sets.
 #include "folder_map.hpp"
 #include <leveldb/db.h>
 

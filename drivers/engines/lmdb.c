@@ -1,5 +1,5 @@
-/* LMDB, tested: each call is one transaction. With the word `plain` in front, puts and deletes are mdb_put and mdb_del alone, which tell
- * less. README.md says how it is built, and what the other words set. */
+/* LMDB, tested: each call is one transaction. With the word `plain` before the options, puts and deletes are only mdb_put and mdb_del, which do
+ * not say what value was there. README.md says how it is built, and what the other words set. */
 #include "../c/potzendai_test.h"
 #include "settings.h"
 #include <lmdb.h>

@@ -11,7 +11,7 @@ type lockedMap struct {
 	pairs map[uint64]uint64
 }
 
-// Tells what is at a key, and then changes the map.
+// Returns what is at a key, and then changes the map.
 func (m *lockedMap) at(key uint64, change func(before uint64)) Said {
 	m.lock.Lock()
 	defer m.lock.Unlock()

@@ -1115,7 +1115,7 @@ func (s *stream) end() {
 	<-s.done
 }
 
-// A crew is the threads of a run, and a connection of the driver's own. Behind a round, `contents` is what the map holds.
+// A crew is the threads of a run, and a connection of the driver's own. After a round, `contents` is what the map holds.
 type crew struct {
 	options    *options
 	stamps     atomic.Uint64
@@ -1219,7 +1219,7 @@ func (c *crew) rest(number uint64) []event {
 			isKnown, isThere = kind != "get" && !isOneOf(said.word, "refused", "unknown"), kind == "put"
 		}
 		if !isKnown {
-			fail(badWords, "%s: %s of %d said %s at rest, where it has to tell", c.options.name, kind, key, said.word)
+			fail(badWords, "%s: %s of %d said %s at rest: the run has to know what the key holds", c.options.name, kind, key, said.word)
 		}
 		if isThere {
 			c.contents[key] = holds
@@ -2274,7 +2274,7 @@ func saidMissed(r *round, line reported) string {
 	return said
 }
 
-// A report of explain in words, and the line that is the few calls' history, if it is there. Behind an undecided locate has a line, which is
+// A report of explain in words, and the line that is the few calls' history, if it is there. After an undecided, locate has a line, which is
 // passed over.
 func saidReport(report string, r *round) (said []string, few string) {
 	lines := strings.Split(strings.TrimSpace(report), "\n")

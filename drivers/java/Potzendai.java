@@ -1110,7 +1110,7 @@ public final class Potzendai {
                 }
                 if (!isKnown)
                     throw new Stop(WORDS, options.name + ": " + kind.name + " of " + key + " said " + said.word.name().toLowerCase()
-                        + " at rest, where it has to tell");
+                        + " at rest: the run has to know what the key holds");
                 if (kind == Kind.PUT || kind == Kind.GET && said.word == Word.TOLD)
                     contents.put(key, value);
             }
@@ -1890,7 +1890,7 @@ public final class Potzendai {
         return said.toString();
     }
 
-    /** A report of `explain` in words. Behind an undecided `locate` has a line, which is passed over. */
+    /** A report of `explain` in words. After an undecided, `locate` has a line, which is passed over. */
     private static List<String> saidReport(List<String> report, Round round) {
         List<String> said = new ArrayList<>(List.of(saidVerdict(report.get(0))));
         List<Map<?, ?>> lines = new ArrayList<>();

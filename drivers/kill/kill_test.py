@@ -5,7 +5,7 @@
 
 `COMMAND run LIFE` opens the store, makes calls without end, and writes each event as a line to descriptor 1, unbuffered: the invocation before
 its call, the answer after it. `COMMAND read KEYS` opens the store again, gets the keys from 0 to KEYS - 1, writes these events too, and ends. If
-a get does not tell what it found, the reading puts or removes that key instead. Lines are those of a stream of version 3 (docs/FORMATS.md) without
+a get does not say what it found, the reading puts or removes that key instead. Lines are those of a stream of version 3 (docs/FORMATS.md) without
 its first. The environment has POTZENDAI_STORE, the folder of the store, which is empty at first, POTZENDAI_SEED, a number that with LIFE decides
 what a child draws, and POTZENDAI_READINGS, how many readings came before.
 
@@ -277,9 +277,9 @@ class Run:
         if sorted(call[1] for call, _ in events.answers) != list(range(self.options.keys)) or events.opened:
             raise Stop(WORDS, "`read %d` has to get each key from 0 to %d once" % (self.options.keys, self.options.keys - 1))
         for call, answer in events.answers:
-            is_told = answer is None or is_number(answer)
-            if not (is_told and call[0] == "get" or (is_told or answer in ("done", "found")) and call[0] in ("insert", "remove")):
-                raise Stop(WORDS, "`read` made the call %s, answered %s: a get has to tell, or an insert or a remove takes its place" % (
+            is_known = answer is None or is_number(answer)
+            if not (is_known and call[0] == "get" or (is_known or answer in ("done", "found")) and call[0] in ("insert", "remove")):
+                raise Stop(WORDS, "`read` made the call %s, answered %s: a get needs a value or null; else insert or remove that key" % (
                     json.dumps(call), json.dumps(answer)))
         return events, ""
 
@@ -397,7 +397,7 @@ class Run:
         return self.judge(life, head, events, reading), reading
 
     def check_seen(self):
-        """Whether writes were seen, if the run looks for them."""
+        """Raises `Stop` if the run looks for writes and has seen none."""
         if (self.options.kill_at_write or self.options.power) and not self.seen:
             raise Stop(WORDS, "no write of the store was seen: the child writes by direct system calls, through mmap or stdio, or not below "
                               "POTZENDAI_STORE")

@@ -1,5 +1,5 @@
-"""Tests an ordered map of one's own: threads (or processes) call its functions, what they do is recorded, and the program `bench` judges
-each recording, or follows one stream of it. Copy this file: Python 3.8 and the program are all that it needs; or the library by ctypes.
+"""Tests an ordered map of your own. Threads (or processes) call its functions, and what they do is recorded. The program `bench` judges each
+recording, or follows one stream of it. Copy this file: it needs only Python 3.8 and the program, or the library by ctypes.
 
     import potzendai
 
@@ -721,7 +721,7 @@ class Crew:
                 is_known = said not in (REFUSED, UNKNOWN)
             if not is_known:
                 name = word(write[0]) if write else "get"
-                raise Stop(WORDS, "%s: %s of %d said %s at rest, where it has to tell" % (self.options.name, name, key, said))
+                raise Stop(WORDS, "%s: %s of %d said %s at rest: the run has to know what the key holds" % (self.options.name, name, key, said))
             if holds != NONE:
                 pairs[key] = holds
         return log, pairs

@@ -1,4 +1,4 @@
-"""Redis by its protocol over a socket: `SET` and `DEL`, which tell nothing and how many; or, told, `SET .. GET` and `GETDEL`.
+"""Redis by its protocol over a socket: `SET` and `DEL`, which return no value; or with the word `told`, `SET .. GET` and `GETDEL`, which do.
 
     redis-server --port 7379 --save '' &
     python3 drivers/python/redis_map.py told

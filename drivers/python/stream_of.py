@@ -1,11 +1,11 @@
 #!/usr/bin/env python3
-"""Makes a stream, for `bench follow`, of a recording, which is the text of a history as `bench judge` reads it:
+"""Makes a stream for `bench follow` of a recording, the text of a history as `bench judge` reads it:
 
     python3 drivers/python/stream_of.py < run.json | ./bench follow
 
-The stream says the same: its first line has the starting pairs, if the text is of version 2 or 3, and behind that stands a line for each event,
-in the text's order. Numbers stay as they are, up to 2^64 - 1. Whether the text spells a history is not asked, but for its form: `bench follow`
-tells what is wrong with a line. The status is 3 where the text is no JSON, or has no list of events.
+If the text has version 2 or 3, the first line of the stream has the starting pairs. Then comes a line for each event, in the text's order. Numbers
+stay as they are, up to 2^64 - 1. Only the form of the text is checked: `bench follow` says what is wrong with a line. The status is 3 if the text
+is not JSON, or has no list of events.
 """
 
 import json

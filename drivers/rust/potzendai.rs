@@ -1115,7 +1115,7 @@ impl Rest {
             }
             if !is_known {
                 let said = SAYINGS[said.word()];
-                return fail(BAD_WORDS, format!("{} of {key} said {said} at rest, where it has to tell", kind.name()));
+                return fail(BAD_WORDS, format!("{} of {key} said {said} at rest: the run has to know what the key holds", kind.name()));
             }
             rest.contents.extend(holds.map(|value| (key, value)));
         }
@@ -2398,7 +2398,7 @@ fn said_missed(round: &Round, line: &Json) -> String {
     }).collect()
 }
 
-/// A report of `explain` in words, and the line that is the few calls' history, if it is there. Behind an undecided `locate` has a line, which
+/// A report of `explain` in words, and the line that is the few calls' history, if it is there. After an undecided, `locate` has a line, which
 /// is passed over.
 fn said_report(report: &str, round: &Round) -> (Vec<String>, Option<String>) {
     let mut lines = report.lines();

@@ -44,7 +44,7 @@ int main(void)
     for (unsigned p = 0; p < THREADS; p++)
         assert(pthread_join(threads[p], NULL) == 0);
 
-    /* The history as a text in memory, and the verdict on it; behind a no stand few calls that show it. */
+    /* The history as a text in memory, and the verdict on it. After a no the report names a few calls that show it. */
     char *text, report[POTZENDAI_REPORT] = "";
     size_t text_length, length;
     FILE *out = open_memstream(&text, &text_length);

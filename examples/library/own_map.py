@@ -76,8 +76,8 @@ def main():
     assert status == YES, report
     print(len(recorded.notes) // 2, "calls have an order")
 
-    # A read of what nobody wrote: behind the report of the no stand few calls that show it, who put what they read, a history of them, and
-    # how far an order gets.
+    # A read of what nobody wrote. After the no, the report has a few calls that show it, who put what they read, a history of them, and how far an
+    # order gets.
     recorded.get(4, 0, 1_000_000)
     status, report = potzendai.call("potzendai_explain", recorded.text())
     _, *rows, history, front = report.splitlines()

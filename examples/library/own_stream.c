@@ -1,5 +1,5 @@
-/* A test of a map of one's own that is judged while it runs: threads call it, one writes what they do into a pipe, and each line of
- * it is handed to a follower. From the top of the repository:
+/* A test of a map of one's own that is judged while it runs. Threads call it, one thread writes what they do into a pipe, and each line goes to a
+ * follower. From the top of the repository:
  *
  *     ./library .
  *     cc -std=c11 -O2 -pthread -I. -o own_stream examples/library/own_stream.c libpotzendai.a
@@ -35,14 +35,14 @@ static void *run(void *number)
     return NULL;
 }
 
-/* Writes what they do into the pipe, and closes it behind the last line. */
+/* Writes what they do into the pipe, and closes it after the last line. */
 static void *write_all(void *ends)
 {
     assert(streaming_write(&streamed) == 0 && close(((int *)ends)[1]) == 0);
     return NULL;
 }
 
-/* Joins the threads that record, and ends the stream behind them. */
+/* Joins the threads that record, and then ends the stream. */
 static void *end_all(void *threads)
 {
     for (unsigned p = 0; p < THREADS; p++)

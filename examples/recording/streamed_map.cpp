@@ -108,7 +108,7 @@ static std::optional<uint64_t> insert_if_absent(const std::string &name, uint64_
     return old;
 }
 
-/* Invoke, call, answer. Each of these tells whether it was recorded. */
+/* Invoke, call, answer. Each of these returns whether it was recorded. */
 static bool call_get(unsigned p, uint64_t key)
 {
     return !streaming_invoke_get(&stream, p, key) && answered(p, get(names[key]));

@@ -1,4 +1,4 @@
-/* Has threads make calls at a map, and streams what they record to standard output: for the programs in C++ beside it. */
+/* Lets threads call a map, and streams what they record to standard output: for the programs in C++ in this folder. */
 #ifndef STREAMED_RUN_H
 #define STREAMED_RUN_H
 
@@ -22,8 +22,8 @@ struct Dice {
 
 static streaming stream;
 
-/* Has so many processes make so many calls each, or where that is 0 without end: `call` makes the next one of a process, and tells
- * whether it was recorded. Where the reader goes, all of them stop. Answers the status of the program. */
+/* Lets so many processes make so many calls each; 0 is no limit. `call` makes the next call of a process, and returns whether it was recorded. If
+ * the reader of the stream ends, all of them stop. Returns the status of the program. */
 template <class Call> int run_streamed(unsigned processes, uint64_t calls, Call call)
 {
     std::signal(SIGPIPE, SIG_IGN);

@@ -5,11 +5,13 @@
  *     ./tbb_maps ordered 250000 | ./bench follow
  *     ./tbb_maps ranges 0 | ./bench follow
  *
- * `hash` is concurrent_hash_map, of which an accessor locks one element: a call under it tells what it found. `ordered` is
- * concurrent_map, a skip list to which threads only add: an insert leaves a present key as it is, lower_bound gives the least key
- * from one on, and a step of an iterator the next key above. Each of these is one call. `ranges` records several steps as one scan,
- * which they are not: while they go on, a key is added behind them and then one before them. With 0 calls it goes on until the
- * follower says no.
+ * `hash` is concurrent_hash_map. An accessor locks one element, so a call under it says what it found.
+ *
+ * `ordered` is concurrent_map, a skip list to which threads only add. An insert leaves a present key as it is. lower_bound returns the least key
+ * from one on, and a step of an iterator the next key. Each of these is one call.
+ *
+ * `ranges` records several steps as one scan, which they are not. While they go on, a key is added that they have passed, and then one that they
+ * have not reached. With 0 calls it goes on until the follower says no.
  */
 #include "streamed_run.h"
 #include <atomic>
@@ -74,7 +76,7 @@ static bool hash_replace(unsigned p, uint64_t key, uint64_t expected, uint64_t v
     return answered(p, found, old);
 }
 
-/* An insert without an accessor tells only whether it was new. Where it was not, it has changed nothing, and is left out. */
+/* An insert without an accessor returns only whether the key was new. If it was not, the call has changed nothing, and is left out. */
 static bool hash_insert_new(unsigned p, uint64_t key, uint64_t value)
 {
     if (streaming_hold(&stream, p))

@@ -1,14 +1,14 @@
-/* Records threads at a map whose put and delete tell nothing of what they found, and writes the history. From the top of the
+/* Records threads at a map whose put and delete do not say what they found, and writes the history. From the top of the
  * repository:
  *
  *     cc -std=c11 -O2 -pthread -o untold_map examples/recording/untold_map.c
  *     ./untold_map checked | ./bench judge
  *     ./untold_map unchecked | ./bench judge
  *
- * The map is one page, which a writer copies, changes and puts in the place of the old one. `checked` does so only where the old one
- * is still there, and else begins anew: whatever the threads do, the history has an order. In `unchecked` nobody looks. Barriers make
- * two writers copy one page, and publish in turn: the first one's put is lost, and no order explains the get that comes behind it.
- * So the verdict is no at each run, though neither put tells anything.
+ * The map is one page, which a writer copies, changes and puts in the place of the old one. `checked` does so only if the old page is still there,
+ * and otherwise begins again: whatever the threads do, the history has an order. In `unchecked` nobody looks. Barriers make two writers copy one
+ * page, and publish one after the other. So the first one's put is lost, and no order explains the get after it. The verdict is no in each run,
+ * though neither put says what it found.
  */
 #define _POSIX_C_SOURCE 200809L
 #include "../../drivers/c/recording.h"

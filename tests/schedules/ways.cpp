@@ -1,19 +1,18 @@
-// A std::map under a lock. WAY says which: each kind of lock waits in another way.
+// A std::map under a lock, for each way to lock, since each waits in another way. The program's name says which one it tests. It is C++20.
 #include "locked_map.hpp"
+#include "named.hpp"
 #include <atomic>
 #include <chrono>
 #include <condition_variable>
 #include <memory>
 #include <mutex>
 #include <semaphore.h>
-#include <shared_mutex>
-#include <threads.h>
-#if __cplusplus >= 202002L
 #include <semaphore>
-#endif
+#include <shared_mutex>
+#include <thread>
+#include <threads.h>
 
-struct Lock {
-#if WAY == 1 // std::atomic::wait
+struct AtomicWait {
     std::atomic<int> held{0};
     void lock()
     {
@@ -25,19 +24,26 @@ struct Lock {
         held.store(0);
         held.notify_one();
     }
-#elif WAY == 2 || WAY == 3 // a condition, without and with a time
+};
+
+// A condition, without and with a time.
+template <bool is_timed> struct Condition {
     std::mutex mutex;
     std::condition_variable condition;
     bool is_held = false;
+
+    void wait(std::unique_lock<std::mutex> &guard)
+    {
+        if (is_timed)
+            condition.wait_for(guard, std::chrono::seconds(1));
+        else
+            condition.wait(guard);
+    }
     void lock()
     {
         std::unique_lock<std::mutex> guard(mutex);
-#if WAY == 2
-        condition.wait(guard, [this] { return !is_held; });
-#else
-        while (!condition.wait_for(guard, std::chrono::seconds(1), [this] { return !is_held; })) {
-        }
-#endif
+        while (is_held)
+            wait(guard);
         is_held = true;
     }
     void unlock()
@@ -46,8 +52,12 @@ struct Lock {
         is_held = false;
         condition.notify_one();
     }
-#elif WAY == 4 // atomics of 16 bytes
-    __extension__ typedef unsigned __int128 Word;
+};
+
+// Atomics of 16 bytes: compare-and-exchange, or fetch_or and fetch_and.
+__extension__ typedef unsigned __int128 Word;
+
+struct Exchange16 {
     Word word = 0;
     void lock()
     {
@@ -56,8 +66,9 @@ struct Lock {
             zero = 0;
     }
     void unlock() { __atomic_store_n(&word, 0, __ATOMIC_SEQ_CST); }
-#elif WAY == 5 // atomics of 16 bytes, by fetch_or and fetch_and
-    __extension__ typedef unsigned __int128 Word;
+};
+
+struct Fetch16 {
     Word word = 0;
     void lock()
     {
@@ -65,12 +76,16 @@ struct Lock {
         }
     }
     void unlock() { __atomic_fetch_and(&word, Word(1), __ATOMIC_SEQ_CST); }
-#elif WAY == 6 // a POSIX semaphore
+};
+
+struct PosixSemaphore {
     sem_t semaphore;
-    Lock() { sem_init(&semaphore, 0, 1); }
+    PosixSemaphore() { sem_init(&semaphore, 0, 1); }
     void lock() { sem_wait(&semaphore); }
     void unlock() { sem_post(&semaphore); }
-#elif WAY == 7 // a lock with a time
+};
+
+struct TimedMutex {
     std::timed_mutex mutex;
     void lock()
     {
@@ -78,19 +93,39 @@ struct Lock {
         }
     }
     void unlock() { mutex.unlock(); }
-#elif WAY == 8 // a semaphore of C++20
+};
+
+struct Semaphore {
     std::binary_semaphore semaphore{1};
     void lock() { semaphore.acquire(); }
     void unlock() { semaphore.release(); }
-#elif WAY == 9 // a loop of test-and-set
+};
+
+struct TestAndSet {
     std::atomic_flag flag = ATOMIC_FLAG_INIT;
     void lock()
     {
         while (flag.test_and_set(std::memory_order_acquire)) {
+#ifdef __x86_64__
+            __builtin_ia32_pause();
+#endif
         }
     }
     void unlock() { flag.clear(std::memory_order_release); }
-#elif WAY == 10 // a static initialiser, and thread-locals
+};
+
+struct SleepingLock {
+    std::atomic<bool> is_held{false};
+    void lock()
+    {
+        while (is_held.exchange(true))
+            std::this_thread::sleep_for(std::chrono::seconds(1));
+    }
+    void unlock() { is_held = false; }
+};
+
+// A static initialiser, and thread-locals.
+struct Initialiser {
     static std::mutex &mutex()
     {
         static std::unique_ptr<std::mutex> made = [] {
@@ -108,7 +143,9 @@ struct Lock {
         mutex().lock();
     }
     void unlock() { mutex().unlock(); }
-#elif WAY == 11 // std::atomic<std::shared_ptr>
+};
+
+struct AtomicPointer {
     std::atomic<std::shared_ptr<int>> held;
     void lock()
     {
@@ -118,16 +155,24 @@ struct Lock {
             none = nullptr;
     }
     void unlock() { held.store(nullptr); }
-#elif WAY == 12 // a lock of C11
+};
+
+struct MutexOfC11 {
     mtx_t mutex;
-    Lock() { mtx_init(&mutex, mtx_plain); }
+    MutexOfC11() { mtx_init(&mutex, mtx_plain); }
     void lock() { mtx_lock(&mutex); }
     void unlock() { mtx_unlock(&mutex); }
-#elif WAY == 13 // a lock for readers and writers, held as by a writer
+};
+
+// A lock for readers and writers, taken as by a writer.
+struct SharedMutex {
     std::shared_timed_mutex mutex;
     void lock() { mutex.lock(); }
     void unlock() { mutex.unlock(); }
-#elif WAY == 14 // a volatile word, as before C11
+};
+
+// As before C11.
+struct VolatileWord {
     volatile int held = 0;
     void lock()
     {
@@ -136,7 +181,10 @@ struct Lock {
             }
     }
     void unlock() { __sync_lock_release(&held); }
-#elif WAY == 15 // inline assembly, in which the scheduler sees no point
+};
+
+// The scheduler sees no point in inline assembly.
+struct Assembly {
     int held = 0;
     void lock()
     {
@@ -147,11 +195,26 @@ struct Lock {
         } while (old);
     }
     void unlock() { __asm__ volatile("movl $0,%0" : "+m"(held)::"memory"); }
-#endif
 };
 
 int main(int argc, char **argv)
 {
-    LockedMap<Lock> map;
-    return potzendai::test_main(argc, argv, map, "ways");
+    return test_named(argc, argv, {
+        {"atomic_wait", test<LockedMap<AtomicWait>>},
+        {"condition", test<LockedMap<Condition<false>>>},
+        {"timed_condition", test<LockedMap<Condition<true>>>},
+        {"exchange_16", test<LockedMap<Exchange16>>},
+        {"fetch_16", test<LockedMap<Fetch16>>},
+        {"posix_semaphore", test<LockedMap<PosixSemaphore>>},
+        {"timed_mutex", test<LockedMap<TimedMutex>>},
+        {"semaphore", test<LockedMap<Semaphore>>},
+        {"test_and_set", test<LockedMap<TestAndSet>>},
+        {"sleeping_lock", test<LockedMap<SleepingLock>>},
+        {"initialiser", test<LockedMap<Initialiser>>},
+        {"atomic_pointer", test<LockedMap<AtomicPointer>>},
+        {"mutex_of_c11", test<LockedMap<MutexOfC11>>},
+        {"shared_mutex", test<LockedMap<SharedMutex>>},
+        {"volatile_word", test<LockedMap<VolatileWord>>},
+        {"assembly", test<LockedMap<Assembly>>},
+    });
 }

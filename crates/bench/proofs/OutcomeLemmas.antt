@@ -1,18 +1,28 @@
 -- The outcome of a line that reads nothing is an outcome of the words that ask for it, and that of a line that asks for neither a plan nor a
 -- tree is what the judge's side has for it.
-use Rattle.std.proofs.Common.{◌≡◌, ℕ, List, refl}
+use Rattle.std.proofs.Common.{◌≡◌, ◌<◌, ℕ, List, Option, Some, None, refl, arith}
 use Rattle.clap.specs.Words.{Text}
 use Rattle.command_line.specs.declared.line.Line.{Line}
-use Rattle.command_line.specs.declared.line.Line.TheVariants.{Check, Judge, Locate, Explain, Draw, Page, Follow, Generate, Replay, Drive}
+use Rattle.command_line.specs.declared.line.Line.TheVariants.{Check, Judge, Locate, Explain, Draw, Page, Follow, Generate, Schedule, Replay, Drive}
+use Rattle.command_line.specs.Trees.{scheduled_place_of}
+use Rattle.command_line.specs.declared.line.DriveLine.{DriveLine}
+use Rattle.command_line.specs.declared.line.ScheduleLine.{ScheduleLine}
 use Rattle.command_line.specs.declared.line.Tree.{Tree}
+use Rattle.command_line.specs.declared.line.Tree.TheVariants as trees
 use Rattle.workload.specs.declared.mix.Mix.{Mix}
 use Rattle.outcomes.specs.declared.outcome.RunOutcome.{RunOutcome}
 use Rattle.outcomes.specs.declared.outcome.RunOutcome.TheVariants.{Answered, Noted, Refused, Memory, Words, Failed}
 use Rattle.outcomes.specs.Ends.{Change, IsSound}
+use Rattle.art_rows.specs.declared.table.Shape.{Shape}
+use Rattle.art_steps.specs.declared.variant.Variant.{Variant}
+use Rattle.locked_map.specs.Answers.{IsAnswerOf}
+use Rattle.plan_engines.specs.Drives.{IsDriveAnswer, IsDriveRefusal, IsTreeDriveAnswer}
 use Rattle.plan_engines.specs.Outcomes.{IsGenerateOutcome}
+use Rattle.plan_engines.specs.Schedules.{IsScheduleAnswer, IsScheduleRefusal}
 use Rattle.line_outcomes.specs.Outcomes.{IsAskedOutcome, IsWordsOutcome}
+use Rattle.line_outcomes.proofs.OutcomeLemmas.{read-words}
 use Rattle.judge_lines.specs.Outcomes.{AsksForTrees, IsJudgeLineOutcome}
-use Rattle.bench.specs.Outcomes.{IsLineOutcome}
+use Rattle.bench.specs.Outcomes.{IsDrivenOutcome, IsLineOutcome, IsScheduledOutcome, variant_of}
 
 pub drawn-words : (seed : ℕ) (mix : Mix) (processes calls : ℕ) (words : List Text) (source : Change) (outcome : RunOutcome)
     → (IsGenerateOutcome seed mix processes calls outcome → IsAskedOutcome IsLineOutcome words source outcome) → IsSound source
@@ -24,23 +34,39 @@ drawn-words seed mix processes calls words source Memory ask sound comes = sound
 drawn-words seed mix processes calls words source (Words text) ask sound comes = absurd comes
 drawn-words seed mix processes calls words source Failed ask sound comes = absurd comes
 
--- a line that is none of three asks for neither a plan nor a tree
+-- so it is of a schedule, and of a drive
+pub scheduled-words : (variant : Option Variant) (shape : Shape) (limit : ℕ) (words : List Text) (source : Change) (outcome : RunOutcome)
+    → (IsScheduledOutcome variant shape limit source outcome → IsAskedOutcome IsLineOutcome words source outcome)
+    → IsScheduledOutcome variant shape limit source outcome → IsWordsOutcome IsLineOutcome words source outcome
+scheduled-words (Some variant) shape limit words source outcome ask comes =
+    read-words IsLineOutcome (IsScheduleAnswer shape variant limit) (IsScheduleRefusal shape variant limit) words source outcome ask comes
+scheduled-words None shape limit words source outcome ask comes = absurd comes
+
+pub driven-words : (variant : Option Variant) (shape : Shape) (limit : ℕ) (words : List Text) (source : Change) (outcome : RunOutcome)
+    → (IsDrivenOutcome variant shape limit source outcome → IsAskedOutcome IsLineOutcome words source outcome)
+    → IsDrivenOutcome variant shape limit source outcome → IsWordsOutcome IsLineOutcome words source outcome
+driven-words (Some variant) shape limit words source outcome ask comes =
+    read-words IsLineOutcome (IsTreeDriveAnswer shape variant limit) IsDriveRefusal words source outcome ask comes
+driven-words None shape limit words source outcome ask comes =
+    read-words IsLineOutcome (IsDriveAnswer IsAnswerOf) IsDriveRefusal words source outcome ask comes
+
+-- a line that is none of four asks for neither a plan nor a tree
 pub not-trees : (line : Line)
     → ((seed processes calls get insert remove scan lo hi : ℕ) → line ≡ Generate seed processes calls get insert remove scan lo hi → ⊥)
-    → (line ≡ Replay → ⊥)
-    → ((tree : Tree) (rows4 rows16 rows48 rows256 limit : ℕ) → line ≡ Drive tree rows4 rows16 rows48 rows256 limit → ⊥)
+    → ((asked : ScheduleLine) → line ≡ Schedule asked → ⊥) → (line ≡ Replay → ⊥) → ((asked : DriveLine) → line ≡ Drive asked → ⊥)
     → ¬ (AsksForTrees line)
-not-trees (Check order) draws replays drives asks = asks
-not-trees (Judge budget workers) draws replays drives asks = asks
-not-trees (Locate budget) draws replays drives asks = asks
-not-trees (Explain budget) draws replays drives asks = asks
-not-trees (Draw budget workers around calls) draws replays drives asks = asks
-not-trees (Page budget workers) draws replays drives asks = asks
-not-trees (Follow budget) draws replays drives asks = asks
-not-trees (Generate seed processes calls get insert remove scan lo hi) draws replays drives asks =
+not-trees (Check order) draws schedules replays drives asks = asks
+not-trees (Judge budget workers) draws schedules replays drives asks = asks
+not-trees (Locate budget) draws schedules replays drives asks = asks
+not-trees (Explain budget) draws schedules replays drives asks = asks
+not-trees (Draw budget workers around calls) draws schedules replays drives asks = asks
+not-trees (Page budget workers) draws schedules replays drives asks = asks
+not-trees (Follow budget) draws schedules replays drives asks = asks
+not-trees (Generate seed processes calls get insert remove scan lo hi) draws schedules replays drives asks =
     draws seed processes calls get insert remove scan lo hi refl
-not-trees Replay draws replays drives asks = replays refl
-not-trees (Drive tree rows4 rows16 rows48 rows256 limit) draws replays drives asks = drives tree rows4 rows16 rows48 rows256 limit refl
+not-trees (Schedule asked) draws schedules replays drives asks = schedules asked refl
+not-trees Replay draws schedules replays drives asks = replays refl
+not-trees (Drive asked) draws schedules replays drives asks = drives asked refl
 
 -- and its outcome is the judge's
 pub judged-line : (line : Line) (source : Change) (outcome : RunOutcome) → ¬ (AsksForTrees line) → IsJudgeLineOutcome line source outcome
@@ -53,5 +79,16 @@ judged-line (Draw budget workers around calls) source outcome here comes = comes
 judged-line (Page budget workers) source outcome here comes = comes
 judged-line (Follow budget) source outcome here comes = comes
 judged-line (Generate seed processes calls get insert remove scan lo hi) source outcome here comes = absurd (here tt)
+judged-line (Schedule asked) source outcome here comes = absurd (here tt)
 judged-line Replay source outcome here comes = absurd (here tt)
-judged-line (Drive tree rows4 rows16 rows48 rows256 limit) source outcome here comes = absurd (here tt)
+judged-line (Drive asked) source outcome here comes = absurd (here tt)
+
+-- a tree that schedules run has a variant
+pub has-variant : (tree : Tree) → scheduled_place_of tree < 6 → variant_of tree ≡ None → ⊥
+has-variant trees.Locked few none = omega (arith, few)
+has-variant trees.Coupled few none = cc
+has-variant trees.Optimistic few none = cc
+has-variant trees.ReadUnchecked few none = cc
+has-variant trees.ScanUnvalidated few none = cc
+has-variant trees.LockUnchecked few none = cc
+has-variant trees.EarlyRelease few none = cc

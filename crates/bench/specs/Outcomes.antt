@@ -6,12 +6,13 @@ use Rattle.art_steps.specs.declared.variant.Variant.TheVariants as variants
 use Rattle.command_line.specs.declared.line.Tree.{Tree}
 use Rattle.command_line.specs.declared.line.Tree.TheVariants as trees
 use Rattle.command_line.specs.declared.line.Line.{Line}
-use Rattle.command_line.specs.declared.line.Line.TheVariants.{Generate, Replay, Drive}
+use Rattle.command_line.specs.declared.line.Rows.{Rows}
+use Rattle.command_line.specs.declared.line.Line.TheVariants.{Generate, Schedule, Replay, Drive}
 use Rattle.locked_map.specs.Answers.{IsAnswerOf}
 use Rattle.outcomes.specs.declared.outcome.RunOutcome.{RunOutcome}
 use Rattle.outcomes.specs.Ends.{Change, IsUnused}
 use Rattle.judge_lines.specs.Outcomes.{IsJudgeLineOutcome}
-use Rattle.plan_engines.specs.Outcomes.{IsDriveOutcome, IsGenerateOutcome, IsReplayOutcome, IsTreeDriveOutcome}
+use Rattle.plan_engines.specs.Outcomes.{IsDriveOutcome, IsGenerateOutcome, IsReplayOutcome, IsScheduleOutcome, IsTreeDriveOutcome}
 
 -- the variant of a tree on shared words; the map under a lock is none
 abbrev pub variant_of : Tree → Option Variant
@@ -23,17 +24,26 @@ variant_of trees.ScanUnvalidated = Some variants.ScanUnvalidated
 variant_of trees.LockUnchecked = Some variants.LockUnchecked
 variant_of trees.EarlyRelease = Some variants.EarlyRelease
 
+-- the shape of a table with these rows
+abbrev pub shape_of : Rows → Shape
+shape_of rows = record { rows4 = rows.rows4; rows16 = rows.rows16; rows48 = rows.rows48; rows256 = rows.rows256 }
+
 -- the outcome of a drive: on a tree of this shape, with at most so many steps of each call beside that of its invocation; or at a subject
 -- that may answer as the map under a lock
 abbrev pub IsDrivenOutcome : Option Variant → Shape → ℕ → Change → RunOutcome → Type 0
 IsDrivenOutcome (Some variant) shape limit source outcome = IsTreeDriveOutcome shape variant limit source outcome
 IsDrivenOutcome None shape limit source outcome = IsDriveOutcome IsAnswerOf source outcome
 
+-- the outcome of a schedule of at most so many turns, on a tree of this shape; the map under a lock has none
+abbrev pub IsScheduledOutcome : Option Variant → Shape → ℕ → Change → RunOutcome → Type 0
+IsScheduledOutcome (Some variant) shape limit source outcome = IsScheduleOutcome shape variant limit source outcome
+IsScheduledOutcome None shape limit source outcome = ⊥
+
 -- the outcome of what a line asks for, whatever the number of workers
 abbrev pub IsLineOutcome : Line → Change → RunOutcome → Type 0
 IsLineOutcome (Generate seed processes calls get insert remove scan lo hi) source outcome = IsUnused source
     × IsGenerateOutcome seed (record { get = get; insert = insert; remove = remove; scan = scan; lo = lo; hi = hi }) processes calls outcome
+IsLineOutcome (Schedule asked) source outcome = IsScheduledOutcome (variant_of asked.tree) (shape_of asked.rows) asked.limit source outcome
 IsLineOutcome Replay source outcome = IsReplayOutcome source outcome
-IsLineOutcome (Drive tree rows4 rows16 rows48 rows256 limit) source outcome =
-    IsDrivenOutcome (variant_of tree) (record { rows4 = rows4; rows16 = rows16; rows48 = rows48; rows256 = rows256 }) limit source outcome
+IsLineOutcome (Drive asked) source outcome = IsDrivenOutcome (variant_of asked.tree) (shape_of asked.rows) asked.limit source outcome
 IsLineOutcome line source outcome = IsJudgeLineOutcome line source outcome

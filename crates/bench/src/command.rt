@@ -1,19 +1,21 @@
 // What the words of the command line ask for, done.
 ghost use Rattle.std.specs.Prelude.{◌≡◌, ◌<◌};
 ghost use Rattle.clap.specs.Walk.{texts};
+ghost use Rattle.command_line.specs.Lines.{IsWithinLimits};
 ghost use Rattle.outcomes.specs.Ends.{change};
 ghost use Rattle.outcomes.specs.Runs.{IsRun};
 ghost use Rattle.outcomes.specs.Statuses.{words_status};
 ghost use Rattle.line_outcomes.specs.Outcomes.{IsWordsOutcome};
-ghost use Rattle.bench.specs.Outcomes.{IsLineOutcome, variant_of};
+ghost use Rattle.bench.specs.Outcomes.{IsLineOutcome, shape_of, variant_of};
 
 use art::{Shape, Variant};
-use command_line::{Line, Tree};
+use command_line::{DriveLine, Line, Rows, ScheduleLine, Strategy, Tree};
+use drawn_schedules::Draw;
 use judge_lines::{ProgressDisplay, run_line};
 use line_outcomes::asked_line;
 use locked_map::LockedMap;
 use outcomes::write_outcome;
-use plan_engines::{run_drive, run_generate, run_replay, run_tree_drive};
+use plan_engines::{run_drive, run_generate, run_replay, run_schedule, run_tree_drive};
 use pool::OpenGate;
 use std::alloc::Global;
 use std::sync::Wait;
@@ -75,30 +77,91 @@ pub fn run<R: Threads + Wait + Sync, S: Source, O: Sink, F: Sink, H: Sink, P: Pr
             };
             run_generate(alloc, output, faults, hints, seed, &mix, processes, calls)
         }
+        Line::Schedule(asked) => schedule(alloc, source, output, faults, hints, asked),
         Line::Replay => run_replay(alloc, source, output, faults, hints),
-        Line::Drive {
-            tree,
-            rows4,
-            rows16,
-            rows48,
-            rows256,
-            limit,
-        } => {
-            let Some(variant) = variant_of(tree) else {
-                let map = LockedMap::new(rt, alloc);
-                return run_drive(rt, alloc, source, output, faults, hints, &map);
-            };
-            let shape = Shape {
-                rows4,
-                rows16,
-                rows48,
-                rows256,
-            };
-            run_tree_drive(
-                rt, alloc, source, output, faults, hints, shape, variant, limit, &OpenGate,
-            )
-        }
+        Line::Drive(asked) => drive(rt, alloc, source, output, faults, hints, asked),
         _ => run_line(rt, alloc, source, output, faults, hints, line, progress),
+    }
+}
+
+/// Draws a schedule of the plan on the source, and answers the exit status.
+fn schedule<S: Source, O: Sink, F: Sink, H: Sink>(
+    alloc: Global,
+    source: &mut S,
+    output: &mut O,
+    faults: &mut F,
+    hints: &mut H,
+    asked: ScheduleLine,
+) -> u8
+    requires source { S.failures source.old < u64.MAX }
+    requires output { O.failures output.old < u64.MAX }
+    requires faults { F.failures faults.old < u64.MAX }
+    requires hints { H.failures hints.old < u64.MAX }
+    requires limits { IsWithinLimits (Line.Schedule asked) }
+    ensures run { IsRun
+        (IsLineOutcome (Line.Schedule asked) (change S.remaining S.failures source.old source.new))
+        (change O.written O.failures output.old output.new)
+        (change F.written F.failures faults.old faults.new)
+        (change H.written H.failures hints.old hints.new) result }
+    ensures unread { result ≡ words_status → source.new ≡ source.old }
+{
+    let Some(variant) = variant_of(asked.tree) else {
+        unreachable!()
+    };
+    let shape = shape_of(asked.rows);
+    let draw = Draw {
+        seed: asked.seed,
+        strategy: strategy_of(asked.strategy),
+        depth: asked.depth,
+    };
+    let limit = asked.limit;
+    run_schedule(
+        alloc, source, output, faults, hints, shape, variant, limit, &draw,
+    )
+}
+
+/// Does the plan on the source, and answers the exit status.
+fn drive<R: Threads + Wait + Sync, S: Source, O: Sink, F: Sink, H: Sink>(
+    rt: &R,
+    alloc: Global,
+    source: &mut S,
+    output: &mut O,
+    faults: &mut F,
+    hints: &mut H,
+    asked: DriveLine,
+) -> u8
+    requires source { S.failures source.old < u64.MAX }
+    requires output { O.failures output.old < u64.MAX }
+    requires faults { F.failures faults.old < u64.MAX }
+    requires hints { H.failures hints.old < u64.MAX }
+    requires limits { IsWithinLimits (Line.Drive asked) }
+    ensures run { IsRun
+        (IsLineOutcome (Line.Drive asked) (change S.remaining S.failures source.old source.new))
+        (change O.written O.failures output.old output.new)
+        (change F.written F.failures faults.old faults.new)
+        (change H.written H.failures hints.old hints.new) result }
+    ensures unread { result ≡ words_status → source.new ≡ source.old }
+{
+    let Some(variant) = variant_of(asked.tree) else {
+        let map = LockedMap::new(rt, alloc);
+        return run_drive(rt, alloc, source, output, faults, hints, &map);
+    };
+    let shape = shape_of(asked.rows);
+    let limit = asked.limit;
+    run_tree_drive(
+        rt, alloc, source, output, faults, hints, shape, variant, limit, &OpenGate,
+    )
+}
+
+/// The shape of a table with these rows.
+fn shape_of(rows: Rows) -> Shape
+    ensures { result ≡ shape_of rows }
+{
+    Shape {
+        rows4: rows.rows4,
+        rows16: rows.rows16,
+        rows48: rows.rows48,
+        rows256: rows.rows256,
     }
 }
 
@@ -114,5 +177,14 @@ fn variant_of(tree: Tree) -> Option<Variant>
         Tree::ScanUnvalidated => Some(Variant::ScanUnvalidated),
         Tree::LockUnchecked => Some(Variant::LockUnchecked),
         Tree::EarlyRelease => Some(Variant::EarlyRelease),
+    }
+}
+
+/// The strategy by which a schedule is drawn.
+fn strategy_of(strategy: Strategy) -> drawn_schedules::Strategy {
+    match strategy {
+        Strategy::Walk => drawn_schedules::Strategy::Walk,
+        Strategy::Pos => drawn_schedules::Strategy::Pos,
+        Strategy::Pct => drawn_schedules::Strategy::Pct,
     }
 }

@@ -100,14 +100,15 @@ read_number name least greatest default None n read = same_Some n default (sym r
 read_number name least greatest default (Some text) n read = read.2
 
 pub drives : (given : List Given) (line : Line) → Gives drive_usage given [] (asked_by line) → Drives given line
-drives given (Drive tree rows4 rows16 rows48 rows256 limit) gives =
+drives given (Drive asked) gives =
+    let rows = asked.rows in
     let numbers = gives.numbers in (
-      names_tree _ tree numbers.0.read,
-      read_number (codes "rows4") 0 rows4_limit rows4_default _ rows4 numbers.1.0.read,
-      read_number (codes "rows16") 0 rows16_limit rows16_default _ rows16 numbers.1.1.0.read,
-      read_number (codes "rows48") 0 rows48_limit rows48_default _ rows48 numbers.1.1.1.0.read,
-      read_number (codes "rows256") 1 rows256_limit rows256_default _ rows256 numbers.1.1.1.1.0.read,
-      read_number (codes "limit") 1 steps_limit steps_limit _ limit numbers.1.1.1.1.1.0.read,
+      names_tree _ asked.tree numbers.0.read,
+      read_number (codes "rows4") 0 rows4_limit rows4_default _ rows.rows4 numbers.1.0.read,
+      read_number (codes "rows16") 0 rows16_limit rows16_default _ rows.rows16 numbers.1.1.0.read,
+      read_number (codes "rows48") 0 rows48_limit rows48_default _ rows.rows48 numbers.1.1.1.0.read,
+      read_number (codes "rows256") 1 rows256_limit rows256_default _ rows.rows256 numbers.1.1.1.1.0.read,
+      read_number (codes "limit") 1 steps_limit steps_limit _ asked.limit numbers.1.1.1.1.1.0.read,
     )
 drives given other gives = absurd (other_name _ _ gives.name refl)
 

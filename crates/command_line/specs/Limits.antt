@@ -55,6 +55,17 @@ rows256_default = 16
 abbrev pub steps_limit : ℕ
 steps_limit = 1000000
 
+-- the greatest depth, and the depth where none is named
+abbrev pub depth_limit : ℕ
+depth_limit = 64
+
+abbrev pub depth_default : ℕ
+depth_default = 3
+
+-- the most turns of a schedule, which are meant where no number is named
+abbrev pub turns_limit : ℕ
+turns_limit = 1000000
+
 -- the greatest number that a `u64` holds
 abbrev pub u64_limit : ℕ
 u64_limit = 18446744073709551615

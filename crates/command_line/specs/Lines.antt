@@ -1,22 +1,27 @@
 -- What the words of a command line ask for.
-use Rattle.std.specs.Prelude.{ℕ, ◌≡◌, ◌≤◌, ◌⊎◌, ⊤, List, [], ◌∷◌, ◌++◌, Option, Some, None, map, codes}
+use Rattle.std.specs.Prelude.{ℕ, ◌≡◌, ◌<◌, ◌≤◌, ◌⊎◌, ⊤, List, [], ◌∷◌, ◌++◌, Option, Some, None, map, codes}
 use Rattle.std.specs.Prelude.{IfSome}
 use Rattle.std.specs.List.{All}
 use Rattle.std.specs.Option.{option_map_or}
 use Rattle.clap.specs.Words.{Text, subcommand_of}
-use Rattle.command_line.specs.Limits.{around_limit, budget_default, budget_limit, rows16_default, rows16_limit, rows256_default}
+use Rattle.command_line.specs.Limits.{around_limit, budget_default, budget_limit, depth_limit, rows16_default, rows16_limit, rows256_default}
 use Rattle.command_line.specs.Limits.{rows256_limit, rows4_default, rows4_limit, rows48_default}
-use Rattle.command_line.specs.Limits.{rows48_limit, shown_limit, steps_limit, workers_default, workers_limit}
+use Rattle.command_line.specs.Limits.{rows48_limit, shown_limit, steps_limit, turns_limit, workers_default, workers_limit}
 use Rattle.command_line.specs.Numbers.{IsNumber, IsNumberWithin, number_of}
 use Rattle.command_line.specs.Program.{bench_app, bench_table, draw_usage, drive_usage}
 use Rattle.command_line.specs.Requests.{Asked, Asks}
-use Rattle.command_line.specs.Trees.{name_of, place_of}
+use Rattle.command_line.specs.Trees.{name_of, place_of, scheduled_place_of, strategy_place}
 use Rattle.command_line.specs.Words.{AreOptionsOf, Given, value_given}
 use Rattle.command_line.specs.Words.{option_words as words_of}
 use Rattle.command_line.specs.declared.line.Line.{Line}
-use Rattle.command_line.specs.declared.line.Line.TheVariants.{Check, Judge, Locate, Explain, Draw, Page, Follow, Generate, Replay, Drive}
+use Rattle.command_line.specs.declared.line.Line.TheVariants.{Check, Judge, Locate, Explain, Draw, Page, Follow, Generate, Schedule, Replay, Drive}
+use Rattle.command_line.specs.declared.line.Rows.{Rows}
 use Rattle.command_line.specs.declared.line.Tree.{Tree}
 use Rattle.command_line.specs.declared.line.Tree.TheVariants.{Optimistic}
+
+-- the numbers of rows, and others after them
+abbrev pub rows_then : Rows → List ℕ → List ℕ
+rows_then rows later = rows.rows4 ∷ rows.rows16 ∷ rows.rows48 ∷ rows.rows256 ∷ later
 
 -- the subcommand of a line, the numbers of its options in the order of the table, and its calls
 abbrev pub asked_by : Line → Asked
@@ -35,18 +40,26 @@ asked_by (Generate seed processes calls get insert remove scan lo hi) = record {
   numbers = seed ∷ processes ∷ calls ∷ get ∷ insert ∷ remove ∷ scan ∷ lo ∷ hi ∷ [];
   calls = [];
 }
-asked_by Replay = record { name = codes "replay"; numbers = []; calls = [] }
-asked_by (Drive tree rows4 rows16 rows48 rows256 limit) = record {
-  name = codes "drive";
-  numbers = place_of tree ∷ rows4 ∷ rows16 ∷ rows48 ∷ rows256 ∷ limit ∷ [];
+asked_by (Schedule asked) = record {
+  name = codes "schedule";
+  numbers = asked.seed ∷ strategy_place asked.strategy ∷ asked.depth ∷ scheduled_place_of asked.tree ∷ rows_then asked.rows (asked.limit ∷ []);
   calls = [];
 }
+asked_by Replay = record { name = codes "replay"; numbers = []; calls = [] }
+asked_by (Drive asked) =
+    record { name = codes "drive"; numbers = place_of asked.tree ∷ rows_then asked.rows (asked.limit ∷ []); calls = [] }
 
 -- the words ask for this line, the program's name first
 abbrev pub IsLineOf : List Text → Line → Type 0
 IsLineOf words line = Asks bench_table (subcommand_of bench_app words) (asked_by line)
 
--- each number of the line is within its limits; those of `generate` have none but their types
+-- the numbers of rows are within their limits
+abbrev pub AreRowsWithin : Rows → Type 0
+AreRowsWithin rows = (rows.rows4 ≤ rows4_limit) × (rows.rows16 ≤ rows16_limit) × (rows.rows48 ≤ rows48_limit) × (1 ≤ rows.rows256)
+    × (rows.rows256 ≤ rows256_limit)
+
+-- each number of the line is within its limits, and the tree of a schedule is not the map under a lock; the numbers of `generate` have no
+-- limits but those of their types
 abbrev pub IsWithinLimits : Line → Type 0
 IsWithinLimits (Check order) = ⊤
 IsWithinLimits (Judge budget workers) =
@@ -59,10 +72,10 @@ IsWithinLimits (Page budget workers) =
     (1 ≤ budget) × (budget ≤ budget_limit) × (1 ≤ workers) × (workers ≤ workers_limit)
 IsWithinLimits (Follow budget) = (1 ≤ budget) × (budget ≤ budget_limit)
 IsWithinLimits (Generate seed processes calls get insert remove scan lo hi) = ⊤
+IsWithinLimits (Schedule asked) = (1 ≤ asked.depth) × (asked.depth ≤ depth_limit) × (scheduled_place_of asked.tree < 6)
+    × AreRowsWithin asked.rows × (1 ≤ asked.limit) × (asked.limit ≤ turns_limit)
 IsWithinLimits Replay = ⊤
-IsWithinLimits (Drive tree rows4 rows16 rows48 rows256 limit) = (rows4 ≤ rows4_limit)
-    × (rows16 ≤ rows16_limit) × (rows48 ≤ rows48_limit) × (1 ≤ rows256) × (rows256 ≤ rows256_limit)
-    × (1 ≤ limit) × (limit ≤ steps_limit)
+IsWithinLimits (Drive asked) = AreRowsWithin asked.rows × (1 ≤ asked.limit) × (asked.limit ≤ steps_limit)
 
 -- the words are a name, `check` and texts of which each spells a number
 abbrev pub IsCheck : List Text → List Text → Type 0
@@ -127,11 +140,10 @@ Draws given other = ⊥
 
 -- the line is a drive at the tree, with the rows and with the limit that the options name
 abbrev pub Drives : List Given → Line → Type 0
-Drives given (Drive tree rows4 rows16 rows48 rows256 limit) =
-    NamesTree (value_given given (codes "tree")) tree
-    × (rows4 ≡ number_given given (codes "rows4") rows4_default)
-    × (rows16 ≡ number_given given (codes "rows16") rows16_default)
-    × (rows48 ≡ number_given given (codes "rows48") rows48_default)
-    × (rows256 ≡ number_given given (codes "rows256") rows256_default)
-    × (limit ≡ number_given given (codes "limit") steps_limit)
+Drives given (Drive asked) = NamesTree (value_given given (codes "tree")) asked.tree
+    × (asked.rows.rows4 ≡ number_given given (codes "rows4") rows4_default)
+    × (asked.rows.rows16 ≡ number_given given (codes "rows16") rows16_default)
+    × (asked.rows.rows48 ≡ number_given given (codes "rows48") rows48_default)
+    × (asked.rows.rows256 ≡ number_given given (codes "rows256") rows256_default)
+    × (asked.limit ≡ number_given given (codes "limit") steps_limit)
 Drives given other = ⊥

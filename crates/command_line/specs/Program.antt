@@ -2,12 +2,13 @@
 use Rattle.std.specs.Prelude.{ℕ, List, [], ◌∷◌, Some, None, codes, map, true, false}
 use Rattle.clap.specs.Words.{App, Text}
 use Rattle.command_line.specs.Commands.{table_app}
-use Rattle.command_line.specs.Limits.{around_limit, budget_default, budget_limit, rows16_default, rows16_limit}
+use Rattle.command_line.specs.Limits.{around_limit, budget_default, budget_limit, depth_default, depth_limit, rows16_default, rows16_limit}
 use Rattle.command_line.specs.Limits.{rows256_default, rows256_limit, rows4_default, rows4_limit}
-use Rattle.command_line.specs.Limits.{rows48_default, rows48_limit, shown_limit, steps_limit, u32_limit}
+use Rattle.command_line.specs.Limits.{rows48_default, rows48_limit, shown_limit, steps_limit, turns_limit, u32_limit}
 use Rattle.command_line.specs.Limits.{u64_limit, workers_default, workers_limit}
 use Rattle.command_line.specs.Tables.{Flag, Usage, among, within}
-use Rattle.command_line.specs.Trees.{name_of, place_of, trees}
+use Rattle.command_line.specs.Trees.{name_of, place_of, scheduled_place_of, scheduled_trees, strategies, strategy_name, strategy_place, trees}
+use Rattle.command_line.specs.declared.line.Strategy.TheVariants.{Pos}
 use Rattle.command_line.specs.declared.line.Tree.TheVariants.{Optimistic}
 
 -- `check [CALL]..`
@@ -79,6 +80,40 @@ generate_usage = record {
   takes_calls = false;
 }
 
+-- `--strategy NAME`, and `pos` where it is left out
+abbrev pub strategy_flag : Flag
+strategy_flag = record {
+  name = codes "strategy";
+  values = among (map strategy_name strategies);
+  default = Some (strategy_place Pos);
+}
+
+-- `--tree NAME` with a schedule, and `optimistic` where it is left out
+abbrev pub scheduled_tree_flag : Flag
+scheduled_tree_flag = record {
+  name = codes "tree";
+  values = among (map name_of scheduled_trees);
+  default = Some (scheduled_place_of Optimistic);
+}
+
+-- how many rows of each kind there are: `[--rows4 N] [--rows16 N] [--rows48 N] [--rows256 N]`
+abbrev pub rows_flags : List Flag → List Flag
+rows_flags later =
+    number_flag (codes "rows4") 0 rows4_limit rows4_default
+    ∷ number_flag (codes "rows16") 0 rows16_limit rows16_default
+    ∷ number_flag (codes "rows48") 0 rows48_limit rows48_default
+    ∷ number_flag (codes "rows256") 1 rows256_limit rows256_default ∷ later
+
+-- `schedule --seed N [--strategy NAME] [--depth N] [--tree NAME]`, the rows, and `[--limit N]`
+abbrev pub schedule_usage : Usage
+schedule_usage = record {
+  name = codes "schedule";
+  flags = required_flag (codes "seed") u64_limit ∷ strategy_flag
+      ∷ number_flag (codes "depth") 1 depth_limit depth_default ∷ scheduled_tree_flag
+      ∷ rows_flags (number_flag (codes "limit") 1 turns_limit turns_limit ∷ []);
+  takes_calls = false;
+}
+
 -- `replay`
 abbrev pub replay_usage : Usage
 replay_usage = record { name = codes "replay"; flags = []; takes_calls = false }
@@ -95,19 +130,15 @@ tree_flag = record {
 abbrev pub drive_usage : Usage
 drive_usage = record {
   name = codes "drive";
-  flags = tree_flag ∷ number_flag (codes "rows4") 0 rows4_limit rows4_default
-      ∷ number_flag (codes "rows16") 0 rows16_limit rows16_default
-      ∷ number_flag (codes "rows48") 0 rows48_limit rows48_default
-      ∷ number_flag (codes "rows256") 1 rows256_limit rows256_default
-      ∷ number_flag (codes "limit") 1 steps_limit steps_limit ∷ [];
+  flags = tree_flag ∷ rows_flags (number_flag (codes "limit") 1 steps_limit steps_limit ∷ []);
   takes_calls = false;
 }
 
 -- the subcommands of the program
 abbrev pub bench_table : List Usage
 bench_table =
-    check_usage ∷ judge_usage ∷ locate_usage ∷ explain_usage ∷ draw_usage ∷ page_usage ∷ follow_usage ∷ generate_usage ∷ replay_usage
-    ∷ drive_usage ∷ []
+    check_usage ∷ judge_usage ∷ locate_usage ∷ explain_usage ∷ draw_usage ∷ page_usage ∷ follow_usage ∷ generate_usage ∷ schedule_usage
+    ∷ replay_usage ∷ drive_usage ∷ []
 
 -- the program, as `clap` reads it
 unfoldable pub bench_app : App

@@ -15,5 +15,5 @@ mod request;
 mod table;
 
 pub use fault::LineFault;
-pub use line::{Line, Tree};
+pub use line::{DriveLine, Line, Rows, ScheduleLine, Strategy, Tree};
 pub use read::read_line;

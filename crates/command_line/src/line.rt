@@ -60,20 +60,44 @@ pub enum Line {
         lo: u32,
         hi: u32,
     },
+    /// It asks for a replay of the plan on standard input, whose schedule is drawn.
+    Schedule(ScheduleLine),
     /// It asks for the history that the run of the replay on standard input records.
     Replay,
-    /// It asks for the history of the plan on standard input, done at this tree. Its table has so
-    /// many rows of the kinds with up to 4, 16, 48 and 256 children, at most 4,096, 1,024, 256 and
-    /// 64, and 1 at least of the last. A call that has had `limit` steps without an answer, 1 to
-    /// 1,000,000, is left pending. At `Tree::Locked` the rows and the limit mean nothing.
-    Drive {
-        tree: Tree,
-        rows4: u32,
-        rows16: u32,
-        rows48: u32,
-        rows256: u32,
-        limit: u32,
-    },
+    /// It asks for the history of the plan on standard input, done by threads.
+    Drive(DriveLine),
+}
+
+/// From what a schedule is drawn, and of which tree it is, which is not `Tree::Locked`.
+#[derive(Clone, Copy)]
+pub struct ScheduleLine {
+    pub seed: u64,
+    pub strategy: Strategy,
+    /// One more than the turns at which `Strategy::Pct` lowers a priority, 1 to 64.
+    pub depth: u32,
+    pub tree: Tree,
+    pub rows: Rows,
+    /// The most turns that the schedule has, 1 to 1,000,000.
+    pub limit: u32,
+}
+
+/// What a plan is done at. At `Tree::Locked` the rows and the limit mean nothing.
+#[derive(Clone, Copy)]
+pub struct DriveLine {
+    pub tree: Tree,
+    pub rows: Rows,
+    /// After so many steps, 1 to 1,000,000, a call that has no answer is left pending.
+    pub limit: u32,
+}
+
+/// The rows of a tree's table, by how many children they have room for: at most 4,096, 1,024, 256
+/// and 64, and 1 at least of the last.
+#[derive(Clone, Copy)]
+pub struct Rows {
+    pub rows4: u32,
+    pub rows16: u32,
+    pub rows48: u32,
+    pub rows256: u32,
 }
 
 /// What a drive does its calls at.
@@ -93,4 +117,15 @@ pub enum Tree {
     LockUnchecked,
     /// It is `Coupled`, but a get, remove or replace unlocks a row before it locks the next.
     EarlyRelease,
+}
+
+/// How the process of each turn of a schedule is chosen.
+#[derive(Clone, Copy)]
+pub enum Strategy {
+    /// Each process is as likely as any other.
+    Walk,
+    /// Priorities choose. They are drawn again for steps that race.
+    Pos,
+    /// Priorities choose. They change at few turns.
+    Pct,
 }

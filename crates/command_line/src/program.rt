@@ -42,6 +42,20 @@ macro_rules! budget_option {
     };
 }
 
+// How many rows a tree has of each kind, between the options before the semicolon and those after it.
+macro_rules! tree_options {
+    ($($before:expr),* ; $($after:expr),*) => {
+        &[
+            $($before,)*
+            number_option!("rows4", "How many nodes (rows) with up to 4 children its tree may have", 0 to 4096, default 1024),
+            number_option!("rows16", "How many nodes (rows) with up to 16 children its tree may have", 0 to 1024, default 256),
+            number_option!("rows48", "How many nodes (rows) with up to 48 children its tree may have", 0 to 256, default 64),
+            number_option!("rows256", "How many nodes (rows) with up to 256 children its tree may have", 1 to 64, default 16),
+            $($after),*
+        ]
+    };
+}
+
 // The options of a search, and others behind them.
 macro_rules! search_options {
     ($($other:expr),*) => {
@@ -59,7 +73,7 @@ macro_rules! search_options {
 }
 
 /// The subcommands of the program.
-pub(crate) static SUBCOMMANDS: [Subcommand<'static>; 10] = [
+pub(crate) static SUBCOMMANDS: [Subcommand<'static>; 11] = [
     Subcommand {
         name: "check",
         about: "Tells whether operations, in this order, are a linearization of the history on standard input",
@@ -138,6 +152,35 @@ pub(crate) static SUBCOMMANDS: [Subcommand<'static>; 10] = [
         takes_calls: false,
     },
     Subcommand {
+        name: "schedule",
+        about: "Draws a schedule (replay) of a tree for the workload (plan) on standard input",
+        options: tree_options!(
+            required_option!("seed", "From what the schedule is drawn", u64::MAX),
+            ValueOption {
+                name: "strategy",
+                help: "How the process of each turn is chosen: walk, pos or pct [default: pos]",
+                values: Values::Among(&["walk", "pos", "pct"]),
+                default: Some(1),
+            },
+            number_option!("depth", "One more than the turns at which pct lowers a priority", 1 to 64, default 3),
+            ValueOption {
+                name: "tree",
+                help: "The tree: coupled, optimistic, read-unchecked, scan-unvalidated, lock-unchecked or early-release [default: optimistic]",
+                values: Values::Among(&[
+                    "coupled",
+                    "optimistic",
+                    "read-unchecked",
+                    "scan-unvalidated",
+                    "lock-unchecked",
+                    "early-release",
+                ]),
+                default: Some(1),
+            };
+            number_option!("limit", "How many turns the schedule has at most", 1 to 1_000_000, default 1_000_000)
+        ),
+        takes_calls: false,
+    },
+    Subcommand {
         name: "replay",
         about: "Runs trees by the schedule (replay) on standard input, and writes the history that is recorded",
         options: &[],
@@ -146,7 +189,7 @@ pub(crate) static SUBCOMMANDS: [Subcommand<'static>; 10] = [
     Subcommand {
         name: "drive",
         about: "Does the workload (plan) on standard input at a map, by threads, and writes the history that is recorded",
-        options: &[
+        options: tree_options!(
             ValueOption {
                 name: "tree",
                 help: "The map: locked, coupled, optimistic, read-unchecked, scan-unvalidated, lock-unchecked or early-release [default: optimistic]",
@@ -160,13 +203,9 @@ pub(crate) static SUBCOMMANDS: [Subcommand<'static>; 10] = [
                     "early-release",
                 ]),
                 default: Some(2),
-            },
-            number_option!("rows4", "How many nodes (rows) with up to 4 children its tree may have", 0 to 4096, default 1024),
-            number_option!("rows16", "How many nodes (rows) with up to 16 children its tree may have", 0 to 1024, default 256),
-            number_option!("rows48", "How many nodes (rows) with up to 48 children its tree may have", 0 to 256, default 64),
-            number_option!("rows256", "How many nodes (rows) with up to 256 children its tree may have", 1 to 64, default 16),
-            number_option!("limit", "How many steps an operation has at most before it is left pending", 1 to 1_000_000, default 1_000_000),
-        ],
+            };
+            number_option!("limit", "How many steps an operation has at most before it is left pending", 1 to 1_000_000, default 1_000_000)
+        ),
         takes_calls: false,
     },
 ];

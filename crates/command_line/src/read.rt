@@ -7,17 +7,17 @@ ghost use Rattle.command_line.specs.WordsFaults.{HasNamed, IsAccepted, IsFaultAt
 ghost use Rattle.command_line.specs.Limits.{budget_default, workers_default};
 ghost use Rattle.command_line.specs.Lines.{asked_by, ChecksNumbers, Draws, Drives, IsCheck, IsDraw, IsDrive};
 ghost use Rattle.command_line.specs.Lines.{IsJudge, IsLineOf, IsLocate, IsWithinLimits};
-ghost use Rattle.command_line.specs.Trees.{place_of};
+ghost use Rattle.command_line.specs.Trees.{place_of, scheduled_place_of, strategy_place};
 ghost use Rattle.command_line.specs.Numbers.{number_of};
 ghost use Rattle.command_line.specs.Program.{bench_app, bench_table, draw_usage, drive_usage, explain_usage, follow_usage};
-ghost use Rattle.command_line.specs.Program.{generate_usage, judge_usage, locate_usage, page_usage};
+ghost use Rattle.command_line.specs.Program.{generate_usage, judge_usage, locate_usage, page_usage, schedule_usage};
 ghost use Rattle.command_line.specs.Requests.{AreFlagsOf, IsAskable, IsRequestOf, asked_of, flags_of};
 ghost use Rattle.command_line.specs.Tables.{Usage};
 ghost use Rattle.command_line.specs.Words.{Given, Gives, IsUse};
 
 use crate::asked::Request;
 use crate::fault::LineFault;
-use crate::line::{Line, Tree};
+use crate::line::{DriveLine, Line, Rows, ScheduleLine, Strategy, Tree};
 use crate::program::{ABOUT, NAME, SUBCOMMANDS};
 use crate::request::read_request;
 use std::alloc::Global;
@@ -86,6 +86,7 @@ fn line_of(request: Request<'_>) -> Line
         "page" => page_line(&request),
         "follow" => follow_line(&request),
         "generate" => generate_line(&request),
+        "schedule" => schedule_line(&request),
         "replay" => Line::Replay,
         "drive" => drive_line(&request),
         _ => unreachable!(),
@@ -182,20 +183,73 @@ fn generate_line(request: &Request<'_>) -> Line
     }
 }
 
+// The line of `schedule`.
+fn schedule_line(request: &Request<'_>) -> Line
+    requires { IsRequestOf schedule_usage request.now }
+    ensures same { asked_by result ≡ asked_of request.now }
+    ensures limits { IsWithinLimits result }
+{
+    let seed = request.wide_number("seed");
+    Line::Schedule(ScheduleLine {
+        seed,
+        strategy: strategy_at(request.number("strategy")),
+        depth: request.number("depth"),
+        tree: scheduled_tree_at(request.number("tree")),
+        rows: Rows {
+            rows4: request.number("rows4"),
+            rows16: request.number("rows16"),
+            rows48: request.number("rows48"),
+            rows256: request.number("rows256"),
+        },
+        limit: request.number("limit"),
+    })
+}
+
+// The strategy at this place among those that the words may name.
+fn strategy_at(place: u32) -> Strategy
+    requires { place < 3 }
+    ensures { strategy_place result ≡ place }
+{
+    match place {
+        0 => Strategy::Walk,
+        1 => Strategy::Pos,
+        2 => Strategy::Pct,
+        _ => unreachable!(),
+    }
+}
+
+// The tree at this place among those that a schedule runs.
+fn scheduled_tree_at(place: u32) -> Tree
+    requires { place < 6 }
+    ensures { scheduled_place_of result ≡ place }
+{
+    match place {
+        0 => Tree::Coupled,
+        1 => Tree::Optimistic,
+        2 => Tree::ReadUnchecked,
+        3 => Tree::ScanUnvalidated,
+        4 => Tree::LockUnchecked,
+        5 => Tree::EarlyRelease,
+        _ => unreachable!(),
+    }
+}
+
 // The line of `drive`.
 fn drive_line(request: &Request<'_>) -> Line
     requires { IsRequestOf drive_usage request.now }
     ensures same { asked_by result ≡ asked_of request.now }
     ensures limits { IsWithinLimits result }
 {
-    Line::Drive {
+    Line::Drive(DriveLine {
         tree: tree_at(request.number("tree")),
-        rows4: request.number("rows4"),
-        rows16: request.number("rows16"),
-        rows48: request.number("rows48"),
-        rows256: request.number("rows256"),
+        rows: Rows {
+            rows4: request.number("rows4"),
+            rows16: request.number("rows16"),
+            rows48: request.number("rows48"),
+            rows256: request.number("rows256"),
+        },
         limit: request.number("limit"),
-    }
+    })
 }
 
 // The tree at this place among those that the words may name.

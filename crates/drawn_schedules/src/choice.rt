@@ -72,15 +72,16 @@ impl Choice {
         Ok(())
     }
 
+    /// Draws the turns at which a priority changes: one fewer than the depth, each below this number.
     fn add_changes(&mut self, depth: u32, turns: u32) -> Result<(), Memory>
         ensures { self.new.processes ≡ self.old.processes }
     {
+        if turns == 0 {
+            return Ok(());
+        }
         for _ in 1..depth {
-            let turn = match self.generator.next_word().checked_rem(turns) {
-                Some(turn) => turn,
-                None => return Ok(()),
-            };
-            self.changes.push(turn)?;
+            let word = self.generator.next_word();
+            self.changes.push(word % turns)?;
         }
         Ok(())
     }

@@ -1,2 +1,3 @@
 mod WholePlans
 mod WholeReplays
+mod WholeSchedules

@@ -12,11 +12,11 @@ use Rattle.outcomes.proofs.WholeText.{same_text}
 use Rattle.plan_engines.specs.Drives.{SpellsDrivable, WasPassedForPlan, IsDrivenAnswer, IsDriven, IsDriveRefusal, IsUndriven}
 
 -- a plan that the text read spells is the one of the whole
-SpellsPlan-whole : (text : List ℕ) (scripts : List (List Call)) → SpellsPlan (take (text_limit + 1) text) scripts → SpellsPlan text scripts
+pub SpellsPlan-whole : (text : List ℕ) (scripts : List (List Call)) → SpellsPlan (take (text_limit + 1) text) scripts → SpellsPlan text scripts
 SpellsPlan-whole text scripts h = subst (λ (t : List ℕ). SpellsPlan t scripts) (same_text text_limit text h.json.fits) h
 
 -- a fault of the text read, as one of a plan, is one of the whole
-IsPlanTextFault-whole : (text : List ℕ) (fault : PlanFault) → IsPlanTextFault (take (text_limit + 1) text) fault
+pub IsPlanTextFault-whole : (text : List ℕ) (fault : PlanFault) → IsPlanTextFault (take (text_limit + 1) text) fault
     → IsPlanTextFault text fault
 IsPlanTextFault-whole text plans.TooLong h = let size =
     length-take (text_limit + 1) text in let long : text_limit < length (take (text_limit + 1) text) =

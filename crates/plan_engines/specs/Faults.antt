@@ -11,7 +11,9 @@ use Rattle.outcomes.specs.declared.outcome.RunOutcome.{RunOutcome}
 use Rattle.outcomes.specs.declared.outcome.RunOutcome.TheVariants.{Refused, Memory}
 use Rattle.outcomes.specs.Lines.{line, memory_line}
 use Rattle.outcomes.specs.Wanted.{wanted_hint}
-use Rattle.plan_engines.specs.Wanted.{plan_wanted, replay_wanted}
+use Rattle.drawn_schedules.specs.declared.fault.DrawFault.{DrawFault}
+use Rattle.drawn_schedules.specs.declared.fault.DrawFault.TheVariants as draws
+use Rattle.plan_engines.specs.Wanted.{plan_wanted, replay_wanted, too_long_wanted}
 
 -- why there is no plan
 abbrev pub plan_fault_line : PlanFault → List ℕ
@@ -57,3 +59,14 @@ IsReplayFaultOutcome fault (Refused bytes hint) = (fault ≢ replays.Memory) × 
     × (string_bytes hint ≡ wanted_hint (replay_wanted fault))
 IsReplayFaultOutcome fault Memory = ⊤
 IsReplayFaultOutcome fault outcome = ⊥
+
+-- the line of a schedule with more items than a replay may have
+abbrev pub too_long_line : List ℕ
+too_long_line = line (codes "schedule: 1 TooManyItems")
+
+-- the outcome if no schedule is drawn, for this fault
+abbrev pub IsDrawFaultOutcome : DrawFault → RunOutcome → Type 0
+IsDrawFaultOutcome draws.TooManyItems (Refused bytes hint) = (string_bytes bytes ≡ too_long_line)
+    × (string_bytes hint ≡ wanted_hint too_long_wanted)
+IsDrawFaultOutcome fault Memory = ⊤
+IsDrawFaultOutcome fault outcome = ⊥

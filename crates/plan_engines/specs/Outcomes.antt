@@ -16,6 +16,10 @@ use Rattle.outcomes.specs.Ends.{Change}
 use Rattle.outcomes.specs.Lines.{line}
 use Rattle.outcomes.specs.Outcomes.{IsReadOutcome}
 use Rattle.plan_engines.specs.Answers.{IsGenerateAnswer, IsGenerateRefusal, IsReplayAnswer, IsReplayRefusal}
+use Rattle.plan_engines.specs.Schedules.{IsScheduleAnswer, IsScheduleRefusal}
+use Rattle.replay_text.specs.Replays.{ReplayView}
+use Rattle.replay_text.specs.ReplayTexts.{SpellsReplay}
+use Rattle.replay_text.specs.WrittenReplays.{written_data}
 use Rattle.plan_engines.specs.Drives.{IsDriveAnswer, IsTreeDriveAnswer, IsDriveRefusal}
 
 -- the outcome of `generate` from this seed, mix and numbers of processes and calls
@@ -50,3 +54,15 @@ IsHistoryOutcome history (Answered answer bytes) = (answer ≡ Yes) × (string_b
     × (length (string_bytes bytes) ≤ text_limit → Spells (string_bytes bytes) history)
 IsHistoryOutcome history Memory = ⊤
 IsHistoryOutcome history outcome = ⊥
+
+-- the outcome of `schedule` for a tree of this shape and variant, with at most this many turns
+abbrev pub IsScheduleOutcome : Shape → Variant → ℕ → Change → RunOutcome → Type 0
+IsScheduleOutcome shape variant limit source outcome =
+    IsReadOutcome (IsScheduleAnswer shape variant limit) (IsScheduleRefusal shape variant limit) source outcome
+
+-- the outcome of a drawn replay: its text, or out of memory
+abbrev pub IsReplayLineOutcome : ReplayView → RunOutcome → Type 0
+IsReplayLineOutcome replay (Answered answer bytes) = (answer ≡ Yes) × (string_bytes bytes ≡ line (compact_text (written_data replay)))
+    × SpellsReplay (string_bytes bytes) replay
+IsReplayLineOutcome replay Memory = ⊤
+IsReplayLineOutcome replay outcome = ⊥

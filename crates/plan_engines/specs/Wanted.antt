@@ -39,3 +39,7 @@ abbrev pub replay_wanted : ReplayFault → List ℕ
 replay_wanted (replays.Replay fault) = machine_wanted fault
 replay_wanted (replays.Schedule stop) = machine_wanted stop.fault
 replay_wanted replays.Memory = []
+
+-- the hint on a schedule with more items than a replay may have
+abbrev pub too_long_wanted : List ℕ
+too_long_wanted = codes "a schedule of at most 100000 items: fewer operations, or a lower --limit"

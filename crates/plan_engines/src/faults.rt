@@ -1,9 +1,10 @@
 // How the fault of a plan or of a replay is told.
 ghost use Rattle.std.specs.Prelude.{◌≡◌, IfOk, string_bytes};
 ghost use Rattle.plan_engines.specs.Faults.{plan_fault_line, machine_fault_name, stop_line, replay_fault_line};
-ghost use Rattle.plan_engines.specs.Faults.{IsPlanFaultOutcome, IsReplayFaultOutcome};
+ghost use Rattle.plan_engines.specs.Faults.{IsDrawFaultOutcome, IsPlanFaultOutcome, IsReplayFaultOutcome};
 
-use crate::wanted::{plan_wanted, replay_wanted};
+use crate::wanted::{plan_wanted, replay_wanted, too_long_wanted};
+use drawn_schedules::DrawFault;
 use outcomes::{RunOutcome, wanted_hint};
 use plans::{MachineFault, PlanFault, RunFault};
 use replays::ReplayFault;
@@ -31,6 +32,19 @@ pub(crate) fn replay_fault_outcome(alloc: Global, fault: &ReplayFault) -> RunOut
         _ => RunOutcome::from_refusal(
             replay_fault_line(alloc, fault),
             wanted_hint(alloc, replay_wanted(fault)),
+        ),
+    }
+}
+
+/// Returns the refusal of a schedule with more items than a replay may have, or `Memory`.
+pub(crate) fn draw_fault_outcome(alloc: Global, fault: DrawFault) -> RunOutcome
+    ensures { IsDrawFaultOutcome fault result }
+{
+    match fault {
+        DrawFault::Memory => RunOutcome::Memory,
+        DrawFault::TooManyItems => RunOutcome::from_refusal(
+            String::from_str(alloc, "schedule: 1 TooManyItems\n"),
+            wanted_hint(alloc, too_long_wanted()),
         ),
     }
 }

@@ -1,6 +1,6 @@
 // What is said beside the line of a fault of a plan or of a replay: what was wanted.
 ghost use Rattle.std.specs.Prelude.{◌≡◌};
-ghost use Rattle.plan_engines.specs.Wanted.{plan_wanted, machine_wanted, replay_wanted};
+ghost use Rattle.plan_engines.specs.Wanted.{plan_wanted, machine_wanted, replay_wanted, too_long_wanted};
 
 use outcomes::{json_wanted, length_wanted};
 use plans::{MachineFault, PlanFault};
@@ -55,4 +55,11 @@ fn machine_wanted(fault: MachineFault) -> &'static str
         }
         MachineFault::StartRefused => "rows that have room for the starting pairs",
     }
+}
+
+/// Returns the hint on a schedule with more items than a replay may have.
+pub(crate) fn too_long_wanted() -> &'static str
+    ensures { result.now ≡ too_long_wanted }
+{
+    "a schedule of at most 100000 items: fewer operations, or a lower --limit"
 }

@@ -8,7 +8,7 @@ import java.util.concurrent.ConcurrentMap;
 import java.util.function.Consumer;
 import java.util.function.Function;
 
-/** Caffeine and Guava, tested: each as a cache, and each loading from a map that stands for a database. README.md says how they are run. */
+/** Caffeine and Guava, tested: each as a cache, and each loading from a map in place of a database. README.md says how they are run. */
 public final class JavaCaches {
     private static final int ENTRIES = 4, LOADED = 8;
 

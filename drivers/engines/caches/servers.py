@@ -3,7 +3,7 @@
     python3 drivers/engines/caches/servers.py memcached --cache --keys 400
     python3 drivers/engines/caches/servers.py redis:7379 --cache --keys 100
 
-A port other than 7380 of memcached and 7379 of Redis stands after the name.
+The ports are 7380 for memcached and 7379 for Redis; another one comes after the name.
 """
 import os
 import sys

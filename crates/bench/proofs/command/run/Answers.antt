@@ -5,8 +5,8 @@ use Rattle.outcomes.specs.Ends.{change}
 use Rattle.line_outcomes.proofs.OutcomeLemmas.{read-words, fault-words}
 use Rattle.judge_lines.specs.Outcomes.{AsksForTrees}
 use Rattle.judge_lines.proofs.OutcomeLemmas.{judged-words}
-use Rattle.bench.specs.Outcomes.{IsLineOutcome}
-use Rattle.bench.proofs.OutcomeLemmas.{drawn-words, judged-line, not-trees}
+use Rattle.bench.specs.Outcomes.{IsLineOutcome, shape_of, variant_of}
+use Rattle.bench.proofs.OutcomeLemmas.{drawn-words, driven-words, judged-line, not-trees, scheduled-words}
 use Rattle.bench.proofs.command.run.Goals as goal
 
 pub returns-in-Generate-clause-run : goal.returns-in-Generate-clause-run
@@ -25,6 +25,22 @@ returns-in-Generate-clause-run g c = record {
   leaves = c.run_generate.ensures.leaves;
 }
 
+pub returns-in-Schedule-clause-run : goal.returns-in-Schedule-clause-run
+returns-in-Schedule-clause-run g c = record {
+  outcome = c.schedule.ensures.run.outcome;
+  comes = scheduled-words (variant_of c.in-Schedule.asked.tree) (shape_of c.in-Schedule.asked.rows) c.in-Schedule.asked.limit (texts c.args.words.now)
+      (change g.S.Source.remaining g.S.Source.failures c.args.source.now c.schedule.new.source) c.schedule.ensures.run.outcome
+      (λ comes. record {
+        line = c.in-Ok.line;
+        accepted = c.in-Ok.ensures.line.1;
+        asked = c.in-Ok.ensures.line.0;
+        comes = rw
+            c.in-Schedule.is comes;
+      })
+      c.schedule.ensures.run.comes;
+  leaves = c.schedule.ensures.run.leaves;
+}
+
 pub returns-in-Replay-clause-run : goal.returns-in-Replay-clause-run
 returns-in-Replay-clause-run g c = record {
   outcome = c.run_replay.ensures.run.outcome;
@@ -41,6 +57,22 @@ returns-in-Replay-clause-run g c = record {
   leaves = c.run_replay.ensures.run.leaves;
 }
 
+pub returns-in-Drive-clause-run : goal.returns-in-Drive-clause-run
+returns-in-Drive-clause-run g c = record {
+  outcome = c.drive.ensures.run.outcome;
+  comes = driven-words (variant_of c.in-Drive.asked.tree) (shape_of c.in-Drive.asked.rows) c.in-Drive.asked.limit (texts c.args.words.now)
+      (change g.S.Source.remaining g.S.Source.failures c.args.source.now c.drive.new.source) c.drive.ensures.run.outcome
+      (λ comes. record {
+        line = c.in-Ok.line;
+        accepted = c.in-Ok.ensures.line.1;
+        asked = c.in-Ok.ensures.line.0;
+        comes = rw
+            c.in-Drive.is comes;
+      })
+      c.drive.ensures.run.comes;
+  leaves = c.drive.ensures.run.leaves;
+}
+
 pub returns-in-Err-clause-run : goal.returns-in-Err-clause-run
 returns-in-Err-clause-run g c = record {
   outcome = c.in-Err.outcome;
@@ -52,7 +84,7 @@ returns-in-Err-clause-run g c = record {
 pub returns-in_default : goal.returns-in_default
 returns-in_default g c =
     let here : ¬ (AsksForTrees c.in-Ok.line) =
-    not-trees c.in-Ok.line c.in_default.not-Generate c.in_default.not-Replay c.in_default.not-Drive in
+    not-trees c.in-Ok.line c.in_default.not-Generate c.in_default.not-Schedule c.in_default.not-Replay c.in_default.not-Drive in
     record {
       run = record {
         outcome = c.run_line.ensures.run.outcome;

@@ -1,6 +1,6 @@
 use Rattle.std.proofs.Common.{refl}
 use Rattle.command_line.specs.Program.{bench_table, draw_usage, drive_usage, explain_usage, follow_usage, generate_usage, judge_usage}
-use Rattle.command_line.specs.Program.{locate_usage, page_usage}
+use Rattle.command_line.specs.Program.{locate_usage, page_usage, schedule_usage}
 use Rattle.command_line.proofs.AskableLemmas.{is_of}
 use Rattle.command_line.proofs.read.line_of.Goals as goal
 
@@ -27,3 +27,6 @@ generate_line-requires c = is_of bench_table generate_usage c.args.request c.in-
 
 pub drive_line-requires : goal.drive_line-requires
 drive_line-requires c = is_of bench_table drive_usage c.args.request c.in-drive.is refl c.requires.askable c.requires.described
+
+pub schedule_line-requires : goal.schedule_line-requires
+schedule_line-requires c = is_of bench_table schedule_usage c.args.request c.in-schedule.is refl c.requires.askable c.requires.described

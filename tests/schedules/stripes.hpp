@@ -1,15 +1,20 @@
-// A hash table with fewer locks than chains. WRONG 1: a lock is chosen by the key and not by its chain, so two threads may change one chain under
+// A hash table with fewer locks than chains. Wrong 1: a lock is chosen by the key and not by its chain, so two threads may change one chain under
 // different locks.
+#ifndef STRIPES_HPP
+#define STRIPES_HPP
+
 #include "potzendai_test.hpp"
 #include <mutex>
 
-class Map {
+namespace stripes {
+
+template <int wrong> class Map {
     enum { CHAINS = 3, STRIPES = 2 };
     struct Node { uint64_t key, value; Node *next; };
     std::mutex locks[STRIPES];
     Node *chains[CHAINS] = {};
 
-    std::mutex &lock_of(uint64_t key) { return locks[(WRONG == 1 ? key : key % CHAINS) % STRIPES]; }
+    std::mutex &lock_of(uint64_t key) { return locks[(wrong == 1 ? key : key % CHAINS) % STRIPES]; }
 
     // The link that leads to a key, or the last of its chain.
     Node **find(uint64_t key)
@@ -55,8 +60,6 @@ public:
     }
 };
 
-int main(int argc, char **argv)
-{
-    Map map;
-    return potzendai::test_main(argc, argv, map, "stripes");
 }
+
+#endif

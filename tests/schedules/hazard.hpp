@@ -1,9 +1,14 @@
 // A value for each key behind a pointer. Readers say by hazard pointers which value they read, and only other values are freed (Michael 2004).
-// WRONG 1: once a reader has said so, it does not look whether the slot still has the pointer: the value may have been freed before.
+// Wrong 1: once a reader has said so, it does not look whether the slot still has the pointer: the value may have been freed before.
+#ifndef HAZARD_HPP
+#define HAZARD_HPP
+
 #include "slots.hpp"
 #include <vector>
 
-struct Map {
+namespace hazard {
+
+template <int wrong> struct Map {
     Slot slots[KEYS] = {};
     std::atomic<Value *> hazards[THREADS] = {};
 
@@ -18,7 +23,7 @@ struct Map {
             Value *seen = slot.load();
             for (;;) {
                 hazard.store(seen);
-                Value *now = WRONG == 1 ? seen : slot.load();
+                Value *now = wrong == 1 ? seen : slot.load();
                 if (now == seen)
                     return seen;
                 seen = now;
@@ -45,7 +50,7 @@ struct Map {
         }
 
     public:
-        connection(Map &of, unsigned thread) : Writes(of.slots), map(of), hazard(of.hazards[thread % THREADS]) {}
+        connection(Map &of, unsigned thread) : Writes<connection>(of.slots), map(of), hazard(of.hazards[thread % THREADS]) {}
 
         map_said get(uint64_t key, uint64_t &found)
         {
@@ -58,8 +63,6 @@ struct Map {
     };
 };
 
-int main(int argc, char **argv)
-{
-    Map map;
-    return potzendai::test_main(argc, argv, map, "hazard");
 }
+
+#endif

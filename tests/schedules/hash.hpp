@@ -1,11 +1,16 @@
 // A hash table that grows. Each chain has a lock. To grow, all locks are taken, and a table of twice as many chains replaces the old one. Tables are
-// not freed. WRONG 1: once a write has the lock of a chain, it does not look whether its table is still the map's.
+// not freed. Wrong 1: once a write has the lock of a chain, it does not look whether its table is still the map's.
+#ifndef HASH_HPP
+#define HASH_HPP
+
 #include "potzendai_test.hpp"
 #include <atomic>
 #include <mutex>
 #include <vector>
 
-class Map {
+namespace hash {
+
+template <int wrong> class Map {
     struct Node { uint64_t key, value; Node *next; };
     struct Chain { std::mutex lock; Node *first = nullptr; };
     struct Table {
@@ -48,7 +53,7 @@ class Map {
             now = table.load();
             Chain &chain = now->of(key);
             chain.lock.lock();
-            if (table.load() == now || (WRONG == 1 && is_write))
+            if (table.load() == now || (wrong == 1 && is_write))
                 return chain;
             chain.lock.unlock();
         }
@@ -99,8 +104,6 @@ public:
     }
 };
 
-int main(int argc, char **argv)
-{
-    Map map;
-    return potzendai::test_main(argc, argv, map, "hash");
 }
+
+#endif

@@ -1,13 +1,18 @@
-// Maps whose rounds do not end well. Keys below 64. WRONG 1: a put takes the locks of two keys downwards, and a scan takes them upwards: a deadlock.
-// WRONG 2: a put removes a value before it stores a new one, and a get reads in between: a crash. WRONG 3: a put does not release its lock, and
-// others spin: endless. WRONG 4: a get ends the process. WRONG 5: a put starts a thread.
+// Maps whose rounds do not end well. Keys below 64. Wrong 1: a put takes the locks of two keys downwards, and a scan takes them upwards: a deadlock.
+// Wrong 2: a put removes a value before it stores a new one, and a get reads in between: a crash. Wrong 3: a put does not release its lock, and
+// others spin: endless. Wrong 4: a get ends the process. Wrong 5: a put starts a thread.
+#ifndef ENDINGS_HPP
+#define ENDINGS_HPP
+
 #include "potzendai_test.hpp"
 #include <atomic>
 #include <cstdlib>
 #include <mutex>
 #include <thread>
 
-struct Map {
+namespace endings {
+
+template <int wrong> struct Map {
     std::mutex locks[64];
     std::atomic_flag spin = ATOMIC_FLAG_INIT;
     std::atomic<std::atomic<uint64_t> *> values[64] = {};
@@ -16,7 +21,7 @@ struct Map {
     {
         if (!values[key].load())
             return MAP_NONE;
-        if (WRONG == 4)
+        if (wrong == 4)
             exit(7);
         found = values[key].load()->load();
         return MAP_TOLD;
@@ -25,8 +30,8 @@ struct Map {
     map_said exchange(uint64_t key, uint64_t value, uint64_t &found)
     {
         std::atomic<uint64_t> *made = new std::atomic<uint64_t>(value);
-        std::atomic<uint64_t> *old = values[key].exchange(WRONG == 2 ? nullptr : made);
-        if (WRONG == 2)
+        std::atomic<uint64_t> *old = values[key].exchange(wrong == 2 ? nullptr : made);
+        if (wrong == 2)
             values[key].store(made);
         if (old)
             found = old->load();
@@ -36,11 +41,11 @@ struct Map {
     map_said put(uint64_t key, uint64_t value, uint64_t &found)
     {
         std::lock_guard<std::mutex> guard(locks[key]);
-        if (WRONG == 1 && key > 0)
+        if (wrong == 1 && key > 0)
             std::lock_guard<std::mutex> second(locks[key - 1]);
-        if (WRONG == 5)
+        if (wrong == 5)
             std::thread([] {}).join();
-        while (WRONG == 3 && spin.test_and_set()) {
+        while (wrong == 3 && spin.test_and_set()) {
         }
         map_said said = exchange(key, value, found);
         if (said == MAP_NONE)
@@ -62,8 +67,6 @@ struct Map {
     }
 };
 
-int main(int argc, char **argv)
-{
-    Map map;
-    return potzendai::test_main(argc, argv, map, "endings");
 }
+
+#endif

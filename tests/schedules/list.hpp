@@ -1,10 +1,15 @@
 // A sorted list without locks (Harris 2001, Michael 2002). The lowest bit of a node's link says that the node is removed. Before that, its value is
 // set to 0, which is the moment of the removal. Nodes are not freed.
-// WRONG 1: a put into a removed node answers as if it were there.
-// WRONG 2: a removed node is used again at once, so a link may be set that leads elsewhere by then (ABA).
-// WRONG 3: the mark is a word of its own, so a link can be set in a node that is removed.
+// Wrong 1: a put into a removed node answers as if it were there.
+// Wrong 2: a removed node is used again at once, so a link may be set that leads elsewhere by then (ABA).
+// Wrong 3: the mark is a word of its own, so a link can be set in a node that is removed.
+#ifndef LIST_HPP
+#define LIST_HPP
+
 #include "potzendai_test.hpp"
 #include <atomic>
+
+namespace list {
 
 struct Node {
     uint64_t key;
@@ -15,7 +20,7 @@ struct Node {
 
 typedef std::atomic<uintptr_t> Link;
 
-class List {
+template <int wrong> class Map {
     Link head{0};
     std::atomic<Node *> spare{nullptr};
 
@@ -24,12 +29,12 @@ class List {
 
     static bool is_removed(Node *n, uintptr_t next)
     {
-        return WRONG == 3 ? n->is_removed.load() : (next & 1) != 0;
+        return wrong == 3 ? n->is_removed.load() : (next & 1) != 0;
     }
 
     Node *make(uint64_t key, uint64_t value)
     {
-        Node *n = WRONG == 2 ? spare.exchange(nullptr) : nullptr;
+        Node *n = wrong == 2 ? spare.exchange(nullptr) : nullptr;
         if (!n)
             n = new Node;
         n->key = key;
@@ -43,7 +48,7 @@ class List {
         uintptr_t expected = reinterpret_cast<uintptr_t>(n);
         if (!link.compare_exchange_strong(expected, unmarked(next)))
             return false;
-        if (WRONG == 2)
+        if (wrong == 2)
             spare.store(n);
         return true;
     }
@@ -81,7 +86,7 @@ class List {
     static void mark(Node *n)
     {
         uintptr_t next = n->next.load();
-        if (WRONG == 3)
+        if (wrong == 3)
             n->is_removed.store(true);
         else
             while (!(next & 1) && !n->next.compare_exchange_strong(next, next | 1)) {
@@ -94,9 +99,9 @@ class List {
         found = n->value.load();
         while (found && !n->value.compare_exchange_strong(found, value)) {
         }
-        if (WRONG == 1 && !found)
+        if (wrong == 1 && !found)
             n->value.store(value);
-        return found != 0 || WRONG == 1;
+        return found != 0 || wrong == 1;
     }
 
 public:
@@ -143,8 +148,6 @@ public:
     }
 };
 
-int main(int argc, char **argv)
-{
-    List map;
-    return potzendai::test_main(argc, argv, map, "list");
 }
+
+#endif

@@ -1,10 +1,15 @@
-// A map that is copied at each write. A reader has one of its versions; none is freed. WRONG 1: the new version is stored even if another one has
+// A map that is copied at each write. A reader has one of its versions; none is freed. Wrong 1: the new version is stored even if another one has
 // come in between.
+#ifndef COPIES_HPP
+#define COPIES_HPP
+
 #include "potzendai_test.hpp"
 #include <atomic>
 #include <map>
 
-class Map {
+namespace copies {
+
+template <int wrong> class Map {
     typedef std::map<uint64_t, uint64_t> Version;
     std::atomic<const Version *> now{new Version};
 
@@ -19,7 +24,7 @@ class Map {
 
     bool publish(const Version *&old, const Version *made)
     {
-        if (WRONG == 1) {
+        if (wrong == 1) {
             now.store(made);
             return true;
         }
@@ -60,8 +65,6 @@ public:
     }
 };
 
-int main(int argc, char **argv)
-{
-    Map map;
-    return potzendai::test_main(argc, argv, map, "copies");
 }
+
+#endif

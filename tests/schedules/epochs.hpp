@@ -1,10 +1,15 @@
 // A value for each key behind a pointer. A removed value is freed once all threads have left the epoch in which it was removed (Fraser 2004).
-// WRONG 1: a reader takes the pointer before it says in which epoch it is.
+// Wrong 1: a reader takes the pointer before it says in which epoch it is.
+#ifndef EPOCHS_HPP
+#define EPOCHS_HPP
+
 #include "slots.hpp"
 #include <utility>
 #include <vector>
 
-struct Map {
+namespace epochs {
+
+template <int wrong> struct Map {
     Slot slots[KEYS] = {};
     std::atomic<uint64_t> epoch{1};
     std::atomic<uint64_t> entered[THREADS] = {}; // 0: the thread reads nothing
@@ -41,13 +46,13 @@ struct Map {
         }
 
     public:
-        connection(Map &of, unsigned thread) : Writes(of.slots), map(of), mine(of.entered[thread % THREADS]) {}
+        connection(Map &of, unsigned thread) : Writes<connection>(of.slots), map(of), mine(of.entered[thread % THREADS]) {}
 
         map_said get(uint64_t key, uint64_t &found)
         {
             Value *value = map.slots[key].load();
             enter();
-            if (WRONG == 0)
+            if (wrong == 0)
                 value = map.slots[key].load();
             if (value)
                 found = value->value.load();
@@ -57,8 +62,6 @@ struct Map {
     };
 };
 
-int main(int argc, char **argv)
-{
-    Map map;
-    return potzendai::test_main(argc, argv, map, "epochs");
 }
+
+#endif

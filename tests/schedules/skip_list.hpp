@@ -1,9 +1,14 @@
 // A skip list with a lock in each node (the lazy one of Herlihy, Lev, Luchangco and Shavit, 2006). Nodes are not freed. A node of key k has one more
 // level than k has ones at its binary end.
-// WRONG 1: once an insert has the locks of its neighbours, it does not look whether they are still neighbours.
+// Wrong 1: once an insert has the locks of its neighbours, it does not look whether they are still neighbours.
+#ifndef SKIP_LIST_HPP
+#define SKIP_LIST_HPP
+
 #include "potzendai_test.hpp"
 #include <atomic>
 #include <mutex>
+
+namespace skip_list {
 
 enum { LEVELS = 3 };
 
@@ -19,7 +24,7 @@ struct Node {
     Node(uint64_t k, int l, bool head, uint64_t v) : key(k), levels(l), is_head(head), value(v) {}
 };
 
-class List {
+template <int wrong> class Map {
     Node head{0, LEVELS, true, 0};
 
     struct Way { Node *before[LEVELS], *after[LEVELS]; };
@@ -80,7 +85,7 @@ class List {
     {
         int levels = levels_of(key);
         lock(way, levels);
-        bool may = WRONG == 1 || are_neighbours(way, levels, nullptr);
+        bool may = wrong == 1 || are_neighbours(way, levels, nullptr);
         if (may) {
             Node *node = new Node(key, levels, false, value);
             for (int level = 0; level < levels; level++)
@@ -158,8 +163,6 @@ public:
     }
 };
 
-int main(int argc, char **argv)
-{
-    List map;
-    return potzendai::test_main(argc, argv, map, "skip_list");
 }
+
+#endif

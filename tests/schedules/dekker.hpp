@@ -1,12 +1,16 @@
-// A lock for two threads by two flags and a turn (Peterson 1981). WRONG 1: the flags are stored by release and read by acquire. That is right only
+// A lock for two threads by two flags and a turn (Peterson 1981). Wrong 1: the flags are stored by release and read by acquire. That is right only
 // under sequential consistency: on x86 a store may reach the other thread after the load that follows it. Keys below 64.
+#ifndef DEKKER_HPP
+#define DEKKER_HPP
+
 #include "potzendai_test.hpp"
 #include <atomic>
 #include <sched.h>
 
-static const std::memory_order stored = WRONG == 1 ? std::memory_order_release : std::memory_order_seq_cst;
+namespace dekker {
 
-struct Map {
+template <int wrong> struct Map {
+    static const std::memory_order stored = wrong == 1 ? std::memory_order_release : std::memory_order_seq_cst;
     std::atomic<int> wants[2] = {{0}, {0}}, turn{0};
     uint64_t values[64] = {};
 
@@ -48,8 +52,6 @@ struct Map {
     };
 };
 
-int main(int argc, char **argv)
-{
-    Map map;
-    return potzendai::test_main(argc, argv, map, "dekker");
 }
+
+#endif

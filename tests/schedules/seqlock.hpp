@@ -1,10 +1,15 @@
 // A seqlock: one writer at a time, and readers that look at its sequence again after they have read. Keys below 64.
-// WRONG 1: they do not look again, and only compare the two halves of a value.
+// Wrong 1: they do not look again, and only compare the two halves of a value.
+#ifndef SEQLOCK_HPP
+#define SEQLOCK_HPP
+
 #include "potzendai_test.hpp"
 #include <atomic>
 #include <mutex>
 
-class Map {
+namespace seqlock {
+
+template <int wrong> class Map {
     typedef std::atomic<uint64_t> Word;
     struct Cell { Word is_there{0}, low{0}, high{0}; };
     Word sequence{0};
@@ -38,7 +43,7 @@ public:
             if (seen & 1)
                 continue;
             uint64_t is_there = cells[key].is_there.load(), low = cells[key].low.load(), high = cells[key].high.load();
-            if (WRONG == 1 ? low != high : sequence.load() != seen)
+            if (wrong == 1 ? low != high : sequence.load() != seen)
                 continue;
             found = low;
             return is_there ? MAP_TOLD : MAP_NONE;
@@ -49,8 +54,6 @@ public:
     map_said del(uint64_t key, uint64_t &found) { return change(key, 0, 0, found); }
 };
 
-int main(int argc, char **argv)
-{
-    Map map;
-    return potzendai::test_main(argc, argv, map, "seqlock");
 }
+
+#endif

@@ -1,9 +1,14 @@
 // A B+-tree under optimistic lock coupling (Leis, Scheibner, Kemper and Neumann, 2016). Readers take no lock: after a read they look at the versions
 // of the nodes again. There are two levels. The root has room for all leaves of up to 64 keys. A leaf is split by its third key.
-// WRONG 1: the descent does not look at the root's version again once it has the leaf's, so the leaf may have been split in between.
-// WRONG 2: a get does not look at the leaf's version again.
+// Wrong 1: the descent does not look at the root's version again once it has the leaf's, so the leaf may have been split in between.
+// Wrong 2: a get does not look at the leaf's version again.
+#ifndef TREE_HPP
+#define TREE_HPP
+
 #include "potzendai_test.hpp"
 #include <atomic>
+
+namespace tree {
 
 enum { PAIRS = 2, LEAVES = 64 };
 typedef std::atomic<uint64_t> Word;
@@ -52,7 +57,7 @@ struct Root : Node {
     }
 };
 
-class Tree {
+template <int wrong> class Map {
     Root root;
 
     struct Place { Leaf *leaf; uint64_t root_version, version; };
@@ -66,7 +71,7 @@ class Tree {
             if (!root.is_still(place.root_version))
                 continue;
             place.version = place.leaf->read();
-            if (WRONG == 1 || root.is_still(place.root_version))
+            if (wrong == 1 || root.is_still(place.root_version))
                 return place;
         }
     }
@@ -128,7 +133,7 @@ class Tree {
     }
 
 public:
-    Tree()
+    Map()
     {
         root.leaves[0].store(new Leaf);
         root.count.store(1);
@@ -141,7 +146,7 @@ public:
             uint64_t at = place.leaf->find(key);
             bool is_there = place.leaf->has(at, key);
             found = is_there ? place.leaf->values[at].load() : 0;
-            if (WRONG == 2 || place.leaf->is_still(place.version))
+            if (wrong == 2 || place.leaf->is_still(place.version))
                 return is_there ? MAP_TOLD : MAP_NONE;
         }
     }
@@ -181,8 +186,6 @@ public:
     }
 };
 
-int main(int argc, char **argv)
-{
-    Tree map;
-    return potzendai::test_main(argc, argv, map, "tree");
 }
+
+#endif

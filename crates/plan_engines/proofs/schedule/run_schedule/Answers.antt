@@ -1,0 +1,16 @@
+use Rattle.std.proofs.Common.{rules}
+use Rattle.history_text.specs.Limits.{text_limit}
+use Rattle.outcomes.proofs.ReadText.{IsRun-read}
+use Rattle.plan_engines.specs.Schedules.{IsScheduleAnswer, IsScheduleRefusal}
+use Rattle.plan_engines.proofs.WholeSchedules.{IsScheduleAnswer-whole, IsScheduleRefusal-whole}
+use Rattle.plan_engines.proofs.schedule.run_schedule.Goals as goal
+
+pub returns-clause-run : goal.returns-clause-run
+returns-clause-run g c =
+    IsRun-read (IsScheduleAnswer c.args.shape c.args.variant c.args.limit) (IsScheduleRefusal c.args.shape c.args.variant c.args.limit)
+    text_limit (IsScheduleAnswer-whole c.args.shape c.args.variant c.args.limit)
+    (IsScheduleRefusal-whole c.args.shape c.args.variant c.args.limit) c.run_text.ensures.run
+    (λ text outcome made.
+    let shows = made.shows in
+    let met = made.says.met in
+    search rules)
