@@ -1,13 +1,13 @@
 #!/usr/bin/env python3
-"""Proves and builds the libraries of this repository that a crate stands on, on all cores, and says on standard error how far that is:
+"""Proves and builds the libraries of this repository that a crate uses, on all cores, and shows its progress on standard error:
 
     ./prove.py bench
 
-Each is proved once, by rt's own scheduler: first those with the longest chain above them, as many side by side as there are processors
-and memory. As rt ci does, it builds libraries of statements: what stands above loads what was proved of them, and not the proofs. What an
-earlier run has built of the same files is kept, and rt's commands find it built: so a run that was interrupted goes on where it was.
+Each is proved once, by rt's own scheduler: first those with the longest chain above them, in parallel as far as processors and memory allow. As
+rt ci does, it builds libraries of statements: a crate above loads what was proved of them, and not the proofs. What an earlier run has built of
+the same files is used again, and rt's commands find it built. So a run that was interrupted goes on where it was.
 
-It ends with 0; with 70 where a crate is not proved; and with another status where it does not fit the toolchain, whose own commands do the same
+The status is 0, or 70 if a crate is not proved. It is another one if this script does not fit the toolchain. Then rt's own commands do the same,
 crate by crate.
 """
 import copy
@@ -22,7 +22,7 @@ import threading
 import time
 
 sys.dont_write_bytecode = True
-# It stands on the inside of this toolchain's `rt`, of which another one promises nothing.
+# It uses the inside of this toolchain's `rt`, which may differ in another one.
 KNOWN = "rattle-kit-13f logic dac8208d650f15bf"
 NOT_PROVED, UNKNOWN = 70, 75
 # A crate takes the prover a time by its lines of code, whatever its proofs, and its start as long as so many of them.
@@ -123,7 +123,7 @@ def prove(crates):
         with turn:
             leads = all(behind[crate.name] >= behind[it] for it in running)
             running.append(crate.name)
-        # one that begins while none with a longer chain behind it runs has four processors, where these and the memory are there
+        # a crate gets four processors, if these and the memory are free, and no crate with a longer chain above it is being proved
         if leads and rt.free() > 3 * rt.need(crate):
             jobs = max(jobs, min(rt.processors(), 4))
         is_built = build(crate, jobs, progress)

@@ -3,16 +3,20 @@
 
     benchmarks/run.py [check|judge|search|segments|workers|follow|generate|replay|record|drive]..
 
-A history for `check` is made by one sorted map that processes call in turn, so that the calls by number are an order of
-it. In one for `judge` and `segments` the calls overlap, and each has its effect at some moment while it is open. One
-for `search` is one segment without order: some pairs are held, some calls overlap, and then one key is seen with what
-nobody put there. One for `workers` has segments that are equal but for their keys, of many configurations and without
-order. A stream for `follow` is of processes that each begin a call as soon as their last one is answered; it is
-followed from a file, with its calls a second of a processor in place of its bytes. `generate` makes plans, and `replay`
-runs generated plans on both full trees, each call to its end or some turns at a time, and one call that waits for a
-lock as long as a machine may live. `record` has threads note calls and answers at recorders, beside as many threads
-that add to one shared word as often; `drive` has them do a plan on each full tree, beside additions to one word:
-`crates/rates` does each, and the time of the same threads with nothing to do is taken off.
+What each part runs on:
+
+- `check`: a history of one sorted map that processes call in turn, so that the calls by number are an order of it.
+- `judge`, `segments`: calls overlap, and each has its effect at some moment while it is open.
+- `search`: one segment without order. There are some pairs, some calls overlap, and then a read finds at one key what nobody put there.
+- `workers`: segments that are equal but for their keys, with many configurations and without order.
+- `follow`: a stream of processes that each begin a call as soon as their last one is answered. It is followed from a file. The table has its
+  calls in a second of a processor, in place of its bytes.
+- `generate` makes plans. `replay` runs generated plans on both full trees, each call to its end or some turns at a time. One of its calls waits for
+  a lock as long as a machine may live.
+- `record`: threads note calls and answers at recorders. They are compared with as many threads that add to one shared word as often.
+- `drive`: threads do a plan on each full tree. They are compared with additions to one word.
+
+`crates/rates` does the last two. The time of the same threads with nothing to do is subtracted.
 """
 
 import itertools
@@ -126,7 +130,7 @@ def run(words, text, statuses=(0, 1, 2), program=PROGRAM):
 
 
 def run_on(words, path, statuses=(0, 1, 2), program=PROGRAM, limit=None):
-    """The same of a run on a file, with the seconds of a processor behind those on the clock. None where it takes more of these than a limit."""
+    """The same for a run on a file, with the seconds of a processor after those on the clock. None if it takes more of a processor than a limit."""
     def limited():
         resource.setrlimit(resource.RLIMIT_CPU, (limit or resource.RLIM_INFINITY,) * 2)
 
@@ -187,8 +191,8 @@ def judge():
 
 
 def without_order(held, opened):
-    """The compact text of a history of one segment: inserts of as many keys, each answered before the next begins, calls
-    with their answers that all overlap, and a scan of all keys that is answered by what nobody inserted."""
+    """The compact text of a history of one segment. First come inserts of as many keys, each answered before the next begins. Then
+    calls with their answers that all overlap, and a scan of all keys that is answered by what nobody inserted."""
     events = []
     for number in range(held):
         events.append({"invoke": ["insert", 1000 + number, 1], "process": 0})
@@ -211,8 +215,8 @@ def three_on_each(keys):
 
 
 def without_order_at(pairs, opened):
-    """The compact text of a history of one segment: these pairs at the start, calls with their answers that all overlap, and a
-    scan of all keys that is answered by what nobody put."""
+    """The compact text of a history of one segment, with these pairs at the start. Calls with their answers all overlap, and a scan
+    of all keys is answered by what nobody put."""
     events = [{"invoke": call, "process": process} for process, (call, _) in enumerate(opened)]
     events += [{"answer": answer, "process": process} for process, (_, answer) in enumerate(opened)]
     events.append({"invoke": ["scan", 0, 2 ** 64 - 1], "process": 0})
@@ -256,7 +260,7 @@ def segments():
 
 
 def heavy(count, processes, rounds):
-    """The compact text of a history of segments that are equal but for their keys: in each, rounds of inserts of new
+    """The compact text of a history of segments that are equal but for their keys. In each there are rounds of inserts of new
     keys that all overlap, and a scan over all keys that misses them."""
     events = []
     for round_number in range(rounds):
@@ -350,7 +354,7 @@ def write_stream(file, count, processes=8, keys=1000, scans=0, is_told=True, ope
 
 
 def follow():
-    """Follows each stream, of so many calls and of twice as many: the seconds of both tell whether it takes linear time."""
+    """Follows each stream, of so many calls and of twice as many: the seconds of both show whether it takes linear time."""
     # The peak of a program's memory is at least what the one that starts it holds, so that nothing is held of a stream here.
     for name, (wanted, drawn) in STREAMS.items():
         told = f"follow, {name.strip():<42}"

@@ -3,10 +3,9 @@
 
     tests/program/damaged_texts.py
 
-A text is cut, or bytes of it are doubled, swapped or flipped, up to three times; a fixed seed chooses how. Each run has
-to end with a status from 0 to 3 and to write one line on standard output, or for a refused text one on standard error: the
-line of a fault that docs/FORMATS.md names. What is drawn is one SVG, and a no of a stream has a second line. The last line counts
-the texts that passed and failed.
+A text is cut, or bytes of it are doubled, swapped or flipped, up to three times; a fixed seed chooses how. Each run has to end with a status from 0
+to 3, and to write one line to standard output. For a refused text it writes one line to standard error: that of a fault in docs/FORMATS.md. What is
+drawn is one SVG, and a no of a stream has a second line. The last line counts the texts that passed and failed.
 """
 
 import concurrent.futures
@@ -25,7 +24,7 @@ MOST_DAMAGES = 3
 
 NOTHING = rb""
 LINE = rb"[^\n]+\n"
-# Behind a stream that goes wrong stands a small history.
+# After a stream that goes wrong comes a small history.
 LINE_OR_TWO = rb"([^\n]+\n){1,2}"
 PICTURE = rb"<svg [^>]*>\n(?:[^\n]+\n)+</svg>\n"
 PAGE = rb"<!doctype html>\n(?:[^\n]*\n)+</html>\n"
@@ -33,6 +32,7 @@ REFUSED_HISTORY = (
     rb"history: ([1-3] (TooLong|NotJson|Version)|5 TooMany|[46] (Shape|NotWellFormed) at event [0-9]+"
     rb"|8 Start at pair [0-9]+)\n"
 )
+REFUSED_PLAN = rb"plan: (3 TooMany|5 TooLong|6 NotJson|7 Shape)\n"
 # Of each subcommand the line of a refused text, and the statuses of an answer.
 REFUSED = {
     "judge": REFUSED_HISTORY,
@@ -41,13 +41,14 @@ REFUSED = {
     "page": REFUSED_HISTORY,
     "replay": rb"replay: ([5-7] (TooLong|NotJson|Shape)|8 StartRefused)\n"
     rb"|schedule: item [0-9]+: (1 NoProcess|2 NothingToDo|3 TurnLimit)\n",
-    "drive": rb"plan: (3 TooMany|5 TooLong|6 NotJson|7 Shape)\n",
+    "drive": REFUSED_PLAN,
+    "schedule --seed 1": REFUSED_PLAN,
     "follow": rb"stream: line [0-9]+: (1 TooLong|2 NotJson|3 Version|4 Shape|5 TooMany|6 NotWellFormed|8 Start at pair [0-9]+)\n",
 }
-ANSWERED = {"judge": (0, 1, 2), "locate": (0, 1, 2), "draw": (0, 1, 2), "page": (0, 1, 2), "replay": (0,), "drive": (0,), "follow": (0, 1, 2)}
+ANSWERED = {name: (0,) if name in ("replay", "drive", "schedule --seed 1") else (0, 1, 2) for name in REFUSED}
 ANSWERS = {"draw": PICTURE, "page": PAGE, "follow": LINE_OR_TWO}
 # What reads an example, by the ending of its name. Of several subcommands each text is given to one.
-READERS = {"-stream.json": ("follow",), "-replay.json": ("replay",), "-plan.json": ("drive",), ".json": ("judge", "locate", "draw", "page")}
+READERS = {"-stream.json": ("follow",), "-replay.json": ("replay",), "-plan.json": ("drive", "schedule --seed 1"), ".json": ("judge", "locate", "draw", "page")}
 
 
 def cut(text, chance):
@@ -89,7 +90,7 @@ def originals():
 
 def fails(subcommand, text):
     """What is wrong with the run on a text, or None."""
-    ran = subprocess.run([PROGRAM, subcommand], input=text, capture_output=True, timeout=60, check=False)
+    ran = subprocess.run([PROGRAM, *subcommand.split()], input=text, capture_output=True, timeout=60, check=False)
     if ran.returncode in ANSWERED[subcommand]:
         wanted = ANSWERS.get(subcommand, LINE), NOTHING
     elif ran.returncode == 3:

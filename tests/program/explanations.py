@@ -502,8 +502,8 @@ def connections(chance):
 
 def value_comes_back():
     """Twice, twelve inserts at one key that all overlap, of which only is told that they were done, and a get behind them that reads what the first
-    put; and behind the second a get that reads what the next put. The inserts may have taken effect in more ways than are tried here of the last
-    calls and of all, but the first get leaves one value."""
+    put; and behind the second a get that reads what the next put. The calls may take effect in more ways than the judge tries. Four of the last ones
+    have no order."""
     events = []
     for held in (0, 10):
         events += [{"invoke": ["insert", 7, held + number], "process": process} for process, number in enumerate(BACK_VALUES)]
@@ -515,11 +515,19 @@ def value_comes_back():
 BACK_VALUES = (0, 1, 2, 2, 3, 3, 4, 4, 4, 5, 5, 5)
 # What is told of it behind what `locate` says, worked out by hand.
 COMES_BACK = [
-    {"from": 10, "key": 7, "put": {"event": 26, "process": 0}},
+    {"answer": "done", "call": ["insert", 7, 10], "event": 26, "process": 0, "reason": "order"},
+    {"answer": "done", "call": ["insert", 7, 11], "event": 27, "process": 1, "reason": "order"},
+    {"answer": 10, "call": ["get", 7], "event": 50, "process": 0, "reason": "order"},
     {"answer": 11, "call": ["get", 7], "event": 52, "process": 1, "reason": "order"},
-    {"key": 7, "puts": [{"event": 27, "process": 1}], "start": False, "value": 11},
-    {"events": [{"invoke": ["get", 7], "process": 0}, {"answer": 11, "process": 0}], "start": [[7, 10]], "version": 2},
-    {"front": [], "holds": [[7, 10]], "next": [{"answer": 11, "event": 52, "would": 10}]},
+    {
+        "events": [
+            {"invoke": ["insert", 7, 10], "process": 0}, {"invoke": ["insert", 7, 11], "process": 1}, {"answer": "done", "process": 0},
+            {"answer": "done", "process": 1}, {"invoke": ["get", 7], "process": 1}, {"answer": 10, "process": 1},
+            {"invoke": ["get", 7], "process": 1}, {"answer": 11, "process": 1},
+        ],
+        "start": [], "version": 3,
+    },
+    {"front": [27, 26, 50], "holds": [[7, 10]], "next": [{"answer": 11, "event": 52, "would": 10}]},
 ]
 
 

@@ -1,12 +1,12 @@
 #!/usr/bin/env python3
-"""Runs the program with standard streams that take a byte at a time and fail once, at each read and each write in turn, and counts the
-threads that its words have it make.
+"""Runs the program with standard streams that take a byte at a time and fail once, at each read and each write in turn. It also counts the
+threads that the program makes for its arguments.
 
     tests/program/failing_ends.py
 
-Where a read fails nothing is written but `io`, where a write to standard output fails a beginning of the answer; a write to standard
-error that fails leaves a beginning of the fault, or on a terminal of the hint behind it, and changes nothing else. Pieces of seven bytes
-change no answer. The last line counts what passed and failed.
+If a read fails, only `io` is written. If a write to standard output fails, a beginning of the answer is written. If a write to standard error
+fails, a beginning of the fault is written, or on a terminal of the hint after it, and nothing else changes. Pieces of seven bytes change no
+answer. The last line counts what passed and failed.
 """
 
 import functools
@@ -38,6 +38,10 @@ REPLAY = (
     '"variant":"optimistic","version":1}'
 )
 DRAWN = "generate --seed 42 --processes {} --calls 2 --get 100 --insert 0 --remove 0 --scan 0 --lo 5 --hi 5"
+GET_PLAN = '{"scripts":[[["get",5]]],"version":1}'
+DRAWN_REPLAY = (
+    '{"limit":3,"rows":[1024,256,64,16],"schedule":[[0,"turns",3]],"scripts":[[["get",5]]],"variant":"optimistic","version":1}\n'
+)
 REFUTED = '{"calls":[0,1],"hi":5,"lo":5,"verdict":"no"}\n'
 EXPLAINED = (
     '{"answer":null,"call":["insert",5,7],"event":0,"process":0,"reason":"order"}\n'
@@ -55,6 +59,7 @@ ANSWERED = [
     ("locate", MISSED_INSERT, 1, '{"call":1,"event":3,"verdict":"no"}\n'),
     ("explain", MISSED_INSERT, 1, REFUTED + EXPLAINED),
     ("follow", STREAM, 0, '{"calls":2,"overlap":0.50,"verdict":"yes"}\n'),
+    ("schedule --seed 1 --limit 3", GET_PLAN, 0, DRAWN_REPLAY),
     ("drive", PLAN, 0, DONE),
     ("drive --tree locked", PLAN, 0, DONE),
     ("replay", REPLAY, 0, DONE),
@@ -66,6 +71,7 @@ REFUSED = [
     ("judge", 3, OTHER_TOP_LEVEL),
     ("locate", 3, OTHER_TOP_LEVEL),
     (DRAWN.format(0), 3, TOO_MANY_CALLS),
+    ("schedule --seed 1", 3, NO_PLAN),
     ("drive", 3, NO_PLAN),
     ("run", 5, "error: unrecognized subcommand 'run'\n\nUsage: bench <COMMAND>\n\nFor more information, try '--help'.\n"),
 ]
@@ -83,8 +89,8 @@ TWO_SCRIPTS = '{"scripts":[[["get",5]],[["insert",5,7]]],"version":1}'
 
 ORDERED = b'{"order":[0,1],"verdict":"yes"}\n'
 
-# Words, a text, the status, how the output begins, and how many threads are made: one fewer at a verdict than there are workers, and
-# one fewer than there are scripts, since the first thread does a part.
+# Arguments, a text, the status, how the output begins, and how many threads are made. These are one fewer than the workers of a verdict, or than the
+# scripts, since the first thread does a part.
 THREADS = [
     ("judge", TWO_KEYS, 0, ORDERED, 0),
     ("judge --workers 1", TWO_KEYS, 0, ORDERED, 0),
@@ -115,7 +121,7 @@ def failing(library, end, number, words, text, ask=answer):
 
 
 def failures(library, end, words, text, calls, wanted, ask=answer):
-    """What is wrong where each call at an end fails in turn: how many there have to be, and what is wanted of each, and behind the last."""
+    """What is wrong if each call at an end fails in turn: how many there have to be, and what is expected of each, and after the last."""
     for number in range(1, calls + 2):
         got, failed = failing(library, end, number, words, text, ask)
         if got != wanted(number) or failed != (number <= calls):
@@ -141,7 +147,7 @@ def faults_fail(library, words, status, fault):
 
 
 def hints_fail(library, words, text, status, output, told):
-    """On a terminal: behind a line that breaks off the whole hint is told, and a hint that breaks off is the end."""
+    """On a terminal: after a line that breaks off comes the whole hint, and a hint that breaks off is the end."""
     line, told = without_hints(status, told), told.encode()
     shown = lambda number: line[: number - 1] + told[len(line) :] if number <= len(line) else told[: number - 1]
     return failures(library, "ERROR", words, text, len(told), lambda number: (status, output.encode(), shown(number)), on_terminal)

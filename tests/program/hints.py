@@ -1,10 +1,10 @@
 #!/usr/bin/env python3
-"""Asks the program what a terminal shows beside an answer and behind a fault, and what it does not show.
+"""Checks what a terminal shows next to an answer and after a fault, and what it does not show.
 
     tests/program/hints.py
 
-Each row is run with standard error as a terminal, which shows the line of a fault and the hint, and as a pipe, which gets the line of a
-fault alone. The expected lines were worked out by hand. The last line counts what passed and failed.
+Each row is run twice. With a terminal as standard error it shows the line of a fault and the hint; a pipe gets only the line of the fault. The
+expected lines were worked out by hand. The last line counts what passed and failed.
 """
 
 import functools
@@ -17,7 +17,7 @@ from texts import EVENT  # noqa: E402
 INSERT_THEN_GET = '{"invoke":["insert",5,7],"process":0},{"answer":null,"process":0},{"invoke":["get",5],"process":0},{"answer":7,"process":0}'
 GET_MISSES_INSERT = INSERT_THEN_GET.replace('"answer":7', '"answer":null')
 ONE_GET = '{"invoke":["get",5],"process":0},{"answer":null,"process":0}'
-# Two calls that overlap, of which others come behind.
+# Two calls that overlap; others come after them.
 OVERLAP = (
     '{"invoke":["insert",5,7],"process":0},{"invoke":["get",5],"process":1},{"answer":null,"process":0},{"answer":7,"process":1}'
     + ',{"invoke":["get",5],"process":0},{"answer":7,"process":0}' * 8
@@ -79,7 +79,7 @@ def short(line):
     return line if len(line) <= 80 else line[:80] + ".."
 
 
-# First lines of streams, each with what a terminal shows behind what stands there.
+# First lines of streams, each with what a terminal shows after the line that is there.
 FIRST_LINES = [
     (history(""), READS_HISTORIES),
     (history(INSERT_THEN_GET), READS_HISTORIES),
@@ -103,7 +103,7 @@ def rows():
     for line, told in FIRST_LINES:
         for text in (line, f"{line}\n{GET}\n"):
             yield ["follow"], text, 3, "", f"stream: line 1: 4 Shape\nfound {short(line)}; {told}"
-        # A line behind the first one is none in the place of another text.
+        # A line after the first one never takes the place of another text.
         yield ["follow"], f"{GET}\n{line}\n", 3, "", f"stream: line 2: 4 Shape\nfound {short(line)}; {EVENT}"
 
 

@@ -1,10 +1,10 @@
 #!/usr/bin/env python3
-"""Runs the program on inputs as large as they may be, where memory is ample: as many starting pairs, as many processes, and as many calls
-of one process, as histories, streams, replays and plans.
+"""Runs the program on inputs as large as they may be, with ample memory. They are histories, streams, replays and plans with as many
+starting pairs, as many processes, and as many calls of one process.
 
     tests/program/largest_inputs.py
 
-A body that answers want of memory where an input is large meets most contracts. The last line counts what passed and failed.
+A body that answers out-of-memory for every large input meets most contracts. The last line counts what passed and failed.
 """
 
 import functools

@@ -1,5 +1,5 @@
-"""Whether the library answers each example as the program does: the same status, and the same bytes, at several budgets, of a refusal
-those that a terminal shows; and judges histories as long as they may be. Run by tests/program/library.
+"""Whether the library answers each example as the program does, at several budgets: with the same status and the same bytes. For a refusal
+these are the bytes that a terminal shows. It also judges histories as long as they may be. Run by tests/program/library.
 
     tests/program/library_calls.py libpotzendai.so
 """
@@ -32,7 +32,7 @@ def main():
                 words = [word.partition("_")[0], "--budget", str(budget), *(["--calls", "0"] if word == "draw" else [])]
                 wanted, output, faults = answer(words, text)
                 if faults:
-                    # A refusal has a hint, which a terminal alone shows, and the library tells.
+                    # A refusal has a hint, which only a terminal and the library show.
                     wanted, output, faults = on_terminal(words, text)
                 status, told = potzendai.call("potzendai_" + word, text, budget)
                 if (status, told) == (wanted, (output or faults).decode()):

@@ -2,14 +2,18 @@
 """Reads the pictures that the program draws of the examples, of histories of 400 and 4,096 calls, of some that `judge` leaves
 undecided, and of the small ones that `follow` writes.
 
-Each is XML of the elements of SVG that a picture has, without a script and without a reference to anything outside. It has a lane for
-each process, one bar for each call, with the call and its answer in the bar's title, drawn as wrong, with stripes, where `locate` names
-the call, and one mark for each call of the order where the verdict is a yes, with its call in its title. A call's number ends before the
-next circle, and a place is no wider than its circle. Starting pairs that are cut stand whole in a title. Its status is that of `judge`.
-Parts of the pictures have the lanes, bars and marks that a window over the columns has which is worked out here, with the starting pairs of
-their keys, and say what they leave out; a part with room for the whole picture is the picture. Where nothing is asked for, a no or an undecided shows
-the calls that `explain` names alone, with those that put what they read from outside, which are worked out here, and those that they miss. Pictures of at most 12 such calls are at
-most 1,200 wide. The last line counts what passed and failed.
+- Each is XML of the elements of SVG that a picture has, without a script and without a reference to anything outside.
+- It has a lane for each process, and one bar for each call, with the call and its answer in the bar's title. If `locate` names the call, the bar
+  is drawn as wrong, with stripes.
+- For a yes, it has one mark for each call of the order, with the call in the mark's title.
+- A call's number ends before the next circle, and a place is no wider than its circle.
+- Starting pairs that are cut are complete in a title. The status is that of `judge`.
+- A part of a picture has the lanes, bars and marks of a window over the columns, which is worked out here, with the starting pairs of its keys. It
+  says what it leaves out. A part with room for the whole picture is the picture.
+- Without options, a no or an undecided shows only the calls that `explain` names, those that they miss, and those that put what they read from
+  outside, which are worked out here. Pictures of at most 12 such calls are at most 1,200 wide.
+
+The last line counts what passed and failed.
 """
 
 import glob
@@ -80,8 +84,8 @@ def groups_of(picture):
 
 
 def fault_of_numbers(groups, picture):
-    """What is wrong with the numbers of a picture's calls, which end before the next circle in their lanes, or with the places, which their
-    circles are wide enough for, or nothing. A letter of a monospaced font is 0.602 of its size wide.
+    """What is wrong with the numbers of a picture's calls, or with its places, or nothing. A number ends before the next circle in its lane, and a
+    circle is wide enough for its place. A letter of a monospaced font is 0.602 of its size wide.
     """
     style = picture.decode()
     sizes = {name: float(re.search(re.escape(rule) + r"\{[^}]*font-size:([\d.]+)px", style)[1]) for name, rule in (
@@ -167,7 +171,7 @@ def window_of(history, verdict, located, marks, around, room, few=None):
 
 
 def told_by(call, answer):
-    """The pairs that an answer tells."""
+    """The pairs that an answer shows."""
     if isinstance(answer, list):
         return {tuple(pair) for pair in answer}
     return {(call[1], answer)} if isinstance(answer, int) and call[0] != "scan" else set()
@@ -194,8 +198,8 @@ def at_key(row, first):
 
 
 def few_of(history, rows, first):
-    """The calls of a history, by number, of which the lines of an explanation tell, those that put what these read from outside, and those that
-    they miss; and where they begin from a value of a key, as the first line says, the one that put it."""
+    """The calls of a history, by number, that the lines of an explanation name, those that put what these read from outside, and those that they
+    miss. If they begin from a value of a key, as the first line says, also the one that put it."""
     named = [at_key(row, first) for row in rows]
     changes = [(call[1], call[-1] if call[0] != "remove" else None) for call, answer, _ in named if may_change(call, answer)]
     start = {(first["key"], first["from"])} if first else {tuple(pair) for pair in history.get("start", [])}
@@ -305,7 +309,7 @@ def fault_of(text, words):
 
 
 def fault_of_legend(picture, has_wrong, verdict):
-    """What is wrong with the legend of a whole picture, which stands last, or nothing."""
+    """What is wrong with the legend of a whole picture, which comes last, or nothing."""
     said = [element.text for element in xml.etree.ElementTree.fromstring(picture).findall(NAMESPACE + "text")]
     places = "A circle has the call's place in " + {
         "yes": "the order", "no": "an order, as far as one gets", "undecided": "an order, as far as one got within the budget"}[verdict]
@@ -317,7 +321,7 @@ def fault_of_legend(picture, has_wrong, verdict):
 
 
 def fault_of_start(groups, begin, pairs):
-    """What is wrong with the starting pairs of a picture, which are said behind these words, or nothing."""
+    """What is wrong with the starting pairs of a picture, which come after these words, or nothing."""
     words = json.dumps(pairs, separators=(",", ":"))
     title, shown = (groups["start"][0].find(NAMESPACE + name) for name in ("title", "text"))
     if shown.text == begin + words:

@@ -150,10 +150,10 @@ GET_PLAN = '{"scripts":[[["get",5]]],"version":1}'
 PENDING = '{"events":[{"invoke":["get",5],"process":0}],"version":1}\n'
 ANSWERED = '{"events":[{"invoke":["get",5],"process":0},{"answer":null,"process":0}],"version":1}\n'
 
-# Words behind `drive`, a plan and what is recorded. A get that stops at its limit is pending: under optimistic lock coupling it reads the
-# root's version, the child word and the version again, and stamps its response; under lock coupling it locks the root, reads the child
-# word, unlocks the root, and stamps. The map under a lock has no limit. A tree that has only its root refuses a key that parts from
-# another behind the first byte.
+# Arguments of `drive`, a plan and what is recorded. A get that stops at its limit is pending. Under optimistic lock coupling it reads the
+# root's version, the child word and the version again, and stamps its response. Under lock coupling it locks the root, reads the child
+# word, unlocks the root, and stamps. The map under a lock has no limit. A tree that has only its root refuses a key that differs from
+# another one only after the first byte.
 LIMITED = [
     ("--limit 3", GET_PLAN, PENDING),
     ("--limit 4", GET_PLAN, ANSWERED),
@@ -224,7 +224,7 @@ LENGTHS = [
 
 MIX = "--get 40 --insert 30 --remove 20 --scan 10 --lo 0 --hi 20"
 
-# The members of a replay: its limit, its rows, its schedule, its scripts, and what stands behind.
+# The members of a replay: its limit, its rows, its schedule, its scripts, and what comes after them.
 LEAST = "[0,0,0,1]"
 ONE = '"variant":"coupled","version":1'
 REPLAYS_OF_ANOTHER_FORM = [
@@ -306,7 +306,7 @@ OTHER_REPLAYS = [
         )
         for tree, limit in (("coupled", "7"), *((tree, "1000") for tree in TREES[1:]))
     ),
-    # Three keys at the start that stand in two rows.
+    # Three keys at the start that are in two rows.
     (
         ("1000", "[8,0,0,1]", '[[0,"end"]]', '[[["scan",0,4294967295]],[]]',
          '"start":[[16777217,1],[16777218,2],[16842752,3]],"variant":"coupled","version":2'),
@@ -321,7 +321,7 @@ OTHER_REPLAYS = [
     ),
 ]
 
-# Two scripts, a schedule, and by variant the last answer of a history, between what stands before and behind it, and the report on it.
+# Two scripts, a schedule, and by variant the last answer of a history, between what comes before and after it, and the report on it.
 SCHEDULES = [
     # A get has read the key bytes when an insert shifts the children.
     (
@@ -343,7 +343,7 @@ SCHEDULES = [
             ("optimistic", "90", '{"order":[0,1,2],"verdict":"yes"}'),
         ],
     ),
-    # A scan has read the root's first slot when two inserts come, the second of them behind it.
+    # A scan has read the root's first slot when two inserts come, the second of them after it.
     (
         [], [["scan", 16777216, 33554432]], [["insert", 16777216, 1], ["insert", 33554432, 2]],
         '[[0,"turns",3],[1,"end"],[1,"end"],[0,"end"]]',
@@ -353,7 +353,7 @@ SCHEDULES = [
             ("optimistic", "[[16777216,1],[33554432,2]]", '{"order":[1,2,0],"verdict":"yes"}'),
         ],
     ),
-    # A remove stands before a row that is replaced before it is locked: it answers the value, and the key stays.
+    # A remove is about to lock a row when the row is replaced: it answers the value, and the key stays.
     (
         [], [["remove", 1]], [["insert", 1, 10], ["insert", 2, 20], ["insert", 3, 30], ["insert", 4, 40], ["insert", 5, 50], ["get", 1]],
         '[[1,"end"],[1,"end"],[1,"end"],[1,"end"],[0,"until","lock-row"],[1,"end"],[0,"end"],[1,"end"]]',
@@ -401,17 +401,17 @@ SERIAL = [
     ),
 ]
 
-# A get below the root alone takes an invocation, five steps of the tree and a response under lock coupling: the root has no key bytes to
-# look at, so the first item ends with the response, and the next one begins the next call. Items, and what is recorded of two gets.
+# Under lock coupling, a get in a tree with only its root takes an invocation, five steps of the tree and a response, since the root has no key bytes
+# to look at. So the first item ends with the response, and the next one begins the next call. Items, and what is recorded of two gets.
 ITEMS = [
     ('[0,"until","child"]', '0 ["get",5], 0 null'),
     ('[0,"until","child"],[0,"until","answer"],[0,"until","answer"]', '0 ["get",5], 0 null, 0 ["get",6]'),
     ('[0,"until","child"],[0,"until","answer"],[0,"until","answer"],[0,"turns",1]', '0 ["get",5], 0 null, 0 ["get",6], 0 null'),
 ]
 
-# A get of process 0 stops for good after so many turns, from the first number on and below the second, and then process 1 inserts. The
-# get takes eleven turns without locks. Under lock coupling it takes twelve, of which the third locks the root, the sixth the row below it,
-# and the eleventh lets that row go: in between the insert waits. What is recorded behind the two inserts before, and the order.
+# A get of process 0 stops permanently after so many turns, from the first number on and below the second, and then process 1 inserts. The get
+# takes eleven turns without locks. Under lock coupling it takes twelve. The third locks the root, the sixth the row below it, and the eleventh
+# unlocks that row: in between the insert waits. What is recorded after the two inserts before, and the order.
 STOPPED = [
     ("optimistic", 0, 1, '1 ["insert",3,30], 1 null', "[0,1,2]"),
     ("optimistic", 1, 11, '0 ["get",5], 1 ["insert",3,30], 1 null', "[0,1,3]"),

@@ -3,10 +3,9 @@
 
     tests/program/refused_allocations.py
 
-Each run has to answer want of memory, or exactly what it answers when nothing is refused. The map that a plan is done at
-refuses a call where memory is refused to it: a history with such calls has to be one of which `judge` says yes. A test compares
-what a public call answers, and may fail for want of memory alone. The last line counts the examples' command lines and the tests
-that passed and failed.
+Each run has to answer out-of-memory, or exactly what it answers when nothing is refused. A map refuses a call of a plan if memory
+is refused to it, and `judge` has to say yes to a history with such calls. A test compares what a public call answers, and may fail
+only for lack of memory. The last line counts the examples' command lines and the tests that passed and failed.
 """
 
 import os
@@ -19,15 +18,15 @@ PROGRAM = os.path.join(TOP, "crates", "bench", "out", "bench")
 EXAMPLES = os.path.join(TOP, "examples")
 WANT_OF_MEMORY = (4, b"", b"memory\n")
 
-# Of each public call of the judge a test that compares its answers: judge_alone and report; search_all, by up to 64 workers, four
-# among them, on three segments; cut, search and merge; and a history that is read with its notes and written without.
+# Tests that compare the answers of each public call of the judge. They are judge_alone and report; search_all, with up to 64 workers, four among
+# them, on three segments; and cut, search and merge. One history is read with its notes and written without.
 TESTS = (
     ("judge_tests", "verdicts::histories_are_judged_by_one_thread"),
     ("judge_tests", "verdicts::equal_answers_for_every_number_of_workers"),
     ("judge_tests", "layers::orders_of_segments_are_merged"),
     ("judge_tests", "lines::a_history_is_written_without_its_notes"),
 )
-# What a test prints that fails for want of memory.
+# What a test prints that fails for lack of memory.
 WANTING = (b"error: Memory", b"error: AllocError")
 
 
@@ -41,7 +40,7 @@ def command_lines():
             for line in expected:
                 if line.startswith("$ bench "):
                     yield os.path.join(EXAMPLES, stem + ".json"), line.split()[2:]
-    # Its answer is too long to stand beside an example.
+    # Its answer is too long for an example.
     yield os.path.join(EXAMPLES, "lost-put.json"), ["page"]
 
 
@@ -62,7 +61,7 @@ def tests_of(crate):
 
 
 def fails_otherwise(program, test, environment):
-    """Whether a test fails, and not for want of memory."""
+    """Whether a test fails, and not for lack of memory."""
     ran = subprocess.run([program, test], capture_output=True, env=environment, timeout=60, check=False)
     printed = (ran.stdout + ran.stderr).splitlines()
     return ran.returncode != 0 and not any(line in WANTING for line in printed)

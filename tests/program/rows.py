@@ -14,7 +14,7 @@ LONGEST_TEXT = 16_777_216
 MOST_CALLS = 4096
 MOST_PAIRS = 4096
 
-# An insert, and a get behind it.
+# An insert, and a get after it.
 INSERT_THEN_GET = """{"events":[
     {"invoke":["insert",5,7],"process":0},{"answer":null,"process":0},
     {"invoke":["get",5],"process":0},{"answer":7,"process":0}],"version":1}"""
@@ -165,7 +165,7 @@ def missed_inserts(rounds):
 
 
 def scan_then_inserts(count):
-    """A scan of all keys that finds nothing, and inserts behind it."""
+    """A scan of all keys that finds nothing, and inserts after it."""
     scan = '{"invoke":["scan",0,18446744073709551615],"process":1},{"answer":[],"process":1}'
     return f"{scan},{inserts(count)}"
 
@@ -188,14 +188,14 @@ def started(pairs, events):
 
 
 def stream(events, start=None):
-    """The stream of some events, a line each, behind one of starting pairs, of version 3, where there are any given."""
+    """The stream of some events, a line each. If pairs are given, a line of version 3 with these starting pairs comes first."""
     first = [] if start is None else [{"start": json.loads(f"[{start}]"), "version": 3}]
     return "".join(json.dumps(line) + "\n" for line in [*first, *json.loads(f"[{events}]")])
 
 
 def report_of(call, event, keys, reason=None):
-    """What is said of an answer that is no yes: its call and event, and of each key the events at which calls begin that are left there, the
-    key, the values that it may have had, and the events at which the calls began that put these."""
+    """What is said of an answer that is no yes: its call and event, and something for each key. These are the events at which the calls that are
+    left there begin, the key, the values that it may have had, and the events at which the calls that put these begin."""
     said = [{"invoked": invoked, "key": key, "put": puts, "values": values} for key, invoked, values, puts in keys]
     report = {"call": call, "event": event, "keys": said, "verdict": "no"}
     if reason:
@@ -204,7 +204,7 @@ def report_of(call, event, keys, reason=None):
 
 
 def spaced(text, length):
-    """A text with spaces behind it, of so many bytes."""
+    """A text with spaces after it, of so many bytes."""
     return text.ljust(length)
 
 

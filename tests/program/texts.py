@@ -3,8 +3,8 @@
 
     tests/program/texts.py
 
-Each text has one first fault, which was worked out by hand, and so were the two lines that a terminal shows of it, of which standard error
-has the first alone where it is none. Every subcommand on histories tells the same. The last line counts what passed and failed.
+Each text has one first fault, which was worked out by hand, and so were the two lines that a terminal shows of it. If standard error is no
+terminal, it has only the first line. Every subcommand on histories says the same. The last line counts what passed and failed.
 """
 
 import json
@@ -15,7 +15,7 @@ from rows import (  # noqa: E402
     APART, INSERT_THEN_GET, JSON, LENGTH, LONGEST_TEXT, MOST_CALLS, OTHER_TOP_LEVEL, compare, gets, history, pairs_listed, spaced, stream,
 )
 
-# What is said behind the line of a fault.
+# What is said after the line of a fault.
 HISTORY = "wanted an event in a line of its own; bench judge and bench locate read histories\n"
 EVENT = (
     'wanted {"process":P,"invoke":C} or {"process":P,"answer":A}, in version 3 also with a "note"; C is ["get",K], ["insert",K,V], '
@@ -154,7 +154,7 @@ OTHER_EVENTS = [
     ),
 ]
 
-# Events behind an open get, and what is shown of them: 80 bytes, and a question mark for a byte that is no printable ASCII.
+# Events after an open get, and what is shown of them: 80 bytes, and a question mark for a byte that is not printable ASCII.
 SHOWN = [
     (' { "process" : 0 , "invoke" : [ "get" , 1.5 ] } ', '{"invoke":["get",1.5],"process":0}'),
     (r'"\u00e9 \t~"', r'"?? \t~"'),
@@ -217,7 +217,7 @@ def refused_texts():
         yield text, "history: 1 TooLong\n" + LENGTH
 
 
-# Lines, and their fault as the first line of a stream, and behind an event.
+# Lines, and their fault as the first line of a stream, and after an event.
 OTHER_LINES = [
     ("", "2 NotJson", JSON),
     (" ", "2 NotJson", JSON),
@@ -306,7 +306,7 @@ def refused_streams():
             yield f"{first}\n{line}\n", f"stream: line 2: {fault}\nfound {line}; {wanted}"
     line = '{"answer":"done","note":0,"process":65536}'
     yield f"{first}\n{line}\n", f"stream: line 2: 5 TooMany\nfound {line}; {PROCESSES}"
-    # Starting pairs stand in a first line alone, and behind them a replace is no fault of form.
+    # Only a first line has starting pairs, and after it a replace is no fault of form.
     yield f"{ONE_EVENT}\n{NO_PAIRS}\n", f"stream: line 2: 4 Shape\nfound {NO_PAIRS}; {EVENT}"
     replace = '{"invoke":["replace",1,2,3],"process":65536}'
     yield f"{NO_PAIRS}\n{replace}\n", f"stream: line 2: 5 TooMany\nfound {replace}; {PROCESSES}"

@@ -1,5 +1,5 @@
 #!/usr/bin/env python3
-"""Runs the program on histories and streams whose answers tell less than the map answers: done, found and other. Among them are calls of caches.
+"""Runs the program on histories and streams whose answers do not give the value: done, found and other. Among them are calls of caches.
 
     tests/program/untold.py
 
@@ -25,7 +25,7 @@ LEGAL = [
     ('["scan",0,9]', {'"done"'}, {'"done"'}),
 ]
 
-# Changes of key 5 from 7, their answers, and what a get behind them finds.
+# Changes of key 5 from 7, their answers, and what a get after them finds.
 LEAVES = [
     ('["insert",5,9]', '"done"', "9"),
     ('["insert",5,9]', '"found"', "9"),
@@ -63,13 +63,13 @@ ORIGINS = {
     ('["insert",1,5]:"done"', '["insert",1,6]:"done"', '["get",1]:5'): '{"key":1,"puts":[{"event":0,"process":0}],"start":false,"value":5}\n',
 }
 
-# Two puts that tell nothing overlap, so each of their values can be read behind them, and nothing else.
+# Two puts answered done overlap, so each of their values can be read after them, and nothing else.
 PUTS_OVERLAP = (
     '{"invoke":["insert",5,1],"process":0},{"invoke":["insert",5,2],"process":1},'
     '{"answer":"done","process":0,"note":"17:03:01"},{"answer":"done","process":1,"note":null},{"invoke":["get",5],"process":0,"note":[{"at":7}]},'
 )
 
-# A put that tells nothing is lost: all that is said of it.
+# A put answered done is lost: all that is said of it.
 LOST_PUT = (
     '{"invoke":["insert",5,7],"process":3},{"answer":"done","process":3},{"invoke":["get",5],"process":9},{"answer":null,"process":9}'
 )
@@ -83,29 +83,29 @@ LOST_PUT_EXPLAINED = """{"calls":[0,1],"hi":5,"lo":5,"verdict":"no"}
 
 # A call of process 2 with its answer.
 BY_TWO = '{{"invoke":{},"process":2}},{{"answer":{},"process":2}},'
-# Calls at key 5, and of streams of them each call's answer: puts and removes that overlap, so that it may have one of several values behind them.
+# Calls at key 5, and of streams of them each call's answer: puts and removes that overlap, so that it may have one of several values after them.
 INSERTS_OVERLAP = (
     '{"invoke":["insert",5,7],"process":0},{"invoke":["insert",5,9],"process":1},{"answer":"done","process":1},{"answer":"done","process":0},'
 )
 INSERT_AND_REMOVE_OVERLAP = (
     '{"invoke":["insert",5,1],"process":0},{"invoke":["remove",5],"process":1},{"answer":"done","process":0},{"answer":"done","process":1},'
 )
-# The same at two keys, and a scan that tells of each which value it had.
+# The same at two keys, and a scan that shows which value each had.
 SCAN_BEHIND_OVERLAPS = (
     INSERTS_OVERLAP + INSERT_AND_REMOVE_OVERLAP.replace(",5", ",8")
     + '{"invoke":["scan",0,9],"process":2},{"answer":[[5,9]],"process":2},'
 )
-# A put that is never answered, beside sixty-four that tell nothing. It may have found what each of them found, or come behind them, or not yet.
+# A put that is never answered, among sixty-four answered done. It may have found what each of them found, or come after them, or not yet.
 DEAD_PUT = '{"invoke":["insert",5,99],"process":9},' + "".join(
     f'{{"invoke":["insert",5,{value}],"process":0}},{{"answer":"done","process":0}},' for value in range(1, 65)
 )
 
-# A put that was read, so that it took effect before sixty-three others that tell nothing, and found nothing. Then it is answered.
+# A put that was read, so that it took effect before sixty-three others answered done, and found nothing. Then it is answered.
 SEEN_PUT = '{"invoke":["insert",5,99],"process":9},{"invoke":["get",5],"process":0},{"answer":99,"process":0},' + "".join(
     f'{{"invoke":["insert",5,{value}],"process":0}},{{"answer":"done","process":0}},' for value in range(1, 64)
 )
 
-# Events, the answer of a call of process 3 behind them, the call, and what its key may have had before it, where it goes wrong.
+# Events, the answer of a call of process 3 after them, the call, and what its key may have had before it, if it goes wrong.
 SEVERAL = [
     (INSERTS_OVERLAP, '["get",5]', "7", None),
     (INSERTS_OVERLAP, '["get",5]', "9", None),
@@ -221,8 +221,8 @@ def rows():
 
 
 def putter(events, key, value):
-    """The event at which the last call of some began that puts this value at a key, and is not refused, nor answered by other; none where there is
-    none, and where this is no value."""
+    """The event at which the last of some calls began that puts this value at a key, and is neither refused nor answered by other. None if there is
+    no such call, or if this is no value."""
     for place in reversed(range(len(events))):
         name, low, *rest = events[place].get("invoke", ["none", None])
         put = {"insert": [rest[-1:]], "replace": [rest[-1:]]}.get(name, [])
@@ -233,8 +233,8 @@ def putter(events, key, value):
 
 
 def followed(start, events, key, values):
-    """What is wrong with what is said of a stream whose last answer goes wrong, of a call that is alone at its key, which may have had these
-    values before; or of one that has an order, where no values are given. Where no answer of that kind is right there is no key."""
+    """What is wrong with the report on a stream whose last answer goes wrong, of the only call at its key, which may have had these values before. If
+    no values are given, the stream has an order. If no answer of that kind is right, the report names no key."""
     listed = json.loads(f"[{events}]")
     last, calls = len(listed) - 1, sum("invoke" in event for event in listed)
     status, output, faults = answer(["follow"], stream(events, start))
@@ -281,7 +281,7 @@ def explained(start, calls, wanted, _value):
     lines = output.splitlines(keepends=True)
     named = [json.loads(line) for line in lines if line.startswith(b'{"answer"')]
     found = " ".join(f"{call['event']}{'!' * (call['answer'] == 'left out')}{call['reason'][0]}" for call in named)
-    # Behind the calls stand who put what they read, their history and how far an order of them gets.
+    # After the calls come who put what they read, their history, and how far an order of them gets.
     origins = b"".join(line for line in lines if line.startswith(b'{"key"')).decode()
     complete = wanted is None or len(lines) == len(named) + origins.count("\n") + 3 and origins == ORIGINS.get(tuple(calls), "")
     if status != int(wanted is not None) or found != (wanted or "") or faults or not complete:

@@ -125,7 +125,7 @@ SEEN_INSERT_IS_REFUSED = """
 MISSED_INSERT_IS_REFUSED = """
     {"invoke":["insert",5,7],"process":0}, {"invoke":["get",5],"process":1},
     {"answer":null,"process":1}, {"answer":"refused","process":0}"""
-# The get in the middle sees what nobody inserted, whatever is answered and invoked behind it.
+# The get in the middle sees what nobody inserted, whatever is answered and invoked after it.
 FALSE_GET_BEFORE_OTHERS = """
     {"invoke":["insert",5,7],"process":0}, {"answer":null,"process":0},
     {"invoke":["get",9],"process":0}, {"answer":1,"process":0},
@@ -137,7 +137,13 @@ GET_SEES_THE_THIRD_OF_FIVE_OPEN_INSERTS = """
     {"invoke":["insert",5,30],"process":2}, {"invoke":["insert",5,40],"process":3},
     {"invoke":["insert",5,50],"process":4},
     {"invoke":["get",5],"process":5}, {"answer":30,"process":5}"""
-GET_SEES_NONE_OF_FIVE_OPEN_INSERTS = GET_SEES_THE_THIRD_OF_FIVE_OPEN_INSERTS.replace('"answer":30', '"answer":60')
+# The gets see an open insert, another one, and the first again.
+GETS_SEE_AN_OPEN_INSERT_AGAIN = """
+    {"invoke":["insert",5,10],"process":0}, {"invoke":["insert",5,20],"process":1},
+    {"invoke":["insert",5,30],"process":2},
+    {"invoke":["get",5],"process":3}, {"answer":10,"process":3},
+    {"invoke":["get",5],"process":3}, {"answer":20,"process":3},
+    {"invoke":["get",5],"process":3}, {"answer":10,"process":3}"""
 # The pending remove has the lower number, and changes nothing here.
 GET_MISSES_BESIDE_A_PENDING_REMOVE = """
     {"invoke":["remove",5],"process":0},
@@ -168,7 +174,7 @@ SCAN_INSIDE_ANOTHER = """
 LAST_KEY_AND_ITS_NEIGHBOUR = """
     {"invoke":["scan",18446744073709551615,18446744073709551615],"process":0}, {"answer":[],"process":0},
     {"invoke":["get",18446744073709551614],"process":0}, {"answer":null,"process":0}"""
-# Pending inserts and removes stand with their key, pending gets and scans nowhere.
+# Pending inserts and removes are listed with their key, pending gets and scans nowhere.
 PENDING_CALLS_OF_EACH_KIND = """
     {"invoke":["insert",5,7],"process":0}, {"invoke":["remove",4],"process":1},
     {"invoke":["get",3],"process":2}, {"invoke":["scan",0,9],"process":3},
@@ -282,7 +288,7 @@ VERDICTS = [
     # The same calls taken count once for each list of pairs that they leave.
     (PENDING_INSERT_GOES_BEFORE_OR_AFTER_A_REMOVE, 7, '{"order":[0,2,1,3],"verdict":"yes"}'),
     (PENDING_INSERT_GOES_BEFORE_OR_AFTER_A_REMOVE, 6, '{"calls":[0,1,2,3],"hi":0,"lo":0,"verdict":"undecided"}'),
-    # Which calls are in one segment: where the budget is spent, the first one is told.
+    # Which calls are in one segment: if the budget is spent, the first segment is named.
     (SCAN_IS_ANSWERED_BY_A_VALUE, 1000, '{"calls":[0,1,2],"hi":2,"lo":1,"verdict":"no"}'),
     (SCANS_OF_NEIGHBOURS, 2, '{"order":[0,1],"verdict":"yes"}'),
     (SCANS_OF_NEIGHBOURS, 1, '{"calls":[1],"hi":2,"lo":1,"verdict":"undecided"}'),
@@ -350,17 +356,17 @@ LOCATIONS = [
     (INSERT_THEN_GET, 1, WELL),
     (ONE_INSERT, 1, WELL),
     (gets(MOST_CALLS), 1, WELL),
-    # Six calls of a key, of which the one that is answered cannot come first: before any of them is taken there is one position, and a second
-    # behind the first insert. What comes soon where an order is guessed is not searched for.
+    # Six calls of a key, of which the one that is answered cannot come first. Before any of them is taken there is one position, and after the first
+    # insert a second. What comes early in an order that is guessed is not searched for.
     (GET_SEES_THE_THIRD_OF_FIVE_OPEN_INSERTS, 1, WELL),
-    (GET_SEES_NONE_OF_FIVE_OPEN_INSERTS, 1, '{"call":5,"event":6,"reason":"budget","verdict":"undecided"}'),
-    (GET_SEES_NONE_OF_FIVE_OPEN_INSERTS, 1000, '{"call":5,"event":6,"verdict":"no"}'),
+    (GETS_SEE_AN_OPEN_INSERT_AGAIN, 1, '{"call":5,"event":8,"reason":"budget","verdict":"undecided"}'),
+    (GETS_SEE_AN_OPEN_INSERT_AGAIN, 1000, '{"call":5,"event":8,"verdict":"no"}'),
 ]
 
 # Seeds, processes, calls, and how many copies with one answer changed: histories on two keys with scans.
 HOT_KEYS = [(2, 8, 4096, 6), (4, 6, 4096, 6)]
 
-# Words, events, and the whole report, or where they go wrong: the number of workers and the place of the options tell nothing.
+# Arguments, events, and the whole report, or where they go wrong: the number of workers and the place of the options change nothing.
 OPTIONS = [
     ("judge", GET_MISSES_OPEN_INSERT, '{"order":[1,0],"verdict":"yes"}'),
     ("judge --workers 2", GET_MISSES_OPEN_INSERT, '{"order":[1,0],"verdict":"yes"}'),
@@ -374,7 +380,7 @@ OPTIONS = [
     ("locate --budget=1", GET_MISSES_ANSWERED_INSERT, '{"call":1,"event":3,"verdict":"no"}'),
 ]
 
-# The value 5 is overwritten, and read again behind others.
+# The value 5 is overwritten, and read again after others.
 READ_OF_AN_OVERWRITTEN_VALUE = """
     {"invoke":["insert",1,4],"process":0}, {"answer":null,"process":0},
     {"invoke":["insert",1,5],"process":0}, {"answer":4,"process":0},
@@ -418,9 +424,9 @@ SCAN_MISSES_AN_OVERWRITE = """
     {"invoke":["insert",2,7],"process":0}, {"answer":6,"process":0},
     {"invoke":["scan",1,2],"process":0}, {"answer":[[1,5],[2,6]],"process":0}"""
 
-# Events, a budget, and the calls that explain them: of each the event of its invocation, a question mark where it has no answer, an
-# exclamation mark where its answer is left out, and a letter for the reason; the values that come from outside of these calls, by key,
-# each with the events of the calls that put it; and of each call that misses others its event and theirs.
+# Events, a budget, and the calls that explain them. Each has the event of its invocation, a question mark if it has no answer, an exclamation mark
+# if its answer is left out, and a letter for the reason. Then come the values from outside these calls, by key, each with the events of the calls
+# that put it. Last comes each call that misses others, by its event and theirs.
 EXPLANATIONS = [
     (GET_SEES_ANSWERED_INSERT, 1000, None, "", ""),
     (GET_MISSES_ANSWERED_INSERT, 1000, "0o 2o", "", "2: [0]"),
@@ -440,7 +446,7 @@ EXPLANATIONS = [
     # Without the insert the first replace waits for what it put.
     (UPDATE_IS_LOST, 1000, "0h 2o 4o", "", "4: [2]"),
     (SCAN_MISSES_AN_OVERWRITE, 1000, "0o 4!o 6o", "2: 6 [2]", "6: [4]"),
-    # Of three hundred inserts the last stays, as it overwrites what is read behind it, and the read.
+    # Of three hundred inserts the last stays, as it overwrites what is read after it, and the read.
     (overwrites(300), 100_000, "598!o 600o", "5: 150 [300]", "600: [598]"),
 ]
 
@@ -453,7 +459,7 @@ SCAN_EXPLAINED = """{"calls":[0],"hi":6,"lo":4,"verdict":"no"}
 {"front":[],"holds":[[4,40],[5,50],[6,60]],"next":[{"answer":[[4,40],[6,60]],"event":0,"would":[[4,40],[5,50],[6,60]]}]}
 """
 
-# Of two inserts of one value the later one is undone by a remove, behind which the value is there: so the earlier one put it.
+# Of two inserts of one value the later one is undone by a remove, and after that the value is there: so the earlier one put it.
 REMOVED_VALUE_IS_PUT_BY_AN_OLDER_INSERT = """
     {"invoke":["insert",5,7],"process":1},
     {"invoke":["insert",5,7],"process":2}, {"answer":null,"process":2},
@@ -494,7 +500,7 @@ PENDING_SCAN_HOLDS_ITS_KEYS_ALONE = """
 SCAN_LISTS_WHAT_NOBODY_INSERTED = """
     {"invoke":["insert",1,5],"process":0}, {"answer":null,"process":0},
     {"invoke":["scan",1,3],"process":0}, {"answer":[[1,5],[3,9]],"process":0}"""
-# The scan lists what the first insert put, before that is answered or behind it, and not what the second one puts, which is never answered.
+# The scan lists what the first insert put, before that is answered or after it, and not what the second one puts, which is never answered.
 SCAN_MAY_HAVE_COME_BEFORE_AN_ANSWER = """
     {"invoke":["insert",1,10],"process":0}, {"invoke":["insert",2,20],"process":1},
     {"invoke":["scan",1,2],"process":2}, {"answer":null,"process":0}, {"answer":[[1,10]],"process":2},
@@ -503,8 +509,8 @@ SCAN_MAY_HAVE_COME_BEFORE_AN_ANSWER = """
 
 
 def many_ways(scans, rounds):
-    """So many scans at once, beside an insert that is never answered and rounds of an insert and a remove of its key: each scan may have come
-    before a round, in it before its insert or behind its remove, or behind it, whatever the others did."""
+    """So many scans at once, with an insert that is never answered and rounds of an insert and a remove of its key. Whatever the others did, each
+    scan may have come before a round, after it, or in it: before its insert or after its remove."""
     begun = [f'{{"invoke":["scan",1,1],"process":{process}}}' for process in range(1, scans + 1)]
     each = (
         '{"invoke":["insert",1,20],"process":9},{"answer":null,"process":9},{"invoke":["remove",1],"process":9},{"answer":20,"process":9}'
@@ -514,8 +520,8 @@ def many_ways(scans, rounds):
 
 
 def dead_writer(value, count, found_by_the_second):
-    """An insert that is not answered, and so many others behind it, each of its number, which find each other; the second one may find another
-    value than the first one's."""
+    """An insert that is not answered, and so many others after it. Each inserts its number and finds the one before it. The second one may find
+    another value than the first one's."""
     found = [None, 1 if found_by_the_second is None else found_by_the_second, *range(2, count)]
     inserts = [
         f'{{"invoke":["insert",5,{number + 1}],"process":0}},{{"answer":{json.dumps(found[number])},"process":0}}' for number in range(count)
@@ -584,14 +590,14 @@ LOST = [
         '{"events":[{"invoke":["insert",5,7],"process":0},{"invoke":["get",5],"process":1},{"answer":7,"process":1},'
         '{"invoke":["get",5],"process":1},{"answer":null,"process":1}],"version":1}',
     ),
-    # The scan is tried while an insert is open. While the first one is, key 2 cannot be as the scan was told; while the second one is, key 1 cannot.
+    # The scan is tried while an insert is open. While the first one is, key 2 cannot be as the scan reports; while the second one is, key 1 cannot.
     (
         SCAN_MISSES_THE_FIRST_OF_TWO_INSERTS, 1000,
         report_of(0, 5, [(2, [0, 3], [None], [None]), (1, [1, 0], [None], [None])]), None,
     ),
-    # The first scan is tried before the answer of the first insert and behind it, before that of the second. The second scan is tried, of the one
-    # way, beside the first scan, before it and behind it, and behind both answers; of the other, before both answers, beside the first scan, before
-    # it and behind it, and behind both answers.
+    # The first scan is tried before the answer of the first insert, and between that and the answer of the second. In the first case the second scan
+    # is tried next to the first scan, before it and after it, and after both answers. In the other case it is tried before both answers, next to
+    # the first scan, before it and after it, and after both answers.
     (
         SCANS_SEE_TWO_INSERTS_IN_DIFFERENT_ORDER, 1000,
         report_of(3, 7, [(key, names, [None], [None]) for key, names in (
@@ -637,7 +643,7 @@ LOST = [
         '{"answer":null,"process":1}],"version":1}',
     ),
     # At a budget of one position.
-    (INSERTS_ALL_COME_FIRST, 1, report_of(1, 6, [(5, [0, 1, 2, 3, 4], [None], [None])], "budget"), None),
+    (GETS_SEE_AN_OPEN_INSERT_AGAIN, 1, report_of(5, 8, [(5, [0, 1, 2, 3, 5, 7], [None], [None])], "budget"), None),
     (
         INSERT_HOLDS_A_REMOVE, 1000, report_of(3, 7, [(1, [2, 3, 5], [5], [0])]),
         '{"events":[{"invoke":["remove",1],"process":0},{"invoke":["get",1],"process":1},{"answer":5,"process":0},'
@@ -648,7 +654,7 @@ LOST = [
         '{"events":[{"invoke":["get",4],"process":0},{"answer":null,"process":0}],"start":[[4,6]],"version":2}',
     ),
     (many_readers("9"), 100, report_of(61, 122, [(5, [*range(62)], [None], [None])]), history(many_readers("9"))),
-    # A scan that cannot have been told so of one key, of which no call is left, stands there as a get.
+    # If a scan's pairs cannot be right at a key of which no call is left, the report has the scan there as a get.
     (
         SCAN_MISSES_AN_OVERWRITE, 1000, report_of(3, 7, [(2, [6], [7], [4])]),
         '{"events":[{"invoke":["get",2],"process":0},{"answer":6,"process":0}],"start":[[2,7]],"version":2}',
@@ -657,7 +663,7 @@ LOST = [
         SCAN_LISTS_WHAT_NOBODY_INSERTED, 1000, report_of(1, 3, [(3, [2], [None], [None])]),
         '{"events":[{"invoke":["get",3],"process":0},{"answer":9,"process":0}],"version":1}',
     ),
-    # Where the scan may have come behind the answer of the first insert, it may have come before it. The later get misses what was put.
+    # If the scan may have come after the answer of the first insert, it may have come before it. The later get misses what was put.
     (
         SCAN_MAY_HAVE_COME_BEFORE_AN_ANSWER, 1000, report_of(4, 8, [(2, [1, 2, 5, 7], [None], [None])]),
         '{"events":[{"invoke":["insert",2,20],"process":0},{"invoke":["get",2],"process":1},{"answer":null,"process":1},'
@@ -677,7 +683,7 @@ LOST = [
     (dead_writer(99, 64, 99) + ',{"answer":7,"process":9}', 1000, report_of(0, 129, [(5, [0], [], [])]), None),
 ]
 
-# From 1 at key 5 and 9 at key 9 a get misses what an insert before it was answered for; behind it stands a line that is not read.
+# From 1 at key 5 and 9 at key 9, a get misses an insert that was answered before it. After it comes a line that is not read.
 MISSED_STREAM = """{"start":[[5,1],[9,9]],"version":2}
 {"invoke":["insert",5,7],"process":1000}
 {"invoke":["get",9],"process":2}
@@ -900,8 +906,8 @@ def applied(call, held):
 
 
 def on_hot_keys(seed, processes, calls):
-    """The events of so many calls on two keys, a fifth of them scans, of processes that take turns as they are drawn: each call takes effect
-    at some turn between its two events."""
+    """The events of so many calls on two keys, a fifth of them scans. Processes take turns at random, and each call takes effect at some turn
+    between its two events."""
     draw = random.Random(seed)
     held, begun, done, events, count = {}, {}, {}, [], 0
     while count < calls or begun or done:
@@ -940,8 +946,8 @@ def has_order(events):
 
 
 def hot_keys(seed, processes, calls, copies):
-    """What is wrong with the locations of a history that a follower of streams takes minutes for, and of copies with one answer changed, or
-    None: the history has an order; a copy goes wrong at an event if `judge` finds an order of the events before it, and none with it."""
+    """What is wrong with the locations of a history for which a follower takes minutes, and of copies with one answer changed, or None. The history
+    has an order. A copy goes wrong at an event if `judge` finds an order of the events before it, and none with it."""
     events = on_hot_keys(seed, processes, calls)
     if located_soon(events) != {"verdict": "yes"}:
         return f"{seed}: {located_soon(events)}, and wanted is a yes"

@@ -39,7 +39,7 @@ WORKER_STACK = 8 * 1024 * 1024
 NOTHING = rb""
 
 
-# Words that ask for nothing that can be done, or for help, and how the text begins that they are told. Of an error it ends by pointing at
+# Arguments that ask for nothing that can be done, or for help, and how the text begins that is printed. An error's text ends by pointing at
 # the help.
 FAULTS = [
     ("", "error: 'bench' requires a subcommand but one was not provided"),
@@ -86,6 +86,23 @@ FAULTS = [
     ),
     ("generate --seed 18446744073709551616", "error: invalid value '18446744073709551616' for '--seed <N>'"),
     ("generate --hi 4294967296", "error: invalid value '4294967296' for '--hi <N>'"),
+    ("schedule", "error: the following required arguments were not provided"),
+    ("schedule --seed 18446744073709551616", "error: invalid value '18446744073709551616' for '--seed <N>'"),
+    (
+        "schedule --seed 1 --tree locked",
+        "error: invalid value 'locked' for '--tree <NAME>'\n  [possible values: coupled, optimistic, read-unchecked, "
+        "scan-unvalidated, lock-unchecked, early-release]",
+    ),
+    (
+        "schedule --seed 1 --strategy mix",
+        "error: invalid value 'mix' for '--strategy <NAME>'\n  [possible values: walk, pos, pct]",
+    ),
+    ("schedule --seed 1 --depth 0", "error: invalid value '0' for '--depth <N>'"),
+    ("schedule --seed 1 --depth 65", "error: invalid value '65' for '--depth <N>'"),
+    ("schedule --seed 1 --rows256 0", "error: invalid value '0' for '--rows256 <N>'"),
+    ("schedule --seed 1 --limit 0", "error: invalid value '0' for '--limit <N>'"),
+    ("schedule --seed 1 --limit 1000001", "error: invalid value '1000001' for '--limit <N>'"),
+    ("schedule --seed 1 5", "error: unexpected argument '5' found"),
     ("drive 0", "error: unexpected argument '0' found"),
     ("drive locked", "error: unexpected argument 'locked' found"),
     ("drive --tree", "error: a value is required for '--tree <NAME>' but none was supplied"),
@@ -109,12 +126,13 @@ FAULTS = [
 ]
 POINTER = "\n\nFor more information, try '--help'.\n"
 
-# Words, and the line and the hint that they are told of a text that is cut short.
+# Arguments, and the line and the hint that are printed for a text that is cut short.
 DRAWN = "generate --seed 42 --processes 1 --calls 2 --get 100 --insert 0 --remove 0 --scan {} --lo {} --hi 5"
 SHOWN = '{"events":[{"invoke":["insert",5,7],"process":0},{"answer":null,"process":0},{"i..'
 REFUSALS = [
     *((words, "history: 2 NotJson", "wanted JSON in UTF-8") for words in ("check 0 1", "judge", "locate", "explain", "draw", "page")),
     ("follow", "stream: line 1: 2 NotJson", f"found {SHOWN}; wanted JSON in UTF-8"),
+    ("schedule --seed 1", "plan: 6 NotJson", "wanted JSON in UTF-8"),
     ("replay", "replay: 6 NotJson", "wanted JSON in UTF-8"),
     ("drive", "plan: 6 NotJson", "wanted JSON in UTF-8"),
     ("drive --tree locked", "plan: 6 NotJson", "wanted JSON in UTF-8"),
@@ -135,11 +153,11 @@ Options:
 
 
 def refused_words():
-    """What is shown by words that ask for nothing that can be done, or for help, these words, and what they are told."""
+    """Arguments that ask for nothing that can be done, or for help, each with a name and what has to be printed."""
     yield "a word that is no text", [b"check", b"\xff"], re.escape(b"error: a word is no text\n")
     yield "a word that begins as a text", [b"check", b"0", b"1\xff"], re.escape(b"error: a word is no text\n")
     for words, begins in FAULTS:
-        # Where an option has few values, nothing stands behind them; help ends with an empty line at most.
+        # If an option has a few values, nothing comes after them; help ends with at most one empty line.
         between = rb"" if "possible" in begins else rb"(?s:.*)"
         ends = re.escape(POINTER.encode()) if begins.startswith("error") else rb"\n"
         yield words or "no words", words.split(), re.escape(begins.encode()) + between + ends
@@ -155,7 +173,7 @@ def run(words, source, output=subprocess.PIPE, error=subprocess.PIPE, before=Non
 
 
 def before_the_end(words, text):
-    """The same, where the program reads this text from a pipe that stays open: it has to end by itself."""
+    """The same, if the program reads this text from a pipe that stays open: it has to end on its own."""
     source, kept_open = os.pipe()
     os.write(kept_open, text)
     try:
