@@ -70,35 +70,62 @@ changes_none m (Remove key) h = absurd (false≢true (sym h))
 changes_none m (Scan low high) h = refl
 changes_none m (Replace key expected value) h = absurd (false≢true (sym h))
 
--- a pending call that changes none of the keys of another
-either_way : (m : Contents) (a p : Operation) → IsRising m → p.response ≡ None → IsOutside (low_key a.call) (high_key a.call) p.call
-    → after_call (after_call m p.call p.response) a.call a.response ≡ after_call (after_call m a.call a.response) p.call p.response
-either_way m a p rising pending out = ⊎_elim
-    (λ same. let leaves : (n : Contents) → after_call n p.call p.response ≡ n =
-    λ n. ap (λ o. after_call n p.call o) pending ∙ changes_none n p.call same in
-    ap (λ (n : Contents). after_call n a.call a.response) (leaves m) ∙ sym (leaves (after_call m a.call a.response)))
-    (λ apart. swapped m a p rising apart)
-    out
+-- a call lets another one go before it: their keys are apart, or it is legal at all pairs and leaves them as they are
+abbrev pub LetsPass : Operation → Operation → Type 0
+LetsPass a p =
+    ((high_key p.call < low_key a.call) ⊎ (high_key a.call < low_key p.call))
+    ⊎ (((m : Contents) → IsLegalCall m p.call p.response) × ((m : Contents) → after_call m p.call p.response ≡ m))
 
--- a call goes before pending ones that change none of its keys
-pub goes_before : (m : Contents) (front back : List Operation) (a : Operation) → IsRising m
-    → All (λ p. (p.response ≡ None) × IsOutside (low_key a.call) (high_key a.call) p.call) front
-    → IsLegal m (front ++ a ∷ back) → IsLegal m (a ∷ (front ++ back))
-goes_before m [] back a rising free h = h
-goes_before m (p ∷ front) back a rising free h =
-    let here = All-head (λ p. (p.response ≡ None) × IsOutside (low_key a.call) (high_key a.call) p.call) p front free in
+-- a call is legal where it is so after one of other keys
+legal_before : (m : Contents) (a p : Operation) → IsOutside (low_key a.call) (high_key a.call) p.call
+    → IsLegalCall (after_call m p.call p.response) a.call a.response → IsLegalCall m a.call a.response
+legal_before m a p out h =
+    (IsLegalCall-within (low_key a.call) (high_key a.call) m a.call a.response (own_keys a)).1
+    (subst (λ (n : Contents). IsLegalCall n a.call a.response) (within_left_call (low_key a.call) (high_key a.call) m p.call p.response out)
+    ((IsLegalCall-within (low_key a.call) (high_key a.call) (after_call m p.call p.response) a.call a.response (own_keys a)).0 h))
+
+-- and after one of other keys where it is so before
+legal_behind : (m : Contents) (a p : Operation) → IsOutside (low_key p.call) (high_key p.call) a.call → IsLegalCall m p.call p.response
+    → IsLegalCall (after_call m a.call a.response) p.call p.response
+legal_behind m a p out h =
+    (IsLegalCall-within (low_key p.call) (high_key p.call) (after_call m a.call a.response) p.call p.response (own_keys p)).1
+    (subst (λ (n : Contents). IsLegalCall n p.call p.response) (sym (within_left_call (low_key p.call) (high_key p.call) m a.call a.response out))
+    ((IsLegalCall-within (low_key p.call) (high_key p.call) m p.call p.response (own_keys p)).0 h))
+
+-- a call goes before those that let it
+pub passes : (m : Contents) (front back : List Operation) (a : Operation) → IsRising m → All (LetsPass a) front → IsLegal m (front ++ a ∷ back)
+    → IsLegal m (a ∷ (front ++ back))
+passes m [] back a rising lets h = h
+passes m (p ∷ front) back a rising lets h =
     let next = after_call m p.call p.response in
-    let later = goes_before next front back a (rising_kept m p rising)
-    (All-tail (λ p. (p.response ≡ None) × IsOutside (low_key a.call) (high_key a.call) p.call) p front free) h.1 in (
-      (IsLegalCall-within (low_key a.call) (high_key a.call) m a.call a.response (own_keys a)).1
-          (subst (λ (n : Contents). IsLegalCall n a.call a.response)
-          (within_left_call (low_key a.call) (high_key a.call) m p.call p.response here.1)
-          ((IsLegalCall-within (low_key a.call) (high_key a.call) next a.call a.response (own_keys a)).0 later.0)),
+    let later = passes next front back a (rising_kept m p rising) (All-tail (LetsPass a) p front lets) h.1 in
+    ⊎_elim
+    (λ apart. (
+      legal_before m a p (inr apart) later.0,
       (
-        subst (λ o. IsLegalCall (after_call m a.call a.response) p.call o) (sym here.0) tt,
-        subst (λ (n : Contents). IsLegal n (front ++ back)) (either_way m a p rising here.0 here.1) later.1,
+        legal_behind m a p (a_outside m a p rising apart) h.0,
+        subst (λ (n : Contents). IsLegal n (front ++ back)) (swapped m a p rising apart) later.1,
       ),
-    )
+    ))
+    (λ inert. (
+      subst (λ (n : Contents). IsLegalCall n a.call a.response) (inert.1 m) later.0,
+      (
+        inert.0 (after_call m a.call a.response),
+        subst (λ (n : Contents). IsLegal n (front ++ back))
+            (ap (λ (n : Contents). after_call n a.call a.response) (inert.1 m) ∙ sym (inert.1 (after_call m a.call a.response))) later.1,
+      ),
+    ))
+    (All-head (LetsPass a) p front lets)
+
+-- a pending call that changes none of the keys of another lets that pass
+pub pending_passes : (a p : Operation) → p.response ≡ None → IsOutside (low_key a.call) (high_key a.call) p.call → LetsPass a p
+pending_passes a p pending out = ⊎_elim
+    (λ same. inr (
+      λ m. subst (λ o. IsLegalCall m p.call o) (sym pending) tt,
+      λ m. ap (λ o. after_call m p.call o) pending ∙ changes_none m p.call same,
+    ))
+    (λ apart. inl apart)
+    out
 
 -- calls that do not change a key leave its value
 pub value_stays : (m : Contents) (front : List Operation) (key : ℕ) → All (λ p. IsOutside key key p.call) front

@@ -124,7 +124,7 @@ listed_there m call reply key value h legal =
     sym (value_at-within h.low h.high m key h.above h.below) ∙ (ap (λ (n : Contents). value_at n key) (sym same) ∙ h.found))
     pairs_legal
 
-found_there : (m : Contents) (call : Call) (response : Option Response) (r : Response) (key : ℕ) (value : Option ℕ) → response ≡ Some r
+pub found_there : (m : Contents) (call : Call) (response : Option Response) (r : Response) (key : ℕ) (value : Option ℕ) → response ≡ Some r
     → Reports key value call r.reply → IsLegalCall m call response → value_at m key ≡ value
 found_there m call response r key value answered reports legal =
     let legal_reply : IsLegalReply m call r.reply = subst (IsLegalCall m call) answered legal in

@@ -31,7 +31,7 @@ use Rattle.search.specs.Standing.{pairs_after}
 use Rattle.call_search.specs.Standing.{Closes, AreNext}
 use Rattle.std.proofs.lemmas.List.Elements.{Contains-push, Contains-push_cases}
 use Rattle.call_search.specs.Idle.{IsOpenNext, IsFree, IsBarred, WaitsForNone, IsDoneNext, AreIdle, IsPassedOver, MissesPair}
-use Rattle.call_search.proofs.ApartLemmas.{goes_before, value_stays}
+use Rattle.call_search.proofs.ApartLemmas.{LetsPass, passes, pending_passes, value_stays}
 use Rattle.call_search.proofs.ReadLemmas.{not_twice, legal_rest, moves_forward}
 use Rattle.call_search.proofs.EarliestLemmas.{below_or_at}
 use Rattle.call_search.proofs.StandingLemmas.{all_close}
@@ -206,10 +206,10 @@ module _ (start : Contents) (calls : List Operation) (path : List ℕ) (answered
         moves_forward start calls path n a first.here front back order
         (All-from_contains (λ b. precedes b a ≡ false) (calls_at calls front)
         (λ b h. ap (λ o. is_before o a.inv) (open_next b h).pending))
-        (goes_before (pairs_after start calls path) (calls_at calls front) (calls_at calls back) a
+        (passes (pairs_after start calls path) (calls_at calls front) (calls_at calls back) a
         (rising_after (calls_at calls path) start rising)
-        (All-from_contains (λ p. (p.response ≡ None) × IsOutside (low_key a.call) (high_key a.call) p.call) (calls_at calls front)
-        (λ p h. ((open_next p h).pending, free p (open_next p h)))) there)
+        (All-from_contains (LetsPass a) (calls_at calls front)
+        (λ p h. pending_passes a p (open_next p h).pending (free p (open_next p h)))) there)
 
     pub comes_first : IsOrder start calls (path ++ n ∷ (front ++ back))
     comes_first = ⊎_elim freely
@@ -324,16 +324,15 @@ module _ (calls : List Operation) (path : List ℕ) (answered : ℕ) where
 
 -- ---- the calls to be tried, call by call
 
--- of the calls with a number below this those that may come next are listed or passed over, and no others are listed
-abbrev pub AreTried : Contents → List Operation → List ℕ → Bool → List ℕ → ℕ → Type 0
-AreTried start calls path idle rest i =
-    AreNext start calls path rest × ((n : ℕ) → n < i → IsNext start calls path n → Contains rest n ⊎ IsPassedOver idle calls n)
-    × (length rest ≤ i)
+-- of the calls with a number below this those that may come next are listed, or are of some that are passed over, and no others are listed
+abbrev pub AreTried : Contents → List Operation → List ℕ → (ℕ → Type 0) → List ℕ → ℕ → Type 0
+AreTried start calls path Passed rest i =
+    AreNext start calls path rest × ((n : ℕ) → n < i → IsNext start calls path n → Contains rest n ⊎ Passed n) × (length rest ≤ i)
 
-module _ (start : Contents) (calls : List Operation) (path : List ℕ) (idle : Bool) (rest more : List ℕ) (i : ℕ) where
+module _ (start : Contents) (calls : List Operation) (path : List ℕ) (Passed : ℕ → Type 0) (rest more : List ℕ) (i : ℕ) where
   -- one call more may come next
-  pub tried-more : more ≡ rest ++ i ∷ [] → IsNext start calls path i → AreTried start calls path idle rest i
-      → AreTried start calls path idle more (i + 1)
+  pub tried-more : more ≡ rest ++ i ∷ [] → IsNext start calls path i → AreTried start calls path Passed rest i
+      → AreTried start calls path Passed more (i + 1)
   tried-more is next h = (
     λ n within. ⊎_elim (λ old. h.0 n old) (λ same. subst (IsNext start calls path) same next)
         (Contains-push_cases rest i n (subst (λ xs. Contains xs n) is within)),
@@ -346,13 +345,13 @@ module _ (start : Contents) (calls : List Operation) (path : List ℕ) (idle : B
   )
 
   -- one may not, or is passed over
-  pub tried-less : more ≡ rest → (IsNext start calls path i → IsPassedOver idle calls i) → AreTried start calls path idle rest i
-      → AreTried start calls path idle more (i + 1)
+  pub tried-less : more ≡ rest → (IsNext start calls path i → Passed i) → AreTried start calls path Passed rest i
+      → AreTried start calls path Passed more (i + 1)
   tried-less is passed_over h = (
     λ n within. h.0 n (subst (λ xs. Contains xs n) is within),
     λ n lt next_n. ⊎_elim
         (λ below. ⊎_elim (λ listed. inl (subst (λ xs. Contains xs n) (sym is) listed)) (λ passed. inr passed) (h.1 n below next_n))
-        (λ same. inr (subst (IsPassedOver idle calls) (sym same) (passed_over (subst (IsNext start calls path) same next_n))))
+        (λ same. inr (subst Passed (sym same) (passed_over (subst (IsNext start calls path) same next_n))))
         (below_or_at n i lt),
     omega (arith, ap length is, h.2),
   )

@@ -6,3 +6,4 @@ mod DeadLemmas
 pub mod MarkLemmas
 pub mod StandingLemmas
 pub mod EarliestLemmas
+pub mod FirstKeyLemmas

@@ -1,18 +1,20 @@
 // The calls that may come next.
 ghost use Rattle.std.specs.Prelude.{◌≡◌, ◌+◌, ◌<◌, ◌≤◌, ◌^◌, true, false, length, Some, slice_get, AllPairs, IfOk, MatchOption};
-ghost use Rattle.std.specs.Prelude.{All, IsSomeAnd, IsPermutation};
+ghost use Rattle.std.specs.Prelude.{◌↔◌, All, IsTrue, IsSomeAnd, IsPermutation};
 ghost use Rattle.events.specs.Precedence.{NonePrecedesItself};
 ghost use Rattle.map_object.specs.MapObject.{Contents, IsRising};
 ghost use Rattle.orders.specs.Orders.{IsOrder};
 ghost use Rattle.configurations.proofs.FrontLemmas.{IsNext};
 ghost use Rattle.search.specs.Remaining.{IsEarliestAnswer};
+ghost use Rattle.call_search.specs.FirstKeys.{IsCallOfOne, AreNextOfOne};
 ghost use Rattle.call_search.specs.Idle.{IsPassedOver};
 ghost use Rattle.call_search.specs.Standing.{places, StandsBare, AreChoices, IsReduced};
 
 use crate::branch::CallSearch;
-use crate::dead::{end_of_look, is_dead_end, is_futile};
+use crate::dead::{end_of_look, is_dead_end, is_futile, names};
+use crate::first_keys::first_keys;
 use crate::idle::{are_idle, is_taken};
-use events::{Memory, Operation};
+use events::{Call, Memory, Operation};
 use orders::may_come_next;
 use quiet_cuts::{earlier_answer, is_behind, is_read};
 use std::alloc::Global;
@@ -20,8 +22,10 @@ use std::alloc::Global;
 /// The calls that are to be tried where a search stands, the last one first: one read alone, if
 /// there is one, or else all calls that may come next. Those that were answered first are tried
 /// first. Pending ones are passed over if no completed one could wait for them, and otherwise tried
-/// last, by invocation. Calls that are seen to be futile are left out, and all if a call that is
-/// left is seen to be stuck. `None` if all completed calls are taken.
+/// last, by invocation. If several calls are left to try, only those of a few keys are, pending
+/// ones too, if such keys are seen (`few_keys_go_first`). Calls that are seen to be futile are left
+/// out, and all if a call that is left is seen to be stuck. `None` if all completed calls are
+/// taken.
 pub(crate) fn choices(
     alloc: Global,
     calls: &[Operation],
@@ -49,7 +53,8 @@ pub(crate) fn choices(
     if is_dead_end(calls, standing, end, last_of_look(standing, answered)) {
         return Ok(Some(Vec::new(alloc)));
     }
-    let rest = hopeful(alloc, calls, standing, end, &next)?;
+    let few = narrowed(alloc, calls, standing, answered, next)?;
+    let rest = hopeful(alloc, calls, standing, end, &few)?;
     Ok(Some(by_answer(calls, rest)))
 }
 
@@ -62,6 +67,81 @@ fn is_lone_read(calls: &[Operation], next: &[u32]) -> bool {
         Some(call) => is_read(call),
         None => false,
     }
+}
+
+/// Of several calls that are to be tried only those of a few keys, if such keys are seen.
+fn narrowed(
+    alloc: Global,
+    calls: &[Operation],
+    standing: &CallSearch,
+    answered: usize,
+    next: Vec<u32>,
+) -> Result<Vec<u32>, Memory>
+    ghost start: { Contents }
+    requires few { length calls.now + 1 < 2 ^ 32 }
+    requires apart { NonePrecedesItself calls.now }
+    requires rising { AllPairs (λ a b. a.inv < b.inv) calls.now }
+    requires start_rises { IsRising start }
+    requires stands { StandsBare start calls.now standing.now }
+    requires earliest { IsEarliestAnswer calls.now (places standing.now.levels.items)
+        (Some answered) }
+    requires choices { AreChoices start calls.now (places standing.now.levels.items) next.items }
+    requires next_few { length next.items ≤ length calls.now }
+    ensures choices { IfOk result (λ v. AreChoices start calls.now
+        (places standing.now.levels.items) v.items) }
+    ensures few { IfOk result (λ v. length v.items ≤ length calls.now) }
+{
+    if next.len() < 2 {
+        return Ok(next);
+    }
+    let Some(keys) = first_keys(alloc, calls, standing, answered)? else {
+        return Ok(next);
+    };
+    let few = next_of_keys(alloc, calls, standing, answered, &keys)?;
+    Ok(few)
+}
+
+/// Of the calls that may come next those of these keys, by rising place.
+fn next_of_keys(
+    alloc: Global,
+    calls: &[Operation],
+    standing: &CallSearch,
+    answered: usize,
+    keys: &[u64],
+) -> Result<Vec<u32>, Memory>
+    ghost start: { Contents }
+    requires few { length calls.now + 1 < 2 ^ 32 }
+    requires rising { AllPairs (λ a b. a.inv < b.inv) calls.now }
+    requires stands { StandsBare start calls.now standing.now }
+    requires earliest { IsEarliestAnswer calls.now (places standing.now.levels.items)
+        (Some answered) }
+    ensures choices { IfOk result (λ v. AreNextOfOne start calls.now
+        (places standing.now.levels.items) keys.now v.items) }
+    ensures few { IfOk result (λ v. length v.items ≤ length calls.now) }
+{
+    let mut next = Vec::new(alloc);
+    for place in standing.low..calls.len() {
+        let call = &calls[place];
+        if answered < call.inv {
+            return Ok(next);
+        }
+        if is_of_one(&call.call, keys) && may_come(calls, standing, place, answered, false) {
+            next.push(place as u32)?;
+        }
+    }
+    Ok(next)
+}
+
+/// Whether a call is one of these keys, and no scan.
+fn is_of_one(call: &Call, keys: &[u64]) -> bool
+    ensures { IsTrue result ↔ IsCallOfOne keys.now call.now }
+{
+    for key in keys {
+        if names(call, *key) {
+            return true;
+        }
+    }
+    false
 }
 
 /// The place by which calls begin that are asked whether they are stuck: at the start of a search

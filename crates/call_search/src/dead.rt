@@ -95,7 +95,7 @@ fn is_stuck(calls: &[Operation], standing: &CallSearch, end: usize, place: usize
 }
 
 /// The key of a call. A scan has none.
-fn key_of(call: &Call) -> Option<u64>
+pub(crate) fn key_of(call: &Call) -> Option<u64>
     ensures { IfSome result (λ key. IsCallOf key call.now) }
 {
     match call {
@@ -280,7 +280,7 @@ fn is_report(call: &Call, reply: &Reply, key: u64, value: Option<u64>) -> bool
 }
 
 /// Whether a call is one of a key, and no scan.
-fn names(call: &Call, key: u64) -> bool
+pub(crate) fn names(call: &Call, key: u64) -> bool
     ensures { IsTrue result ↔ IsCallOf key call.now }
 {
     match call {
@@ -291,7 +291,7 @@ fn names(call: &Call, key: u64) -> bool
 }
 
 /// The value at a key among some pairs, the first if there are several.
-fn value_in(pairs: &[(u64, u64)], key: u64) -> Option<u64>
+pub(crate) fn value_in(pairs: &[(u64, u64)], key: u64) -> Option<u64>
     ensures { result ≡ object.value_at pairs.now key }
 {
     for (other, value) in pairs {

@@ -1,5 +1,6 @@
 // Laws of searches, each the contract of a function that does nothing.
 ghost use Rattle.call_search.specs.Dead.{StuckCallsAreDeadEnds};
+ghost use Rattle.call_search.specs.FirstKeys.{FewKeysGoFirst};
 ghost use Rattle.call_search.specs.Reads.{ReadsGoFirst, ToldCallsLeaveAll};
 
 /// A completed call that may come next, and leaves each map as it is at which it may be answered
@@ -16,9 +17,18 @@ pub fn told_calls_leave_all()
     ensures { ToldCallsLeaveAll }
 {}
 
-/// A call that is left reported that a key had a value, or none. The key does not have that now, and
-/// no call that is left and begins no later than its answer puts it there. Then what is left has no
-/// order.
+/// A call that is left reported that a key had a value, or none. The key does not have that now,
+/// and no call that is left and begins no later than its answer puts it there. Then what is left
+/// has no order.
 pub fn stuck_calls_are_dead_ends()
     ensures { StuckCallsAreDeadEnds }
+{}
+
+/// Of the calls that are left the one that is answered first is a call of one of some keys, or a
+/// scan that reported another value at one of them than it now has. Each scan that is over one of
+/// them, and begins no later than that answer, reported another value at one of them, too. Then
+/// what is left has an order only if it has one that begins with a call of one of these keys,
+/// pending or not.
+pub fn few_keys_go_first()
+    ensures { FewKeysGoFirst }
 {}

@@ -7,6 +7,10 @@
 //! with this call (`reads_go_first`). Pending calls are tried only where a completed one that could
 //! come next may wait for one of them: else one of the completed ones may go first.
 //!
+//! Where several calls are to be tried, those of a few keys may suffice: if what is left has an
+//! order, it has one that begins with one of them (`few_keys_go_first`). Such keys are a stubborn
+//! set of Valmari 1991. Then no call of another key is tried there.
+//!
 //! A call that is left is stuck if it reported a value that its key does not have, and that no call
 //! puts there before it. Then nothing is tried (`stuck_calls_are_dead_ends`), and a call that would
 //! leave another one stuck is not tried either. So it says of the calls only whether they have an
@@ -17,6 +21,7 @@
 mod branch;
 mod choices;
 mod dead;
+mod first_keys;
 mod found;
 mod idle;
 mod laws;
@@ -26,5 +31,7 @@ mod standing;
 mod tests;
 
 pub use found::SearchEnd;
-pub use laws::{reads_go_first, stuck_calls_are_dead_ends, told_calls_leave_all};
+pub use laws::{
+    few_keys_go_first, reads_go_first, stuck_calls_are_dead_ends, told_calls_leave_all,
+};
 pub use searching::search_calls;

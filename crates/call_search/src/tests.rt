@@ -169,3 +169,68 @@ fn pending_calls_are_tried_last(rt: HostRuntime) -> Result<(), Fail> {
     assert!(rt; is_order(alloc, events, &[1, 0, 2], 100)?);
     Ok(())
 }
+
+/// The reply of a scan that lists these pairs.
+fn list(alloc: Global, pairs: &[(u64, u64)]) -> Result<Reply, Fail> {
+    Ok(Reply::Pairs(Pairs::new(Vec::from_slice(alloc, pairs)?)))
+}
+
+// A scan that is answered first found the value of one insert. That insert is tried first, though
+// the insert and the removal of another key were answered earlier.
+#[test]
+fn a_key_that_a_scan_missed_goes_first(rt: HostRuntime) -> Result<(), Fail> {
+    let alloc = rt.alloc();
+    let events = vec![in alloc;
+        begin(0, Call::Insert(1, 5)),
+        begin(1, Call::Insert(2, 6)),
+        begin(2, Call::Remove(1)),
+        begin(3, Call::Scan(0, 9)),
+        answer(3, list(alloc, &[(2, 6)])?),
+        answer(0, Reply::None),
+        answer(2, Reply::Some(5)),
+        answer(1, Reply::None),
+    ]?;
+    assert!(rt; is_order(alloc, events, &[1, 3, 0, 2], 5)?);
+    Ok(())
+}
+
+// The insert that is answered first has to wait for a scan, and the scan for a pending insert of
+// another key. It lists one more pair, which a completed insert puts there.
+#[test]
+fn a_pending_call_of_another_key_goes_first(rt: HostRuntime) -> Result<(), Fail> {
+    let alloc = rt.alloc();
+    let events = vec![in alloc;
+        begin(0, Call::Insert(1, 5)),
+        begin(1, Call::Insert(2, 6)),
+        begin(2, Call::Insert(3, 7)),
+        begin(3, Call::Scan(0, 9)),
+        answer(0, Reply::None),
+        answer(3, list(alloc, &[(2, 6), (3, 7)])?),
+        answer(2, Reply::None),
+    ]?;
+    assert!(rt; is_order(alloc, events, &[1, 2, 3, 0], 5)?);
+    Ok(())
+}
+
+// Two scans found what excludes each other. No call of a third key is tried, though one could come
+// next, and another one takes back what it puts.
+#[test]
+fn calls_of_other_keys_are_not_tried_in_vain(rt: HostRuntime) -> Result<(), Fail> {
+    let alloc = rt.alloc();
+    let events = vec![in alloc;
+        begin(0, Call::Insert(1, 5)),
+        begin(1, Call::Insert(2, 6)),
+        begin(2, Call::Insert(3, 7)),
+        begin(3, Call::Remove(3)),
+        begin(4, Call::Scan(0, 9)),
+        begin(5, Call::Scan(0, 9)),
+        answer(4, list(alloc, &[(1, 5)])?),
+        answer(5, list(alloc, &[(2, 6)])?),
+        answer(0, Reply::None),
+        answer(1, Reply::None),
+        answer(2, Reply::None),
+        answer(3, Reply::Some(7)),
+    ]?;
+    assert!(rt; matches!(found(alloc, events, 1)?, SearchEnd::NoOrder));
+    Ok(())
+}

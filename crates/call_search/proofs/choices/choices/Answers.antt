@@ -19,10 +19,28 @@ next_calls-requires g c = (
   (c.requires.1.0, (c.requires.1.1.0, (c.requires.1.1.1.0, (c.requires.1.1.1.1, rw c.in-Some.is at c.earliest_answer.ensures)))),
 )
 
+pub narrowed-requires : goal.narrowed-requires
+narrowed-requires g c = (
+  c.requires.0,
+  (
+    c.requires.1.0,
+    (
+      c.requires.1.1.0,
+      (
+        c.requires.1.1.1.0,
+        (
+          c.requires.1.1.1.1,
+          (rw c.in-Some.is at c.earliest_answer.ensures, (c.in_ok-next.ensures.choices, c.in_ok-next.ensures.few)),
+        ),
+      ),
+    ),
+  ),
+)
+
 pub hopeful-requires : goal.hopeful-requires
 hopeful-requires g c =
     let calls = c.args.calls.now in
-    let choices = c.in_ok-next.ensures.choices in
+    let choices = c.in_ok-few.ensures.choices in
     let known = All-from_contains (λ n. n < length calls) c.deref-2.result.now (λ n h.
     let next = choices.next n (subst (λ xs. Contains xs n) c.deref-2.ensures.value h) in
     slice_get_within calls n next.call next.here) in (
@@ -34,7 +52,7 @@ pub returns : goal.returns
 returns g c =
     let calls = c.args.calls.now in
     let path = places c.args.standing.now.levels.items in
-    let next = c.in_ok-next.next.items in
+    let next = c.in_ok-few.few.items in
     let rest = c.in_ok-rest.rest.items in
     let tried = c.by_answer.result.items in
     let moved = c.by_answer.ensures in
@@ -43,6 +61,6 @@ returns g c =
       choices_again g.start calls path rest tried
           (λ n h. Contains-permutation rest tried n moved h)
           (λ n h. Contains-permutation tried rest n (IsPermutation-sym rest tried moved) h)
-          (choices_reduced g.start calls path next rest reduced c.in_ok-next.ensures.choices),
-      omega (arith, length_permutation rest tried moved, reduced.few, c.in_ok-next.ensures.few),
+          (choices_reduced g.start calls path next rest reduced c.in_ok-few.ensures.choices),
+      omega (arith, length_permutation rest tried moved, reduced.few, c.in_ok-few.ensures.few),
     )

@@ -12,5 +12,8 @@ ghost-end_of_look g a = g.start
 abbrev pub ghost-is_dead_end : goal.ghost-is_dead_end
 ghost-is_dead_end g a = g.start
 
+abbrev pub ghost-narrowed : goal.ghost-narrowed
+ghost-narrowed g a = g.start
+
 abbrev pub ghost-hopeful : goal.ghost-hopeful
 ghost-hopeful g a = g.start

@@ -3,7 +3,7 @@ use Rattle.std.specs.Prelude.{slice_get}
 use Rattle.std.proofs.lemmas.Bool.{cases_lt}
 use Rattle.std.proofs.lemmas.Option.{slice_get_read, slice_get_within}
 use Rattle.quiet_cuts.proofs.ReplyLemmas.{read_completed, read_leaves}
-use Rattle.call_search.specs.Idle.{AreIdle}
+use Rattle.call_search.specs.Idle.{AreIdle, IsPassedOver}
 use Rattle.call_search.specs.Standing.{places}
 use Rattle.call_search.proofs.EarliestLemmas.{not_next}
 use Rattle.call_search.proofs.IdleLemmas.{tried-more, tried-less, tried_close}
@@ -58,9 +58,9 @@ loop-place-preserved g c =
     let path = places c.args.standing.now.levels.items in
     let i = c.loop-place.place in
     elim c.if-may_come.branch [
-      | then-may_come+else-is_read+in_ok-push w ↦ tried-more g.start calls path c.are_idle-idle.result c.loop-place.next.items c.if-may_come.next.items i
+      | then-may_come+else-is_read+in_ok-push w ↦ tried-more g.start calls path (IsPassedOver c.are_idle-idle.result calls) c.loop-place.next.items c.if-may_come.next.items i
           (ap (λ v. v.items) w.next-is ∙ w.in_ok-push.ensures.items) (c.may_come.ensures.next w.if-may_come.true) c.loop-place.invariant
-      | else-may_come w ↦ tried-less g.start calls path c.are_idle-idle.result c.loop-place.next.items c.if-may_come.next.items i
+      | else-may_come w ↦ tried-less g.start calls path (IsPassedOver c.are_idle-idle.result calls) c.loop-place.next.items c.if-may_come.next.items i
           (ap (λ v. v.items) w.next-is) (c.may_come.ensures.not_next w.if-may_come.false) c.loop-place.invariant
     ]
 
