@@ -18,9 +18,12 @@ pub struct OpenRead {
 /// Whether a part is to move on: there are enough calls, more than when it was last tried.
 pub fn is_time(part: &Part) -> bool {
     let calls = part.first.calls();
-    let open = part.found.len().saturating_add(count_pending(calls));
     let size = calls.len();
-    (open == 0 || size >= 16 && size / 3 >= open) && size - size / 3 >= part.tried
+    if size - size / 3 < part.tried {
+        return false;
+    }
+    let open = part.found.len().saturating_add(count_pending(calls));
+    open == 0 || size >= 16 && size / 3 >= open
 }
 
 /// The moment to which a part may move on, if there is one. No pending read of its keys began before.

@@ -17,3 +17,4 @@ pub mod StateAnswerLemmas
 pub mod SettledLemmas
 pub mod MovedLemmas
 pub mod ThenLemmas
+mod GoesOnLemmas

@@ -1,10 +1,12 @@
 // The state of the monitor.
-ghost use Rattle.std.specs.Prelude.{◌≡◌, ◌+◌, ◌<◌, ◌≤◌, ◌^◌, ◌++◌, ◌∷◌, [], List, IfOk};
+ghost use Rattle.std.specs.Prelude.{◌≡◌, ◌+◌, ◌<◌, ◌≤◌, ◌^◌, ◌++◌, ◌∷◌, [], List, All, IfOk};
 ghost use Rattle.events.specs.declared.operation.Operation.{Operation as Done};
 ghost use Rattle.events.specs.Keys.{low_key, high_key};
 ghost use Rattle.map_object.specs.MapObject.{Contents, IsRising};
 ghost use Rattle.key_effects.specs.Forms.{HasForm};
+ghost use Rattle.kept_parts.specs.Steps.{GoesOn};
 ghost use Rattle.parts.specs.Shapes.{IsShaped};
+ghost use Rattle.parts.specs.Views.{kept_parts};
 ghost use Rattle.parts.specs.Keeping.{begun, is_reported, IsAnswered, IsCounted, IsStateOf, reported};
 
 use crate::answering::answer_change;
@@ -109,7 +111,8 @@ impl Parts {
     /// Before any event, at pairs by rising key, which are copied.
     pub fn new(alloc: Global, start: &[(u64, u64)]) -> Result<Parts, Memory>
         requires { IsRising start.now }
-        ensures { IfOk result (IsStateOf start.now []) }
+        ensures state { IfOk result (IsStateOf start.now []) }
+        ensures counted { IfOk result (λ s. s.now ≡ 0) }
     {
         let empty = PackedMap::new(alloc)?;
         let rest = add_pairs(empty, start)?;
@@ -128,6 +131,13 @@ impl Parts {
         ensures { result ≡ self.entry.now.now }
     {
         self.now
+    }
+
+    /// Each part goes on, so the calls so far have an order (`kept_parts_decide`).
+    pub fn goes_on(&self)
+        ensures { All GoesOn (kept_parts self.entry.now) }
+    {
+        let _parts = &self.parts;
     }
 
     /// A call begins. Its place is the number of the events before it.
