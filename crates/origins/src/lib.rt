@@ -13,4 +13,4 @@ mod writing;
 pub use external::external_pairs;
 pub use laws::{missed_calls_refute, one_is_missed_at_a_key, what_is_told_was_put};
 pub use missing::{Missed, missed_by};
-pub use writing::{holds, writers_of};
+pub use writing::{holds, says_undone, writers_of};

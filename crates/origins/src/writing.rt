@@ -69,7 +69,7 @@ pub(crate) fn is_undone(call: &Call, response: &Option<Response>) -> bool
 
 /// Whether a reply says that the call was not done: it was refused, or a replace did not find the
 /// value that it expects.
-fn says_undone(call: &Call, reply: &Reply) -> bool
+pub fn says_undone(call: &Call, reply: &Reply) -> bool
     ensures { result ≡ says_undone call.now reply.now }
 {
     match reply {

@@ -1,0 +1,6 @@
+pub mod LawLemmas
+pub mod AnyLemmas
+pub mod PairLemmas
+pub mod NameLemmas
+pub mod WriterLemmas
+pub mod LossLemmas

@@ -1,0 +1,7 @@
+use Rattle.std.proofs.Common.{take}
+use Rattle.losses.specs.Collecting.{AreAdded, GivesDiffering}
+use Rattle.losses.proofs.named_keys.note_pairs.Given as goal
+
+-- the keys of the pairs so far at which the maps differ
+abbrev pub invariant-loop-pair : goal.invariant-loop-pair
+invariant-loop-pair l = AreAdded (GivesDiffering l.map l.other l.low l.high) (take l.pair-index l.pairs) l.initial.keys.items l.keys.items

@@ -1,0 +1,20 @@
+//! Where a stream goes wrong, or may: the part of the keys that does not go on, what is said of its
+//! keys, and what goes wrong there by itself.
+#![tactic(auto)]
+
+mod left_calls;
+mod loss;
+mod lost_keys;
+mod named_keys;
+mod own_parts;
+mod puts;
+mod reported;
+mod writers;
+
+pub use loss::Loss;
+pub use lost_keys::{KeyLoss, Origin, key_losses};
+pub use own_parts::{OwnPart, own_losses, own_part, own_parts_have_no_order};
+pub use puts::{Put, put_of, put_with};
+
+#[cfg(test)]
+mod tests;

@@ -1,0 +1,145 @@
+-- What the parts make of an answer, for the events.
+use Rattle.std.proofs.Common.{◌≡◌, ℕ, suc, ◌<◌, ◌==◌, List, [], ◌∷◌, ◌++◌, length, Some, None, cond, sym, ap, ◌∙◌, subst, ⊎_elim}
+use Rattle.std.specs.Prelude.{All}
+use Rattle.events.specs.declared.event.Event.{Event}
+use Rattle.events.specs.declared.event.Event.TheVariants.{Answer}
+use Rattle.events.specs.declared.event.Reply.{Reply}
+use Rattle.events.specs.declared.event.Call.{Call}
+use Rattle.events.specs.declared.operation.Operation.{Operation}
+use Rattle.events.specs.Operations.{operations}
+use Rattle.key_effects.specs.Laws.{OrdersAreKeyedOrders}
+use Rattle.kept_parts.specs.Steps.{GoesOn, KeptPartsDecide}
+use Rattle.losses.specs.declared.loss.Loss.{Loss}
+use Rattle.losses.specs.declared.puts.Put.{Put}
+use Rattle.map_object.specs.MapObject.{Contents}
+use Rattle.orders.specs.Orders.{IsLinearizable}
+use Rattle.part_pasts.specs.Pasts.{IsDead, AreDoubtful}
+use Rattle.parts.specs.Keeping.{begun, is_reported, IsCounted, IsKeptBeside, IsStateOf, pasts_of}
+use Rattle.parts.specs.Views.{PartsView, kept_parts}
+use Rattle.parts.specs.declared.state.EndedPart.{EndedPart}
+use Rattle.prefixes.specs.Laws.{PrefixesHaveOrders}
+use Rattle.prefixes.specs.Prefixes.{GoesWrongAt, IsAnswerOf}
+use Rattle.monitor.specs.Answering.{IsLostPart, IsPendingIn}
+use Rattle.monitor.specs.Calls.{MayReply}
+use Rattle.monitor.specs.Faults.{event_limit}
+use Rattle.monitor.specs.Following.{IsFollowing}
+use Rattle.monitor.specs.LossAt.{IsLossAt}
+use Rattle.monitor.specs.MonitorView.{MonitorView, known_call}
+use Rattle.monitor.specs.Outcomes.{IsKeptWith, IsLost, IsOfAnswer, IsSpent}
+use Rattle.monitor.specs.OpenPuts.{AreAllPuts}
+use Rattle.monitor.specs.Puts.{put_limit, AreRecentPuts, ArePutsOf, BecomeWithAnswer}
+use Rattle.monitor.specs.declared.open_calls.OpenCall.{OpenCall}
+use Rattle.monitor.proofs.CallLemmas.{well_formed_on}
+use Rattle.monitor.proofs.FollowLemmas.{around_it, calls_then, state_before, answer_taken}
+use Rattle.monitor.proofs.JudgeLemmas.{is_call, accepted, answers, none_with_part, none_without_form, goes_wrong}
+use Rattle.monitor.proofs.NextLemmas.{knows_open_after, knows_all_after}
+use Rattle.monitor.proofs.PutLemmas.{recent_after, known_puts}
+
+module _ (start : Contents) (events : List Event) (m : MonitorView) (process : ℕ) (known : OpenCall) (reply : Reply)
+    (h : IsFollowing start events m) (here : known_call m.open_calls process ≡ Some known) where
+  abbrev then : List Event
+  then = events ++ Answer process reply ∷ []
+
+  -- the calls with the answer, as the parts are given them
+  abbrev pub calls_with : List Operation
+  calls_with =
+      (around_it start events m process known reply h here).front
+      ++ is_reported (begun known.call known.event) reply m.parts.now ∷ (around_it start events m process known reply h here).back
+
+  calls_are : calls_with ≡ operations then
+  calls_are = sym (calls_then start events m process known reply h here)
+
+  pub pending : IsPendingIn known m.parts
+  pending = record {
+    start = start;
+    front = (around_it start events m process known reply h here).front;
+    back = (around_it start events m process known reply h here).back;
+    state = state_before start events m process known reply h here;
+  }
+
+  pub goes_on : KeptPartsDecide → (parts : PartsView) (open_calls : List (ℕ × OpenCall)) (puts : List Put)
+      → IsStateOf start calls_with parts × IsCounted m.parts parts × All GoesOn (kept_parts parts)
+      → ((p : ℕ) → known_call open_calls p ≡ cond (p == process) None (known_call m.open_calls p))
+      → AreRecentPuts (operations then) puts
+      → IsFollowing start then (record { parts = parts; open_calls = open_calls; puts = puts; calls = m.calls })
+  goes_on decide parts open_calls puts answered changed recent =
+      answer_taken start events m process known reply h here decide parts open_calls puts
+      (subst (λ (l : List Operation). IsStateOf start l parts) calls_are answered.0) answered.1 answered.2 changed recent
+
+  -- the puts that are known then
+  module _ (limit : ℕ) (full : limit ≡ put_limit) (recent : List Put) (become : BecomeWithAnswer limit known.call known.event reply m.puts recent) where
+    pub recent_then : AreRecentPuts (operations then) recent
+    recent_then =
+        let own = around_it start events m process known reply h here in
+        recent_after events then own.front own.back known.call known.event reply m.puts recent own.before own.after
+        (subst (λ (n : ℕ). BecomeWithAnswer n known.call known.event reply m.puts recent) full become) h.puts_are
+
+    pub known_then : (open_calls : List (ℕ × OpenCall)) (puts : List Put)
+        → ((p : ℕ) → known_call open_calls p ≡ cond (p == process) None (known_call m.open_calls p))
+        → AreAllPuts recent open_calls puts → ArePutsOf (operations then) puts
+    known_then open_calls puts changed all =
+        let own = (is_call start events m process known h here).is_open in
+        known_puts then open_calls (well_formed_on events process known.event known.call reply own)
+        (knows_open_after events process known.event known.call reply own m.open_calls open_calls changed h.calls_open)
+        (knows_all_after events process known.event known.call reply own m.open_calls open_calls changed h.all_open) recent puts recent_then all
+
+  module _ (part : EndedPart) (recent : List Put) (open_calls : List (ℕ × OpenCall)) (loss : Loss)
+      (made : IsLossAt m.parts.now known part recent open_calls loss) where
+    pub of_answer : IsOfAnswer events process loss
+    of_answer = record {
+      event_is = made.event_is ∙ h.events_are;
+      known = known;
+      is_call = is_call start events m process known h here;
+      number_is = made.number_is;
+      call_is = made.call_is;
+      answers = λ r more. subst (λ (n : ℕ). IsAnswerOf (events ++ Answer process r ∷ more) n loss.event) (sym made.number_is)
+          (subst (IsAnswerOf (events ++ Answer process r ∷ more) known.number) (sym made.event_is)
+          (answers start events m process known h here r more));
+    }
+
+    kept_with : IsKeptBeside start (suc m.parts.now) calls_with part → IsKeptWith start events process reply loss
+    kept_with kept =
+        subst (λ (p : EndedPart). IsKeptBeside start (suc (length events)) (operations then) p) (sym made.part_is)
+        (subst (λ (n : ℕ). IsKeptBeside start (suc n) (operations then) part) h.events_are
+        (subst (λ (l : List Operation). IsKeptBeside start (suc m.parts.now) l part) calls_are kept))
+
+    pub is_spent : (budget : ℕ) → m.parts.now < event_limit → IsKeptBeside start (suc m.parts.now) calls_with part × AreDoubtful budget (pasts_of part)
+        → ArePutsOf (operations then) loss.puts.items → IsSpent start events process reply budget loss
+    is_spent budget room answered puts = record {
+      accepted = accepted start events m process known h here room;
+      of_answer = of_answer;
+      part = (kept_with answered.0, subst (λ (p : EndedPart). AreDoubtful budget (pasts_of p)) (sym made.part_is) answered.1);
+      puts = puts;
+    }
+
+    module _ (decide : KeptPartsDecide) (keyed : OrdersAreKeyedOrders) (lost : IsLostPart start (suc m.parts.now) calls_with known.call reply part) where
+      no_order : IsLinearizable start (operations then) → ⊥
+      no_order = ⊎_elim
+          (λ never. none_without_form keyed start events process known reply h.rising (is_call start events m process known h here) never.0)
+          (λ dead. none_with_part decide start then (suc m.parts.now) part h.rising
+          (subst (λ (l : List Operation). IsKeptBeside start (suc m.parts.now) l part) calls_are dead.1) dead.2)
+          lost
+
+      may : MayReply loss.call reply → MayReply known.call reply
+      may h = subst (λ (c : Call). MayReply c reply) made.call_is h
+
+      pub is_lost : PrefixesHaveOrders → m.parts.now < event_limit → ArePutsOf (operations then) loss.puts.items → IsLost start events process reply loss
+      is_lost prefixes room puts = record {
+        accepted = accepted start events m process known h here room;
+        of_answer = of_answer;
+        part = λ replies. ⊎_elim
+            (λ never. absurd (never.0 (may replies)))
+            (λ dead. (kept_with dead.1, subst (λ (p : EndedPart). All IsDead (pasts_of p)) (sym made.part_is) dead.2))
+            lost;
+        none = λ never. ⊎_elim
+            (λ none. ap (λ (p : EndedPart). p.pasts.items) made.part_is ∙ none.1)
+            (λ dead. absurd (never (subst (λ (c : Call). MayReply c reply) (sym made.call_is) dead.0)))
+            lost;
+        puts = puts;
+        wrong = λ more.
+            let wrong = goes_wrong start events m process known h here prefixes reply no_order more in (
+              wrong.0,
+              subst (λ (n : ℕ). GoesWrongAt (record { start = start; events = events ++ Answer process reply ∷ more }) n loss.event) (sym made.number_is)
+                  (subst (GoesWrongAt (record { start = start; events = events ++ Answer process reply ∷ more }) known.number) (sym made.event_is) wrong.1),
+            );
+      }

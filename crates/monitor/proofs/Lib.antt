@@ -1,0 +1,11 @@
+mod CallLemmas
+mod FaultLemmas
+mod FollowLemmas
+mod JudgeLemmas
+mod JudgedLemmas
+mod NextLemmas
+mod OpenLemmas
+mod OpenPutLemmas
+mod PairLemmas
+mod PutLemmas
+mod StartLemmas

@@ -1,0 +1,9 @@
+use Rattle.std.proofs.Common.{arith, rules}
+use Rattle.std.proofs.lemmas.List.Sorted.{IsNonDecreasingBy-from_sort_by_key}
+use Rattle.losses.specs.declared.puts.Put.{Put}
+use Rattle.monitor.proofs.all_puts.by_event.Goals as goal
+
+pub returns-clause-rising : goal.returns-clause-rising
+returns-clause-rising c i j d less below =
+    IsNonDecreasingBy-from_sort_by_key (λ (p : Put). p.event) _ c.in_ok-sort_by_key.ensures.sorted (λ a r q k. search rules) i j d (omega (arith, less))
+    below

@@ -1,0 +1,65 @@
+use Rattle.std.proofs.Common.{◌≡◌, ◌≤◌, ◌<◌, length, None, sym, ap, ◌∙◌, arith}
+use Rattle.std.proofs.lemmas.Result.{err_from_is_err_and}
+use Rattle.events.specs.Keys.{low_key, high_key}
+use Rattle.monitor.specs.Faults.{event_limit}
+use Rattle.monitor.specs.MonitorView.{MonitorView, known_call}
+use Rattle.monitor.proofs.FaultLemmas.{some_known, none_known, waits, idles, open_fault, many_fault, no_fault}
+use Rattle.monitor.proofs.monitor.Monitor.invoke.Goals as goal
+
+pub returns-then-is_some-clause-refused : goal.returns-then-is_some-clause-refused
+returns-then-is_some-clause-refused c = λ start events h.
+    let m = c.args.self in
+    let process = c.args.process in
+    let shaped : low_key c.args.call ≤ high_key c.args.call = omega (arith, c.if-high_key-low_key.false, c.high_key.ensures, c.low_key.ensures) in
+    let is : c.open_call.result ≡ known_call m.open_calls process =
+    c.open_call.ensures ∙ ap (λ (v : MonitorView). known_call v.open_calls process) c.self.view_is in
+    let (known, here) = some_known c.open_call.result (sym c.is_some.ensures ∙ c.if-is_some.true) in
+    open_fault events process c.args.call shaped (waits start events m process h known (sym is ∙ here))
+
+pub returns-then-now-ge-EVENT_LIMIT-clause-refused : goal.returns-then-now-ge-EVENT_LIMIT-clause-refused
+returns-then-now-ge-EVENT_LIMIT-clause-refused c = λ start events h.
+    let m = c.args.self in
+    let process = c.args.process in
+    let shaped : low_key c.args.call ≤ high_key c.args.call = omega (arith, c.if-high_key-low_key.false, c.high_key.ensures, c.low_key.ensures) in
+    let is : c.open_call.result ≡ known_call m.open_calls process =
+    c.open_call.ensures ∙ ap (λ (v : MonitorView). known_call v.open_calls process) c.self.view_is in
+    let idle : known_call m.open_calls process ≡ None = sym is ∙ none_known c.open_call.result (sym c.is_some.ensures ∙ c.if-is_some.false) in
+    let closed = idles start events m process h idle in
+    let events_are : c.self.inside.parts.now ≡ length events = ap (λ (v : MonitorView). v.parts.now) c.self.view_is ∙ h.events_are in
+    let many : event_limit ≤ length events = omega (arith, events_are, c.now.ensures) in
+    many_fault events process c.args.call shaped closed many
+
+pub returns-in_err-next-clause-refused : goal.returns-in_err-next-clause-refused
+returns-in_err-next-clause-refused c = λ start events h.
+    let p = err_from_is_err_and c.from_residual.result c.from_residual.ensures.1 in
+    let m = c.args.self in
+    let process = c.args.process in
+    let shaped : low_key c.args.call ≤ high_key c.args.call = omega (arith, c.if-high_key-low_key.false, c.high_key.ensures, c.low_key.ensures) in
+    let is : c.open_call.result ≡ known_call m.open_calls process =
+    c.open_call.ensures ∙ ap (λ (v : MonitorView). known_call v.open_calls process) c.self.view_is in
+    let idle : known_call m.open_calls process ≡ None = sym is ∙ none_known c.open_call.result (sym c.is_some.ensures ∙ c.if-is_some.false) in
+    let closed = idles start events m process h idle in
+    let events_are : c.self.inside.parts.now ≡ length events = ap (λ (v : MonitorView). v.parts.now) c.self.view_is ∙ h.events_are in
+    let room : length events < event_limit = omega (arith, events_are, c.now.ensures) in
+    rw (p.1, p.2) (no_fault events process c.args.call shaped closed room)
+
+pub returns-clause-accepted : goal.returns-clause-accepted
+returns-clause-accepted c = λ start events h.
+    let m = c.args.self in
+    let process = c.args.process in
+    let shaped : low_key c.args.call ≤ high_key c.args.call = omega (arith, c.if-high_key-low_key.false, c.high_key.ensures, c.low_key.ensures) in
+    let is : c.open_call.result ≡ known_call m.open_calls process =
+    c.open_call.ensures ∙ ap (λ (v : MonitorView). known_call v.open_calls process) c.self.view_is in
+    let idle : known_call m.open_calls process ≡ None = sym is ∙ none_known c.open_call.result (sym c.is_some.ensures ∙ c.if-is_some.false) in
+    let closed = idles start events m process h idle in
+    let events_are : c.self.inside.parts.now ≡ length events = ap (λ (v : MonitorView). v.parts.now) c.self.view_is ∙ h.events_are in
+    let room : length events < event_limit = omega (arith, events_are, c.now.ensures) in
+    no_fault events process c.args.call shaped closed room
+
+pub begin-requires-clause-idle : goal.begin-requires-clause-idle
+begin-requires-clause-idle c =
+    let m = c.args.self in
+    let process = c.args.process in
+    let is : c.open_call.result ≡ known_call m.open_calls process =
+    c.open_call.ensures ∙ ap (λ (v : MonitorView). known_call v.open_calls process) c.self.view_is in
+    sym is ∙ none_known c.open_call.result (sym c.is_some.ensures ∙ c.if-is_some.false)

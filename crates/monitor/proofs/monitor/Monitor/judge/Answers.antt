@@ -1,0 +1,148 @@
+use Rattle.std.proofs.Common.{◌≡◌, ℕ, ◌<◌, ◌==◌, ◌++◌, ◌∷◌, [], List, None, cond, sym, ap, ◌∙◌, subst}
+use Rattle.events.specs.declared.event.Event.{Event}
+use Rattle.events.specs.declared.event.Event.TheVariants.{Answer}
+use Rattle.map_object.specs.MapObject.{Contents}
+use Rattle.monitor.specs.Answering.{AreAnswered}
+use Rattle.monitor.specs.Faults.{event_limit}
+use Rattle.monitor.specs.Following.{IsFollowing}
+use Rattle.monitor.specs.LossAt.{IsLossAt}
+use Rattle.monitor.specs.MonitorView.{MonitorView, known_call}
+use Rattle.monitor.proofs.FollowLemmas.{seen_so, around_it, state_before}
+use Rattle.monitor.proofs.JudgeLemmas.{accepted, is_shaped}
+use Rattle.monitor.proofs.JudgedLemmas.{calls_with, pending, goes_on, recent_then, known_then, is_lost, is_spent}
+use Rattle.monitor.proofs.OpenLemmas.{at_process}
+use Rattle.monitor.proofs.monitor.Monitor.judge.Goals as goal
+
+pub answer_parts-requires-clause-shaped : goal.answer_parts-requires-clause-shaped
+answer_parts-requires-clause-shaped c =
+    let inside = c.self.inside in
+    let m : MonitorView = record {
+      parts = inside.parts;
+      open_calls = inside.open_calls.entries;
+      puts = inside.puts.items;
+      calls = inside.calls;
+    } in
+    let some = c.self.invariant.0 in
+    let here = (seen_so some.start some.events c.args.process c.args.known m c.args.self c.self.view_is
+    (subst (IsFollowing some.start some.events) c.self.view_is some.follows) c.requires.known).1 in
+    is_shaped some.start some.events m c.args.process c.args.known some.follows here
+
+pub answer_parts-requires-clause-pending : goal.answer_parts-requires-clause-pending
+answer_parts-requires-clause-pending c =
+    let inside = c.self.inside in
+    let m : MonitorView = record {
+      parts = inside.parts;
+      open_calls = inside.open_calls.entries;
+      puts = inside.puts.items;
+      calls = inside.calls;
+    } in
+    let some = c.self.invariant.0 in
+    let here = (seen_so some.start some.events c.args.process c.args.known m c.args.self c.self.view_is
+    (subst (IsFollowing some.start some.events) c.self.view_is some.follows) c.requires.known).1 in
+    pending some.start some.events m c.args.process c.args.known c.args.reply some.follows here
+
+-- the monitor goes on
+next : (c : goal.In-Going) (start : Contents) (events : List Event) → IsFollowing start events c.args.self
+    → IsFollowing start (events ++ Answer c.args.process c.args.reply ∷ []) (record {
+      parts = c.in-Going.parts;
+      open_calls = c.remove.new.self.entries;
+      puts = c.note_answer.new.recent.items;
+      calls = c.self.inside.calls;
+    })
+next c start events h =
+    let process = c.args.process in
+    let known = c.args.known in
+    let reply = c.args.reply in
+    let recent = c.note_answer.new.recent.items in
+    let inside = c.self.inside in
+    let m : MonitorView = record {
+      parts = inside.parts;
+      open_calls = inside.open_calls.entries;
+      puts = inside.puts.items;
+      calls = inside.calls;
+    } in
+    let (follows, here) = seen_so start events process known m c.args.self c.self.view_is h c.requires.known in
+    let around = around_it start events m process known reply follows here in
+    let calls = calls_with start events m process known reply follows here in
+    let answered = subst (AreAnswered start c.args.budget m.parts calls known.call reply) c.in-Going.is
+    (c.in_ok-parts.ensures start around.front around.back (state_before start events m process known reply follows here)) in
+    let changed : (p : ℕ) → known_call c.remove.new.self.entries p ≡ cond (p == process) None (known_call m.open_calls p) = λ p.
+    c.remove.ensures.updates.0 p ∙ ap (λ b. cond b None (known_call m.open_calls p)) (at_process process p) in
+    goes_on start events m process known reply follows here c.kept_parts_decide.ensures c.in-Going.parts c.remove.new.self.entries recent answered changed
+    (recent_then start events m process known reply follows here inside.puts.capacity c.self.invariant.1 recent c.note_answer.ensures.puts)
+
+pub returns-in-Going : goal.returns-in-Going
+returns-in-Going c = λ start events h.
+    (accepted start events c.args.self c.args.process c.args.known h c.requires.known c.requires.room, next c start events h)
+
+pub invariant_of-result : goal.invariant_of-result
+invariant_of-result c =
+    let some = c.self.invariant.0 in (
+      record {
+        start = some.start;
+        events = some.events ++ Answer c.args.process c.args.reply ∷ [];
+        follows = next c some.start some.events (subst (IsFollowing some.start some.events) c.self.view_is some.follows);
+      },
+      c.note_answer.ensures.capacity ∙ c.self.invariant.1,
+    )
+
+pub returns-in_ok-loss-in-Lost : goal.returns-in_ok-loss-in-Lost
+returns-in_ok-loss-in-Lost c = λ start events h.
+    let process = c.args.process in
+    let known = c.args.known in
+    let reply = c.args.reply in
+    let part = c.in-Lost.part in
+    let recent = c.note_answer.new.recent.items in
+    let open_calls = c.remove.new.self.entries in
+    let loss = c.in_ok-loss-in-Lost.loss in
+    let inside = c.self.inside in
+    let m : MonitorView = record {
+      parts = inside.parts;
+      open_calls = inside.open_calls.entries;
+      puts = inside.puts.items;
+      calls = inside.calls;
+    } in
+    let (follows, here) = seen_so start events process known m c.args.self c.self.view_is h c.requires.known in
+    let room : m.parts.now < event_limit = subst (λ (v : MonitorView). v.parts.now < event_limit) (sym c.self.view_is) c.requires.room in
+    let around = around_it start events m process known reply follows here in
+    let calls = calls_with start events m process known reply follows here in
+    let answered = subst (AreAnswered start c.args.budget m.parts calls known.call reply) c.in-Lost.is
+    (c.in_ok-parts.ensures start around.front around.back (state_before start events m process known reply follows here)) in
+    let made : IsLossAt m.parts.now known part recent open_calls loss =
+    subst (λ (n : ℕ). IsLossAt n known part recent open_calls loss) c.now-event.ensures c.in_ok-loss-in-Lost.ensures in
+    let changed : (p : ℕ) → known_call c.remove.new.self.entries p ≡ cond (p == process) None (known_call m.open_calls p) = λ p.
+    c.remove.ensures.updates.0 p ∙ ap (λ b. cond b None (known_call m.open_calls p)) (at_process process p) in
+    let puts = known_then start events m process known reply follows here inside.puts.capacity c.self.invariant.1 recent c.note_answer.ensures.puts
+    open_calls loss.puts.items changed made.puts in
+    is_lost start events m process known reply follows here part recent open_calls loss made c.kept_parts_decide.ensures
+    c.orders_are_keyed_orders.ensures answered c.prefixes_have_orders.ensures room puts
+
+pub returns-in_ok-loss-in-Spent : goal.returns-in_ok-loss-in-Spent
+returns-in_ok-loss-in-Spent c = λ start events h.
+    let process = c.args.process in
+    let known = c.args.known in
+    let reply = c.args.reply in
+    let part = c.in-Spent.part in
+    let recent = c.note_answer.new.recent.items in
+    let open_calls = c.remove.new.self.entries in
+    let loss = c.in_ok-loss-in-Spent.loss in
+    let inside = c.self.inside in
+    let m : MonitorView = record {
+      parts = inside.parts;
+      open_calls = inside.open_calls.entries;
+      puts = inside.puts.items;
+      calls = inside.calls;
+    } in
+    let (follows, here) = seen_so start events process known m c.args.self c.self.view_is h c.requires.known in
+    let room : m.parts.now < event_limit = subst (λ (v : MonitorView). v.parts.now < event_limit) (sym c.self.view_is) c.requires.room in
+    let around = around_it start events m process known reply follows here in
+    let calls = calls_with start events m process known reply follows here in
+    let answered = subst (AreAnswered start c.args.budget m.parts calls known.call reply) c.in-Spent.is
+    (c.in_ok-parts.ensures start around.front around.back (state_before start events m process known reply follows here)) in
+    let made : IsLossAt m.parts.now known part recent open_calls loss =
+    subst (λ (n : ℕ). IsLossAt n known part recent open_calls loss) c.now-event.ensures c.in_ok-loss-in-Spent.ensures in
+    let changed : (p : ℕ) → known_call c.remove.new.self.entries p ≡ cond (p == process) None (known_call m.open_calls p) = λ p.
+    c.remove.ensures.updates.0 p ∙ ap (λ b. cond b None (known_call m.open_calls p)) (at_process process p) in
+    let puts = known_then start events m process known reply follows here inside.puts.capacity c.self.invariant.1 recent c.note_answer.ensures.puts
+    open_calls loss.puts.items changed made.puts in
+    is_spent start events m process known reply follows here part recent open_calls loss made c.args.budget room answered puts

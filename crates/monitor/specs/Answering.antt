@@ -1,0 +1,34 @@
+-- What the parts make of an answer.
+use Rattle.std.specs.Prelude.{◌≡◌, ◌⊎◌, ℕ, suc, List, [], ◌∷◌, ◌++◌, All}
+use Rattle.events.specs.declared.event.Call.{Call}
+use Rattle.events.specs.declared.event.Reply.{Reply}
+use Rattle.events.specs.declared.operation.Operation.{Operation}
+use Rattle.map_object.specs.MapObject.{Contents}
+use Rattle.kept_parts.specs.Steps.{GoesOn}
+use Rattle.part_pasts.specs.Pasts.{IsDead, AreDoubtful}
+use Rattle.parts.specs.Keeping.{begun, IsCounted, IsKeptBeside, IsStateOf, pasts_of}
+use Rattle.parts.specs.Views.{PartsView, kept_parts}
+use Rattle.parts.specs.declared.state.EndedPart.{EndedPart}
+use Rattle.monitor.specs.Calls.{MayReply}
+use Rattle.monitor.specs.declared.answering.Judged.{Judged}
+use Rattle.monitor.specs.declared.answering.Judged.TheVariants.{Going, Lost, Spent}
+use Rattle.monitor.specs.declared.open_calls.OpenCall.{OpenCall}
+
+-- parts are kept for calls of which an open one is pending
+pub record IsPendingIn (known : OpenCall) (parts : PartsView) : Type 0 where
+  pub start : Contents
+  pub front : List Operation
+  pub back : List Operation
+  pub state : IsStateOf start (front ++ begun known.call known.event ∷ back) parts
+
+-- no map answers the call so, and there is no past; or some map does, and the part has no past with an order
+abbrev pub IsLostPart : Contents → ℕ → List Operation → Call → Reply → EndedPart → Type 0
+IsLostPart start place calls call reply part =
+    ((MayReply call reply → ⊥) × (part.pasts.items ≡ []))
+    ⊎ (MayReply call reply × IsKeptBeside start place calls part × All IsDead (pasts_of part))
+
+-- what the parts make of an answer, with which the calls are these
+abbrev pub AreAnswered : Contents → ℕ → PartsView → List Operation → Call → Reply → Judged → Type 0
+AreAnswered start budget old calls call reply (Going next) = IsStateOf start calls next × IsCounted old next × All GoesOn (kept_parts next)
+AreAnswered start budget old calls call reply (Lost part) = IsLostPart start (suc old.now) calls call reply part
+AreAnswered start budget old calls call reply (Spent part) = IsKeptBeside start (suc old.now) calls part × AreDoubtful budget (pasts_of part)

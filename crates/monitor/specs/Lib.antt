@@ -1,0 +1,9 @@
+pub mod Faults
+pub mod Calls
+pub mod Puts
+pub mod MonitorView
+pub mod OpenPuts
+pub mod Answering
+pub mod LossAt
+pub mod Following
+pub mod Outcomes

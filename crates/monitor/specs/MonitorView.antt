@@ -1,0 +1,19 @@
+-- What contracts see of a monitor.
+use Rattle.std.specs.Prelude.{ℕ, List, Option}
+use Rattle.std.specs.BTreeMap.{is_at}
+use Rattle.std.specs.Map.{lookup}
+use Rattle.std.specs.Ordering.{nat_cmp}
+use Rattle.losses.specs.declared.puts.Put.{Put}
+use Rattle.parts.specs.Views.{PartsView}
+use Rattle.monitor.specs.declared.open_calls.OpenCall.{OpenCall}
+
+-- what is kept of the calls, the open calls by process, the last puts that were answered, and how many calls there were
+pub record MonitorView : Type 0 where
+  pub parts : PartsView
+  pub open_calls : List (ℕ × OpenCall)
+  pub puts : List Put
+  pub calls : ℕ
+
+-- the open call of a process
+abbrev pub known_call : List (ℕ × OpenCall) → ℕ → Option OpenCall
+known_call calls process = lookup (is_at (nat_cmp process)) calls

@@ -1,0 +1,60 @@
+-- What becomes of a monitor where a call is answered.
+use Rattle.std.specs.Prelude.{◌≡◌, ℕ, suc, List, [], ◌∷◌, ◌++◌, length, All, None, Some}
+use Rattle.events.specs.declared.event.Event.{Event}
+use Rattle.events.specs.declared.event.Event.TheVariants.{Answer}
+use Rattle.events.specs.declared.event.Reply.{Reply}
+use Rattle.events.specs.Operations.{operations}
+use Rattle.map_object.specs.MapObject.{Contents}
+use Rattle.orders.specs.Orders.{IsLinearizable}
+use Rattle.losses.specs.declared.loss.Loss.{Loss}
+use Rattle.prefixes.specs.Prefixes.{GoesWrongAt, IsAnswerOf}
+use Rattle.parts.specs.Keeping.{IsKeptBeside, pasts_of}
+use Rattle.part_pasts.specs.Pasts.{IsDead, AreDoubtful}
+use Rattle.monitor.specs.Calls.{MayReply}
+use Rattle.monitor.specs.Faults.{answer_fault}
+use Rattle.monitor.specs.Puts.{ArePutsOf}
+use Rattle.monitor.specs.MonitorView.{MonitorView}
+use Rattle.monitor.specs.Following.{IsFollowing, IsCallOf}
+use Rattle.monitor.specs.declared.answered.Answered.{Answered}
+use Rattle.monitor.specs.declared.answered.Answered.TheVariants.{Going, Lost, Spent, Refused}
+use Rattle.monitor.specs.declared.open_calls.OpenCall.{OpenCall}
+
+-- the answer of the open call of a process: after these events, by the call's number, whatever it replies and whatever follows
+pub record IsOfAnswer (events : List Event) (process : ℕ) (loss : Loss) : Type 0 where
+  pub event_is : loss.event ≡ length events
+  pub known : OpenCall
+  pub is_call : IsCallOf events process known
+  pub number_is : loss.number ≡ known.number
+  pub call_is : loss.call ≡ known.call
+  pub answers : (reply : Reply) (more : List Event) → IsAnswerOf (events ++ Answer process reply ∷ more) loss.number loss.event
+
+-- a part is kept with the answer beside others
+abbrev pub IsKeptWith : Contents → List Event → ℕ → Reply → Loss → Type 0
+IsKeptWith start events process reply loss =
+    IsKeptBeside start (suc (length events)) (operations (events ++ Answer process reply ∷ [])) loss.part
+
+-- The events go wrong at this answer, whatever follows. The part that is kept with the answer has no past with an order. There is no past if no
+-- map answers the call so.
+pub record IsLost (start : Contents) (events : List Event) (process : ℕ) (reply : Reply) (loss : Loss) : Type 0 where
+  pub accepted : answer_fault events process ≡ None
+  pub of_answer : IsOfAnswer events process loss
+  pub part : MayReply loss.call reply → IsKeptWith start events process reply loss × All IsDead (pasts_of loss.part)
+  pub none : (MayReply loss.call reply → ⊥) → loss.part.pasts.items ≡ []
+  pub puts : ArePutsOf (operations (events ++ Answer process reply ∷ [])) loss.puts.items
+  pub wrong : (more : List Event) → let all = events ++ Answer process reply ∷ more in
+      (IsLinearizable start (operations all) → ⊥) × GoesWrongAt (record { start = start; events = all }) loss.number loss.event
+
+-- It is not known whether they do: the search of a past of this part is beyond the budget, and those before it have no order.
+pub record IsSpent (start : Contents) (events : List Event) (process : ℕ) (reply : Reply) (budget : ℕ) (loss : Loss) : Type 0 where
+  pub accepted : answer_fault events process ≡ None
+  pub of_answer : IsOfAnswer events process loss
+  pub part : IsKeptWith start events process reply loss × AreDoubtful budget (pasts_of loss.part)
+  pub puts : ArePutsOf (operations (events ++ Answer process reply ∷ [])) loss.puts.items
+
+-- what an answer comes to
+abbrev pub IsAnswered : Contents → List Event → MonitorView → ℕ → Reply → ℕ → Answered → Type 0
+IsAnswered start events m process reply budget (Going next) =
+    (answer_fault events process ≡ None) × IsFollowing start (events ++ Answer process reply ∷ []) next
+IsAnswered start events m process reply budget (Lost loss) = IsLost start events process reply loss
+IsAnswered start events m process reply budget (Spent loss) = IsSpent start events process reply budget loss
+IsAnswered start events m process reply budget (Refused next fault) = (answer_fault events process ≡ Some fault) × (next ≡ m)

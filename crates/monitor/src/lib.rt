@@ -1,0 +1,18 @@
+//! Follows a stream of events of any length: after each it is known whether the events so far have
+//! an order. Nothing is kept of calls that later events can't concern.
+#![tactic(auto)]
+
+mod all_puts;
+mod answered;
+mod answering;
+mod fault;
+mod forms;
+mod monitor;
+mod open_calls;
+
+pub use answered::Answered;
+pub use fault::FollowFault;
+pub use monitor::Monitor;
+
+#[cfg(test)]
+mod tests;
