@@ -235,12 +235,13 @@ const segmentWords = judged.lo === judged.hi ? `key ${judged.lo}` : `keys ${judg
 
 const few = [];
 const origins = [];
+// The values from which the few calls begin, and who wrote them, by rising key.
+const fewBegin = [];
 let fewHistory = null;
 let front = null;
-let fewBegin = null;
-for (const line of blockLines('explain').slice(1)) {
+for (const line of blockLines('explain').filter(it => !it.verdict)) {
   if (line.from !== undefined && line.put !== undefined) {
-    fewBegin = { key: line.key, value: line.from, writer: line.put && callOf(line.put.event) };
+    fewBegin.push({ key: line.key, value: line.from, writer: line.put && callOf(line.put.event) });
   } else if (line.reason) {
     const misses = (line.misses || []).map(missed => callOf(missed.event));
     few.push({ call: callOf(line.event), reason: line.reason.text, answer: line.answer, misses });
@@ -259,7 +260,7 @@ const fewOf = new Map(few.map(it => [it.call, it]));
 // The few calls, those that they miss, and those that wrote what they read.
 const explaining = new Set(few.flatMap(it => [it.call, ...it.misses]));
 origins.flatMap(it => it.puts).forEach(call => explaining.add(call));
-if (fewBegin && fewBegin.writer) explaining.add(fewBegin.writer);
+fewBegin.filter(it => it.writer).forEach(it => explaining.add(it.writer));
 if (wrong) explaining.add(wrong);
 const isLeftOut = it => it.answer instanceof Word && it.answer.text === 'left out';
 const isOpen = it => it.answer instanceof Word && it.answer.text === 'open';

@@ -107,10 +107,17 @@ function whyFew() {
   const grey = few.some(isLeftOut) ? 'Responses in grey are not needed to show it.' : '';
   return [
     el('h2', {}, title),
-    fewBegin && el('p', {}, `They begin where key ${fewBegin.key} has `, mono(say(fewBegin.value)), fewBegin.writer ? [', written by ', named(fewBegin.writer)] : '', '.'),
+    beginWords(),
     el('ol', { class: 'few' }, few.map(fewItem)),
     least + grey && el('p', { class: 'soft' }, least + grey),
   ];
+}
+// The values from which the few calls begin, and who wrote them.
+function beginWords(count = 12) {
+  const part = ({ key, value, writer }) => [`key ${key} has `, mono(say(value)), writer ? [', written by ', named(writer)] : ''];
+  if (fewBegin.length < 2) return fewBegin.map(it => el('p', {}, 'They begin where ', part(it), '.'));
+  const rest = fewBegin.length > count ? el('li', {}, `${fewBegin.length - count} more.`) : '';
+  return [el('p', {}, 'They begin where:'), el('ul', {}, fewBegin.slice(0, count).map(it => el('li', {}, part(it), '.')), rest)];
 }
 const REASONS = {
   spent: 'Kept, since without it the search is beyond its budget.',

@@ -1,12 +1,12 @@
 -- The line of a front has no float.
-use Rattle.std.proofs.Common.{◌≡◌, ℕ, false, List, map, refl}
+use Rattle.std.proofs.Common.{◌≡◌, ℕ, false, List, refl}
 use Rattle.serde_json.specs.Written.{has_float}
 use Rattle.events.specs.declared.operation.Operation.{Operation}
 use Rattle.map_object.specs.MapObject.{Contents, reply_to}
 use Rattle.history_text.specs.Texts.{pair_data}
 use Rattle.history_text.proofs.WrittenLemmas.{has_float-reply, items_have_float-map}
 use Rattle.orders.specs.Orders.{calls_at, after_calls}
-use Rattle.explain_engines.specs.Fronts.{by_event, event_data, stuck_data, taken_data, next_of, front_data}
+use Rattle.explain_engines.specs.Fronts.{event_data, stuck_data, taken_data, next_of, front_data}
 use Rattle.explain_engines.proofs.RowLemmas.{has_float-answer}
 
 has_float-stuck : (m : Contents) (a : Operation) → has_float (stuck_data m a) ≡ false
@@ -19,8 +19,7 @@ has_float-taken taken m next =
     let stuck = items_have_float-map (stuck_data m) (has_float-stuck m) next in
     rw (events, pairs, stuck) refl
 
-pub has_float-front : (start : Contents) (events : List (ℕ × ℕ)) (calls : List Operation) (front : List ℕ)
-    → has_float (front_data start events calls front) ≡ false
-has_float-front start events calls front =
+pub has_float-front : (start : Contents) (calls : List Operation) (front : List ℕ) → has_float (front_data start calls front) ≡ false
+has_float-front start calls front =
     let taken = calls_at calls front in
-    has_float-taken (map (by_event events) taken) (after_calls start taken) (map (by_event events) (next_of taken calls))
+    has_float-taken taken (after_calls start taken) (next_of taken calls)

@@ -20,11 +20,10 @@ use Rattle.explaining.specs.Explained.{IsExplanation}
 use Rattle.locating.specs.declared.location.Location.{Location}
 use Rattle.locating.specs.Locations.{IsLocated}
 use Rattle.locating.specs.Reports.{location_data}
-use Rattle.follower.specs.OwnParts.{OwnPart}
 use Rattle.locating.specs.declared.evidence.Evidence.{Evidence}
-use Rattle.locating.specs.declared.evidence.Evidence.TheVariants.{OfEvents, OfKey, Missing}
+use Rattle.locating.specs.declared.evidence.Evidence.TheVariants.{OfEvents, OfPart, Missing}
 use Rattle.locating.specs.Evidences.{IsEvidenceOf}
-use Rattle.locating.specs.Told.{told_calls}
+use Rattle.losses.specs.OwnParts.{OwnPart}
 use Rattle.outcomes.specs.declared.outcome.Answer.{Answer}
 use Rattle.outcomes.specs.Lines.{line}
 use Rattle.history_engines.specs.Answers.{IsTextOf, answer_of}
@@ -32,7 +31,7 @@ use Rattle.origins.specs.External.{AreExternal}
 use Rattle.explain_engines.specs.Reports.{rows}
 use Rattle.explain_engines.specs.Origins.{origin_lines}
 use Rattle.explain_engines.specs.Fronts.{front_data}
-use Rattle.explain_engines.specs.Parts.{part_data}
+use Rattle.explain_engines.specs.OwnParts.{AreFromLines}
 
 -- the longest front that a search at the budget meets of the calls of a history, by their numbers
 pub record IsFrontOf (budget : ℕ) (history : HistoryView) (front : List ℕ) : Type 0 where
@@ -42,67 +41,62 @@ pub record IsFrontOf (budget : ℕ) (history : HistoryView) (front : List ℕ) :
 
 -- the line of the text of a history, and that of its longest front, with what it leaves and which
 -- of these calls would come next
-pub record AreTwoLines (budget : ℕ) (start : Contents) (events : List (ℕ × ℕ)) (calls : List Operation) (history : HistoryView) (bytes : List ℕ)
-    : Type 0 where
+pub record AreTwoLines (budget : ℕ) (start : Contents) (calls : List Operation) (history : HistoryView) (bytes : List ℕ) : Type 0 where
   pub text : List ℕ
   pub front : List ℕ
   pub is_text : IsWrittenAs history text
   pub is_front : IsFrontOf budget history front
-  pub bytes_are : bytes ≡ line text ++ line (compact_text (front_data start events calls front))
+  pub bytes_are : bytes ≡ line text ++ line (compact_text (front_data start calls front))
 
--- these lines; nothing where the text would be too long
-abbrev pub AreLinesOf : ℕ → Contents → List (ℕ × ℕ) → List Operation → HistoryView → List ℕ → Type 0
-AreLinesOf budget start events calls history bytes =
-    ((bytes ≡ []) × (text_limit < length (text_of history))) ⊎ AreTwoLines budget start events calls history bytes
+-- these lines, or nothing if the text would be too long
+abbrev pub AreLinesOf : ℕ → Contents → List Operation → HistoryView → List ℕ → Type 0
+AreLinesOf budget start calls history bytes =
+    ((bytes ≡ []) × (text_limit < length (text_of history))) ⊎ AreTwoLines budget start calls history bytes
 
--- those of a history with calls that have no order; nothing where no history has them
-abbrev pub AreHistoryLines : ℕ → Contents → List (ℕ × ℕ) → List Operation → List ℕ → Type 0
-AreHistoryLines budget start events calls bytes =
+-- those of a history with calls that have no order, or nothing if no history has them
+abbrev pub AreHistoryLines : ℕ → Contents → List Operation → List ℕ → Type 0
+AreHistoryLines budget start calls bytes =
     ((bytes ≡ []) × AreOfNoHistory start calls)
-    ⊎ ((history : HistoryView) × IsSmallHistory start calls history × AreLinesOf budget start events calls history bytes)
+    ⊎ ((history : HistoryView) × IsSmallHistory start calls history × AreLinesOf budget start calls history bytes)
 
--- a line for each pair that calls tell from outside of them, from some pairs on: which calls of the
--- history put it
+-- a line for each pair that calls report from outside of them, from some pairs on: which calls of
+-- the history put it
 pub record AreOriginLines (history : HistoryView) (start : Contents) (calls : List Operation) (bytes : List ℕ) : Type 0 where
   pub pairs : List (ℕ × ℕ)
   pub external : AreExternal start calls pairs
   pub bytes_are : bytes ≡ origin_lines history.start history.events (operations history.events) pairs
 
--- few calls that have no order from some pairs, in a line each, as these of the history that they
--- are; behind them who put what they tell from outside, and a history with them and its front, by
--- the events of the places at which they stand
-pub record AreFewLines (budget : ℕ) (history : HistoryView) (start : Contents) (events : List (ℕ × ℕ)) (told : List Operation) (few : Explanation)
-    (bytes : List ℕ) : Type 0 where
+-- a few calls that have no order from some pairs, in a line each, with the reason for each; then who
+-- put what they report from outside, a history of them, and its front
+pub record AreFewLines (budget : ℕ) (history : HistoryView) (start : Contents) (few : Explanation) (bytes : List ℕ) : Type 0 where
   pub outside : List ℕ
   pub origins : AreOriginLines history start few.calls.items outside
   pub small : List ℕ
-  pub shown : AreHistoryLines budget start events few.calls.items small
-  pub bytes_are : bytes ≡ rows history told few.reasons.items ++ (outside ++ small)
+  pub shown : AreHistoryLines budget start few.calls.items small
+  pub bytes_are : bytes ≡ rows history few.calls.items few.reasons.items ++ (outside ++ small)
 
--- those of few calls that stand at the places of their events
-abbrev pub AreOwnLines : ℕ → HistoryView → Contents → Explanation → List ℕ → Type 0
-AreOwnLines budget history start few bytes = AreFewLines budget history start [] few.calls.items few bytes
-
--- few of some calls of a history that have no order from some pairs, which is why these have none
+-- a few of some calls of a history: they have no order from some pairs, so all of them have none
 pub record AreFew (budget : ℕ) (history : HistoryView) (start : Contents) (calls : List Operation) (bytes : List ℕ) : Type 0 where
   pub few : Explanation
   pub explains : IsExplanation start calls budget few
-  pub lines : AreOwnLines budget history start few bytes
+  pub lines : AreFewLines budget history start few bytes
 
--- few of the calls of a key, from a value: which value of which key, and who put it; and behind
--- that these calls, by the events of the history that are noted for their places
+-- a few calls of a part that goes wrong by itself: from which values of their keys they begin, and
+-- then their lines
 pub record ArePartLines (budget : ℕ) (history : HistoryView) (part : OwnPart) (few : Explanation) (bytes : List ℕ) : Type 0 where
+  pub from : List ℕ
+  pub begins : AreFromLines history part few.calls.items from
   pub rest : List ℕ
-  pub lines : AreFewLines budget history part.start part.events (told_calls (operations history.events) part.events few.calls.items) few rest
-  pub bytes_are : bytes ≡ line (compact_text (part_data history.events part)) ++ rest
+  pub lines : AreFewLines budget history part.start few rest
+  pub bytes_are : bytes ≡ from ++ rest
 
--- what is told of the few calls that show a location
+-- the lines of the few calls that show a location
 abbrev pub AreEvidenceLines : ℕ → HistoryView → Evidence → List ℕ → Type 0
-AreEvidenceLines budget history (OfEvents few) bytes = AreOwnLines budget history history.start few bytes
-AreEvidenceLines budget history (OfKey part few) bytes = ArePartLines budget history part few bytes
+AreEvidenceLines budget history (OfEvents few) bytes = AreFewLines budget history history.start few bytes
+AreEvidenceLines budget history (OfPart part few) bytes = ArePartLines budget history part few bytes
 AreEvidenceLines budget history Missing bytes = bytes ≡ []
 
--- the report of where the history goes wrong, and behind it what shows that
+-- the report of where the history goes wrong, and then what shows that
 pub record AreLocated (budget : ℕ) (history : HistoryView) (bytes : List ℕ) : Type 0 where
   pub location : Location
   pub evidence : Evidence
@@ -112,14 +106,14 @@ pub record AreLocated (budget : ℕ) (history : HistoryView) (bytes : List ℕ) 
   pub lines : AreEvidenceLines budget history evidence few
   pub bytes_are : bytes ≡ line (compact_text (location_data location)) ++ few
 
--- what stands behind the report of each verdict on this history
+-- what comes after the report of each verdict on this history
 abbrev pub AreDetails : ℕ → HistoryView → Verdict → List ℕ → Type 0
 AreDetails budget history (Yes order) bytes = bytes ≡ []
 AreDetails budget history (No segment) bytes = AreFew budget history segment.start segment.calls bytes
 AreDetails budget history (Undecided segment) bytes = AreLocated budget history bytes
 
--- what is told of a history: the report of its exact verdict, which is this answer; of a no what
--- shows it, and of an undecided what is found out without it
+-- what is said of a history: the report of its exact verdict, which is this answer; after a no what
+-- shows it, and after an undecided where the history goes wrong
 pub record IsExplaining (budget : ℕ) (history : HistoryView) (answer : Answer) (bytes : List ℕ) : Type 0 where
   pub verdict : Verdict
   pub details : List ℕ
@@ -129,7 +123,7 @@ pub record IsExplaining (budget : ℕ) (history : HistoryView) (answer : Answer)
   pub answer_is : answer ≡ answer_of verdict
   pub bytes_are : bytes ≡ line (compact_text (verdict_data verdict)) ++ details
 
--- `explain` answers the text at the budget so
+-- what `explain` answers to the text at the budget
 pub record IsExplainAnswer (budget : ℕ) (text : List ℕ) (answer : Answer) (bytes : List ℕ) : Type 0 where
   pub history : HistoryView
   pub is_text : IsTextOf text history

@@ -1,5 +1,5 @@
--- The line of a front of few calls: how far an order of them gets, and what stands in its way.
--- JSON, with members by rising bytes.
+-- The line of a front of a few calls: how far an order of them gets, and which calls would come
+-- next. JSON, with members by rising bytes.
 use Rattle.std.specs.Prelude.{ℕ, ◌==◌, Bool, not, List, filter, map, codes}
 use Rattle.std.specs.List.{list_any}
 use Rattle.serde_json.specs.Data.{Data, object, no_members, member}
@@ -9,7 +9,6 @@ use Rattle.events.specs.Precedence.{precedes}
 use Rattle.map_object.specs.MapObject.{Contents, reply_to}
 use Rattle.orders.specs.Orders.{calls_at, after_calls}
 use Rattle.history_text.specs.Texts.{number_data, pair_data, reply_data, list_data}
-use Rattle.follower.specs.OwnParts.{event_of}
 use Rattle.explain_engines.specs.Reports.{answer_data}
 
 -- whether a call is one of those taken, and whether one of some calls precedes it
@@ -50,12 +49,8 @@ taken_data taken m next =
     object (member (codes "front") (list_data (map event_data taken)) (member (codes "holds") (list_data (map pair_data m))
     (member (codes "next") (list_data (map (stuck_data m) next)) no_members)))
 
--- a call by the event of its place
-abbrev pub by_event : List (ℕ × ℕ) → Operation → Operation
-by_event events a = record { call = a.call; inv = event_of events a.inv; response = a.response }
-
--- the calls with these numbers, from some pairs on, by the events of their places
-abbrev pub front_data : Contents → List (ℕ × ℕ) → List Operation → List ℕ → Data
-front_data start events calls front =
+-- the calls with these numbers, from some pairs on
+abbrev pub front_data : Contents → List Operation → List ℕ → Data
+front_data start calls front =
     let taken = calls_at calls front in
-    taken_data (map (by_event events) taken) (after_calls start taken) (map (by_event events) (next_of taken calls))
+    taken_data taken (after_calls start taken) (next_of taken calls)

@@ -1,4 +1,4 @@
--- Laws of how far an order of few calls gets.
+-- Laws of how far an order of a few calls gets.
 use Rattle.std.specs.Prelude.{◌≡◌, ℕ, ◌≤◌, true, List, length, Contains}
 use Rattle.events.specs.HistoryView.{HistoryView}
 use Rattle.events.specs.declared.operation.Operation.{Operation}
@@ -15,15 +15,15 @@ use Rattle.explain_engines.specs.Fronts.{next_of}
 use Rattle.small_histories.specs.SmallHistories.{IsSmallHistory}
 use Rattle.explain_engines.specs.Answers.{IsFrontOf}
 
--- where no more configurations are reachable than the budget, no front is longer than the longest
--- that a search meets
+-- unless more configurations are reachable than the budget, no front is longer than the longest that
+-- a search meets
 abbrev pub NoFrontIsLonger : Type 0
 NoFrontIsLonger =
     (budget : ℕ) (segment : SegmentView) (front other : List ℕ) → NonePrecedesItself segment.calls → HasNoOrder segment
     → (ReachesMoreThan segment.start segment.calls budget → ⊥) → IsLongestFront budget segment front
     → IsFront segment.start segment.calls other → length other ≤ length front
 
--- and behind that of the few calls none that is told as next can come: the map would answer it
+-- and after that front of a few calls, none that is named as next can come: the map would answer it
 -- otherwise
 abbrev pub NoNextCallIsLegal : Type 0
 NoNextCallIsLegal =

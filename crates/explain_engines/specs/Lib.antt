@@ -1,6 +1,6 @@
 pub mod Reports
 pub mod Origins
-pub mod Parts
+pub mod OwnParts
 pub mod Fronts
 pub mod Answers
 pub mod Laws

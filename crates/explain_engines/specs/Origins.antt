@@ -1,4 +1,4 @@
--- The lines of the values that few calls tell and none of them puts. JSON, with members by rising
+-- The lines of the values that a few calls report and none of them puts. JSON, with members by rising
 -- bytes.
 use Rattle.std.specs.Prelude.{ℕ, List, [], ◌∷◌, ◌++◌, map, codes}
 use Rattle.serde_json.specs.Data.{Data, boolean, object, no_members, member}

@@ -17,7 +17,7 @@ use Rattle.origins.specs.Missed.{missed_by, missed_of}
 use Rattle.explaining.specs.declared.explanation.Reason.{Reason}
 use Rattle.explaining.specs.declared.explanation.Reason.TheVariants.{Order, Spent, Held}
 
--- the answer of a call among few: the reply, or a word where it has none there
+-- the answer of a call among a few: the reply, or a word if it has none there
 abbrev pub answer_data : Option Response → Data
 answer_data None = string (codes "open")
 answer_data (Some response) = reply_data response.reply
@@ -32,7 +32,7 @@ abbrev pub kept_data : Bool → Option Response → Data
 kept_data answered None = string (if answered then codes "left out" else codes "open")
 kept_data answered (Some response) = reply_data response.reply
 
--- the process of the event at a place, and 0 where there is none
+-- the process of the event at a place, and 0 if there is none
 abbrev pub process_at : List Event → ℕ → ℕ
 process_at events place = option_map_or process_of (slice_get events place) 0
 
@@ -48,7 +48,7 @@ missed_data events m =
     object (member (codes "call") (call_data m.call) (member (codes "event") (number_data m.event)
     (member (codes "process") (number_data (process_at events m.event)) no_members)))
 
--- members, with one more for those that one misses, where it misses any
+-- members, with one more for the calls that one misses, if it misses any
 abbrev pub with_missed : List Event → List Missed → Members → Members
 with_missed events [] members = members
 with_missed events (m ∷ missed) members = put (codes "misses") (list_data (map (missed_data events) (m ∷ missed))) members

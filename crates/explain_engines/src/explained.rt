@@ -1,5 +1,5 @@
-// `bench explain`: the verdict on a history, and few calls that show a no, or where it goes wrong
-// where the verdict is undecided.
+// `bench explain`: the verdict on a history. After a no a few calls that show it, and after an
+// undecided where the history goes wrong.
 ghost use Rattle.std.specs.Prelude.{◌≡◌, ℕ, ◌<◌, ◌≤◌, List, ◌++◌, Some, IfOk, string_bytes};
 ghost use Rattle.serde_json.specs.Written.{compact_text};
 ghost use Rattle.events.specs.HistoryView.{HistoryView};
@@ -22,15 +22,15 @@ ghost use Rattle.segments.specs.SegmentOrders.{HasNoOrder};
 ghost use Rattle.explain_engines.specs.Answers.{IsExplainAnswer, IsExplaining, AreDetails, AreFew, AreEvidenceLines, AreLocated, ArePartLines};
 ghost use Rattle.explain_engines.specs.Outcomes.{IsExplainOutcome};
 
-use crate::parts::part_line;
+use crate::own_parts::from_lines;
 use crate::reports::few_lines;
 use events::{History, Memory};
 use explaining::{Explanation, explain_calls};
-use follower::OwnPart;
 use history_engines::{answer_of, refused_text};
 use history_text::{MAX_TEXT, read_history};
 use judge::{Verdict, judge_alone, report};
-use locating::{Evidence, evidence_of, locate_from, location_line, told_calls};
+use locating::{Evidence, evidence_of, locate_from, location_line};
+use losses::OwnPart;
 use map_object::SortedMap;
 use outcomes::{Answer, RunOutcome, line_of, run_text};
 use segments::Segment;
@@ -38,7 +38,7 @@ use std::alloc::Global;
 use streams::{Sink, Source};
 
 /// Reads a history text to the end of the source, or until it is too long, and explains the verdict
-/// on it, which is found by one thread. Answers the exit status, that of the verdict.
+/// on it, which one thread finds. Returns the exit status, that of the verdict.
 pub fn run_explain<S: Source, O: Sink, F: Sink, H: Sink>(
     alloc: Global,
     source: &mut S,
@@ -66,9 +66,9 @@ pub fn run_explain<S: Source, O: Sink, F: Sink, H: Sink>(
     run_text(alloc, source, output, faults, hints, MAX_TEXT, answer)
 }
 
-/// The verdict on the history that the text spells, as its report; and behind that of a no few
-/// calls that show it, and of an undecided where the history goes wrong, if that is found, with few
-/// calls that show it.
+/// The report of the verdict on the history that the text spells. After a no come a few calls that
+/// show it; after an undecided, where the history goes wrong, if that is found, and a few calls that
+/// show that.
 pub fn explain_outcome(alloc: Global, text: &[u8], budget: u32) -> RunOutcome
     requires { (1 ≤ budget) × (budget ≤ budget_limit) }
     ensures { IsTextOutcome (IsExplainAnswer budget) IsHistoryRefusal (Some text.now) result }
@@ -79,10 +79,10 @@ pub fn explain_outcome(alloc: Global, text: &[u8], budget: u32) -> RunOutcome
     }
 }
 
-/// How an explanation comes out, or want of memory for it.
+/// How an explanation comes out, or that memory ran out.
 fn outcome_of(explained: Result<(Answer, String), Memory>) -> RunOutcome
     ensures { (budget : ℕ) (text : List ℕ) (history : HistoryView) → IsTextOf text history
-        → IfOk explained (λ told. IsExplaining budget history told.0 (string_bytes told.1))
+        → IfOk explained (λ said. IsExplaining budget history said.0 (string_bytes said.1))
         → IsTextOutcome (IsExplainAnswer budget) IsHistoryRefusal (Some text) result }
 {
     match explained {
@@ -94,14 +94,14 @@ fn outcome_of(explained: Result<(Answer, String), Memory>) -> RunOutcome
 /// The lines that explain the verdict on a history, with the answer that it is.
 fn explained_with(alloc: Global, history: &History, budget: u32) -> Result<(Answer, String), Memory>
     requires { (1 ≤ budget) × (budget ≤ budget_limit) }
-    ensures { IfOk result (λ told. IsExplaining budget history.now told.0 (string_bytes told.1)) }
+    ensures { IfOk result (λ said. IsExplaining budget history.now said.0 (string_bytes said.1)) }
 {
     let verdict = judge_alone(alloc, history, budget)?;
     let lines = verdict_lines(alloc, history, &verdict, budget)?;
     Ok((answer_of(&verdict), lines))
 }
 
-/// The report of a verdict, and behind it what shows it.
+/// The report of a verdict, and then what shows it.
 fn verdict_lines(
     alloc: Global,
     history: &History,
@@ -122,7 +122,8 @@ fn verdict_lines(
     Ok(lines)
 }
 
-/// What shows a verdict beside its report, or what is found out where it is undecided.
+/// What comes after the report of a verdict: what shows a no; where the history goes wrong after an
+/// undecided.
 fn details_of(
     alloc: Global,
     history: &History,
@@ -142,7 +143,7 @@ fn details_of(
     }
 }
 
-/// Few calls of a segment that show that it has no order.
+/// A few calls of a segment that show that it has no order.
 fn segment_details(
     alloc: Global,
     history: &History,
@@ -156,15 +157,7 @@ fn segment_details(
 {
     let start = SortedMap::of(alloc, segment.start())?;
     let few = explain_calls(alloc, &start, segment.calls(), budget)?;
-    few_lines(
-        alloc,
-        history,
-        segment.start(),
-        &[],
-        &few.calls,
-        &few,
-        budget,
-    )
+    few_lines(alloc, history, segment.start(), &few, budget)
 }
 
 /// Finds where a history with this verdict goes wrong, and a few calls that show it.
@@ -201,24 +194,14 @@ fn evidence_lines(
         (string_bytes text)) }
 {
     match evidence {
-        Evidence::OfEvents(few) => {
-            few_lines(
-                alloc,
-                history,
-                history.start(),
-                &[],
-                &few.calls,
-                few,
-                budget,
-            )
-        }
-        Evidence::OfKey(part, few) => part_lines(alloc, history, part, few, budget),
+        Evidence::OfEvents(few) => few_lines(alloc, history, history.start(), few, budget),
+        Evidence::OfPart(part, few) => part_lines(alloc, history, part, few, budget),
         Evidence::Missing => Ok(String::new(alloc)),
     }
 }
 
-/// The lines of few calls of what goes wrong by itself: from which value of which key they begin,
-/// and behind that those of these calls of the history.
+/// The lines of a few calls of a part that goes wrong by itself: from which values of their keys
+/// they begin, and then those of the calls.
 fn part_lines(
     alloc: Global,
     history: &History,
@@ -232,17 +215,8 @@ fn part_lines(
     ensures { IfOk result (λ text. ArePartLines budget history.now part.now few.now
         (string_bytes text)) }
 {
-    let told = told_calls(alloc, history.calls(), &part.events, &few.calls)?;
-    let mut lines = part_line(alloc, history, part)?;
-    let rest = few_lines(
-        alloc,
-        history,
-        &part.start,
-        &part.events,
-        &told,
-        few,
-        budget,
-    )?;
+    let mut lines = from_lines(alloc, history, part, &few.calls)?;
+    let rest = few_lines(alloc, history, &part.start, few, budget)?;
     lines.push_str(rest.as_str())?;
     Ok(lines)
 }

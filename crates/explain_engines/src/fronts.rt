@@ -1,4 +1,4 @@
-// How far an order of few calls gets, and what stands in its way.
+// How far an order of a few calls gets, and which calls would come next.
 ghost use Rattle.std.specs.Prelude.{◌≡◌, [], map, IfOk, OnOk, string_bytes, slice_get};
 ghost use Rattle.serde_json.specs.Data.{object};
 ghost use Rattle.serde_json.specs.View.{view, members_view};
@@ -7,13 +7,12 @@ ghost use Rattle.history_text.specs.Texts.{list_data};
 ghost use Rattle.map_object.specs.MapObject.{IsRising, reply_to};
 ghost use Rattle.orders.specs.Orders.{calls_at, after_calls};
 ghost use Rattle.outcomes.specs.Lines.{line};
-ghost use Rattle.explain_engines.specs.Fronts.{by_event, front_data, taken_data, event_data, answers_data, stuck_data};
+ghost use Rattle.explain_engines.specs.Fronts.{front_data, taken_data, event_data, answers_data, stuck_data};
 ghost use Rattle.explain_engines.specs.Fronts.{is_taken, is_preceded, left_by, unpreceded, next_of};
 
 use crate::reports::answer_value;
 use events::{Call, Memory, Operation, Reply};
 use explaining::precedes;
-use follower::event_of;
 use history_text::{pairs_value, reply_value};
 use map_object::SortedMap;
 use orders::apply;
@@ -21,65 +20,35 @@ use outcomes::line_of;
 use serde_json::{Map, Value, put};
 use std::alloc::{AllocError, Global};
 
-/// The line of a front of few calls from some pairs: the calls, the pairs that they leave, and the
-/// calls that would come next. The events are those of the places at which the calls stand, where
-/// these are no events.
+/// The line of a front of a few calls from some pairs: the calls, the pairs that they leave, and the
+/// calls that would come next.
 pub(crate) fn front_line(
     alloc: Global,
     start: &[(u64, u64)],
-    events: &[(usize, usize)],
     calls: &[Operation],
     front: &[u32],
 ) -> Result<String, Memory>
     requires { IsRising start.now }
     ensures { IfOk result (λ text. string_bytes text ≡ line
-        (compact_text (front_data start.now events.now calls.now front.now))) }
+        (compact_text (front_data start.now calls.now front.now))) }
 {
-    let value = front_value(alloc, start, events, calls, front)?;
+    let value = front_value(alloc, start, calls, front)?;
     Ok(line_of(value.to_string(alloc)?)?)
 }
 
 fn front_value(
     alloc: Global,
     start: &[(u64, u64)],
-    events: &[(usize, usize)],
     calls: &[Operation],
     front: &[u32],
 ) -> Result<Value, Memory>
     requires { IsRising start.now }
-    ensures { IfOk result (λ value. view value ≡ front_data start.now events.now calls.now
-        front.now) }
+    ensures { IfOk result (λ value. view value ≡ front_data start.now calls.now front.now) }
 {
     let taken = calls_at(alloc, calls, front)?;
     let held = map_after(alloc, start, &taken)?;
     let next = next_of(alloc, calls, &taken)?;
-    let told = all_by_events(alloc, events, &taken)?;
-    let stuck = all_by_events(alloc, events, &next)?;
-    taken_value(alloc, &told, &held, &stuck)
-}
-
-/// Calls by the events of their places.
-fn all_by_events(
-    alloc: Global,
-    events: &[(usize, usize)],
-    calls: &[Operation],
-) -> Result<Vec<Operation>, Memory>
-    ensures { IfOk result (λ told. told.items ≡ map (by_event events.now) calls.now) }
-{
-    let mut told = Vec::with_capacity(alloc, calls.len())?;
-    for call in calls {
-        told.push(by_event(alloc, events, call)?)?;
-    }
-    Ok(told)
-}
-
-/// A call by the event of its place.
-fn by_event(alloc: Global, events: &[(usize, usize)], call: &Operation) -> Result<Operation, Memory>
-    ensures { IfOk result (λ told. told ≡ by_event events.now call.now) }
-{
-    let mut told = call.copy(alloc)?;
-    told.inv = event_of(events, call.inv);
-    Ok(told)
+    taken_value(alloc, &taken, &held, &next)
 }
 
 /// The calls with these numbers.

@@ -1,5 +1,5 @@
-// Laws of how far an order of few calls gets: each function only carries its clause; one that rests
-// on others calls them.
+// Laws of how far an order of a few calls gets. Each function only has a clause. One that rests on
+// others calls them.
 ghost use Rattle.explain_engines.specs.Laws.{NoFrontIsLonger, NoNextCallIsLegal};
 
 use quiet_cuts::ranges_suffice;
@@ -10,7 +10,8 @@ pub fn no_front_is_longer()
     ensures { NoFrontIsLonger }
 {}
 
-/// Then no call that is told as next behind it can come next: the map would answer it otherwise.
+/// No call that is named as next after that front can come next, unless more configurations are
+/// reachable than the budget: the map would answer it otherwise.
 pub fn no_next_call_is_legal()
     ensures { NoNextCallIsLegal }
 {

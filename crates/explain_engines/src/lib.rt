@@ -1,13 +1,13 @@
-//! The engine that explains: the judge's verdict on the text of a history, and where that is a no
-//! few calls of the segment that it names, which have no order either and refute it; where it is
-//! undecided what locating the history finds, with few calls that show that.
+//! The engine that explains the judge's verdict on the text of a history. After a no it names a few
+//! calls of the segment that the verdict names, which have no order on their own. After an undecided
+//! it locates where the history goes wrong, and names a few calls that show that.
 #![tactic(auto)]
 
 mod explained;
 mod fronts;
 mod laws;
 mod misses;
-mod parts;
+mod own_parts;
 mod processes;
 mod reports;
 mod writers;

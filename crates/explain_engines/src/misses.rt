@@ -12,7 +12,7 @@ use origins::Missed;
 use serde_json::{Map, Value, put};
 use std::alloc::{AllocError, Global};
 
-/// Puts some calls that another misses, where there are any.
+/// Puts some calls that another misses, if there are any.
 pub(crate) fn put_missed(
     alloc: Global,
     members: &mut Map<String, Value>,

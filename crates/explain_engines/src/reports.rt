@@ -28,84 +28,77 @@ use serde_json::{Map, Value, put};
 use small_histories::{small_history, small_text};
 use std::alloc::{AllocError, Global};
 
-/// A line for each of few calls that have no order from these pairs, as the calls of the history
-/// that they are, those of the values that come from outside of them, that of a history with them,
-/// and that of a front of these. The events are those of the places at which the few stand, where
-/// these are no events.
+/// The lines of a few calls that have no order from these pairs: one for each call, one for each value
+/// that comes from outside of them, the text of a history of them, and how far an order of that
+/// gets.
 pub(crate) fn few_lines(
     alloc: Global,
     history: &History,
     start: &[(u64, u64)],
-    events: &[(usize, usize)],
-    told: &[Operation],
     few: &Explanation,
     budget: u32,
 ) -> Result<String, Memory>
     requires rising { IsRising start.now }
     requires none { IsLinearizable start.now few.now.calls.items → ⊥ }
     requires budget { (1 ≤ budget) × (budget ≤ budget_limit) }
-    ensures { IfOk result (λ text. AreFewLines budget history.now start.now events.now told.now
-        few.now (string_bytes text)) }
+    ensures { IfOk result (λ text. AreFewLines budget history.now start.now few.now
+        (string_bytes text)) }
 {
     let calls = few.calls.as_slice();
-    let mut text = row_lines(alloc, history, told, &few.reasons)?;
+    let mut text = row_lines(alloc, history, calls, &few.reasons)?;
     let outside = outside_lines(alloc, history, start, calls)?;
     text.push_str(outside.as_str())?;
-    let small = history_lines(alloc, start, events, calls, budget)?;
+    let small = history_lines(alloc, start, calls, budget)?;
     text.push_str(small.as_str())?;
     Ok(text)
 }
 
-/// The line of a history with some calls from some pairs, and that of a front of these; nothing
-/// where no history has them, or its text is too long.
+/// The line of a history with some calls from some pairs, and that of a front of these. Nothing if no
+/// history has them, or its text is too long.
 fn history_lines(
     alloc: Global,
     start: &[(u64, u64)],
-    events: &[(usize, usize)],
     calls: &[Operation],
     budget: u32,
 ) -> Result<String, Memory>
     requires rising { IsRising start.now }
     requires budget { (1 ≤ budget) × (budget ≤ budget_limit) }
     ensures { (IsLinearizable start.now calls.now → ⊥)
-        → IfOk result (λ text. AreHistoryLines budget start.now events.now calls.now
-        (string_bytes text)) }
+        → IfOk result (λ text. AreHistoryLines budget start.now calls.now (string_bytes text)) }
 {
     match small_history(alloc, start, calls)? {
-        Some(history) => lines_of(alloc, &history, start, events, calls, budget),
+        Some(history) => lines_of(alloc, &history, start, calls, budget),
         None => Ok(String::new(alloc)),
     }
 }
 
-/// The line of a history with some calls from some pairs, and that of a front of these; nothing
-/// where its text is too long.
+/// The line of a history with some calls from some pairs, and that of a front of these. Nothing if its
+/// text is too long.
 fn lines_of(
     alloc: Global,
     history: &History,
     start: &[(u64, u64)],
-    events: &[(usize, usize)],
     calls: &[Operation],
     budget: u32,
 ) -> Result<String, Memory>
     requires rising { IsRising start.now }
     requires budget { (1 ≤ budget) × (budget ≤ budget_limit) }
     ensures { (IsLinearizable history.now.start (operations history.now.events) → ⊥)
-        → IfOk result (λ text. AreLinesOf budget start.now events.now calls.now history.now
+        → IfOk result (λ text. AreLinesOf budget start.now calls.now history.now
         (string_bytes text)) }
 {
     match small_text(alloc, history)? {
-        Some(text) => two_lines(alloc, text, history, start, events, calls, budget),
+        Some(text) => two_lines(alloc, text, history, start, calls, budget),
         None => Ok(String::new(alloc)),
     }
 }
 
-/// The line of the text of a history, and behind it that of a front of its calls.
+/// The line of the text of a history, and then that of a front of its calls.
 fn two_lines(
     alloc: Global,
     text: String,
     history: &History,
     start: &[(u64, u64)],
-    events: &[(usize, usize)],
     calls: &[Operation],
     budget: u32,
 ) -> Result<String, Memory>
@@ -113,13 +106,13 @@ fn two_lines(
     requires budget { (1 ≤ budget) × (budget ≤ budget_limit) }
     ensures { IsWrittenAs history.now (string_bytes text)
         → (IsLinearizable history.now.start (operations history.now.events) → ⊥)
-        → IfOk result (λ lines. AreTwoLines budget start.now events.now calls.now history.now
+        → IfOk result (λ lines. AreTwoLines budget start.now calls.now history.now
         (string_bytes lines)) }
 {
     let front = front_of(alloc, history, budget)?;
-    let told = front_line(alloc, start, events, calls, &front)?;
+    let last = front_line(alloc, start, calls, &front)?;
     let mut lines = line_of(text)?;
-    lines.push_str(told.as_str())?;
+    lines.push_str(last.as_str())?;
     Ok(lines)
 }
 
@@ -188,7 +181,7 @@ fn row_value(
     Ok(Value::Object(members))
 }
 
-/// Puts what is told of a call that is kept into an object without members.
+/// Puts what is said of a call that is kept into an object without members.
 fn put_row(
     alloc: Global,
     members: &mut Map<String, Value>,
@@ -270,7 +263,7 @@ fn absent_word(answered: bool) -> &'static str
     if answered { "left out" } else { "open" }
 }
 
-/// The answer of a call among few: the reply, or a word where it has none there.
+/// The answer of a call among a few: the reply, or a word if it has none there.
 pub(crate) fn answer_value(alloc: Global, response: &Option<Response>) -> Result<Value, AllocError>
     ensures { IfOk result (λ value. view value ≡ answer_data response.now) }
 {

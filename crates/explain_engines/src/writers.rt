@@ -1,5 +1,5 @@
-// The lines of the values that few calls tell and none of them puts: which calls of the history put
-// them.
+// The lines of the values that a few calls report and none of them puts: which calls of the history
+// put them.
 ghost use Rattle.std.specs.Prelude.{◌≡◌, ℕ, [], map, IfOk, OnOk, string_bytes};
 ghost use Rattle.serde_json.specs.Data.{object};
 ghost use Rattle.serde_json.specs.View.{view, members_view};
@@ -18,7 +18,7 @@ use outcomes::line_of;
 use serde_json::{Map, Value, put};
 use std::alloc::{AllocError, Global};
 
-/// A line for each pair of a key and a value that few calls tell from outside of them, from some
+/// A line for each pair of a key and a value that a few calls report from outside of them, from some
 /// pairs on.
 pub(crate) fn outside_lines(
     alloc: Global,

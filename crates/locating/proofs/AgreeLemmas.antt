@@ -13,9 +13,9 @@ use Rattle.locating.specs.declared.location.Location.TheVariants.{Yes, No, Lost,
 
 module _ (one_event : OneEventGoesWrong) (one_call : AnswersHaveOneCall) (history : HistoryView) where
   -- no more events have an order than those before the one at which the history goes wrong
-  not_behind : (number place count : ℕ) → GoesWrongAt history number place → IsLinearizableHistory (prefix_of history count) → count ≤ place
-  not_behind number place count wrong has =
-      ⊎_elim (λ behind. absurd ((one_event history number place wrong).2 count behind has)) (λ within. within) (cases_lt place count)
+  not_after : (number place count : ℕ) → GoesWrongAt history number place → IsLinearizableHistory (prefix_of history count) → count ≤ place
+  not_after number place count wrong has =
+      ⊎_elim (λ later. absurd ((one_event history number place wrong).2 count later has)) (λ within. within) (cases_lt place count)
 
   same_call : (number place other elsewhere : ℕ) → IsHistory history → GoesWrongAt history number place
       → GoesWrongAt history other elsewhere → (place ≡ elsewhere) × (number ≡ other)
@@ -36,7 +36,7 @@ module _ (one_event : OneEventGoesWrong) (one_call : AnswersHaveOneCall) (histor
   says budget Yes x = x
   says budget (No event number) x = x.wrong
   says budget (Lost loss) x = x.wrong
-  says budget (Undecided event number doubt) x = x.before
+  says budget (Undecided event number) x = x.before
 
   agree : (a b : Said) → IsHistory history → Says a → Says b → DoNotContradict a b
   agree SaysYes SaysYes is x y = tt
@@ -44,9 +44,9 @@ module _ (one_event : OneEventGoesWrong) (one_call : AnswersHaveOneCall) (histor
   agree SaysYes (SaysUndecided event) is x y = tt
   agree (SaysNo event number) SaysYes is x y = (one_event history number event x).1 y
   agree (SaysNo event number) (SaysNo other call) is x y = same_call number event call other is x y
-  agree (SaysNo event number) (SaysUndecided other) is x y = not_behind number event other x y
+  agree (SaysNo event number) (SaysUndecided other) is x y = not_after number event other x y
   agree (SaysUndecided other) SaysYes is x y = tt
-  agree (SaysUndecided other) (SaysNo event number) is x y = not_behind number event other y x
+  agree (SaysUndecided other) (SaysNo event number) is x y = not_after number event other y x
   agree (SaysUndecided event) (SaysUndecided other) is x y = tt
 
 pub locations_agree : OneEventGoesWrong → AnswersHaveOneCall → LocationsAgree

@@ -1,4 +1,4 @@
--- Bisection comes to one event of a history, and the judge's verdicts on it stay apart.
+-- Bisection finds one thing in a history, and the judge's verdicts on the same events have one word.
 use Rattle.std.proofs.Common.{◌≡◌, ℕ, ◌<◌, List, [], ◌∷◌, length, take, Option, Some}
 use Rattle.std.proofs.Common.{inl, inr, refl, sym, subst, arith}
 use Rattle.std.specs.Prelude.{IsSomeAnd}
@@ -36,7 +36,7 @@ judged_whole HasWord budget history verdict word exact = record {
   word = word;
 }
 
--- and what it shows
+-- what a verdict shows
 module _ (budget : ℕ) (start : Contents) (calls : List Operation) where
   pub shown_yes : (verdict : Verdict) → IsYes verdict → IsShown start budget calls verdict → IsLinearizable start calls
   shown_yes (Yes order) word shown = (order.items, shown.is_order)
@@ -99,7 +99,7 @@ no_undecided (Yes v) b same n und = n
 no_undecided (Undecided v) b same n und = n
 
 module _ (one_verdict : OneExactVerdict) (prefixes : PrefixesAreHistories) (budget : ℕ) (history : HistoryView) (is : IsHistory history) where
-  -- so have those on as many first events
+  -- so do those on as many first events
   same_word : (A B : Verdict → Type 0) → ((a b : Verdict) → AreSameVerdict a b → A a → B b → ⊥) → (count : ℕ)
       → IsJudged A budget history count → IsJudged B budget history count → ⊥
   same_word A B apart count first second =
@@ -135,12 +135,12 @@ module _ (one_verdict : OneExactVerdict) (prefixes : PrefixesAreHistories) (budg
   one_bisected (lower wide n rest) (upper again y rest2) = absurd (not_yes_and_no y n)
   one_bisected (lower wide n rest) (lower again no2 rest2) = one_bisected rest rest2
 
-  -- the judge's verdicts leave nothing open where the history is judged a yes
+  -- the judge's verdicts leave nothing open if the history is judged a yes
   pub open_but_yes : IsLeftOpen budget history → IsJudgedWhole IsYes budget history → ⊥
   open_but_yes (inl und) y = not_yes_and_undecided y und
   open_but_yes (inr refuted) y = not_yes_and_no y refuted.refuted
 
-  -- or where bisection comes to an event
+  -- or if bisection finds an event
   pub open_but_found : (event : ℕ) → IsLeftOpen budget history → IsRefutedWith budget history (Some event) → ⊥
   open_but_found event (inl und) here = not_no_and_undecided here.refuted und
   open_but_found event (inr refuted) here =

@@ -1,26 +1,32 @@
 -- What shows a location.
-use Rattle.std.proofs.Common.{◌≡◌, ℕ, List, Some}
+use Rattle.std.proofs.Common.{◌≡◌, ℕ, ◌+◌, suc, List, [], ◌∷◌, ◌++◌, length, take, Some, subst}
 use Rattle.events.specs.declared.event.Event.{Event}
+use Rattle.events.specs.declared.event.Event.TheVariants.{Answer}
 use Rattle.events.specs.HistoryView.{HistoryView}
-use Rattle.map_object.specs.MapObject.{Contents}
-use Rattle.follower.specs.declared.answered.Loss.{Loss}
+use Rattle.losses.specs.declared.loss.Loss.{Loss}
+use Rattle.losses.specs.Laws.{IsOwnPartOf, OwnPartsHaveNoOrder}
+use Rattle.losses.specs.OwnParts.{OwnPart, own_part}
 use Rattle.locating.specs.Locations.{IsLostAt}
-use Rattle.follower.specs.Laws.{IsOwnPartOf, OwnPartsHaveNoOrder}
-use Rattle.follower.specs.OwnParts.{OwnPart, own_part}
 use Rattle.locating.specs.declared.evidence.Evidence.{Evidence}
-use Rattle.locating.specs.declared.evidence.Evidence.TheVariants.{OfEvents, OfKey, Missing}
+use Rattle.locating.specs.declared.evidence.Evidence.TheVariants.{OfEvents, OfPart, Missing}
 use Rattle.locating.specs.Evidences.{IsLossEvidence, IsOwnEvidence, ShowsNoneUpTo}
+use Rattle.locating.proofs.FormLemmas.{kept_of_own}
+use Rattle.locating.proofs.PassLemmas.{next}
 
--- what goes wrong by itself at a loss is of what was followed of the events up to there
+-- what goes wrong on its own at a loss is of the events up to there
 pub own_of : OwnPartsHaveNoOrder → (budget : ℕ) (history : HistoryView) (loss : Loss) (part : OwnPart) → IsLostAt budget history loss
-    → own_part loss ≡ Some part → (m : Contents) × ((events : List Event) × IsOwnPartOf m events part)
+    → own_part loss ≡ Some part → IsOwnPartOf (take (loss.event + 1) history.events) part
 own_of law budget history loss part lost is =
-    let answered = lost.followed.answered_is in
-    (answered.m, (answered.now, law answered.m answered.now answered.call loss part answered.keys is))
+    let at = lost.followed in
+    let answer = Answer at.process at.reply in
+    let before = take loss.event history.events in
+    let kept = kept_of_own history.start before at.process at.reply loss part at.answered_is is in
+    subst (λ (events : List Event). IsOwnPartOf events part) (next history loss.event answer at.event_is)
+    (law history.start (suc (length before)) (before ++ answer ∷ []) loss part kept.0 kept.1 is)
 
--- where the last calls show nothing, it shows the loss
+-- if the last calls show nothing, it shows the loss
 pub of_loss : (budget : ℕ) (history : HistoryView) (loss : Loss) (evidence : Evidence) → ShowsNoneUpTo budget history loss.event
     → IsOwnEvidence budget loss evidence → IsLossEvidence budget history loss evidence
 of_loss budget history loss (OfEvents few) none own = absurd own
-of_loss budget history loss (OfKey part few) none own = (none, own)
+of_loss budget history loss (OfPart part few) none own = (none, own)
 of_loss budget history loss Missing none own = (none, own)

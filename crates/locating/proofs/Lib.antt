@@ -1,5 +1,6 @@
 mod AgreeLemmas
 mod BisectionLemmas
 mod EvidenceLemmas
+mod FormLemmas
 mod OneLemmas
 mod PassLemmas

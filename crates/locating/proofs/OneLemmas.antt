@@ -1,4 +1,4 @@
--- Where the judge's verdicts tell where a history goes wrong, its locations at that budget have one report.
+-- If the judge's verdicts say where a history goes wrong, its locations at that budget have one report.
 use Rattle.std.proofs.Common.{◌≡◌, ℕ, refl, sym, ◌∙◌, inl, inr}
 use Rattle.events.specs.HistoryView.{HistoryView}
 use Rattle.events.specs.Histories.{IsHistory}
@@ -19,7 +19,7 @@ module _ (one_verdict : OneExactVerdict) (prefixes : PrefixesAreHistories) (agre
   of_yes (No event number) y x =
       absurd (not_yes_and_no one_verdict prefixes budget history is y x.judged.refuted)
   of_yes (Lost loss) y x = absurd (open_but_yes one_verdict prefixes budget history is x.open_to_judge y)
-  of_yes (Undecided event number doubt) y x = absurd (open_but_yes one_verdict prefixes budget history is x.open_to_judge y)
+  of_yes (Undecided event number) y x = absurd (open_but_yes one_verdict prefixes budget history is x.open_to_judge y)
 
   of_found : (a : Location) (event number : ℕ) → IsFoundAt budget history event number → IsLocated budget history a
       → location_data a ≡ no_data event number
@@ -28,7 +28,7 @@ module _ (one_verdict : OneExactVerdict) (prefixes : PrefixesAreHistories) (agre
       let same = agree budget budget history (No other call) (No event number) is x here in λ i. no_data (same.0 i) (same.1 i)
   of_found (Lost loss) event number here x =
       absurd (open_but_found one_verdict prefixes budget history is event x.open_to_judge here.judged)
-  of_found (Undecided other call doubt) event number here x =
+  of_found (Undecided other call) event number here x =
       absurd (open_but_found one_verdict prefixes budget history is event x.open_to_judge here.judged)
 
   one_location : (a b : Location) → IsDecidedByJudge budget history → IsLocated budget history a → IsLocated budget history b

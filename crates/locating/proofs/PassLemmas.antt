@@ -1,5 +1,5 @@
--- What an event of a history makes of a follower that has taken the events before it: it is not
--- refused, and where the follower ends, the history is located.
+-- What an event of a history makes of a monitor that has taken the events before it: it is not refused, and if the monitor ends, the history is
+-- located.
 use Rattle.std.proofs.Common.{◌≡◌, ℕ, suc, ◌+◌, ◌*◌, ◌<◌, ◌≤◌, Bool, true, false, not, ◌||◌, cond, List, [], ◌∷◌, ◌++◌, length, take, drop, Some, None}
 use Rattle.std.proofs.Common.{refl, sym, ap, ◌∙◌, subst, arith}
 use Rattle.std.specs.Prelude.{slice_get}
@@ -25,18 +25,17 @@ use Rattle.events.proofs.HistoryLemmas.{AreHistoryEvents-next}
 use Rattle.orders.specs.Orders.{IsLinearizable}
 use Rattle.prefixes.specs.Laws.{HistoriesHaveFewEvents}
 use Rattle.prefixes.specs.Prefixes.{GoesWrongAt, IsAnswerOf}
-use Rattle.follower.specs.Faults.{event_limit, invocation_fault, answer_fault}
-use Rattle.follower.specs.declared.answered.Doubt.{Doubt}
-use Rattle.follower.specs.declared.answered.Loss.{Loss}
-use Rattle.follower.specs.Followed.{IsFollowed}
-use Rattle.follower.specs.WindowOutcomes.{IsLost, IsSpent, IsAnswered, IsDoubtOfOne, IsCountedAs}
-use Rattle.follower.specs.WindowsView.{WindowsView}
-use Rattle.follower.specs.declared.answered_windows.AnsweredWindows.{AnsweredWindows}
-use Rattle.follower.specs.declared.answered_windows.AnsweredWindows.TheVariants.{Lost, Spent}
+use Rattle.losses.specs.declared.loss.Loss.{Loss}
+use Rattle.monitor.specs.Faults.{event_limit, invocation_fault, answer_fault}
+use Rattle.monitor.specs.Following.{IsFollowing}
+use Rattle.monitor.specs.MonitorView.{MonitorView}
+use Rattle.monitor.specs.Outcomes.{IsLost, IsSpent, IsAnswered}
+use Rattle.monitor.specs.declared.answered.Answered.{Answered}
+use Rattle.monitor.specs.declared.answered.Answered.TheVariants.{Lost, Spent}
 use Rattle.locating.specs.Bisections.{IsLeftOpen}
 use Rattle.locating.specs.Locations.{IsAnswerFollowed, IsLostAt, IsUndecidedAt}
 
--- what an event that is sound is: it has its range, and comes in turn
+-- an event without a fault has its range, and comes in turn
 two_tests : (s m c t : Bool) (x y z : HistoryFault)
     → cond (not s) (Some x) (cond (not m || c) (Some y) (cond t (Some z) None)) ≡ None → (s ≡ true) × (t ≡ false)
 two_tests false m c t x y z h = cc
@@ -45,7 +44,7 @@ two_tests true true true t x y z h = cc
 two_tests true true false true x y z h = cc
 two_tests true true false false x y z h = (refl, refl)
 
--- a call that has a range begins it at its least key
+-- a call whose range is sound begins it at its least key
 range_rises : (call : Call) → has_range call ≡ true → low_key call ≤ high_key call
 range_rises (Get key) h = omega arith
 range_rises (Insert key value) h = omega arith
@@ -57,7 +56,7 @@ module _ (history : HistoryView) (place : ℕ) (e : Event) (here : slice_get his
   within : place < length history.events
   within = slice_get_within history.events place e here
 
-  -- the events are those before it, it, and those behind it
+  -- the events are those before it, it, and those after it
   parts : take place history.events ++ e ∷ drop (suc place) history.events ≡ history.events
   parts =
       let is = get_or_from_slice_get history.events place e e here in
@@ -105,21 +104,19 @@ fine_answer history place process reply here few is =
     rw (turn, lt-leb event_limit (length (take place history.events)) space) refl
 
 module _ (history : HistoryView) (place process : ℕ) (reply : Reply) (here : slice_get history.events place ≡ Some (Answer process reply))
-    (budget : ℕ) (f : WindowsView) (follows : IsFollowed history.start (take place history.events) f) where
-  -- what an answer makes of the follower, said of the event where it stands
-  followed : (event : ℕ) (answered : AnsweredWindows) → event ≡ length (take place history.events)
-      → IsAnswered history.start (take place history.events) f process reply budget answered → IsCountedAs f process reply answered
-      → IsAnswerFollowed budget history event answered
-  followed event answered event_is is counted =
+    (budget : ℕ) (m : MonitorView) (follows : IsFollowing history.start (take place history.events) m) where
+  -- what an answer makes of the monitor, said of the event at its place
+  followed : (event : ℕ) (answered : Answered) → event ≡ length (take place history.events)
+      → IsAnswered history.start (take place history.events) m process reply budget answered → IsAnswerFollowed budget history event answered
+  followed event answered event_is is =
       let at : place ≡ event = sym (event_is ∙ size history place (Answer process reply) here) in
       subst (λ (n : ℕ). IsAnswerFollowed budget history n answered) at (record {
         process = process;
         reply = reply;
         event_is = here;
-        follower = f;
+        monitor = m;
         follows = follows;
         answered_is = is;
-        counted = counted;
       })
 
   pub lost : (loss : Loss) → IsLeftOpen budget history → IsLost history.start (take place history.events) process reply loss
@@ -128,17 +125,19 @@ module _ (history : HistoryView) (place process : ℕ) (reply : Reply) (here : s
     open_to_judge = left;
     wrong = subst (λ (es : List Event). GoesWrongAt (record { start = history.start; events = es }) loss.number loss.event)
         (parts history place (Answer process reply) here) (is.wrong (drop (suc place) history.events)).1;
-    followed = followed loss.event (Lost loss) is.told.event_is is tt;
+    followed = followed loss.event (Lost loss) is.of_answer.event_is is;
   }
 
-  pub spent : (event number : ℕ) (doubt : Doubt) → IsLeftOpen budget history
-      → IsSpent history.start (take place history.events) process reply budget event number doubt
-      → IsDoubtOfOne f process reply doubt → IsUndecidedAt budget history event number doubt
-  spent event number doubt left is counted = record {
+  pub spent : (loss : Loss) → IsLeftOpen budget history → IsSpent history.start (take place history.events) process reply budget loss
+      → IsUndecidedAt budget history loss.event loss.number
+  spent loss left is = record {
     open_to_judge = left;
     before = subst (λ (n : ℕ). IsLinearizable history.start (operations (take n history.events)))
-        (sym (is.told.event_is ∙ size history place (Answer process reply) here)) follows.linearizable;
-    answer = subst (λ (es : List Event). IsAnswerOf es number event) (parts history place (Answer process reply) here)
-        (is.told.answers reply (drop (suc place) history.events));
-    followed = followed event (Spent event number doubt) is.told.event_is is counted;
+        (sym (is.of_answer.event_is ∙ size history place (Answer process reply) here)) follows.linearizable;
+    answer = subst (λ (es : List Event). IsAnswerOf es loss.number loss.event) (parts history place (Answer process reply) here)
+        (is.of_answer.answers reply (drop (suc place) history.events));
+    loss = loss;
+    event_is = refl;
+    number_is = refl;
+    followed = followed loss.event (Spent loss) is.of_answer.event_is is;
   }

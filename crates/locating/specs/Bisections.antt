@@ -1,5 +1,5 @@
--- The search for the event at which a history goes wrong, by bisection: having an order is closed under prefixes, so the judge's verdict on
--- the first events leaves one half of them. The verdicts are exact at a budget, so there is one way through the halves.
+-- The search for the event at which a history goes wrong, by bisection. If events have an order, so have the first of them. So the judge's
+-- verdict on the first events leaves one half. The verdicts are exact at a budget, so there is one way through the halves.
 use Rattle.std.specs.Prelude.{◌≡◌, ◌⊎◌, ℕ, ◌+◌, ◌-◌, ◌/◌, ◌<◌, ◌≤◌, ◌==◌, Bool, false, length, Option, Some, None, ⊤}
 use Rattle.events.specs.declared.operation.Response.{Response}
 use Rattle.events.specs.HistoryView.{HistoryView}
@@ -37,9 +37,9 @@ IsJudgedWhole HasWord budget history = IsJudged HasWord budget history (length h
 abbrev pub middle : ℕ → ℕ → ℕ
 middle low high = low + (high - low) / 2
 
--- Where the first `low` events have an order and the first `high` have none, this is what bisection finds: the event that is between them when
--- they are next to each other; or none, where the verdict on those in the middle is undecided. Else it goes on in the half that this verdict
--- leaves.
+-- What bisection finds, if the first `low` events have an order and the first `high` have none. If these numbers are next to each other, it is
+-- the event between them. Otherwise it looks at the verdict on the first events up to the middle. If that is undecided, it finds nothing; else
+-- it goes on in the half that the verdict leaves.
 pub data IsBisected (budget : ℕ) (history : HistoryView) : ℕ → ℕ → Option ℕ → Type 0 where
   found : {low high : ℕ} → high ≡ low + 1 → IsBisected budget history low high (Some low)
   spent : {low high : ℕ} → low + 1 < high → IsJudged IsUndecided budget history (middle low high) → IsBisected budget history low high None
@@ -50,13 +50,13 @@ pub data IsBisected (budget : ℕ) (history : HistoryView) : ℕ → ℕ → Opt
       → IsBisected budget history low (middle low high) event
       → IsBisected budget history low high event
 
--- the judge's no on a history is bisected, with this event or without one
+-- the judge says no to a history, and bisection finds this event or none
 pub record IsRefutedWith (budget : ℕ) (history : HistoryView) (event : Option ℕ) : Type 0 where
   pub refuted : IsJudgedWhole IsNo budget history
   pub bisected : IsBisected budget history 0 (length history.events) event
 
 -- the judge's verdicts at the budget leave open where the history goes wrong: the one on the whole history is undecided, or one that
--- bisection comes to
+-- bisection needs
 abbrev pub IsLeftOpen : ℕ → HistoryView → Type 0
 IsLeftOpen budget history = IsJudgedWhole IsUndecided budget history ⊎ IsRefutedWith budget history None
 
@@ -67,7 +67,7 @@ pub record IsLostBetween (history : HistoryView) (low high : ℕ) : Type 0 where
   pub before : IsLinearizableHistory (prefix_of history low)
   pub after : IsLinearizableHistory (prefix_of history high) → ⊥
 
--- with this event a history loses its orders
+-- a history loses its orders with this event
 pub record LosesOrderAt (history : HistoryView) (event : ℕ) : Type 0 where
   pub within : event < length history.events
   pub before : IsLinearizableHistory (prefix_of history event)

@@ -17,10 +17,10 @@ abbrev pub said_by : Location → Said
 said_by Yes = SaysYes
 said_by (No event number) = SaysNo event number
 said_by (Lost loss) = SaysNo loss.event loss.number
-said_by (Undecided event number doubt) = SaysUndecided event
+said_by (Undecided event number) = SaysUndecided event
 
--- two do not contradict: of two that say no both say the same event of the same call; none says no
--- where another says yes, and none is undecided behind the event of a no
+-- two do not contradict: two that say no both say the same event of the same call; none says no if another says yes, and none is undecided
+-- after the event of a no
 abbrev pub DoNotContradict : Said → Said → Type 0
 DoNotContradict SaysYes (SaysNo event number) = ⊥
 DoNotContradict (SaysNo event number) SaysYes = ⊥
@@ -37,8 +37,7 @@ abbrev pub LocationsAgree : Type 0
 LocationsAgree = (budget other : ℕ) (history : HistoryView) (a b : Location) → IsHistory history → IsLocated budget history a
     → IsLocated other history b → Agree a b
 
--- where the judge's verdicts at a budget tell where a history goes wrong, one report is made of a
--- location at that budget
+-- if the judge's verdicts at a budget say where a history goes wrong, all locations at that budget have one report
 abbrev pub OneLocationWhereJudged : Type 0
 OneLocationWhereJudged = (budget : ℕ) (history : HistoryView) (a b : Location) → IsHistory history → IsDecidedByJudge budget history
     → IsLocated budget history a

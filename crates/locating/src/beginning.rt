@@ -6,7 +6,7 @@ use events::{Event, History, Memory};
 use prefixes::prefixes_are_histories;
 use std::alloc::Global;
 
-/// The history of the events up to this one, from the same starting pairs: a copy.
+/// Returns a copy of the history of the events up to this one, from the same starting pairs.
 pub fn history_up_to(alloc: Global, history: &History, event: usize) -> Result<History, Memory>
     ensures { IfOk result (λ h. h ≡ prefix_of history.now (event + 1)) }
 {
@@ -16,7 +16,7 @@ pub fn history_up_to(alloc: Global, history: &History, event: usize) -> Result<H
     History::with_calls(alloc, start, events)
 }
 
-/// The events up to the one at this place.
+/// Returns copies of the events up to the one at this place.
 fn events_up_to(alloc: Global, events: &[Event], place: usize) -> Result<Vec<Event>, Memory>
     ensures { IfOk result (λ copies. copies.items ≡ take (place + 1) events.now) }
 {

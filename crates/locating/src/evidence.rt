@@ -1,14 +1,15 @@
 // What shows a location.
 use explaining::Explanation;
-use follower::OwnPart;
+use losses::OwnPart;
 
 /// What shows that a history goes wrong at an event, or may.
 #[derive(Drop)]
 pub enum Evidence {
-    /// Few calls of the events up to it do, from the pairs that the map holds at the start.
+    /// A few calls of the events up to it do, from the pairs that the map holds at the start.
     OfEvents(Explanation),
-    /// Few of the calls left of one key do, from the value that it had before them.
-    OfKey(OwnPart, Explanation),
+    /// A few of the calls left of a part of the keys do, from the pairs that these keys had before
+    /// them.
+    OfPart(OwnPart, Explanation),
     /// Nothing does.
     Missing,
 }

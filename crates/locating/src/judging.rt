@@ -1,4 +1,4 @@
-// Where a history goes wrong: by the judge, and after an undecided verdict by a follower.
+// Where a history goes wrong: by the judge, and after an undecided verdict by the monitor.
 ghost use Rattle.std.specs.Prelude.{◌≤◌, length, IfOk};
 ghost use Rattle.events.specs.Operations.{operations};
 ghost use Rattle.judge.specs.Exact.{IsExactVerdict};
@@ -17,9 +17,9 @@ use std::alloc::Global;
 
 /// Finds the event at which a history goes wrong. If a history has an order, so do its first
 /// events. So a history without order loses it at one event, which is an answer. The judge's
-/// verdicts on first events find it. If one of these is undecided at the budget, a follower of
+/// verdicts on first events find it. If one of these is undecided at the budget, the monitor of
 /// streams looks for it. Out of memory is an error and decides nothing. It costs at most 14
-/// verdicts, and a pass of the events through the follower.
+/// verdicts, and a pass of the events through the monitor.
 pub fn locate(alloc: Global, history: &History, budget: u32) -> Result<Location, Memory>
     requires { (1 ≤ budget) × (budget ≤ budget_limit) }
     ensures { IfOk result (IsLocated budget history.now) }

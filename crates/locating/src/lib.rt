@@ -1,10 +1,10 @@
-//! Where a history goes wrong: the one event at which it loses its orders; and a few calls that
+//! Where a history goes wrong: the one event at which it loses its orders, and a few calls that
 //! show it.
 //!
 //! The event is found by bisection, by the judge's verdicts on first events. If one of these is
-//! undecided, all events pass through a follower of streams. The few calls are some of those up to
-//! the event, from the pairs at the start. If none of the last calls show it, they are of one key
-//! that goes wrong on its own, from the value that the key had before.
+//! undecided, all events pass through the monitor of streams. The few calls are some of those up to
+//! the event, from the pairs at the start. If none of the last calls show it, they are some of those
+//! left of a part of the keys that goes wrong on its own, from the pairs that these keys had before.
 //!
 //! The definitions of `prefixes` say when a history goes wrong at an event. Those in `specs/` say
 //! what a location means.
@@ -19,7 +19,6 @@ mod lines;
 mod location;
 mod passing;
 mod showing;
-mod telling;
 
 pub use beginning::history_up_to;
 pub use evidence::Evidence;
@@ -28,4 +27,3 @@ pub use laws::{locations_agree, one_location_where_judged};
 pub use lines::location_line;
 pub use location::Location;
 pub use showing::evidence_of;
-pub use telling::told_calls;

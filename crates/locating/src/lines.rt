@@ -11,7 +11,8 @@ use events::Memory;
 use serde_json::{Map, Value, put};
 use std::alloc::{AllocError, Global};
 
-/// The report of a location, one JSON object without spaces, its members by rising bytes.
+/// Returns the report of a location: one JSON object without spaces, its members by rising bytes.
+/// The reason of an undecided is always the budget.
 pub fn location_line(alloc: Global, location: &Location) -> Result<String, Memory>
     ensures { IfOk result (λ text. string_bytes text ≡ compact_text (location_data location.now)) }
 {
@@ -27,7 +28,7 @@ fn location_value(alloc: Global, location: &Location) -> Result<Value, AllocErro
     Ok(Value::Object(members))
 }
 
-/// Puts the members of a location's object where none are.
+/// Puts the members of a location's object into an empty one.
 fn put_location(
     members: &mut Map<String, Value>,
     alloc: Global,
@@ -40,20 +41,17 @@ fn put_location(
         Location::Yes => put_word(members, alloc, "verdict", "yes"),
         Location::No { event, number } => put_no(members, alloc, *event, *number),
         Location::Lost(loss) => put_no(members, alloc, loss.event, loss.number),
-        Location::Undecided {
-            event,
-            number,
-            doubt,
-        } => {
+        Location::Undecided { event, number } => {
             put_number(members, alloc, "call", *number)?;
             put_number(members, alloc, "event", *event)?;
-            put_word(members, alloc, "reason", doubt.word())?;
+            put_word(members, alloc, "reason", "budget")?;
             put_word(members, alloc, "verdict", "undecided")
         }
     }
 }
 
-/// Puts the members of a no: the event, and the number of the call that it answers.
+/// Puts the members of a no into an empty object: the event, and the number of the call that it
+/// answers.
 fn put_no(
     members: &mut Map<String, Value>,
     alloc: Global,

@@ -1,28 +1,21 @@
 // Locations of the event at which a history goes wrong.
-use follower::{Doubt, Loss};
+use losses::Loss;
 
 /// Where a history goes wrong, as far as searches within a budget find. Events and calls are
 /// numbered from 0.
 #[derive(Drop)]
 pub enum Location {
-    /// It goes wrong nowhere: the history is linearizable.
+    /// The history is linearizable: it goes wrong nowhere.
     Yes,
     /// The events before this one are linearizable, and with it they are not. It is the answer of
     /// the call of this number. The judge's verdicts on first events say so.
-    No {
-        event: usize,
-        number: usize,
-    },
-    /// The judge's verdicts leave it open, and a follower lost its order at an event. The events
-    /// before that one are linearizable, and with it they are not. The loss names keys at which
-    /// what was kept has no order with the event.
+    No { event: usize, number: usize },
+    /// The judge's verdicts leave it open, and the monitor found that there is no order at an
+    /// event. The events before that one are linearizable, and with it they are not. The loss has
+    /// the part of the keys that does not go on.
     Lost(Loss),
     /// The judge's verdicts leave it open. This event is the answer of the call of this number, and
-    /// the events before it are linearizable. A follower did not find out whether they are with it,
-    /// for this reason.
-    Undecided {
-        event: usize,
-        number: usize,
-        doubt: Doubt,
-    },
+    /// the events before it are linearizable. The monitor did not find out whether they are with
+    /// it: a search went beyond the budget.
+    Undecided { event: usize, number: usize },
 }

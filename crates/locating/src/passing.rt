@@ -1,16 +1,16 @@
-// The pass of a history's events through a follower.
+// The pass of a history's events through the monitor.
 ghost use Rattle.std.specs.Prelude.{◌≡◌, ◌+◌, ◌<◌, length, take, IfOk, None, Some, slice_get};
 ghost use Rattle.events.specs.declared.event.Event.TheVariants as events;
 ghost use Rattle.events.specs.Histories.{IsHistory};
-ghost use Rattle.follower.specs.Faults.{shown};
 ghost use Rattle.locating.specs.Bisections.{IsLeftOpen};
 ghost use Rattle.locating.specs.Locations.{IsLocated};
 ghost use Rattle.locating.specs.Passing.{IsPassed};
-ghost use Rattle.follower.specs.Followed.{IsFollowed};
+ghost use Rattle.monitor.specs.Faults.{shown};
+ghost use Rattle.monitor.specs.Following.{IsFollowing};
 
 use crate::location::Location;
 use events::{Call, Event, History, Memory, Reply};
-use follower::{AnsweredWindows, FollowFault, WindowFollower};
+use monitor::{Answered, FollowFault, Monitor};
 use prefixes::histories_have_few_events;
 use std::alloc::Global;
 
@@ -18,76 +18,76 @@ use std::alloc::Global;
 #[derive(Drop)]
 pub(crate) enum Passed {
     /// It goes on.
-    Going(WindowFollower),
-    /// It ends: this is where the history goes wrong, as far as the budget tells.
+    Going(Monitor),
+    /// It ends: this is where the history goes wrong, as far as the budget goes.
     Ended(Location),
 }
 
 /// Finds where a history goes wrong, if the judge's verdicts leave it open. The events pass through
-/// a follower of streams one by one. The pass ends at the first answer at which the follower finds
-/// that there is no order any more, or does not find out. A search at one key reaches at most
-/// `budget` positions.
+/// the monitor of streams one by one. The pass ends at the first answer at which the monitor finds
+/// that there is no order any more, or does not find out. Its searches reach at most `budget`
+/// configurations each.
 pub(crate) fn follow(alloc: Global, history: &History, budget: u32) -> Result<Location, Memory>
     requires { IsLeftOpen budget history.now }
     ensures { IfOk result (IsLocated budget history.now) }
 {
-    let mut follower = WindowFollower::new(alloc, history.start())?;
+    let mut monitor = Monitor::new(alloc, history.start())?;
     for place in 0..history.events().len() {
-        match pass(alloc, follower, history, place, budget)? {
-            Passed::Going(next) => follower = next,
+        match pass(alloc, monitor, history, place, budget)? {
+            Passed::Going(next) => monitor = next,
             Passed::Ended(location) => return Ok(location),
         }
     }
     Ok(Location::Yes)
 }
 
-/// Passes the event at this place to a follower of those before it.
+/// Passes the event at this place to a monitor that has taken those before it.
 fn pass(
     alloc: Global,
-    follower: WindowFollower,
+    monitor: Monitor,
     history: &History,
     place: usize,
     budget: u32,
 ) -> Result<Passed, Memory>
     requires open_to_judge { IsLeftOpen budget history.now }
     requires place { place < length history.now.events }
-    requires follows { IsFollowed history.now.start (take place history.now.events) follower }
+    requires follows { IsFollowing history.now.start (take place history.now.events) monitor }
     ensures { IfOk result (IsPassed budget history.now place) }
 {
     match &history.events()[place] {
         Event::Invoke { process, call } => {
-            let next = pass_invocation(alloc, follower, history, place, *process, *call)?;
+            let next = pass_invocation(alloc, monitor, history, place, *process, *call)?;
             Ok(Passed::Going(next))
         }
         Event::Answer { process, reply } => {
             let reply = reply.copy(alloc)?;
-            pass_answer(alloc, follower, history, place, *process, reply, budget)
+            pass_answer(alloc, monitor, history, place, *process, reply, budget)
         }
     }
 }
 
-/// Passes an invocation, which no history has where it could be refused.
+/// Passes an invocation. The monitor refuses none that a history has.
 fn pass_invocation(
     alloc: Global,
-    follower: WindowFollower,
+    monitor: Monitor,
     history: &History,
     place: usize,
     process: u8,
     call: Call,
-) -> Result<WindowFollower, Memory>
-    requires follows { IsFollowed history.now.start (take place history.now.events) follower }
+) -> Result<Monitor, Memory>
+    requires follows { IsFollowing history.now.start (take place history.now.events) monitor }
     requires history { IsHistory history.now }
     requires event { slice_get history.now.events place ≡ Some (events.Invoke process call) }
-    ensures { IfOk result (IsFollowed history.now.start (take (place + 1) history.now.events)) }
+    ensures { IfOk result (IsFollowing history.now.start (take (place + 1) history.now.events)) }
 {
     histories_have_few_events();
-    match follower.invoke(alloc, process as u16, call) {
+    match monitor.invoke(alloc, process as u16, call) {
         Ok(next) => Ok(next),
         Err(fault) => Err(memory_of(fault)),
     }
 }
 
-/// The fault of an invocation that is taken where memory suffices.
+/// The fault of an invocation that only a lack of memory can stop.
 fn memory_of(fault: FollowFault) -> Memory
     requires { shown fault ≡ None }
 {
@@ -97,10 +97,10 @@ fn memory_of(fault: FollowFault) -> Memory
     }
 }
 
-/// Passes an answer, which no history has where it could be refused.
+/// Passes an answer. The monitor refuses none that a history has.
 fn pass_answer(
     alloc: Global,
-    follower: WindowFollower,
+    monitor: Monitor,
     history: &History,
     place: usize,
     process: u8,
@@ -108,24 +108,19 @@ fn pass_answer(
     budget: u32,
 ) -> Result<Passed, Memory>
     requires open_to_judge { IsLeftOpen budget history.now }
-    requires follows { IsFollowed history.now.start (take place history.now.events) follower }
+    requires follows { IsFollowing history.now.start (take place history.now.events) monitor }
     requires history { IsHistory history.now }
     requires event { slice_get history.now.events place ≡ Some (events.Answer process reply) }
     ensures { IfOk result (IsPassed budget history.now place) }
 {
     histories_have_few_events();
-    match follower.answer(alloc, process as u16, reply, budget)? {
-        AnsweredWindows::Going(next) => Ok(Passed::Going(next)),
-        AnsweredWindows::Lost(loss) => Ok(Passed::Ended(Location::Lost(loss))),
-        AnsweredWindows::Spent {
-            event,
-            number,
-            doubt,
-        } => Ok(Passed::Ended(Location::Undecided {
-            event,
-            number,
-            doubt,
+    match monitor.answer(alloc, process as u16, reply, budget)? {
+        Answered::Going(next) => Ok(Passed::Going(next)),
+        Answered::Lost(loss) => Ok(Passed::Ended(Location::Lost(loss))),
+        Answered::Spent(loss) => Ok(Passed::Ended(Location::Undecided {
+            event: loss.event,
+            number: loss.number,
         })),
-        AnsweredWindows::Refused(..) => unreachable!(),
+        Answered::Refused(..) => unreachable!(),
     }
 }

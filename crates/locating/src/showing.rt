@@ -7,21 +7,22 @@ ghost use Rattle.locating.specs.Locations.{IsLocated, IsLostAt};
 ghost use Rattle.map_object.specs.MapObject.{IsRising};
 ghost use Rattle.orders.specs.Orders.{IsLinearizable, IsLinearizableHistory};
 ghost use Rattle.prefixes.specs.Prefixes.{prefix_of};
-ghost use Rattle.locating.specs.Evidences.{IsEvidenceOf, IsFoundEvidence, IsLossEvidence, IsOwnEvidence, IsDoubtEvidence, Refutes};
+ghost use Rattle.locating.specs.Evidences.{AreCallsOf, AreCallsUpTo, IsEvidenceOf, IsFoundEvidence, IsLossEvidence, IsOwnEvidence, IsDoubtEvidence, Refutes};
 
 use crate::beginning::history_up_to;
 use crate::evidence::Evidence;
 use crate::location::Location;
 use events::{History, Memory};
 use explaining::{Explanation, explain_calls, explain_history};
-use follower::{Loss, OwnPart, own_part, own_parts_have_no_order};
+use losses::{Loss, OwnPart, own_part, own_parts_have_no_order};
 use map_object::SortedMap;
 use std::alloc::Global;
 
 /// Finds a few calls that show a location. First it makes short searches of the last calls up to
 /// where the history goes wrong, or may (`explain_history`). If these show no missing order, it
-/// looks among all calls up to there if the judge found the event (`explain_calls`). If a follower
-/// lost one key with one value, it looks among the calls left there.
+/// looks further. If the judge found the event, it looks among all calls up to there
+/// (`explain_calls`). If the monitor lost a part of the keys that has one past, it looks among the
+/// calls left there (`own_part`).
 pub fn evidence_of(
     alloc: Global,
     history: &History,
@@ -30,6 +31,7 @@ pub fn evidence_of(
 ) -> Result<Evidence, Memory>
     requires located { IsLocated budget history.now location.now }
     ensures shows { IfOk result (IsEvidenceOf budget history.now location.now) }
+    ensures calls { IfOk result (AreCallsOf history.now location.now) }
     ensures refutes { IfOk result (Refutes history.now) }
 {
     match location {
@@ -80,6 +82,7 @@ fn loss_evidence(
 ) -> Result<Evidence, Memory>
     requires lost { IsLostAt budget history.now loss.now }
     ensures shows { IfOk result (IsLossEvidence budget history.now loss.now) }
+    ensures calls { IfOk result (AreCallsUpTo history.now loss.now.event) }
     ensures refutes { IfOk result (Refutes history.now) }
 {
     let first = history_up_to(alloc, history, loss.event)?;
@@ -89,7 +92,7 @@ fn loss_evidence(
     }
 }
 
-/// Finds a few calls at one key that goes wrong on its own, if there is one.
+/// Finds a few calls of the part of the keys that goes wrong on its own, if it has one past.
 fn own_evidence(
     alloc: Global,
     history: &History,
@@ -98,13 +101,14 @@ fn own_evidence(
 ) -> Result<Evidence, Memory>
     requires lost { IsLostAt budget history.now loss.now }
     ensures shows { IfOk result (IsOwnEvidence budget loss.now) }
+    ensures calls { IfOk result (AreCallsUpTo history.now loss.now.event) }
     ensures refutes { IfOk result (Refutes history.now) }
 {
     own_parts_have_no_order();
     match own_part(alloc, loss)? {
         Some(part) => {
             let few = explain_part(alloc, &part, budget)?;
-            Ok(Evidence::OfKey(part, few))
+            Ok(Evidence::OfPart(part, few))
         }
         None => Ok(Evidence::Missing),
     }

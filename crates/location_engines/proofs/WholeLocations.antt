@@ -1,4 +1,4 @@
--- An answer of `locate` to the text that was read is one to the whole.
+-- An answer of `locate` to the text that was read is one to the whole text.
 use Rattle.std.proofs.Common.{ℕ, ◌+◌, List, take, subst}
 use Rattle.history_text.specs.Limits.{text_limit}
 use Rattle.outcomes.specs.declared.outcome.Answer.{Answer}

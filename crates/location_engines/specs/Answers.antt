@@ -1,4 +1,4 @@
--- What the program answers to the text of a history that it is to locate the fault of.
+-- What `locate` answers to the text of a history.
 use Rattle.std.specs.Prelude.{◌≡◌, ℕ, List}
 use Rattle.serde_json.specs.Written.{compact_text}
 use Rattle.events.specs.HistoryView.{HistoryView}
@@ -16,10 +16,9 @@ abbrev pub answer_of_location : Location → Answer
 answer_of_location locations.Yes = Yes
 answer_of_location (locations.No event number) = No
 answer_of_location (locations.Lost loss) = No
-answer_of_location (locations.Undecided event number doubt) = Undecided
+answer_of_location (locations.Undecided event number) = Undecided
 
--- `locate` answers the text at the budget so: with the report of a location that is so of the
--- history
+-- `locate` answers the text at the budget so: with the report of a location of its history
 pub record IsLocateAnswer (budget : ℕ) (text : List ℕ) (answer : Answer) (bytes : List ℕ) : Type 0 where
   pub history : HistoryView
   pub location : Location

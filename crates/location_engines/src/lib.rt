@@ -1,5 +1,5 @@
-//! The engine that locates: the event at which the history of a text goes wrong, over any source
-//! and sinks.
+//! The engine of `locate`: it finds the event at which the history of a text goes wrong, over any
+//! source and sinks.
 #![tactic(auto)]
 
 mod location;

@@ -22,8 +22,8 @@ use streams::{Sink, Source};
 
 /// Reads a history text to the end of the source, or until it is too long, and finds the event at
 /// which the history goes wrong. A verdict searches at most `budget` configurations of each
-/// segment. If one is undecided, a follower looks, and a search at one key reaches at most `budget`
-/// positions. It starts no thread. Returns the exit status.
+/// segment. If one is undecided, the monitor looks, and each of its searches reaches at most
+/// `budget` configurations. It starts no thread. Returns the exit status.
 pub fn run_locate<S: Source, O: Sink, F: Sink, H: Sink>(
     alloc: Global,
     source: &mut S,
@@ -51,7 +51,7 @@ pub fn run_locate<S: Source, O: Sink, F: Sink, H: Sink>(
     run_text(alloc, source, output, faults, hints, MAX_TEXT, answer)
 }
 
-/// The event at which the history that the text spells goes wrong, as its report.
+/// Finds the event at which the history of a text goes wrong, and reports it.
 pub fn locate_outcome(alloc: Global, text: &[u8], budget: u32) -> RunOutcome
     requires { (1 ≤ budget) × (budget ≤ budget_limit) }
     ensures { IsTextOutcome (IsLocateAnswer budget) IsHistoryRefusal (Some text.now) result }
@@ -62,7 +62,7 @@ pub fn locate_outcome(alloc: Global, text: &[u8], budget: u32) -> RunOutcome
     }
 }
 
-/// How a location comes out, or want of memory for it.
+/// Returns the outcome of a location, or that memory ran out.
 fn outcome_of(alloc: Global, located: Result<Location, Memory>) -> RunOutcome
     ensures { (budget : ℕ) (text : List ℕ) (history : HistoryView) → IsTextOf text history
         → IfOk located (IsLocated budget history)
@@ -77,7 +77,7 @@ fn outcome_of(alloc: Global, located: Result<Location, Memory>) -> RunOutcome
     }
 }
 
-/// The answer that a location is.
+/// Returns the answer of a location.
 fn answer_of(location: &Location) -> Answer
     ensures { result ≡ answer_of_location location.now }
 {

@@ -25,8 +25,8 @@ IsLocatedText budget text located = (answer : Answer) × IsLocateAnswer budget t
 abbrev pub IsExplainedText : ℕ → List ℕ → List ℕ → Type 0
 IsExplainedText budget text explained = (answer : Answer) × IsExplainAnswer budget text answer explained
 
--- `page` answers the text at the budget so: as `judge` does, with the page of the text and of what
--- `judge`, `locate` and `explain` print of it; in the place of an order stands nothing
+-- what `page` answers to the text at the budget: the answer of `judge`, with the page of the text and
+-- of what `judge`, `locate` and `explain` print of it, and no order
 pub record IsPageAnswer (budget : ℕ) (text : List ℕ) (answer : Answer) (bytes : List ℕ) : Type 0 where
   pub judged : List ℕ
   pub located : List ℕ

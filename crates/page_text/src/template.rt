@@ -3,7 +3,7 @@
 /// The part of the page before the history.
 pub const BEFORE_HISTORY: &str = "\
 <!doctype html>\n<html lang=\"en\">\n  <head>\n    <meta charset=\"utf-8\" />\n    <meta http-equiv=\"Content-Security-Policy\" content=\"default-sr\
-c 'none'; script-src 'sha256-moHMfuMs3mc24QGUeemvtS346ManVGQTGMxn5sP3FFk='; style-src 'sha256-jTJquuO8Y9yyyyTmwua9GNKKHP2KBzV0BBOH9S8Jh7U='; base-ur\
+c 'none'; script-src 'sha256-K0E3Eukb05f11pO9i6y0EfkxgFCF6cbOVllZgHFD9ho='; style-src 'sha256-jTJquuO8Y9yyyyTmwua9GNKKHP2KBzV0BBOH9S8Jh7U='; base-ur\
 i 'none'; form-action 'none'\" />\n    <meta name=\"viewport\" content=\"width=device-width, initial-scale=1\" />\n    <meta name=\"referrer\" conte\
 nt=\"no-referrer\" />\n    <title>Potzendai</title>\n    <style>\n:root {\n  color-scheme: light;\n  --bg: #f4f6f8;\n  --panel: #ffffff;\n  --ink: #\
 1d2a33;\n  --soft: #52616b;\n  --faint: #69767f;\n  --line: #dbe2e7;\n  --lane: #ffffff;\n  --lane-odd: #f8fafb;\n  --get: #d7e5f0;\n  --get-line: #\
@@ -198,489 +198,493 @@ keySet].sort(compare);\nconst writers = (key, value) => writerTable.get(`${key} 
 ${key} ${value}`) || [];\n\n// ---- The lines of the program ----\n\nconst judged = blockLines('judge')[0];\nconst located = blockLines('locate')[0]\
 ;\nconst verdict = judged.verdict.text;\nconst locatedVerdict = located.verdict.text;\n// The call whose response no order explains.\nconst wrong = \
 locatedVerdict === 'no' ? callOf(located.event) : null;\nconst segmentWords = judged.lo === judged.hi ? `key ${judged.lo}` : `keys ${judged.lo} to $\
-{judged.hi}`;\n\nconst few = [];\nconst origins = [];\nlet fewHistory = null;\nlet front = null;\nlet fewBegin = null;\nfor (const line of blockLine\
-s('explain').slice(1)) {\n  if (line.from !== undefined && line.put !== undefined) {\n    fewBegin = { key: line.key, value: line.from, writer: line\
-.put && callOf(line.put.event) };\n  } else if (line.reason) {\n    const misses = (line.misses || []).map(missed => callOf(missed.event));\n    few\
-.push({ call: callOf(line.event), reason: line.reason.text, answer: line.answer, misses });\n  } else if (line.puts) {\n    origins.push({ ...line, \
-puts: line.puts.map(put => callOf(put.event)) });\n  } else if (line.events) {\n    fewHistory = line;\n  } else if (line.front) {\n    const next \
-= line.next.map(x => ({ call: callOf(x.event), answer: x.answer, would: x.would }));\n    front = { calls: line.front.map(callOf), holds: line.holds\
-, next };\n  }\n}\n// A few calls without an order refute the history, also where `locate` is undecided.\nconst shownVerdict = verdict !== 'undecide\
-d' ? verdict : few.length ? 'no' : locatedVerdict;\nconst fewOf = new Map(few.map(it => [it.call, it]));\n// The few calls, those that they miss, an\
-d those that wrote what they read.\nconst explaining = new Set(few.flatMap(it => [it.call, ...it.misses]));\norigins.flatMap(it => it.puts).forEach(\
-call => explaining.add(call));\nif (fewBegin && fewBegin.writer) explaining.add(fewBegin.writer);\nif (wrong) explaining.add(wrong);\nconst isLeftOu\
-t = it => it.answer instanceof Word && it.answer.text === 'left out';\nconst isOpen = it => it.answer instanceof Word && it.answer.text === 'open';\
-\n\n// ---- The order, replayed ----\n\nconst orderLine = blockLines('order')[0];\n// All events up to this one have the order below; those of the f\
-ew calls, where nothing else is known.\nlet orderedTo = 0;\nlet order = [];\nlet orderIsOfFew = false;\nif (orderLine && orderLine.order) {\n  orde\
-r = orderLine.order.map(number => calls[+number]);\n  orderedTo = orderLine.event === undefined ? events.length : +orderLine.event;\n} else if (judg\
-ed.order) {\n  order = judged.order.map(number => calls[+number]);\n  orderedTo = events.length;\n} else if (front) {\n  order = front.calls;\n  ord\
-erIsOfFew = true;\n}\nconst isAnswered = call => !isPending(call) && call.to < orderedTo;\n\n// What each key holds from which step on: {step, value\
-, call}, by rising step.\nconst lives = new Map(keys.map(key => [key, []]));\n// Where the replay disagrees with the program.\nlet replayFault = '';\
-\n\nfunction wouldAnswer(call, holds) {\n  if (!isScan(call)) return holds(call.key) === undefined ? null : holds(call.key);\n  return keys.filter(k\
-ey => touches(call, key) && holds(key) !== undefined).map(key => [key, holds(key)]);\n}\n// Whether a response is one that the map gives that would \
-answer so.\nfunction fits(call, would) {\n  const answer = call.answer;\n  if (!(answer instanceof Word)) return say(answer) === say(would) && Array\
-.isArray(answer) === Array.isArray(would);\n  if (answer.text === 'found') return !isScan(call) && would !== null;\n  return answer.text === 'done' \
-|| answer.text === 'refused' || (call.kind === 'replace' && would !== call.a);\n}\n\n{\n  const now = new Map();\n  const set = (key, step, value, c\
-all) => {\n    if (!lives.has(key)) lives.set(key, []);\n    lives.get(key).push({ step, value, call });\n    if (value === null) now.delete(key);\
-\n    else now.set(key, value);\n  };\n  const begin = orderIsOfFew ? (fewHistory && fewHistory.start) || [] : start;\n  for (const [key, value] of \
-begin) set(key, 0, value, null);\n  let latest = -1;\n  order.forEach((call, place) => {\n    const step = place + 1;\n    call.place = place;\n    \
-latest = Math.max(latest, call.from);\n    if (!replayFault && isAnswered(call)) {\n      const would = wouldAnswer(call, key => now.get(key));\
-\n      if (!fits(call, would)) replayFault = `at place ${place} call ${call.number} is answered otherwise`;\n      if (latest >= call.to) replayFau\
-lt = `call ${call.number} has a place after its response`;\n    }\n    if (isAnswer(call, 'refused') && !isPending(call)) return;\n    if (call.kin\
-d === 'insert') set(call.key, step, call.a, call);\n    else if (call.kind === 'remove' && now.has(call.key)) set(call.key, step, null, call);\n    \
-else if (call.kind === 'replace' && now.get(call.key) === call.a) set(call.key, step, call.b, call);\n  });\n  const missing = orderIsOfFew ? undefi\
-ned : calls.find(call => isAnswered(call) && call.place < 0);\n  if (missing && order.length) replayFault = replayFault || `call ${missing.number} h\
-as no place`;\n  const ends = say([...now].sort((a, b) => compare(a[0], b[0])));\n  if (orderIsOfFew && ends !== say(front.holds)) replayFault = `th\
-e map of the few calls would hold ${ends}`;\n}\n\n// The last of a sorted list that is at most a bound, by what is measured of its items.\nfunction \
-lastUpTo(list, bound, measure) {\n  let low = 0;\n  let high = list.length;\n  while (low < high) {\n    const middle = (low + high) >> 1;\n    if (\
-measure(list[middle]) <= bound) low = middle + 1;\n    else high = middle;\n  }\n  return low - 1;\n}\nconst lifeAt = (key, step) => {\n  const lif\
-e = lives.get(key) || [];\n  return life[lastUpTo(life, step, it => it.step)];\n};\nconst holdsAt = (key, step) => {\n  const life = lifeAt(key, ste\
-p);\n  return life && life.value !== null ? life.value : undefined;\n};\n\n// ---- Moments: the events, and each place of the order after the lates\
-t invocation up to it ----\n\nconst momentOf = new Int32Array(events.length + 1);\nconst pointOf = new Int32Array(calls.length).fill(-1);\n// The nu\
-mber of the call of each moment.\nconst moments = [];\n{\n  const points = new Map();\n  let latest = -1;\n  for (const call of order) {\n    lates\
-t = Math.max(latest, call.from);\n    if (!points.has(latest)) points.set(latest, []);\n    points.get(latest).push(call);\n  }\n  for (let event = \
-0; event < events.length; event++) {\n    momentOf[event] = moments.length;\n    moments.push(callAt[event]);\n    for (const call of points.get(eve\
-nt) || []) {\n      pointOf[call.number] = moments.length;\n      moments.push(call.number);\n    }\n  }\n  momentOf[events.length] = moments.length\
-;\n}\n\n// ---- What is shown: filters close the gaps between events ----\n\nconst filter = { few: explaining.size > 0, kinds: new Set(KINDS), keys\
-: null, processes: null };\nlet shown = [];\nlet lanes = [];\nlet shownBy = new Map();\nconst isShown = new Uint8Array(calls.length);\n// The colum\
-n of each moment; a hidden one has that of the next that is shown.\nconst columnAt = new Int32Array(moments.length + 1);\nlet columns = 0;\nlet sele\
-cted = null;\nlet hovered = null;\nlet step = order.length;\nlet matches = [];\nlet matchSet = new Set();\n\n// Reads \"5, 7..9\": null for all, und\
-efined for a fault.\nfunction readRanges(text) {\n  if (!text.trim() || text.trim() === 'all') return null;\n  const ranges = [];\n  for (const par\
-t of text.split(/[\\s,]+/).filter(Boolean)) {\n    const found = /^(\\d+)(?:(?:\\.\\.|-)(\\d+))?$/.exec(part);\n    if (!found) return undefined;\
-\n    ranges.push([plainNumber(found[1]), plainNumber(found[2] || found[1])]);\n  }\n  return ranges;\n}\nconst meets = (ranges, low, high) =>\n  !r\
-anges || ranges.some(([a, b]) => compare(low, b) <= 0 && compare(a, high) <= 0);\nfunction passes(call) {\n  if (filter.few) return explaining.has(c\
-all) || call === selected;\n  const process = String(call.process);\n  return (\n    filter.kinds.has(call.kind) &&\n    meets(filter.processes, pro\
-cess, process) &&\n    meets(filter.keys, call.key, isScan(call) ? call.a : call.key)\n  );\n}\n\n// Applies the filter, and keeps this call in sigh\
-t.\nfunction refilter(kept) {\n  shown = calls.filter(passes);\n  isShown.fill(0);\n  shownBy = new Map();\n  for (const call of shown) {\n    isSho\
-wn[call.number] = 1;\n    if (!shownBy.has(call.process)) shownBy.set(call.process, []);\n    shownBy.get(call.process).push(call);\n  }\n  lanes = \
-processes.filter(process => shownBy.has(process));\n  columns = 0;\n  moments.forEach((number, moment) => {\n    columnAt[moment] = columns;\n    co\
-lumns += isShown[number];\n  });\n  columnAt[moments.length] = columns;\n  overviewIsStale = true;\n  sizeStage();\n  if (kept) {\n    clampView();\
-\n    center(kept);\n  } else {\n    fitView();\n  }\n  showFilter();\n  draw();\n}\n\n// ---- Geometry ----\n\nconst canvas = $('time');\nconst g \
-= canvas.getContext('2d');\nconst GUTTER = 46;\nconst AXIS = 24;\nconst STRIP = 20;\n// From this height on, words have room above and below a bar.\
-\nconst TALL = 62;\nconst FONT = \"11px ui-monospace, 'DejaVu Sans Mono', Menlo, Consolas, monospace\";\nconst view = { left: 0, scale: 1, top: 0 };\
-\nlet width = 0;\nlet height = 0;\nlet density = 1;\nlet letter = 7;\nlet printing = false;\nlet colour = {};\n\nfunction readColours() {\n  const s\
-tyle = getComputedStyle(document.documentElement);\n  const kinds = KINDS.flatMap(kind => [kind, kind + '-line']);\n  const others = 'bg panel ink s\
-oft faint line lane lane-odd bad bad-fill good mark mark-ink selected match after';\n  for (const name of [...kinds, ...others.split(' ')]) colour[n\
-ame] = style.getPropertyValue('--' + name).trim();\n  overviewIsStale = true;\n}\n\nconst most = () => (filter.few ? 132 : 104);\nconst plotWidth = \
-() => width - GUTTER;\nconst leastScale = () => Math.min(64, plotWidth() / Math.max(1, columns + 1));\nconst stripHeight = () => (strips.length ? 8 \
-+ strips.length * STRIP : 0);\nconst laneRoom = () => height - AXIS - stripHeight();\nconst laneHeight = () => Math.max(15, Math.min(most(), laneRoo\
-m() / Math.max(1, lanes.length)));\nconst lanesEnd = () => Math.min(height - stripHeight(), AXIS + lanes.length * laneHeight());\nconst laneY = lan\
-e => AXIS + lane * laneHeight() - view.top;\nconst laneOf = call => lanes.indexOf(call.process);\nconst columnX = column => GUTTER + (column + 0.5 \
-- view.left) * view.scale;\nconst momentX = moment => columnX(columnAt[moment]);\nconst eventX = event => momentX(momentOf[event]);\nconst stepColum\
-n = place => columnAt[pointOf[order[place].number]];\nconst lastColumn = call => (isPending(call) ? Infinity : columnAt[momentOf[call.to]]);\nconst \
-firstColumn = call => columnAt[momentOf[call.from]];\n\n// The box of a call's bar.\nfunction barOf(call) {\n  const lane = laneHeight();\n  const \
-x = eventX(call.from);\n  const end = isPending(call) ? Math.max(width, x + 30) : eventX(call.to);\n  const top = lane >= TALL ? Math.max(20, lane \
-/ 2 - 13) : lane > 30 ? Math.min(12, lane * 0.2) : 2;\n  const tall = lane >= TALL ? 24 : lane > 30 ? Math.min(26, lane / 2) : lane - 5;\n  return \
-{ x, y: laneY(laneOf(call)) + top, width: Math.max(1.5, end - x), height: tall };\n}\n\n// The keys whose values are drawn along the order: those fi\
-ltered, or those in question.\nlet strips = [];\nfunction keysOfStrips() {\n  if (!order.length || (orderIsOfFew && replayFault)) return [];\n  let \
-found = new Set();\n  if (filter.keys) {\n    found = new Set(keys.filter(key => meets(filter.keys, key, key)).slice(0, 6));\n  } else {\n    few.fi\
-lter(it => !isScan(it.call)).forEach(it => found.add(it.call.key));\n    origins.forEach(it => found.add(it.key));\n    const differing = front ? fr\
-ont.next.flatMap(it => differingKeys(it.answer, it.would)) : [];\n    if (differing.length && differing.length < 7) found = new Set(differing);\n  }\
-\n  const list = [...found].sort(compare).slice(0, 6);\n  if (!selected || isScan(selected) || list.includes(selected.key)) return list;\n  return [\
-...list.slice(0, 5), selected.key].sort(compare);\n}\n// The keys at which two lists of pairs differ.\nfunction differingKeys(one, other) {\n  if (!\
-Array.isArray(one) || !Array.isArray(other)) return [];\n  const [a, b] = [new Map(one), new Map(other)];\n  return [...new Set([...a.keys(), ...b.k\
-eys()])].filter(key => a.get(key) !== b.get(key)).sort(compare);\n}\n\nfunction clampView() {\n  view.scale = Math.min(160, Math.max(leastScale(), v\
-iew.scale));\n  view.left = Math.max(-0.5, Math.min(view.left, columns + 0.5 - plotWidth() / view.scale));\n  view.top = Math.max(0, Math.min(view.t\
-op, lanes.length * laneHeight() - laneRoom()));\n}\n// The stage is no taller than what it shows.\nfunction sizeStage() {\n  strips = keysOfStrips()\
-;\n  const wanted = AXIS + lanes.length * most() + stripHeight() + 2;\n  $('stage').style.flex = `0 1 ${Math.max(180, Math.ceil(wanted))}px`;\n}\nfu\
-nction resize() {\n  density = window.devicePixelRatio || 1;\n  const box = $('stage').getBoundingClientRect();\n  const least = Math.max(15, Math.m\
-in(most(), 560 / Math.max(1, lanes.length)));\n  width = printing ? 1040 : Math.max(80, box.width - 2);\n  height = printing ? Math.min(640, AXIS + \
-stripHeight() + lanes.length * least) : Math.max(60, box.height - 2);\n  canvas.width = Math.round(width * density);\n  canvas.height = Math.round(h\
-eight * density);\n  const small = overview.getBoundingClientRect();\n  overview.width = Math.max(1, Math.round(small.width * density));\n  overview\
-.height = Math.max(1, Math.round(small.height * density));\n  overviewIsStale = true;\n  g.font = FONT;\n  letter = g.measureText('0000000000').widt\
-h / 10;\n  clampView();\n  draw();\n}\n// All columns, or of the few calls as many as leave room for their words, up to the wrong response.\nfunctio\
-n fitView() {\n  let wanted = 0;\n  for (const list of filter.few ? shownBy.values() : []) {\n    list.forEach((call, i) => {\n      const next = i \
-+ 1 < list.length ? firstColumn(list[i + 1]) : columns;\n      const text = Math.max(callWords(call).length, Math.min(14, answerWords(call).length)\
-) + 1;\n      wanted = Math.max(wanted, (text * letter + 6) / Math.max(1, next - firstColumn(call)));\n    });\n  }\n  view.scale = Math.min(110, Ma\
-th.max(Math.min(64, wanted), plotWidth() / Math.max(1, columns + 1)));\n  view.left = wrong && filter.few ? lastColumn(wrong) + 1.5 - plotWidth() / \
-view.scale : -0.5;\n  view.top = 0;\n  clampView();\n}\n\n// ---- Painting ----\n\nlet isQueued = false;\nfunction draw() {\n  if (isQueued) return;\
-\n  isQueued = true;\n  requestAnimationFrame(() => {\n    isQueued = false;\n    paint();\n  });\n}\nfunction line(x1, y1, x2, y2, style, thick = 1\
-, dash = []) {\n  g.strokeStyle = style;\n  g.lineWidth = thick;\n  g.setLineDash(dash);\n  g.beginPath();\n  g.moveTo(x1, y1);\n  g.lineTo(x2, y2);\
-\n  g.stroke();\n  g.setLineDash([]);\n}\nfunction fill(x, y, w, h, style) {\n  g.fillStyle = style;\n  g.fillRect(x, y, w, h);\n}\nfunction write(t\
-ext, x, y, style, align = 'left') {\n  g.fillStyle = style;\n  g.textAlign = align;\n  g.fillText(text, x, y);\n}\nfunction clip(text, room) {\n  co\
-nst letters = Math.floor(room / letter);\n  if (text.length <= letters) return text;\n  return letters < 3 ? '' : text.slice(0, letters - 1) + '…';\
-\n}\n// Labels of arrows, each moved down until it covers none of the others, in boxes with round ends.\nlet labels = [];\nfunction paintLabels() {\
-\n  const placed = [];\n  for (const { text, x, style, ...it } of labels) {\n    const half = (text.length * letter + 10) / 2;\n    const covers = o\
-ther => Math.abs(other.x - x) < other.half + half + 2 && Math.abs(other.y - it.y) < 18;\n    while (placed.some(covers)) it.y += 18;\n    placed.pus\
-h({ x, y: it.y, half });\n    g.fillStyle = colour.panel;\n    g.strokeStyle = style;\n    g.lineWidth = 1;\n    g.beginPath();\n    g.roundRect(x \
-- half, it.y - 8, half * 2, 16, 8);\n    g.fill();\n    g.stroke();\n    write(text, x, it.y + 0.5, style, 'center');\n  }\n  labels = [];\n}\nfunct\
-ion within(x, y, w, h, paintPart) {\n  g.save();\n  g.beginPath();\n  g.rect(x, y, w, h);\n  g.clip();\n  paintPart();\n  g.restore();\n}\n\nfunctio\
-n paint() {\n  paintOverview();\n  g.setTransform(density, 0, 0, density, 0, 0);\n  g.font = FONT;\n  g.textBaseline = 'middle';\n  fill(0, 0, width\
-, height, colour.panel);\n  const end = lanesEnd();\n  const wrongX = wrong ? eventX(wrong.to) : 0;\n  within(0, AXIS, width, end - AXIS, () => {\
-\n    lanes.forEach((process, lane) => {\n      fill(0, laneY(lane), width, laneHeight(), lane % 2 ? colour['lane-odd'] : colour.lane);\n    });\
-\n    if (wrong) fill(wrongX, AXIS, Math.max(0, width - wrongX), end - AXIS, colour.after);\n  });\n  within(GUTTER, AXIS, plotWidth(), end - AXIS, \
-() => {\n    paintBars(end);\n    paintPoints();\n    paintArrows();\n    paintLabels();\n    if (wrong) line(wrongX, AXIS, wrongX, end, colour.bad\
-, 1.5, [5, 3]);\n  });\n  paintStrips(end);\n  paintAxis();\n  within(0, AXIS, GUTTER, end - AXIS, () => {\n    lanes.forEach((process, lane) => {\
-\n      const bar = barOf(shownBy.get(process)[0]);\n      fill(0, laneY(lane), GUTTER, laneHeight(), lane % 2 ? colour['lane-odd'] : colour.lane);\
-\n      write('p' + process, 8, bar.y + bar.height / 2, colour.soft);\n    });\n  });\n}\n\n// The first call of a lane's list that ends at a colum\
-n or later.\nconst firstFrom = (list, column) => lastUpTo(list, column, call => lastColumn(call) + 1e-9) + 1;\nfunction paintBars(end) {\n  const ri\
-ght = view.left + plotWidth() / view.scale + 1;\n  const marked = [];\n  lanes.forEach((process, lane) => {\n    if (laneY(lane) > end || laneY(lane\
-) + laneHeight() < AXIS) return;\n    const list = shownBy.get(process);\n    for (let i = firstFrom(list, view.left - 1); i < list.length; i++) {\
-\n      const call = list[i];\n      if (firstColumn(call) > right) break;\n      const next = i + 1 < list.length ? eventX(list[i + 1].from) : widt\
-h;\n      const isMarked = explaining.has(call) || call === selected || call === hovered || matchSet.has(call);\n      if (isMarked) marked.push([ca\
-ll, next]);\n      else paintBar(call, next, false);\n    }\n  });\n  for (const [call, next] of marked) paintBar(call, next, true);\n}\nfunction ba\
-rLine(call) {\n  if (call === selected) return colour.selected;\n  if (call === wrong) return colour.bad;\n  if (matchSet.has(call)) return colour.m\
-atch;\n  return fewOf.has(call) ? colour.ink : colour[call.kind + '-line'];\n}\nfunction paintBar(call, next, isMarked) {\n  const bar = barOf(call)\
-;\n  if (!isMarked && (view.scale < 1.2 || bar.width < 5)) {\n    g.globalAlpha = 0.75;\n    fill(bar.x, bar.y, bar.width, bar.height, colour[call.k\
-ind + '-line']);\n    g.globalAlpha = 1;\n    return;\n  }\n  // No path goes far outside of the canvas.\n  const x = Math.max(bar.x, GUTTER - 6);\
-\n  const wide = Math.min(bar.x + Math.max(3, bar.width), width + 6) - x;\n  const isDashed = isMarked && !fewOf.has(call) && explaining.has(call) &\
-& call !== wrong && call !== selected;\n  const outline = () => {\n    g.beginPath();\n    if (wide > 8) g.roundRect(x, bar.y, wide, bar.height, 3);\
-\n    else g.rect(x, bar.y, wide, bar.height);\n  };\n  g.fillStyle = call === wrong ? colour['bad-fill'] : colour[call.kind];\n  outline();\n  g.fi\
-ll();\n  if (call === wrong && wide > 6) paintStripes(x, bar.y, wide, bar.height);\n  outline();\n  g.strokeStyle = barLine(call);\n  g.lineWidth = \
-isDashed ? 1.5 : isMarked ? 2.4 : 1;\n  g.setLineDash(isDashed ? [4, 2.5] : []);\n  g.stroke();\n  g.setLineDash([]);\n  paintWords(call, bar, next)\
-;\n}\nfunction paintStripes(x, y, wide, tall) {\n  within(x, y, wide, tall, () => {\n    g.globalAlpha = 0.3;\n    for (let at = x - tall; at < x + \
-wide; at += 9) line(at, y + tall, at + tall, y, colour.bad, 3);\n    g.globalAlpha = 1;\n  });\n}\nfunction paintWords(call, bar, next) {\n  const f\
-rom = Math.max(bar.x, GUTTER);\n  const end = Math.min(bar.x + bar.width, width);\n  const room = end - from - 8;\n  const after = Math.min(next, wi\
-dth) - from - 6;\n  const middle = bar.y + bar.height / 2 + 0.5;\n  const style = call === wrong ? colour.bad : colour.ink;\n  const pale = call ==\
-= wrong ? colour.bad : colour.soft;\n  const number = String(call.number);\n  const numberRoom = letter * number.length;\n  if (laneHeight() >= TALL\
-) {\n    if (after > letter * 4) {\n      const it = fewOf.get(call);\n      const answerStyle = it && isLeftOut(it) ? colour.faint : pale;\n      w\
-rite(clip(callWords(call), after), from + 1, bar.y - 8, style);\n      if (!isPending(call)) write(clip(say(call.answer).slice(0, 200), after), fro\
-m + 1, bar.y + bar.height + 9, answerStyle);\n    }\n    const pointX = call.place < 0 ? -1e9 : momentX(pointOf[call.number]);\n    const isFree = M\
-ath.abs(pointX - from - 4 - numberRoom / 2) > numberRoom / 2 + 10;\n    if (room > numberRoom - 2 && isFree) write(number, from + 4, middle, pale);\
-\n    return;\n  }\n  if (bar.height < 9) return;\n  const outside = Math.min(next, width) - end;\n  if (room < letter * 14 && outside > Math.max(ro\
-om, letter * 6)) {\n    write(clip(words(call, 90), outside - 8), end + 4, middle, pale);\n  } else if (room > letter * 3) {\n    const all = words(\
-call, 90);\n    const hasNumber = room > numberRoom + letter * (1 + Math.min(all.length, 8));\n    const shift = hasNumber ? numberRoom + letter : 0\
-;\n    if (hasNumber) write(number, from + 4, middle, pale);\n    write(clip(all, room - shift), from + 4 + shift, middle, style);\n  }\n}\n\n// Th\
-e places of the order, joined.\nfunction paintPoints() {\n  if (!order.length || view.scale < 0.35) return;\n  const lane = laneHeight();\n  const h\
-asNumbers = order.length < 1000;\n  const radius = Math.min(hasNumbers ? 8.5 : 5.5, Math.max(1.2, Math.min(view.scale * 0.4, lane * 0.2)));\n  cons\
-t right = view.left + plotWidth() / view.scale + 3;\n  const dots = [];\n  for (let place = firstPlace(view.left - 3); place < order.length; place++\
-) {\n    const call = order[place];\n    if (!isShown[call.number]) continue;\n    const bar = barOf(call);\n    const y = bar.y + (lane >= TALL || \
-lane <= 30 ? bar.height / 2 : bar.height);\n    dots.push({ place, x: columnX(stepColumn(place)), y });\n    if (stepColumn(place) > right) break;\
-\n  }\n  g.globalAlpha = 0.3;\n  dots.slice(1).forEach((dot, i) => {\n    const dash = dot.place === dots[i].place + 1 ? [] : [2, 3];\n    if (view.\
-scale > 7) line(dots[i].x, dots[i].y, dot.x, dot.y, colour.mark, 1, dash);\n  });\n  for (const { place, x, y } of dots) paintPoint(place, x, y, rad\
-ius, hasNumbers);\n  const x = stepX();\n  if (x > GUTTER) line(x, AXIS, x, lanesEnd(), colour.mark);\n}\nfunction paintPoint(place, x, y, radius, h\
-asNumbers) {\n  g.globalAlpha = place < step ? 1 : 0.28;\n  g.fillStyle = colour.mark;\n  g.strokeStyle = colour.panel;\n  g.lineWidth = 1;\n  g.beg\
-inPath();\n  g.arc(x, y, radius, 0, 7);\n  g.fill();\n  if (radius > 3) g.stroke();\n  if (hasNumbers && radius > 7) {\n    g.font = FONT.replace('1\
-1', place > 99 ? '7.5' : '8.5');\n    write(String(place + 1), x, y + 0.5, colour['mark-ink'], 'center');\n    g.font = FONT;\n  }\n  g.globalAlpha \
-= 1;\n  if (place !== step - 1 || radius <= 2) return;\n  g.strokeStyle = colour.selected;\n  g.lineWidth = 2;\n  g.beginPath();\n  g.arc(x, y, radi\
-us + 2, 0, 7);\n  g.stroke();\n}\nconst stepX = () => (step ? columnX(stepColumn(step - 1)) + Math.min(11, view.scale * 0.45) : columnX(0) - 4);\nco\
-nst places = order.map((call, place) => place);\nconst firstPlace = column => Math.max(0, lastUpTo(places, column, stepColumn));\n\nfunction paintAr\
-rows() {\n  const done = new Set();\n  const go = (from, to, style, isDashed, text) => {\n    const name = `${from.number} ${to.number}`;\n    if (d\
-one.has(name) || from === to || !isShown[from.number] || !isShown[to.number]) return;\n    done.add(name);\n    paintArrow(from, to, style, isDashed\
-, text);\n  };\n  const sources = (call, count, known) => {\n    const pairs = reported(call);\n    for (const [key, value] of pairs) {\n      cons\
-t text = pairs.length < count ? 'reads ' + value : '';\n      for (const writer of writers(key, value)) if (known(writer)) go(writer, call, colour.g\
-ood, false, text);\n    }\n  };\n  for (const it of few) {\n    for (const missed of it.misses) go(missed, it.call, colour.bad, true, 'missed');\
-\n    if (filter.few && !isLeftOut(it) && !isOpen(it)) sources(it.call, 3, writer => explaining.has(writer));\n  }\n  if (!selected) return;\n  cons\
-t end = isPending(selected) ? events.length : selected.to;\n  sources(selected, 4, writer => writer.from <= end);\n  if (written(selected) === undef\
-ined) return;\n  for (const reader of readers(selected.key, written(selected)).slice(0, 60)) go(selected, reader, colour.good, false, '');\n}\nfunct\
-ion paintArrow(from, to, style, isDashed, text) {\n  const a = barOf(from);\n  const b = barOf(to);\n  const gap = laneHeight() >= TALL ? 14 : 0;\
-\n  const isSame = Math.abs(a.y - b.y) < 2;\n  // In one lane an arrow to who reads goes above the bars, and one to who misses below them.\n  const \
-comesFromAbove = isSame ? !isDashed : b.y > a.y;\n  const sign = comesFromAbove ? -1 : 1;\n  const aEnd = Math.min(a.x + a.width, Math.max(a.x + 20\
-, width));\n  const bEnd = Math.min(b.x + b.width, Math.max(b.x + 20, width));\n  const x1 = Math.min(aEnd, Math.max(a.x, b.x - 14));\n  const y1 = \
-comesFromAbove !== isSame ? a.y + a.height + gap : a.y - gap;\n  const x2 = Math.max(b.x + Math.min(14, (bEnd - b.x) / 2), Math.min(x1, bEnd));\n  c\
-onst y2 = comesFromAbove ? b.y - gap : b.y + b.height + gap;\n  const middle = isSame ? y1 + sign * 24 : (y1 + y2) / 2;\n  const bend = isSame ? 6 \
-: Math.max(10, Math.min(60, Math.abs(x2 - x1) / 3)) / 2;\n  g.strokeStyle = g.fillStyle = style;\n  g.lineWidth = 1.8;\n  g.setLineDash(isDashed ? [\
-6, 4] : []);\n  g.beginPath();\n  g.moveTo(x1, y1);\n  g.bezierCurveTo(x1 + bend, middle, x2 - bend, middle, x2, y2 + sign * 6);\n  g.stroke();\n  g\
-.setLineDash([]);\n  g.beginPath();\n  g.moveTo(x2, y2);\n  g.lineTo(x2 - 4.5, y2 + sign * 8);\n  g.lineTo(x2 + 4.5, y2 + sign * 8);\n  g.fill();\
-\n  if (x1 < GUTTER - 4 && x2 > GUTTER + 90 && x2 < width) {\n    // The other end is out of sight, so the arrow names it.\n    const name = clip(`\
-◂ ${isDashed ? 'missed' : 'reads'} ${callWords(from)}`, Math.min(300, x2 - GUTTER - 16));\n    labels.push({ text: name, x: x2 - 17 - (name.length \
-* letter) / 2, y: y2 + sign * 12, style });\n  } else if (text && text.length * letter < 250 && Math.abs(x2 - x1) + Math.abs(y2 - y1) > 30) {\n    l\
-abels.push({ text, x: (x1 + x2) / 2, y: Math.max(AXIS + 10, isSame ? y1 + sign * 18 : middle), style });\n  }\n}\n\n// What each key in question hol\
-ds along the order.\nlet stripHits = [];\nfunction paintStrips(top) {\n  stripHits = [];\n  if (!strips.length) return;\n  fill(0, top, width, strip\
-Height(), colour.bg);\n  line(0, top + 0.5, width, top + 0.5, colour.line);\n  const end = columnX(stepColumn(order.length - 1)) + view.scale / 2;\
-\n  strips.forEach((key, i) => {\n    const y = top + 6 + i * STRIP;\n    write(clip('k' + key, GUTTER - 8), 8, y + 9, colour.soft);\n    within(GUT\
-TER, y, plotWidth(), 18, () => paintStrip(key, y, end));\n  });\n  if (stepX() > GUTTER) line(stepX(), top, stepX(), top + stripHeight(), colour.mar\
-k);\n}\nfunction paintStrip(key, y, end) {\n  const life = lives.get(key) || [];\n  const now = lifeAt(key, step);\n  life.forEach((it, i) => {\
-\n    const x1 = it.step ? columnX(stepColumn(it.step - 1)) : GUTTER - 2;\n    const x2 = i + 1 < life.length ? columnX(stepColumn(life[i + 1].step \
-- 1)) : end;\n    if (it.value === null || x2 < GUTTER || x1 > width) return;\n    const x = Math.max(GUTTER - 2, x1);\n    const wide = Math.min(wi\
-dth + 2, x2) - x;\n    fill(x, y + 1, wide, 15, colour.insert);\n    g.strokeStyle = colour['insert-line'];\n    g.lineWidth = it === now ? 2 : 0.7;\
-\n    if (wide > 3) g.strokeRect(x, y + 1, wide, 15);\n    if (wide > letter * 2 + 6) write(clip(it.value, wide - 6), Math.max(x, GUTTER) + 4, y + 9\
-, colour.ink);\n    stripHits.push({ x1, x2, y, key, life: it });\n  });\n}\n\nfunction paintAxis() {\n  fill(0, 0, width, AXIS, colour.bg);\n  line\
-(0, AXIS - 0.5, width, AXIS - 0.5, colour.line);\n  write('event', 6, AXIS / 2, colour.soft);\n  const wrongX = wrong ? eventX(wrong.to) : -1e9;\n  \
-const hasFlag = wrongX > GUTTER - 40 && wrongX < width + 40;\n  const text = wrong ? `event ${wrong.to}: goes wrong` : '';\n  const wide = text.leng\
-th * letter + 12;\n  const flagX = Math.max(GUTTER, Math.min(width - wide, wrongX - wide / 2));\n  const room = letter * (String(events.length).leng\
-th + 2);\n  let free = GUTTER + 14;\n  for (let event = firstEvent(view.left - 1); event < events.length; event++) {\n    if (!isShown[callAt[event]\
-]) continue;\n    const x = eventX(event);\n    if (x > width - 10) break;\n    if (x < free || (hasFlag && x > flagX - room / 2 - 4 && x < flagX + \
-wide + room / 2)) continue;\n    write(String(event), x, AXIS / 2, colour.soft, 'center');\n    line(x, AXIS - 5, x, AXIS, colour.line);\n    free \
-= x + room;\n  }\n  if (!hasFlag) return;\n  g.fillStyle = colour.bad;\n  g.beginPath();\n  g.roundRect(flagX, 3, wide, 17, 4);\n  g.fill();\n  writ\
-e(text, flagX + 6, 12, colour.panel);\n}\nconst allEvents = events.map((event, place) => place);\nconst firstEvent = column => Math.max(0, lastUpTo(\
-allEvents, column, event => columnAt[momentOf[event]]));\n\n// ---- The overview of all that is shown, kept as an image ----\n\nconst overview = $('\
-overview');\nconst small = overview.getContext('2d');\nconst overviewImage = document.createElement('canvas');\nlet overviewIsStale = true;\nconst o\
-verviewX = moment => (columnAt[moment] / Math.max(1, columns)) * overview.width;\n\nfunction makeOverview() {\n  overviewImage.width = overview.widt\
-h;\n  overviewImage.height = overview.height;\n  const image = overviewImage.getContext('2d');\n  const margin = 6 * density;\n  const lane = (overv\
-iew.height - 2 * margin) / Math.max(1, lanes.length);\n  const box = (x, y, w, h, style) => {\n    image.fillStyle = style;\n    image.fillRect(x, y\
-, w, h);\n  };\n  box(0, 0, overview.width, overview.height, colour.panel);\n  image.globalAlpha = 0.75;\n  for (const call of shown) {\n    const \
-x = overviewX(momentOf[call.from]);\n    const end = isPending(call) ? overview.width : overviewX(momentOf[call.to]);\n    const y = margin + laneOf\
-(call) * lane;\n    box(x, y, Math.max(0.8, end - x), Math.max(1, lane - 1), colour[call.kind + '-line']);\n  }\n  image.globalAlpha = 1;\n  for (co\
-nst call of shown) {\n    const x = overviewX(momentOf[call.from]) - density * 0.75;\n    const tick = margin - density;\n    if (matchSet.has(call)\
-) box(x, 0, 1.5 * density, tick, colour.match);\n    else if (fewOf.has(call)) box(x, overview.height - margin, 1.5 * density, tick, colour.ink);\
-\n  }\n  if (wrong) box(overviewX(momentOf[wrong.to]) - density, 0, 2 * density, overview.height, colour.bad);\n}\nfunction paintOverview() {\n  if \
-(overviewIsStale) makeOverview();\n  overviewIsStale = false;\n  small.drawImage(overviewImage, 0, 0);\n  const a = Math.max(0, ((view.left + 0.5) \
-/ Math.max(1, columns)) * overview.width);\n  const shownPart = plotWidth() / view.scale / Math.max(1, columns);\n  const b = Math.min(overview.widt\
-h, a + Math.max(3 * density, shownPart * overview.width));\n  small.fillStyle = colour.after;\n  small.fillRect(0, 0, a, overview.height);\n  small.\
-fillRect(b, 0, overview.width, overview.height);\n  small.strokeStyle = colour.selected;\n  small.lineWidth = 1.5 * density;\n  small.strokeRect(Mat\
-h.max(density, a), density, b - Math.max(density, a) - density, overview.height - 2 * density);\n  if (!order.length) return;\n  const x = overviewX\
-(step ? pointOf[order[step - 1].number] : 0);\n  small.fillStyle = colour.mark;\n  small.fillRect(x - density / 2, 0, density, overview.height);\n}\
-\n\n// ---- Moving the view ----\n\nfunction moveView(left, scale, top = view.top) {\n  Object.assign(view, { left, scale, top });\n  clampView();\
-\n  draw();\n}\nfunction zoom(factor, x = width / 2) {\n  const column = view.left + (x - GUTTER) / view.scale;\n  const scale = Math.min(160, Math.\
-max(leastScale(), view.scale * factor));\n  moveView(column - (x - GUTTER) / scale, scale);\n}\n// Moves no further than to bring a call into sight.\
-\nfunction center(call) {\n  if (!isShown[call.number]) return;\n  const room = plotWidth() / view.scale;\n  const a = firstColumn(call);\n  const \
-b = isPending(call) ? a + 2 : lastColumn(call);\n  const y = laneOf(call) * laneHeight();\n  let { left, top } = view;\n  if (a < left + 1 || Math.m\
-in(b, a + room) > left + room - 1) {\n    const middle = b - a <= room ? (a + b) / 2 : call.place >= 0 ? stepColumn(call.place) : a + room / 2;\
-\n    left = middle - room / 2;\n  }\n  if (y < top || y + laneHeight() > top + laneRoom()) top = y - laneRoom() / 2;\n  moveView(left, view.scale, \
-top);\n}\n// Moves to a call, at a scale at which words have room.\nfunction focusOn(call) {\n  if (!isShown[call.number]) return;\n  const scale = \
-Math.max(leastScale(), 26);\n  const a = firstColumn(call);\n  const b = isPending(call) ? a + 2 : lastColumn(call);\n  const room = plotWidth() / s\
-cale;\n  moveView((Math.max(a, b - room * 0.8) + b - room) / 2, scale, laneOf(call) * laneHeight() - laneRoom() / 2);\n}\n\n// The call at a point o\
-f the canvas, and what a strip holds there.\nfunction callAtPoint(x, y) {\n  const lane = Math.floor((y - AXIS + view.top) / laneHeight());\n  if (\
-y < AXIS || y > lanesEnd() || x < GUTTER || lane < 0 || lane >= lanes.length) return null;\n  const list = shownBy.get(lanes[lane]);\n  const colum\
-n = view.left + (x - GUTTER) / view.scale - 0.5;\n  let least = 4 / view.scale;\n  let found = null;\n  for (let i = firstFrom(list, column - least \
-- 1); i < list.length && firstColumn(list[i]) <= column + least; i++) {\n    const far = Math.max(0, firstColumn(list[i]) - column, column - lastCol\
-umn(list[i]));\n    if (far > least) continue;\n    least = far;\n    found = list[i];\n  }\n  return found;\n}\nconst stripAtPoint = (x, y) => stri\
-pHits.find(it => x >= it.x1 && x < it.x2 && y >= it.y && y < it.y + 18);\n\n// ---- The panels: every text reaches the page as text ----\n\n// Make\
-s an element. Attributes that begin with \"on\" are listeners; what it contains may be nested lists.\nfunction el(tag, attributes, ...content) {\n  \
-const made = document.createElement(tag);\n  for (const [name, value] of Object.entries(attributes || {})) {\n    if (name.startsWith('on')) made.ad\
-dEventListener(name.slice(2), value);\n    else made.setAttribute(name, value);\n  }\n  made.append(...content.flat(9).filter(it => it !== null && i\
-t !== undefined && it !== ''));\n  return made;\n}\nconst mono = (text, style = '') => el('span', { class: `mono ${style}` }, text);\nconst soft = t\
-ext => el('span', { class: 'soft' }, text);\nconst bold = (text, style) => el('b', { class: `mono ${style}` }, text);\nconst button = (text, onclick\
-, more = {}) => el('button', { onclick, ...more }, text);\nconst isBad = text => el('b', { class: 'bad' }, text);\n\nfunction callButton(call, text \
-= callWords(call)) {\n  const title = `call ${call.number} of process ${call.process}, ${spanWords(call)}`;\n  return button(text, () => select(call\
-), { class: 'link mono', title });\n}\nconst named = call => [callButton(call), soft(` call ${call.number}, p${call.process}`)];\nfunction namedList\
-(list, count = 6) {\n  const parts = list.slice(0, count).map((call, i) => [i ? ', ' : '', named(call)]);\n  return [parts, list.length > count ? ` \
-and ${list.length - count} more` : ''];\n}\nfunction table(heads, rows) {\n  return el('table', {}, el('tr', {}, heads.map(head => el('th', {}, head\
-))), rows);\n}\n// Two lists of pairs, at the keys at which they differ.\nfunction differences(got, would, heads) {\n  const [a, b] = [new Map(got)\
-, new Map(would)];\n  const cell = text => el('td', { class: 'mono' }, text);\n  const row = key => el('tr', { class: 'differs' }, cell(key), cell(s\
-ay(a.get(key))), cell(say(b.get(key))));\n  return table(['key', ...heads], differingKeys(got, would).slice(0, 200).map(row));\n}\n\n// ---- Why ---\
--\n\nfunction renderWhy() {\n  const sections = [whyYes(), whyUndecided(), whyWrong(), whyFew(), whyFront(), whyOrigins(), whyOrder()];\n  $('tab-wh\
-y').replaceChildren(...sections.flat(9).filter(Boolean));\n}\nfunction whyYes() {\n  if (shownVerdict !== 'yes' || !order.length) return [];\n  cons\
-t pending = order.length < calls.length ? ' The others are pending and left out.' : '';\n  const thin = overlap < 0.1 ? ' Of calls that hardly overl\
-ap, a yes says little.' : '';\n  return [\n    el('h2', {}, 'It is linearizable'),\n    el('p', {}, `One order explains every response. It has ${ord\
-er.length} of the ${many(calls.length, 'call')}.${pending}`),\n    el('p', {}, 'Each circle is the place of a call in that order. Step through it be\
-low the timeline: Map shows what the map then holds.'),\n    el('p', { class: thin ? 'bad' : 'soft' }, `As a call began, ${overlap} others were open\
-, on average.${thin}`),\n  ];\n}\nfunction whyUndecided() {\n  if (verdict !== 'undecided') return [];\n  let other = `The other search, of locate, \
-says ${locatedVerdict}.`;\n  if (locatedVerdict === 'yes') other += order.length ? ' The history is linearizable.' : ' It reports no order.';\n  if \
-(locatedVerdict === 'undecided') other += ` It ended at event ${located.event}, the response of call ${located.call}.`;\n  return [\n    el('h2', {}\
-, 'judge is undecided'),\n    el('p', {}, `The search of the calls at ${segmentWords} met more states than its budget. `, other),\n  ];\n}\nfunctio\
-n whyWrong() {\n  if (!wrong) return [];\n  const next = front && front.next.length === 1 && front.next[0].call === wrong ? front.next[0] : null;\
-\n  return [\n    el('h2', {}, 'Where it goes wrong'),\n    el(\n      'p',\n      {},\n      `The first ${wrong.to} events have a linearization. Wi\
-th event ${wrong.to} they have none, whatever follows. `,\n      'It is the response of ',\n      named(wrong),\n      ': ',\n      mono(say(wrong.a\
-nswer).slice(0, 300)),\n      '.',\n    ),\n    next ? whyNext(next) : null,\n    el('p', { class: 'noprint' }, button('Show it among all calls', sh\
-owFault)),\n  ];\n}\n// What the map would answer, in one sentence.\nfunction whyNext({ answer, would }) {\n  const keysThat = differingKeys(answer\
-, would);\n  if (!keysThat.length) {\n    if (say(answer) === say(would)) return null;\n    const parts = [bold(say(would).slice(0, 200), 'good'), '\
-, not ', bold(say(answer).slice(0, 200), 'bad'), '.'];\n    return el('p', {}, 'After the calls below, the map would answer ', parts);\n  }\n  cons\
-t [got, wanted] = [new Map(answer), new Map(would)];\n  const parts = keysThat.slice(0, 3).map((key, i) => {\n    const comma = i ? ', ' : '';\n    \
-return [comma, bold(say(wanted.get(key)), 'good'), ' at key ', mono(key), ', not ', bold(say(got.get(key)), 'bad')];\n  });\n  const rest = keysThat\
-.length > 3 ? `, and differ at ${keysThat.length - 3} more keys` : '';\n  return el('p', {}, 'After the calls below, the map would report ', parts, \
-rest, '.');\n}\nfunction whyFew() {\n  if (!few.length) return [];\n  const title = few.length === 1 ? 'This call has no order on its own' : `These \
-${few.length} calls have no order on their own`;\n  const isLeast = few.length > 1 && few.every(it => it.reason === 'order');\n  const least = isLea\
-st ? 'Without any one of them, the others have an order. ' : '';\n  const grey = few.some(isLeftOut) ? 'Responses in grey are not needed to show it.\
-' : '';\n  return [\n    el('h2', {}, title),\n    fewBegin && el('p', {}, `They begin where key ${fewBegin.key} has `, mono(say(fewBegin.value)), f\
-ewBegin.writer ? [', written by ', named(fewBegin.writer)] : '', '.'),\n    el('ol', { class: 'few' }, few.map(fewItem)),\n    least + grey && el('p\
-', { class: 'soft' }, least + grey),\n  ];\n}\nconst REASONS = {\n  spent: 'Kept, since without it the search is beyond its budget.',\n  held: 'Kept\
-, since a replace without a response waits for a value that this may have written.',\n};\nfunction fewItem(it) {\n  const { call } = it;\n  const an\
-swer = isLeftOut(it) ? say(call.answer).slice(0, 60) : say(it.answer).slice(0, 400);\n  return el(\n    'li',\n    { class: call === wrong ? 'wrong\
-' : '', 'data-call': call.number },\n    callButton(call),\n    isOpen(it) ? '' : mono(': ' + answer, isLeftOut(it) ? 'faint' : ''),\n    soft(` cal\
-l ${call.number}, p${call.process}`),\n    isOpen(it) ? el('div', { class: 'soft' }, 'It has no response.') : '',\n    it.misses.map(missed => {\
-\n      const over = `, which was over at event ${missed.to}, before this began at ${call.from}.`;\n      return el('div', { class: 'bad' }, 'misse\
-s ', named(missed), over);\n    }),\n    REASONS[it.reason] ? el('div', { class: 'soft' }, REASONS[it.reason]) : '',\n  );\n}\nfunction whyFront() {\
-\n  if (!front) return [];\n  const steps = front.calls.map((call, i) => [i ? ', ' : '', `${i + 1}. `, callButton(call)]);\n  const holds = front.ho\
-lds.length ? mono(say(front.holds).slice(0, 600)) : 'nothing';\n  const next = front.next.length > 1 ? 'What could come next:' : 'Only this could co\
-me next:';\n  return [\n    el('h2', {}, 'How far an order of them gets'),\n    el('p', {}, steps.length ? steps : 'Not one of them can come first.'\
-),\n    el('p', {}, 'The map then holds ', holds, '. ', next),\n    front.next.map(nextItem),\n  ];\n}\nfunction nextItem({ call, answer, would }) {\
-\n  const isFitting = say(answer) === say(would) || (answer instanceof Word && answer.text === 'open');\n  if (isFitting) return el('p', {}, callBut\
-ton(call), ': it fits here. The search ended before it, with its budget spent.');\n  if (differingKeys(answer, would).length) {\n    return [el('p'\
-, {}, callButton(call), ', but it differs:'), differences(answer, would, ['it answered', 'the map would'])];\n  }\n  const parts = [': it answered '\
-, bold(say(answer), 'bad'), ', the map would answer ', bold(say(would), 'good'), '.'];\n  return el('p', {}, callButton(call), parts);\n}\nfunction \
-whyOrigins() {\n  if (!origins.length) return [];\n  const nobody = 'no call that was recorded. A starting pair was forgotten, a thread was not reco\
-rded, or the map makes up values';\n  const rows = origins.map(({ key, value, start, puts }) => {\n    const from = [puts.length ? namedList(puts) \
-: '', puts.length && start ? ', and ' : '', start ? 'the start' : ''];\n    return el('p', {}, mono(value), ' at key ', mono(key), ': ', puts.lengt\
-h || start ? from : isBad(nobody), '.');\n  });\n  return [el('h2', {}, 'Who wrote what they read'), rows];\n}\nfunction whyOrder() {\n  const secti\
-ons = [];\n  if (shownVerdict !== 'yes' && order.length) {\n    const whose = orderIsOfFew\n      ? 'The circles are the longest order of these few \
-calls that the search met.'\n      : `The circles are one linearization of the first ${orderedTo} events, with ${many(order.length, 'call')}. There \
-may be others.`;\n    sections.push(el('h2', {}, 'The circles'), el('p', {}, whose, ' Step through it below the timeline: Map shows what the map the\
-n holds.'));\n  }\n  if (judged.calls && judged.calls.length < calls.length) {\n    const count = many(judged.calls.length, 'call');\n    sections.p\
-ush(el('p', { class: 'soft' }, `judge names the ${count} at ${segmentWords}. No scan joins them to others, so they are judged apart.`));\n  }\n  if \
-(replayFault) {\n    sections.push(el('p', { class: 'bad' }, `This page replays the order otherwise than the program: ${replayFault}. Believe the pr\
-ogram, and report it.`));\n  }\n  return sections;\n}\n\n// ---- Map: what it holds at a step of the order ----\n\nfunction renderMap() {\n  if (!or\
-der.length || (orderIsOfFew && replayFault)) {\n    $('tab-map').replaceChildren(el('p', { class: 'soft' }, 'No order is known, so this page cannot \
-say what the map held.'));\n    return;\n  }\n  const call = step ? order[step - 1] : null;\n  const where = call\n    ? [`After ${step} of ${many(o\
-rder.length, 'call')}. The last of them is `, named(call), ': ', mono(answerWords(call).slice(0, 100)), '.']\n    : 'Before the first call.';\n  con\
-st whose = orderIsOfFew ? el('p', { class: 'soft' }, 'These are the few calls of Why, not all calls.') : '';\n  const rows = keys.filter(key => meet\
-s(filter.few ? null : filter.keys, key, key)).map(key => mapRow(key, call));\n  const held = rows.filter(row => row.isHeld).length;\n  const kept = \
-rows.filter(row => row.isHeld || row.isTouched || rows.length <= 40);\n  const shownRows = kept.filter((row, i) => i < 250 || row.isTouched).map(ro\
-w => row.element);\n  const more = kept.length > 250 ? el('p', { class: 'soft' }, 'The first 250 keys are shown. Filter keys to see others.') : '';\
-\n  $('tab-map').replaceChildren(\n    el('p', {}, where),\n    whose,\n    ...mapAtEnd(),\n    el('h2', {}, `The map: ${many(held, 'key')}`),\n    \
-table(['key', 'value', 'written by'], shownRows),\n    more,\n  );\n}\nfunction mapRow(key, call) {\n  const life = lifeAt(key, step);\n  const isHe\
-ld = Boolean(life && life.value !== null);\n  const isTouched = Boolean((life && step && life.step === step) || (call && !isScan(call) && call.key =\
-== key));\n  const writer = life && life.call ? [callButton(life.call, `call ${life.call.number}`), soft(` p${life.call.process}`)] : soft(life ? 's\
-tart' : '');\n  const cells = [mono(key), isHeld ? mono(life.value) : soft('none'), writer].map(it => el('td', {}, it));\n  return { isHeld, isTouch\
-ed, element: el('tr', isTouched ? { class: 'touched' } : {}, cells) };\n}\nfunction mapAtEnd() {\n  if (step !== order.length || !wrong) return [];\
-\n  const would = wouldAnswer(wrong, key => holdsAt(key, step));\n  const isList = differingKeys(wrong.answer, would).length > 0;\n  const parts = [\
-'It answered ', bold(say(wrong.answer), 'bad'), '. At this end of this order, the map would answer ', bold(say(would), ''), '.'];\n  return [\n    e\
-l('h2', {}, 'The call that goes wrong'),\n    el('p', {}, named(wrong)),\n    isList ? differences(wrong.answer, would, ['it answered', 'the map her\
-e']) : el('p', {}, parts),\n    orderIsOfFew ? '' : el('p', { class: 'soft' }, 'Other orders of the same events may end with another map. None of th\
-em answers so.'),\n  ];\n}\n\n// ---- The selected call ----\n\nfunction renderCard() {\n  const card = $('card');\n  card.hidden = !selected;\n  i\
-f (!selected) return;\n  const call = selected;\n  const role = call === wrong ? el('span', { class: 'bad' }, 'goes wrong here') : fewOf.has(call) \
-? 'explains the verdict' : '';\n  const rows = cardRows(call).filter(row => row[1] !== null);\n  card.replaceChildren(\n    el(\n      'div',\
-\n      { class: 'bar' },\n      el('h2', {}, `Call ${call.number}`),\n      role,\n      el('span', { class: 'gap' }),\n      button('← key', () =\
-> near(-1), { 'aria-label': 'The call before on this key', title: 'The call before on this key' }),\n      button('key →', () => near(1), { 'aria-la\
-bel': 'The next call on this key', title: 'The next call on this key' }),\n      button('×', () => select(null), { 'aria-label': 'Close' }),\n    ),\
-\n    el('dl', {}, rows.map(([name, ...content]) => [el('dt', {}, name), el('dd', {}, content)])),\n    pairsTable(call, 120),\n  );\n  card.scrollT\
-op = 0;\n}\nfunction cardRows(call) {\n  const it = fewOf.get(call);\n  const value = written(call);\n  const end = isPending(call) ? events.length \
-: call.to;\n  const others = calls.filter(c => c !== call && c.from <= end && (isPending(c) || c.to > call.from));\n  const pairs = Array.isArray(ca\
-ll.answer) && call.answer.length > 3;\n  const answer = isPending(call) ? 'pending: it has no response' : pairs ? many(call.answer.length, 'pair') \
-: mono(say(call.answer));\n  const jump = () => {\n    setStep(call.place + 1);\n    pick('map');\n  };\n  const read = reported(call);\n  return [\
-\n    ['call', mono(callWords(call))],\n    ['response', answer],\n    ['process', String(call.process)],\n    ['events', isPending(call) ? `${call.\
-from} on` : `${call.from} to ${call.to}`],\n    ['place', call.place < 0 ? null : [`${call.place + 1} of ${order.length} `, button('the map then', j\
-ump, { class: 'link' })]],\n    ['read by', value === undefined ? null : namesOrNobody(readers(call.key, value), call)],\n    ['written by', isScan(\
-call) || !read.length ? null : sourceOf(read[0][0], read[0][1], call)],\n    ...(it ? it.misses : []).map(missed => ['misses', named(missed)]),\
-\n    ...few.filter(other => other.misses.includes(call)).map(other => ['missed by', named(other.call)]),\n    ['overlaps', many(others.length, 'cal\
-l')],\n    ['note, invoked', call.note === undefined ? null : mono(noteWords(call.note).slice(0, 4000))],\n    ['note, answered', call.answerNote ==\
-= undefined ? null : mono(noteWords(call.answerNote).slice(0, 4000))],\n  ];\n}\nfunction namesOrNobody(list, call) {\n  const others = list.filter(\
-it => it !== call);\n  return others.length ? namedList(others, 8) : 'nobody';\n}\nfunction sourceOf(key, value, call) {\n  const list = writers(key\
-, value).filter(it => it !== call);\n  if (list.length) return namedList(list);\n  return startValues.get(key) === value ? 'the start' : isBad('no c\
-all that was recorded');\n}\nfunction pairsTable(call, count) {\n  if (!isScan(call) || !Array.isArray(call.answer) || !call.answer.length) return '\
-';\n  const rows = call.answer.slice(0, count).map(([key, value]) => {\n    const writer = writers(key, value)[0];\n    const source = writer ? call\
-Button(writer, `call ${writer.number}`) : startValues.get(key) === value ? 'start' : isBad('nobody');\n    return el('tr', {}, [mono(key), mono(valu\
-e), source].map(it => el('td', {}, it)));\n  });\n  const whole = el('div', {}, table(['key', 'value', 'written by'], rows));\n  if (call.answer.len\
-gth > count) {\n    whole.append(button(`all ${call.answer.length} pairs`, () => whole.replaceWith(pairsTable(call, 5000))));\n  }\n  return whole;\
-\n}\n\n// ---- Calls: a list of which only the part in sight is made ----\n\nconst ROW = 24;\nconst matchRoles = new Map();\nlet listed = [];\nlet f\
-oundWords = '';\nfunction renderList() {\n  listed = matches.length ? matches : shown;\n  $('list-height').style.height = listed.length * ROW + 'px'\
-;\n  const clear = button('clear', () => search(''), { class: 'link' });\n  const head = matches.length ? [foundWords + ' ', clear] : [soft(`${shown\
-.length} of ${many(calls.length, 'call')} pass the filter`)];\n  $('list-head').replaceChildren(...head);\n  renderRows();\n}\nfunction renderRows(\
-) {\n  if ($('tab-calls').hidden) return;\n  const box = $('list');\n  const from = Math.max(0, Math.floor(box.scrollTop / ROW) - 4);\n  const to = \
-Math.min(listed.length, from + Math.ceil(box.clientHeight / ROW) + 10);\n  $('rows').style.top = from * ROW + 'px';\n  $('rows').replaceChildren(...\
-listed.slice(from, to).map((call, i) => listRow(call, from + i)));\n  box.setAttribute('aria-activedescendant', selected ? 'row' + selected.number \
-: '');\n}\nfunction listRow(call, place) {\n  const role = matchRoles.has(call) ? matchRoles.get(call) + ' ' : '';\n  const attributes = {\n    clas\
-s: 'row',\n    role: 'option',\n    id: 'row' + call.number,\n    'aria-selected': call === selected,\n    'aria-setsize': listed.length,\n    'aria\
--posinset': place + 1,\n    onclick: () => select(call),\n  };\n  const span = isPending(call) ? `${call.from}–` : `${call.from}–${call.to}`;\n  con\
-st text = mono(role + words(call, 120), call === wrong ? 'bad' : '');\n  return el('div', attributes, mono(String(call.number)), mono('p' + call.pro\
-cess), text, mono(span));\n}\nfunction scrollTo(call) {\n  const at = listed.indexOf(call) * ROW;\n  const box = $('list');\n  if (at >= 0 && (at < \
-box.scrollTop || at > box.scrollTop + box.clientHeight - ROW)) box.scrollTop = at - box.clientHeight / 2;\n  renderRows();\n}\n\n// ---- Data: the l\
-ines of the program, as they are ----\n\nfunction renderData() {\n  if ($('tab-data').childElementCount) return;\n  const blocks = ['judge', 'locate\
-', 'explain', 'order'].map(id => {\n    const text = blockText(id).trim();\n    const title = id === 'order' ? 'locate --order' : id;\n    return te\
-xt ? [el('h2', {}, title), el('pre', { tabindex: 0 }, visible(text).slice(0, 60000))] : [];\n  });\n  const save = () => {\n    const address = URL.\
-createObjectURL(new Blob([blockText('history')], { type: 'application/json' }));\n    el('a', { href: address, download: 'history.json' }).click();\
-\n    setTimeout(() => URL.revokeObjectURL(address), 5000);\n  };\n  $('tab-data').append(\n    el('p', { class: 'soft' }, 'The lines of the program\
-, as they are. All that this page draws comes from them and from the history.'),\n    ...blocks.flat(),\n    el('h2', {}, 'History'),\n    el('p', {\
-}, `Version ${recorded.version}, ${many(events.length, 'event')}.`),\n    el('p', {}, button('Save history.json', save)),\n  );\n}\n\n// ---- Search\
-ing ----\n\nfunction search(text) {\n  const asked = text.trim();\n  $('search').value = text;\n  matchRoles.clear();\n  matches = find(asked);\n  m\
-atchSet = new Set(matches);\n  foundWords = /^\\d+$/.test(asked) ? valueWords(plainNumber(asked)) : many(matches.length, 'call');\n  overviewIsStal\
-e = true;\n  if (asked) pick('calls');\n  renderList();\n  if (asked && !matches.length) $('list-head').replaceChildren(el('span', { class: 'bad' }\
-, 'Nothing is found.'));\n  $('live').textContent = asked ? foundWords : '';\n  draw();\n}\nfunction find(asked) {\n  if (!asked) return [];\n  cons\
-t [, sign, digits] = /^([#@kp]?)(\\d+)$/.exec(asked) || [];\n  const number = digits && plainNumber(digits);\n  if (sign === '#') return calls.filte\
-r(call => String(call.number) === number);\n  if (sign === '@') return calls.filter(call => [call.from, call.to].map(String).includes(number));\n  i\
-f (sign === 'k') return calls.filter(call => touches(call, number));\n  if (sign === 'p') return calls.filter(call => String(call.process) === numbe\
-r);\n  if (number) return calls.filter(call => noteRole(call, number));\n  const low = asked.toLowerCase();\n  const texts = call => [words(call, 1e\
-9), call.note || '', call.answerNote || ''];\n  return calls.filter(call => texts(call).some(it => it.toLowerCase().includes(low)));\n}\n// What a c\
-all does with a value.\nfunction noteRole(call, value) {\n  const reads = () => reported(call).some(([, found]) => found === value);\n  const write\
-s = call.kind === 'insert' ? call.a === value : call.kind === 'replace' && call.b === value;\n  const role = writes ? 'writes' : reads() ? 'reads' \
-: call.kind === 'replace' && call.a === value ? 'expects' : '';\n  if (role) matchRoles.set(call, role);\n  return role;\n}\nfunction valueWords(val\
-ue) {\n  const roles = [...matchRoles.values()];\n  const count = role => roles.filter(it => it === role).length;\n  const expected = count('expects\
-') ? `, expected by ${count('expects')}` : '';\n  const first = start.some(([, found]) => found === value) ? ', there at the start' : '';\n  return \
-`Value ${value}: written by ${count('writes')}, read by ${count('reads')}${expected}${first}`;\n}\n\n// ---- Choosing calls and steps ----\n\nlet ta\
-b = 'why';\nconst TABS = ['why', 'map', 'calls', 'data'];\n\nfunction select(call, goes = true) {\n  const before = selected;\n  selected = call;\
-\n  const isOutside = it => it && !explaining.has(it);\n  if (call && !isShown[call.number] && !filter.few) showAll();\n  else if (filter.few && (is\
-Outside(before) || isOutside(call))) refilter(call);\n  sizeStage();\n  if (call && goes) center(call);\n  if (call) $('live').textContent = `Call $\
-{call.number}, process ${call.process}, ${words(call, 120)}, ${spanWords(call)}`;\n  renderCard();\n  if (call) scrollTo(call);\n  else renderRows()\
-;\n  for (const item of document.querySelectorAll('ol.few li')) {\n    item.classList.toggle('current', call !== null && Number(item.dataset.call) =\
-== call.number);\n  }\n  draw();\n  writeLink();\n}\nfunction setStep(wanted, goes = true) {\n  step = Math.max(0, Math.min(order.length, wanted));\
-\n  const call = step ? order[step - 1] : null;\n  const text = call ? `${words(call, 60)} (call ${call.number}, p${call.process})` : 'before the fi\
-rst call';\n  $('step').value = step;\n  $('step-words').textContent = order.length ? `${step} of ${order.length}: ${text}` : 'No order is known.';\
-\n  $('step').setAttribute('aria-valuetext', $('step-words').textContent);\n  if (tab === 'map') renderMap();\n  if (call && goes) {\n    const colu\
-mn = stepColumn(step - 1);\n    const room = plotWidth() / view.scale;\n    if (column < view.left + 1 || column > view.left + room - 2) moveView(co\
-lumn - room / 2, view.scale);\n  }\n  draw();\n  writeLink();\n}\n// To the next place of a call that is shown.\nfunction walk(by) {\n  let place = \
-step - 1 + by;\n  while (place >= 0 && place < order.length && !isShown[order[place].number]) place += by;\n  setStep(place < 0 ? 0 : place + 1);\n}\
-\n// To the call before, or the next one, on the selected call's key.\nfunction near(by) {\n  const same = call => (isScan(selected) ? isScan(call) \
-&& call.key === selected.key : touches(call, selected.key));\n  for (let i = selected.number + by; i >= 0 && i < calls.length; i += by) {\n    if (s\
-ame(calls[i])) return select(calls[i]);\n  }\n}\nfunction along(by) {\n  if (!selected) return select(wrong && isShown[wrong.number] ? wrong : shown\
-[0] || null);\n  const list = shownBy.get(selected.process) || [];\n  const next = list[list.indexOf(selected) + by];\n  if (next) select(next);\n}\
-\nfunction across(by) {\n  if (!selected) return along(0);\n  const list = shownBy.get(lanes[laneOf(selected) + by]);\n  if (!list) return;\n  cons\
-t far = call => Math.abs(call.from - selected.from);\n  select(list.reduce((best, call) => (far(call) < far(best) ? call : best)));\n}\nlet matchPla\
-ce = -1;\nfunction nextMatch(by) {\n  if (!matches.length) return;\n  matchPlace = matches.includes(selected) ? matches.indexOf(selected) : by > 0 \
-? -1 : 0;\n  select(matches[(matchPlace + by + matches.length) % matches.length]);\n  scrollTo(selected);\n}\nfunction pick(name) {\n  tab = name;\
-\n  for (const it of TABS) {\n    $('tab-' + it).hidden = it !== name;\n    $('to-' + it).setAttribute('aria-selected', it === name);\n    $('to-' \
-+ it).tabIndex = it === name ? 0 : -1;\n  }\n  if (name === 'map') renderMap();\n  if (name === 'data') renderData();\n  if (name === 'calls') rende\
-rList();\n  if (name === 'calls' && selected) scrollTo(selected);\n}\n\n// ---- Filters ----\n\nfunction showFilter() {\n  $('none').hidden = shown.\
-length > 0;\n  for (const it of $('kinds').children) it.setAttribute('aria-pressed', filter.few || filter.kinds.has(it.dataset.kind));\n  $('show-fe\
-w').setAttribute('aria-pressed', filter.few);\n  $('show-all').setAttribute('aria-pressed', !filter.few && shown.length === calls.length);\n  render\
-List();\n}\nfunction showAll() {\n  Object.assign(filter, { few: false, kinds: new Set(KINDS), keys: null, processes: null });\n  for (const name o\
-f ['keys', 'processes']) {\n    $(name).value = '';\n    $(name).classList.remove('fault');\n  }\n  refilter(selected);\n  writeLink();\n}\nfunctio\
-n showFew() {\n  if (!explaining.size) return;\n  filter.few = true;\n  refilter();\n  writeLink();\n}\nfunction showFault() {\n  const call = wron\
-g || (few[0] && few[0].call);\n  if (!call) return;\n  if (filter.few || !isShown[call.number]) showAll();\n  select(call, false);\n  focusOn(call);\
-\n  setStep(order.length, false);\n}\nfunction filterBy(name) {\n  const ranges = readRanges($(name).value);\n  $(name).classList.toggle('fault', ra\
-nges === undefined);\n  if (ranges === undefined) return;\n  filter.few = false;\n  filter[name] = ranges;\n  refilter();\n  if (selected && isShown\
-[selected.number]) center(selected);\n  if (tab === 'map') renderMap();\n  writeLink();\n}\nfunction toggleKind(kind) {\n  if (filter.few) filter.ki\
-nds = new Set(KINDS);\n  filter.few = false;\n  if (!filter.kinds.delete(kind)) filter.kinds.add(kind);\n  refilter();\n}\n\n// ---- Links: what is \
-chosen, in the fragment of the address ----\n\nlet linkTimer = 0;\nlet isStarted = false;\nfunction writeLink() {\n  if (!isStarted) return;\n  clea\
-rTimeout(linkTimer);\n  linkTimer = setTimeout(() => {\n    const parts = [];\n    if (selected) parts.push('call=' + selected.number);\n    if (ord\
-er.length && step !== order.length) parts.push('step=' + step);\n    if (filter.keys) parts.push('keys=' + encodeURIComponent($('keys').value));\
-\n    if (filter.processes) parts.push('processes=' + encodeURIComponent($('processes').value));\n    if (!filter.few && explaining.size) parts.push\
-('all');\n    try {\n      history.replaceState(null, '', '#' + parts.join('&'));\n    } catch {\n      // Some browsers let no file do that.\n    }\
-\n  }, 150);\n}\n// Numbers are read, and anything else is passed over.\nfunction readLink() {\n  const asked = Object.create(null);\n  for (const p\
-art of location.hash.slice(1).split('&')) {\n    const [name, value = ''] = part.split('=', 2);\n    try {\n      asked[name] = decodeURIComponent(v\
-alue);\n    } catch {\n      // It is no text.\n    }\n  }\n  const number = name => (/^\\d{1,6}$/.test(asked[name] || '') ? Number(asked[name]) : -\
-1);\n  if (asked.keys !== undefined || asked.processes !== undefined || asked.all !== undefined) {\n    filter.few = false;\n    for (const name of \
-['keys', 'processes']) {\n      filter[name] = readRanges(asked[name] || '') || null;\n      $(name).value = filter[name] ? asked[name] : '';\n    }\
-\n    refilter();\n  }\n  if (number('step') >= 0) setStep(number('step'), false);\n  const call = calls[number('call')] || calls[callAt[number('eve\
-nt')]];\n  if (!call) return;\n  select(call, false);\n  if (!filter.few) focusOn(call);\n}\n\n// ---- Hands and keys ----\n\nfunction showHelp(on) \
-{\n  $('help').hidden = !on;\n  if (on) $('close-help').focus();\n  else canvas.focus({ preventScroll: true });\n}\nfunction setTheme(theme) {\n  do\
-cument.documentElement.dataset.theme = theme;\n  $('theme').textContent = theme === 'dark' ? 'Light' : 'Dark';\n  readColours();\n  draw();\n}\ncons\
-t otherTheme = () => setTheme(document.documentElement.dataset.theme === 'dark' ? 'light' : 'dark');\nfunction tip(text, x, y) {\n  const box = $('t\
-ip');\n  box.hidden = !text;\n  box.textContent = text;\n  const size = box.getBoundingClientRect();\n  const fitsBelow = y + 18 + size.height <= in\
-nerHeight;\n  box.style.left = Math.max(4, Math.min(innerWidth - size.width - 8, x + 14)) + 'px';\n  box.style.top = (fitsBelow ? y + 18 : Math.max(\
-4, y - size.height - 10)) + 'px';\n}\nfunction tipOf(call) {\n  const it = fewOf.get(call);\n  const notes = [call.note, call.answerNote].filter(not\
-e => note !== undefined);\n  return [\n    `call ${call.number} of process ${call.process}, ${spanWords(call)}`,\n    words(call, 400),\n    call.pl\
-ace < 0 ? '' : `place ${call.place + 1} of ${order.length}`,\n    call === wrong ? 'goes wrong here' : '',\n    ...(it ? it.misses : []).map(missed \
-=> `misses ${callWords(missed)} (call ${missed.number}, p${missed.process})`),\n    ...notes.map(note => 'note ' + noteWords(note).slice(0, 200)),\
-\n  ].filter(Boolean).join('\\n');\n}\nfunction tipOfStrip({ key, life }) {\n  const writer = life.call ? `, written by ${callWords(life.call)} (cal\
-l ${life.call.number}, p${life.call.process})` : ' from the start';\n  return `key ${key} holds ${life.value}${writer}`;\n}\n\nfunction listenToCanv\
-as() {\n  let from = null;\n  let isMoved = false;\n  canvas.addEventListener('pointerdown', event => {\n    from = [event.offsetX, event.offsetY];\
-\n    isMoved = false;\n    canvas.setPointerCapture(event.pointerId);\n  });\n  canvas.addEventListener('pointermove', event => {\n    const [x, y\
-] = [event.offsetX, event.offsetY];\n    if (!from) return hover(x, y, event);\n    if (!isMoved && Math.abs(x - from[0]) + Math.abs(y - from[1]) <\
-= 4) return;\n    isMoved = true;\n    canvas.classList.add('drag');\n    tip('', 0, 0);\n    moveView(view.left - (x - from[0]) / view.scale, view.\
-scale, view.top - (y - from[1]));\n    from = [x, y];\n  });\n  const end = event => {\n    canvas.classList.remove('drag');\n    if (from && !isMov\
-ed && event.type === 'pointerup') {\n      const strip = stripAtPoint(event.offsetX, event.offsetY);\n      select(strip ? strip.life.call : callAtP\
-oint(event.offsetX, event.offsetY), false);\n      canvas.focus({ preventScroll: true });\n    }\n    from = null;\n  };\n  canvas.addEventListener(\
-'pointerup', end);\n  canvas.addEventListener('pointercancel', end);\n  canvas.addEventListener('pointerleave', () => {\n    hovered = null;\n    ti\
-p('', 0, 0);\n    draw();\n  });\n  canvas.addEventListener('wheel', turnWheel, { passive: false });\n}\nfunction hover(x, y, event) {\n  const cal\
-l = callAtPoint(x, y);\n  const strip = call ? null : stripAtPoint(x, y);\n  if (call !== hovered) draw();\n  hovered = call;\n  canvas.style.curso\
-r = call || strip ? 'pointer' : '';\n  tip(call ? tipOf(call) : strip ? tipOfStrip(strip) : '', event.clientX, event.clientY);\n}\n// The wheel zoom\
-s; with Shift it moves, and with Alt it scrolls the lanes. Of one column it scrolls the page, unless Ctrl is held.\nfunction turnWheel(event) {\n  i\
-f (NARROW.matches && !event.ctrlKey && !event.shiftKey && !event.altKey) return;\n  event.preventDefault();\n  const by = (event.deltaMode ? 16 : 1\
-) * (event.deltaX || event.deltaY);\n  const isAcross = event.shiftKey || Math.abs(event.deltaX) > Math.abs(event.deltaY);\n  if (isAcross) moveView\
-(view.left + by / view.scale, view.scale);\n  else if (event.altKey) moveView(view.left, view.scale, view.top + by);\n  else zoom(Math.exp(-by * 0.0\
-022), event.offsetX);\n}\nfunction listenToOverview() {\n  let isDragged = false;\n  const go = event => {\n    const box = overview.getBoundingClie\
-ntRect();\n    const column = ((event.clientX - box.left) / box.width) * columns;\n    moveView(column - plotWidth() / view.scale / 2, view.scale);\
-\n  };\n  overview.onpointerdown = event => {\n    isDragged = true;\n    overview.setPointerCapture(event.pointerId);\n    if (view.scale < leastSc\
-ale() * 1.5 && columns > 80) view.scale = Math.min(26, leastScale() * 8);\n    go(event);\n  };\n  overview.onpointermove = event => isDragged && go\
-(event);\n  overview.onpointerup = overview.onpointercancel = () => {\n    isDragged = false;\n  };\n}\n\nconst KEYS = {\n  ',': () => walk(-1),\n  \
-'.': () => walk(1),\n  '+': () => zoom(1.4),\n  '=': () => zoom(1.4),\n  '-': () => zoom(1 / 1.4),\n  0: () => {\n    fitView();\n    draw();\n  },\
-\n  f: showFault,\n  e: showFew,\n  a: showAll,\n  d: otherTheme,\n  n: () => nextMatch(1),\n  N: () => nextMatch(-1),\n  '/': () => $('search').sel\
-ect(),\n  '?': () => showHelp(true),\n  Escape: () => (matches.length ? search('') : select(null)),\n};\nconst ARROWS = { ArrowRight: () => along(1)\
-, ArrowLeft: () => along(-1), ArrowDown: () => across(1), ArrowUp: () => across(-1) };\nfunction pressKey(event) {\n  if (event.ctrlKey || event.met\
-aKey || event.altKey) return;\n  if (!$('help').hidden) {\n    if (event.key === 'Escape' || event.key === '?') showHelp(false);\n    return;\n  }\
-\n  if (event.target.tagName === 'INPUT' && event.target.type !== 'range') {\n    if (event.key === 'Escape') canvas.focus();\n    return;\n  }\n  c\
-onst isFree = event.target === canvas || event.target === document.body;\n  const act = KEYS[event.key] || KEYS[event.key.toLowerCase()] || (isFree \
-&& ARROWS[event.key]);\n  if (!act) return;\n  event.preventDefault();\n  act();\n}\nfunction pressInTabs(event) {\n  const by = { ArrowRight: 1, Ar\
-rowLeft: -1 }[event.key];\n  if (!by) return;\n  pick(TABS[(TABS.indexOf(tab) + by + TABS.length) % TABS.length]);\n  $('to-' + tab).focus();\n  eve\
-nt.preventDefault();\n}\nfunction pressInList(event) {\n  const by = { ArrowDown: 1, ArrowUp: -1, PageDown: 15, PageUp: -15 }[event.key];\n  if (!b\
-y || !listed.length) return;\n  const place = selected ? listed.indexOf(selected) + by : 0;\n  select(listed[Math.max(0, Math.min(listed.length - 1\
-, place))]);\n  scrollTo(selected);\n  event.preventDefault();\n  event.stopPropagation();\n}\nfunction pressInSearch(event) {\n  if (event.key === \
-'Escape') search('');\n  if (event.key !== 'Enter') return;\n  if ($('search').value.trim() !== searched) searchNow();\n  nextMatch(event.shiftKey \
-? -1 : 1);\n}\nlet searchTimer = 0;\nlet searched = '';\nfunction searchNow() {\n  clearTimeout(searchTimer);\n  searched = $('search').value.trim()\
-;\n  search($('search').value);\n}\n\nfunction listenToButtons() {\n  const actions = { 'show-few': showFew, 'show-all': showAll, 'show-fault': show\
-Fault, 'clear-filter': showAll, theme: otherTheme };\n  for (const [id, act] of Object.entries(actions)) $(id).onclick = act;\n  for (const name of \
-['keys', 'processes']) $(name).oninput = () => filterBy(name);\n  for (const name of TABS) $('to-' + name).onclick = () => pick(name);\n  $('to-why'\
-).parentNode.onkeydown = pressInTabs;\n  $('first').onclick = () => setStep(0);\n  $('back').onclick = () => walk(-1);\n  $('forward').onclick = () \
-=> walk(1);\n  $('last').onclick = () => setStep(order.length);\n  $('step').oninput = () => {\n    setStep(Number($('step').value));\n    if (tab !\
-== 'map') pick('map');\n  };\n  $('search').onkeydown = pressInSearch;\n  $('search').oninput = () => {\n    clearTimeout(searchTimer);\n    searchT\
-imer = setTimeout(searchNow, 120);\n  };\n  $('list').onscroll = renderRows;\n  $('list').onkeydown = pressInList;\n  $('show-help').onclick = () =\
-> showHelp(true);\n  $('close-help').onclick = () => showHelp(false);\n  $('help').onclick = event => event.target === $('help') && showHelp(false);\
-\n  document.addEventListener('keydown', pressKey);\n}\nfunction listenToWindow() {\n  const dark = matchMedia('(prefers-color-scheme: dark)');\n  s\
-etTheme(dark.matches ? 'dark' : 'light');\n  dark.addEventListener('change', () => setTheme(dark.matches ? 'dark' : 'light'));\n  addEventListener('\
-hashchange', readLink);\n  new ResizeObserver(() => {\n    resize();\n    if (filter.few) fitView();\n  }).observe($('stage'));\n  let before = null\
-;\n  const print = on => {\n    printing = on;\n    if (on) before = document.documentElement.dataset.theme;\n    setTheme(on ? 'light' : before);\
-\n    canvas.style.width = on ? '100%' : '';\n    resize();\n    paint();\n  };\n  addEventListener('beforeprint', () => print(true));\n  addEventLi\
-stener('afterprint', () => print(false));\n}\n\n// ---- The start ----\n\nconst NARROW = matchMedia('(max-width: 1000px)');\nfunction headline() {\
-\n  if (wrong) return `Goes wrong at event ${wrong.to}: ${words(wrong, 90)} (call ${wrong.number} of process ${wrong.process})`;\n  if (verdict === \
-'yes') return order.length ? `One order of ${many(order.length, 'call')} explains every response.` : 'No call has to have an order.';\n  if (verdic\
-t === 'no') return `The ${many(judged.calls.length, 'call')} at ${segmentWords} have no order.`;\n  if (few.length) return `${many(few.length, 'call\
-')} of it have no order on their own. At which event it goes wrong is not known.`;\n  return locatedVerdict === 'yes' ? 'So says locate; judge is un\
-decided.' : 'Its search met more states than the budget.';\n}\nfunction renderHeader() {\n  $('badge').textContent = { yes: 'Linearizable', no: 'No\
-t linearizable', undecided: 'Undecided' }[shownVerdict];\n  $('badge').className = shownVerdict;\n  $('headline').textContent = headline();\n  cons\
-t counts = [many(calls.length, 'call'), many(processes.length, 'process'), many(keys.length, 'key')];\n  $('facts').textContent = [...counts, 'overl\
-ap ' + overlap].join(' · ');\n  document.title = `${$('badge').textContent} · ${counts[0]} · Potzendai`;\n  for (const kind of KINDS.filter(it => ca\
-lls.some(call => call.kind === it))) {\n    const mark = el('i', { class: 'mark-' + kind });\n    $('kinds').append(button([mark, kind], () => toggl\
-eKind(kind), { class: 'kind', 'data-kind': kind }));\n  }\n  $('step').max = order.length;\n  for (const id of ['step', 'first', 'back', 'forward', \
-'last']) $(id).disabled = !order.length;\n  $('show-few').disabled = !explaining.size;\n  $('show-fault').disabled = !wrong && !few.length;\n}\n\nre\
-nderHeader();\nlistenToButtons();\nlistenToCanvas();\nlistenToOverview();\nlistenToWindow();\nresize();\nrefilter();\nrenderWhy();\nsetStep(order.le\
-ngth, false);\npick('why');\nreadLink();\nisStarted = true;\n</script>\n  </body>\n</html>\n";
+{judged.hi}`;\n\nconst few = [];\nconst origins = [];\n// The values from which the few calls begin, and who wrote them, by rising key.\nconst fewBe\
+gin = [];\nlet fewHistory = null;\nlet front = null;\nfor (const line of blockLines('explain').filter(it => !it.verdict)) {\n  if (line.from !== und\
+efined && line.put !== undefined) {\n    fewBegin.push({ key: line.key, value: line.from, writer: line.put && callOf(line.put.event) });\n  } else i\
+f (line.reason) {\n    const misses = (line.misses || []).map(missed => callOf(missed.event));\n    few.push({ call: callOf(line.event), reason: lin\
+e.reason.text, answer: line.answer, misses });\n  } else if (line.puts) {\n    origins.push({ ...line, puts: line.puts.map(put => callOf(put.event)\
+) });\n  } else if (line.events) {\n    fewHistory = line;\n  } else if (line.front) {\n    const next = line.next.map(x => ({ call: callOf(x.event)\
+, answer: x.answer, would: x.would }));\n    front = { calls: line.front.map(callOf), holds: line.holds, next };\n  }\n}\n// A few calls without an \
+order refute the history, also where `locate` is undecided.\nconst shownVerdict = verdict !== 'undecided' ? verdict : few.length ? 'no' : locatedVer\
+dict;\nconst fewOf = new Map(few.map(it => [it.call, it]));\n// The few calls, those that they miss, and those that wrote what they read.\nconst exp\
+laining = new Set(few.flatMap(it => [it.call, ...it.misses]));\norigins.flatMap(it => it.puts).forEach(call => explaining.add(call));\nfewBegin.filt\
+er(it => it.writer).forEach(it => explaining.add(it.writer));\nif (wrong) explaining.add(wrong);\nconst isLeftOut = it => it.answer instanceof Word \
+&& it.answer.text === 'left out';\nconst isOpen = it => it.answer instanceof Word && it.answer.text === 'open';\n\n// ---- The order, replayed ----\
+\n\nconst orderLine = blockLines('order')[0];\n// All events up to this one have the order below; those of the few calls, where nothing else is know\
+n.\nlet orderedTo = 0;\nlet order = [];\nlet orderIsOfFew = false;\nif (orderLine && orderLine.order) {\n  order = orderLine.order.map(number => cal\
+ls[+number]);\n  orderedTo = orderLine.event === undefined ? events.length : +orderLine.event;\n} else if (judged.order) {\n  order = judged.order.m\
+ap(number => calls[+number]);\n  orderedTo = events.length;\n} else if (front) {\n  order = front.calls;\n  orderIsOfFew = true;\n}\nconst isAnswere\
+d = call => !isPending(call) && call.to < orderedTo;\n\n// What each key holds from which step on: {step, value, call}, by rising step.\nconst live\
+s = new Map(keys.map(key => [key, []]));\n// Where the replay disagrees with the program.\nlet replayFault = '';\n\nfunction wouldAnswer(call, holds\
+) {\n  if (!isScan(call)) return holds(call.key) === undefined ? null : holds(call.key);\n  return keys.filter(key => touches(call, key) && holds(ke\
+y) !== undefined).map(key => [key, holds(key)]);\n}\n// Whether a response is one that the map gives that would answer so.\nfunction fits(call, woul\
+d) {\n  const answer = call.answer;\n  if (!(answer instanceof Word)) return say(answer) === say(would) && Array.isArray(answer) === Array.isArray(w\
+ould);\n  if (answer.text === 'found') return !isScan(call) && would !== null;\n  return answer.text === 'done' || answer.text === 'refused' || (cal\
+l.kind === 'replace' && would !== call.a);\n}\n\n{\n  const now = new Map();\n  const set = (key, step, value, call) => {\n    if (!lives.has(key)) \
+lives.set(key, []);\n    lives.get(key).push({ step, value, call });\n    if (value === null) now.delete(key);\n    else now.set(key, value);\n  };\
+\n  const begin = orderIsOfFew ? (fewHistory && fewHistory.start) || [] : start;\n  for (const [key, value] of begin) set(key, 0, value, null);\n  l\
+et latest = -1;\n  order.forEach((call, place) => {\n    const step = place + 1;\n    call.place = place;\n    latest = Math.max(latest, call.from);\
+\n    if (!replayFault && isAnswered(call)) {\n      const would = wouldAnswer(call, key => now.get(key));\n      if (!fits(call, would)) replayFaul\
+t = `at place ${place} call ${call.number} is answered otherwise`;\n      if (latest >= call.to) replayFault = `call ${call.number} has a place afte\
+r its response`;\n    }\n    if (isAnswer(call, 'refused') && !isPending(call)) return;\n    if (call.kind === 'insert') set(call.key, step, call.a\
+, call);\n    else if (call.kind === 'remove' && now.has(call.key)) set(call.key, step, null, call);\n    else if (call.kind === 'replace' && now.ge\
+t(call.key) === call.a) set(call.key, step, call.b, call);\n  });\n  const missing = orderIsOfFew ? undefined : calls.find(call => isAnswered(call) \
+&& call.place < 0);\n  if (missing && order.length) replayFault = replayFault || `call ${missing.number} has no place`;\n  const ends = say([...now]\
+.sort((a, b) => compare(a[0], b[0])));\n  if (orderIsOfFew && ends !== say(front.holds)) replayFault = `the map of the few calls would hold ${ends}`\
+;\n}\n\n// The last of a sorted list that is at most a bound, by what is measured of its items.\nfunction lastUpTo(list, bound, measure) {\n  let lo\
+w = 0;\n  let high = list.length;\n  while (low < high) {\n    const middle = (low + high) >> 1;\n    if (measure(list[middle]) <= bound) low = midd\
+le + 1;\n    else high = middle;\n  }\n  return low - 1;\n}\nconst lifeAt = (key, step) => {\n  const life = lives.get(key) || [];\n  return life[la\
+stUpTo(life, step, it => it.step)];\n};\nconst holdsAt = (key, step) => {\n  const life = lifeAt(key, step);\n  return life && life.value !== null \
+? life.value : undefined;\n};\n\n// ---- Moments: the events, and each place of the order after the latest invocation up to it ----\n\nconst momentO\
+f = new Int32Array(events.length + 1);\nconst pointOf = new Int32Array(calls.length).fill(-1);\n// The number of the call of each moment.\nconst mom\
+ents = [];\n{\n  const points = new Map();\n  let latest = -1;\n  for (const call of order) {\n    latest = Math.max(latest, call.from);\n    if (!p\
+oints.has(latest)) points.set(latest, []);\n    points.get(latest).push(call);\n  }\n  for (let event = 0; event < events.length; event++) {\n    mo\
+mentOf[event] = moments.length;\n    moments.push(callAt[event]);\n    for (const call of points.get(event) || []) {\n      pointOf[call.number] = m\
+oments.length;\n      moments.push(call.number);\n    }\n  }\n  momentOf[events.length] = moments.length;\n}\n\n// ---- What is shown: filters clos\
+e the gaps between events ----\n\nconst filter = { few: explaining.size > 0, kinds: new Set(KINDS), keys: null, processes: null };\nlet shown = [];\
+\nlet lanes = [];\nlet shownBy = new Map();\nconst isShown = new Uint8Array(calls.length);\n// The column of each moment; a hidden one has that of t\
+he next that is shown.\nconst columnAt = new Int32Array(moments.length + 1);\nlet columns = 0;\nlet selected = null;\nlet hovered = null;\nlet step \
+= order.length;\nlet matches = [];\nlet matchSet = new Set();\n\n// Reads \"5, 7..9\": null for all, undefined for a fault.\nfunction readRanges(tex\
+t) {\n  if (!text.trim() || text.trim() === 'all') return null;\n  const ranges = [];\n  for (const part of text.split(/[\\s,]+/).filter(Boolean)) {\
+\n    const found = /^(\\d+)(?:(?:\\.\\.|-)(\\d+))?$/.exec(part);\n    if (!found) return undefined;\n    ranges.push([plainNumber(found[1]), plainN\
+umber(found[2] || found[1])]);\n  }\n  return ranges;\n}\nconst meets = (ranges, low, high) =>\n  !ranges || ranges.some(([a, b]) => compare(low, b\
+) <= 0 && compare(a, high) <= 0);\nfunction passes(call) {\n  if (filter.few) return explaining.has(call) || call === selected;\n  const process = S\
+tring(call.process);\n  return (\n    filter.kinds.has(call.kind) &&\n    meets(filter.processes, process, process) &&\n    meets(filter.keys, call.\
+key, isScan(call) ? call.a : call.key)\n  );\n}\n\n// Applies the filter, and keeps this call in sight.\nfunction refilter(kept) {\n  shown = calls.\
+filter(passes);\n  isShown.fill(0);\n  shownBy = new Map();\n  for (const call of shown) {\n    isShown[call.number] = 1;\n    if (!shownBy.has(call\
+.process)) shownBy.set(call.process, []);\n    shownBy.get(call.process).push(call);\n  }\n  lanes = processes.filter(process => shownBy.has(process\
+));\n  columns = 0;\n  moments.forEach((number, moment) => {\n    columnAt[moment] = columns;\n    columns += isShown[number];\n  });\n  columnAt[mo\
+ments.length] = columns;\n  overviewIsStale = true;\n  sizeStage();\n  if (kept) {\n    clampView();\n    center(kept);\n  } else {\n    fitView();\
+\n  }\n  showFilter();\n  draw();\n}\n\n// ---- Geometry ----\n\nconst canvas = $('time');\nconst g = canvas.getContext('2d');\nconst GUTTER = 46;\n\
+const AXIS = 24;\nconst STRIP = 20;\n// From this height on, words have room above and below a bar.\nconst TALL = 62;\nconst FONT = \"11px ui-monosp\
+ace, 'DejaVu Sans Mono', Menlo, Consolas, monospace\";\nconst view = { left: 0, scale: 1, top: 0 };\nlet width = 0;\nlet height = 0;\nlet density = \
+1;\nlet letter = 7;\nlet printing = false;\nlet colour = {};\n\nfunction readColours() {\n  const style = getComputedStyle(document.documentElement)\
+;\n  const kinds = KINDS.flatMap(kind => [kind, kind + '-line']);\n  const others = 'bg panel ink soft faint line lane lane-odd bad bad-fill good ma\
+rk mark-ink selected match after';\n  for (const name of [...kinds, ...others.split(' ')]) colour[name] = style.getPropertyValue('--' + name).trim()\
+;\n  overviewIsStale = true;\n}\n\nconst most = () => (filter.few ? 132 : 104);\nconst plotWidth = () => width - GUTTER;\nconst leastScale = () => M\
+ath.min(64, plotWidth() / Math.max(1, columns + 1));\nconst stripHeight = () => (strips.length ? 8 + strips.length * STRIP : 0);\nconst laneRoom = (\
+) => height - AXIS - stripHeight();\nconst laneHeight = () => Math.max(15, Math.min(most(), laneRoom() / Math.max(1, lanes.length)));\nconst lanesEn\
+d = () => Math.min(height - stripHeight(), AXIS + lanes.length * laneHeight());\nconst laneY = lane => AXIS + lane * laneHeight() - view.top;\ncons\
+t laneOf = call => lanes.indexOf(call.process);\nconst columnX = column => GUTTER + (column + 0.5 - view.left) * view.scale;\nconst momentX = momen\
+t => columnX(columnAt[moment]);\nconst eventX = event => momentX(momentOf[event]);\nconst stepColumn = place => columnAt[pointOf[order[place].number\
+]];\nconst lastColumn = call => (isPending(call) ? Infinity : columnAt[momentOf[call.to]]);\nconst firstColumn = call => columnAt[momentOf[call.from\
+]];\n\n// The box of a call's bar.\nfunction barOf(call) {\n  const lane = laneHeight();\n  const x = eventX(call.from);\n  const end = isPending(ca\
+ll) ? Math.max(width, x + 30) : eventX(call.to);\n  const top = lane >= TALL ? Math.max(20, lane / 2 - 13) : lane > 30 ? Math.min(12, lane * 0.2) : \
+2;\n  const tall = lane >= TALL ? 24 : lane > 30 ? Math.min(26, lane / 2) : lane - 5;\n  return { x, y: laneY(laneOf(call)) + top, width: Math.max(1\
+.5, end - x), height: tall };\n}\n\n// The keys whose values are drawn along the order: those filtered, or those in question.\nlet strips = [];\nfun\
+ction keysOfStrips() {\n  if (!order.length || (orderIsOfFew && replayFault)) return [];\n  let found = new Set();\n  if (filter.keys) {\n    found \
+= new Set(keys.filter(key => meets(filter.keys, key, key)).slice(0, 6));\n  } else {\n    few.filter(it => !isScan(it.call)).forEach(it => found.add\
+(it.call.key));\n    origins.forEach(it => found.add(it.key));\n    const differing = front ? front.next.flatMap(it => differingKeys(it.answer, it.w\
+ould)) : [];\n    if (differing.length && differing.length < 7) found = new Set(differing);\n  }\n  const list = [...found].sort(compare).slice(0, 6\
+);\n  if (!selected || isScan(selected) || list.includes(selected.key)) return list;\n  return [...list.slice(0, 5), selected.key].sort(compare);\n}\
+\n// The keys at which two lists of pairs differ.\nfunction differingKeys(one, other) {\n  if (!Array.isArray(one) || !Array.isArray(other)) return \
+[];\n  const [a, b] = [new Map(one), new Map(other)];\n  return [...new Set([...a.keys(), ...b.keys()])].filter(key => a.get(key) !== b.get(key)).so\
+rt(compare);\n}\n\nfunction clampView() {\n  view.scale = Math.min(160, Math.max(leastScale(), view.scale));\n  view.left = Math.max(-0.5, Math.min(\
+view.left, columns + 0.5 - plotWidth() / view.scale));\n  view.top = Math.max(0, Math.min(view.top, lanes.length * laneHeight() - laneRoom()));\n}\n\
+// The stage is no taller than what it shows.\nfunction sizeStage() {\n  strips = keysOfStrips();\n  const wanted = AXIS + lanes.length * most() + s\
+tripHeight() + 2;\n  $('stage').style.flex = `0 1 ${Math.max(180, Math.ceil(wanted))}px`;\n}\nfunction resize() {\n  density = window.devicePixelRat\
+io || 1;\n  const box = $('stage').getBoundingClientRect();\n  const least = Math.max(15, Math.min(most(), 560 / Math.max(1, lanes.length)));\n  wid\
+th = printing ? 1040 : Math.max(80, box.width - 2);\n  height = printing ? Math.min(640, AXIS + stripHeight() + lanes.length * least) : Math.max(60\
+, box.height - 2);\n  canvas.width = Math.round(width * density);\n  canvas.height = Math.round(height * density);\n  const small = overview.getBoun\
+dingClientRect();\n  overview.width = Math.max(1, Math.round(small.width * density));\n  overview.height = Math.max(1, Math.round(small.height * den\
+sity));\n  overviewIsStale = true;\n  g.font = FONT;\n  letter = g.measureText('0000000000').width / 10;\n  clampView();\n  draw();\n}\n// All colum\
+ns, or of the few calls as many as leave room for their words, up to the wrong response.\nfunction fitView() {\n  let wanted = 0;\n  for (const lis\
+t of filter.few ? shownBy.values() : []) {\n    list.forEach((call, i) => {\n      const next = i + 1 < list.length ? firstColumn(list[i + 1]) : col\
+umns;\n      const text = Math.max(callWords(call).length, Math.min(14, answerWords(call).length)) + 1;\n      wanted = Math.max(wanted, (text * let\
+ter + 6) / Math.max(1, next - firstColumn(call)));\n    });\n  }\n  view.scale = Math.min(110, Math.max(Math.min(64, wanted), plotWidth() / Math.max\
+(1, columns + 1)));\n  view.left = wrong && filter.few ? lastColumn(wrong) + 1.5 - plotWidth() / view.scale : -0.5;\n  view.top = 0;\n  clampView();\
+\n}\n\n// ---- Painting ----\n\nlet isQueued = false;\nfunction draw() {\n  if (isQueued) return;\n  isQueued = true;\n  requestAnimationFrame(() =\
+> {\n    isQueued = false;\n    paint();\n  });\n}\nfunction line(x1, y1, x2, y2, style, thick = 1, dash = []) {\n  g.strokeStyle = style;\n  g.line\
+Width = thick;\n  g.setLineDash(dash);\n  g.beginPath();\n  g.moveTo(x1, y1);\n  g.lineTo(x2, y2);\n  g.stroke();\n  g.setLineDash([]);\n}\nfunctio\
+n fill(x, y, w, h, style) {\n  g.fillStyle = style;\n  g.fillRect(x, y, w, h);\n}\nfunction write(text, x, y, style, align = 'left') {\n  g.fillStyl\
+e = style;\n  g.textAlign = align;\n  g.fillText(text, x, y);\n}\nfunction clip(text, room) {\n  const letters = Math.floor(room / letter);\n  if (t\
+ext.length <= letters) return text;\n  return letters < 3 ? '' : text.slice(0, letters - 1) + '…';\n}\n// Labels of arrows, each moved down until i\
+t covers none of the others, in boxes with round ends.\nlet labels = [];\nfunction paintLabels() {\n  const placed = [];\n  for (const { text, x, st\
+yle, ...it } of labels) {\n    const half = (text.length * letter + 10) / 2;\n    const covers = other => Math.abs(other.x - x) < other.half + half \
++ 2 && Math.abs(other.y - it.y) < 18;\n    while (placed.some(covers)) it.y += 18;\n    placed.push({ x, y: it.y, half });\n    g.fillStyle = colour\
+.panel;\n    g.strokeStyle = style;\n    g.lineWidth = 1;\n    g.beginPath();\n    g.roundRect(x - half, it.y - 8, half * 2, 16, 8);\n    g.fill();\
+\n    g.stroke();\n    write(text, x, it.y + 0.5, style, 'center');\n  }\n  labels = [];\n}\nfunction within(x, y, w, h, paintPart) {\n  g.save();\
+\n  g.beginPath();\n  g.rect(x, y, w, h);\n  g.clip();\n  paintPart();\n  g.restore();\n}\n\nfunction paint() {\n  paintOverview();\n  g.setTransfor\
+m(density, 0, 0, density, 0, 0);\n  g.font = FONT;\n  g.textBaseline = 'middle';\n  fill(0, 0, width, height, colour.panel);\n  const end = lanesEnd\
+();\n  const wrongX = wrong ? eventX(wrong.to) : 0;\n  within(0, AXIS, width, end - AXIS, () => {\n    lanes.forEach((process, lane) => {\n      fil\
+l(0, laneY(lane), width, laneHeight(), lane % 2 ? colour['lane-odd'] : colour.lane);\n    });\n    if (wrong) fill(wrongX, AXIS, Math.max(0, width \
+- wrongX), end - AXIS, colour.after);\n  });\n  within(GUTTER, AXIS, plotWidth(), end - AXIS, () => {\n    paintBars(end);\n    paintPoints();\n    \
+paintArrows();\n    paintLabels();\n    if (wrong) line(wrongX, AXIS, wrongX, end, colour.bad, 1.5, [5, 3]);\n  });\n  paintStrips(end);\n  paintAxi\
+s();\n  within(0, AXIS, GUTTER, end - AXIS, () => {\n    lanes.forEach((process, lane) => {\n      const bar = barOf(shownBy.get(process)[0]);\
+\n      fill(0, laneY(lane), GUTTER, laneHeight(), lane % 2 ? colour['lane-odd'] : colour.lane);\n      write('p' + process, 8, bar.y + bar.height \
+/ 2, colour.soft);\n    });\n  });\n}\n\n// The first call of a lane's list that ends at a column or later.\nconst firstFrom = (list, column) => las\
+tUpTo(list, column, call => lastColumn(call) + 1e-9) + 1;\nfunction paintBars(end) {\n  const right = view.left + plotWidth() / view.scale + 1;\n  c\
+onst marked = [];\n  lanes.forEach((process, lane) => {\n    if (laneY(lane) > end || laneY(lane) + laneHeight() < AXIS) return;\n    const list = s\
+hownBy.get(process);\n    for (let i = firstFrom(list, view.left - 1); i < list.length; i++) {\n      const call = list[i];\n      if (firstColumn(c\
+all) > right) break;\n      const next = i + 1 < list.length ? eventX(list[i + 1].from) : width;\n      const isMarked = explaining.has(call) || cal\
+l === selected || call === hovered || matchSet.has(call);\n      if (isMarked) marked.push([call, next]);\n      else paintBar(call, next, false);\
+\n    }\n  });\n  for (const [call, next] of marked) paintBar(call, next, true);\n}\nfunction barLine(call) {\n  if (call === selected) return colou\
+r.selected;\n  if (call === wrong) return colour.bad;\n  if (matchSet.has(call)) return colour.match;\n  return fewOf.has(call) ? colour.ink : colou\
+r[call.kind + '-line'];\n}\nfunction paintBar(call, next, isMarked) {\n  const bar = barOf(call);\n  if (!isMarked && (view.scale < 1.2 || bar.widt\
+h < 5)) {\n    g.globalAlpha = 0.75;\n    fill(bar.x, bar.y, bar.width, bar.height, colour[call.kind + '-line']);\n    g.globalAlpha = 1;\n    retur\
+n;\n  }\n  // No path goes far outside of the canvas.\n  const x = Math.max(bar.x, GUTTER - 6);\n  const wide = Math.min(bar.x + Math.max(3, bar.wid\
+th), width + 6) - x;\n  const isDashed = isMarked && !fewOf.has(call) && explaining.has(call) && call !== wrong && call !== selected;\n  const outli\
+ne = () => {\n    g.beginPath();\n    if (wide > 8) g.roundRect(x, bar.y, wide, bar.height, 3);\n    else g.rect(x, bar.y, wide, bar.height);\n  };\
+\n  g.fillStyle = call === wrong ? colour['bad-fill'] : colour[call.kind];\n  outline();\n  g.fill();\n  if (call === wrong && wide > 6) paintStripe\
+s(x, bar.y, wide, bar.height);\n  outline();\n  g.strokeStyle = barLine(call);\n  g.lineWidth = isDashed ? 1.5 : isMarked ? 2.4 : 1;\n  g.setLineDas\
+h(isDashed ? [4, 2.5] : []);\n  g.stroke();\n  g.setLineDash([]);\n  paintWords(call, bar, next);\n}\nfunction paintStripes(x, y, wide, tall) {\n  w\
+ithin(x, y, wide, tall, () => {\n    g.globalAlpha = 0.3;\n    for (let at = x - tall; at < x + wide; at += 9) line(at, y + tall, at + tall, y, colo\
+ur.bad, 3);\n    g.globalAlpha = 1;\n  });\n}\nfunction paintWords(call, bar, next) {\n  const from = Math.max(bar.x, GUTTER);\n  const end = Math.m\
+in(bar.x + bar.width, width);\n  const room = end - from - 8;\n  const after = Math.min(next, width) - from - 6;\n  const middle = bar.y + bar.heigh\
+t / 2 + 0.5;\n  const style = call === wrong ? colour.bad : colour.ink;\n  const pale = call === wrong ? colour.bad : colour.soft;\n  const number \
+= String(call.number);\n  const numberRoom = letter * number.length;\n  if (laneHeight() >= TALL) {\n    if (after > letter * 4) {\n      const it \
+= fewOf.get(call);\n      const answerStyle = it && isLeftOut(it) ? colour.faint : pale;\n      write(clip(callWords(call), after), from + 1, bar.y \
+- 8, style);\n      if (!isPending(call)) write(clip(say(call.answer).slice(0, 200), after), from + 1, bar.y + bar.height + 9, answerStyle);\n    }\
+\n    const pointX = call.place < 0 ? -1e9 : momentX(pointOf[call.number]);\n    const isFree = Math.abs(pointX - from - 4 - numberRoom / 2) > numbe\
+rRoom / 2 + 10;\n    if (room > numberRoom - 2 && isFree) write(number, from + 4, middle, pale);\n    return;\n  }\n  if (bar.height < 9) return;\
+\n  const outside = Math.min(next, width) - end;\n  if (room < letter * 14 && outside > Math.max(room, letter * 6)) {\n    write(clip(words(call, 90\
+), outside - 8), end + 4, middle, pale);\n  } else if (room > letter * 3) {\n    const all = words(call, 90);\n    const hasNumber = room > numberRo\
+om + letter * (1 + Math.min(all.length, 8));\n    const shift = hasNumber ? numberRoom + letter : 0;\n    if (hasNumber) write(number, from + 4, mid\
+dle, pale);\n    write(clip(all, room - shift), from + 4 + shift, middle, style);\n  }\n}\n\n// The places of the order, joined.\nfunction paintPoin\
+ts() {\n  if (!order.length || view.scale < 0.35) return;\n  const lane = laneHeight();\n  const hasNumbers = order.length < 1000;\n  const radius \
+= Math.min(hasNumbers ? 8.5 : 5.5, Math.max(1.2, Math.min(view.scale * 0.4, lane * 0.2)));\n  const right = view.left + plotWidth() / view.scale + 3\
+;\n  const dots = [];\n  for (let place = firstPlace(view.left - 3); place < order.length; place++) {\n    const call = order[place];\n    if (!isSh\
+own[call.number]) continue;\n    const bar = barOf(call);\n    const y = bar.y + (lane >= TALL || lane <= 30 ? bar.height / 2 : bar.height);\n    do\
+ts.push({ place, x: columnX(stepColumn(place)), y });\n    if (stepColumn(place) > right) break;\n  }\n  g.globalAlpha = 0.3;\n  dots.slice(1).forEa\
+ch((dot, i) => {\n    const dash = dot.place === dots[i].place + 1 ? [] : [2, 3];\n    if (view.scale > 7) line(dots[i].x, dots[i].y, dot.x, dot.y, \
+colour.mark, 1, dash);\n  });\n  for (const { place, x, y } of dots) paintPoint(place, x, y, radius, hasNumbers);\n  const x = stepX();\n  if (x > G\
+UTTER) line(x, AXIS, x, lanesEnd(), colour.mark);\n}\nfunction paintPoint(place, x, y, radius, hasNumbers) {\n  g.globalAlpha = place < step ? 1 : 0\
+.28;\n  g.fillStyle = colour.mark;\n  g.strokeStyle = colour.panel;\n  g.lineWidth = 1;\n  g.beginPath();\n  g.arc(x, y, radius, 0, 7);\n  g.fill();\
+\n  if (radius > 3) g.stroke();\n  if (hasNumbers && radius > 7) {\n    g.font = FONT.replace('11', place > 99 ? '7.5' : '8.5');\n    write(String(p\
+lace + 1), x, y + 0.5, colour['mark-ink'], 'center');\n    g.font = FONT;\n  }\n  g.globalAlpha = 1;\n  if (place !== step - 1 || radius <= 2) retur\
+n;\n  g.strokeStyle = colour.selected;\n  g.lineWidth = 2;\n  g.beginPath();\n  g.arc(x, y, radius + 2, 0, 7);\n  g.stroke();\n}\nconst stepX = () =\
+> (step ? columnX(stepColumn(step - 1)) + Math.min(11, view.scale * 0.45) : columnX(0) - 4);\nconst places = order.map((call, place) => place);\ncon\
+st firstPlace = column => Math.max(0, lastUpTo(places, column, stepColumn));\n\nfunction paintArrows() {\n  const done = new Set();\n  const go = (f\
+rom, to, style, isDashed, text) => {\n    const name = `${from.number} ${to.number}`;\n    if (done.has(name) || from === to || !isShown[from.number\
+] || !isShown[to.number]) return;\n    done.add(name);\n    paintArrow(from, to, style, isDashed, text);\n  };\n  const sources = (call, count, know\
+n) => {\n    const pairs = reported(call);\n    for (const [key, value] of pairs) {\n      const text = pairs.length < count ? 'reads ' + value : ''\
+;\n      for (const writer of writers(key, value)) if (known(writer)) go(writer, call, colour.good, false, text);\n    }\n  };\n  for (const it of f\
+ew) {\n    for (const missed of it.misses) go(missed, it.call, colour.bad, true, 'missed');\n    if (filter.few && !isLeftOut(it) && !isOpen(it)) so\
+urces(it.call, 3, writer => explaining.has(writer));\n  }\n  if (!selected) return;\n  const end = isPending(selected) ? events.length : selected.to\
+;\n  sources(selected, 4, writer => writer.from <= end);\n  if (written(selected) === undefined) return;\n  for (const reader of readers(selected.ke\
+y, written(selected)).slice(0, 60)) go(selected, reader, colour.good, false, '');\n}\nfunction paintArrow(from, to, style, isDashed, text) {\n  cons\
+t a = barOf(from);\n  const b = barOf(to);\n  const gap = laneHeight() >= TALL ? 14 : 0;\n  const isSame = Math.abs(a.y - b.y) < 2;\n  // In one lan\
+e an arrow to who reads goes above the bars, and one to who misses below them.\n  const comesFromAbove = isSame ? !isDashed : b.y > a.y;\n  const si\
+gn = comesFromAbove ? -1 : 1;\n  const aEnd = Math.min(a.x + a.width, Math.max(a.x + 20, width));\n  const bEnd = Math.min(b.x + b.width, Math.max(b\
+.x + 20, width));\n  const x1 = Math.min(aEnd, Math.max(a.x, b.x - 14));\n  const y1 = comesFromAbove !== isSame ? a.y + a.height + gap : a.y - gap;\
+\n  const x2 = Math.max(b.x + Math.min(14, (bEnd - b.x) / 2), Math.min(x1, bEnd));\n  const y2 = comesFromAbove ? b.y - gap : b.y + b.height + gap;\
+\n  const middle = isSame ? y1 + sign * 24 : (y1 + y2) / 2;\n  const bend = isSame ? 6 : Math.max(10, Math.min(60, Math.abs(x2 - x1) / 3)) / 2;\n  g\
+.strokeStyle = g.fillStyle = style;\n  g.lineWidth = 1.8;\n  g.setLineDash(isDashed ? [6, 4] : []);\n  g.beginPath();\n  g.moveTo(x1, y1);\n  g.bezi\
+erCurveTo(x1 + bend, middle, x2 - bend, middle, x2, y2 + sign * 6);\n  g.stroke();\n  g.setLineDash([]);\n  g.beginPath();\n  g.moveTo(x2, y2);\n  g\
+.lineTo(x2 - 4.5, y2 + sign * 8);\n  g.lineTo(x2 + 4.5, y2 + sign * 8);\n  g.fill();\n  if (x1 < GUTTER - 4 && x2 > GUTTER + 90 && x2 < width) {\
+\n    // The other end is out of sight, so the arrow names it.\n    const name = clip(`◂ ${isDashed ? 'missed' : 'reads'} ${callWords(from)}`, Math.\
+min(300, x2 - GUTTER - 16));\n    labels.push({ text: name, x: x2 - 17 - (name.length * letter) / 2, y: y2 + sign * 12, style });\n  } else if (tex\
+t && text.length * letter < 250 && Math.abs(x2 - x1) + Math.abs(y2 - y1) > 30) {\n    labels.push({ text, x: (x1 + x2) / 2, y: Math.max(AXIS + 10, i\
+sSame ? y1 + sign * 18 : middle), style });\n  }\n}\n\n// What each key in question holds along the order.\nlet stripHits = [];\nfunction paintStrip\
+s(top) {\n  stripHits = [];\n  if (!strips.length) return;\n  fill(0, top, width, stripHeight(), colour.bg);\n  line(0, top + 0.5, width, top + 0.5\
+, colour.line);\n  const end = columnX(stepColumn(order.length - 1)) + view.scale / 2;\n  strips.forEach((key, i) => {\n    const y = top + 6 + i * \
+STRIP;\n    write(clip('k' + key, GUTTER - 8), 8, y + 9, colour.soft);\n    within(GUTTER, y, plotWidth(), 18, () => paintStrip(key, y, end));\n  })\
+;\n  if (stepX() > GUTTER) line(stepX(), top, stepX(), top + stripHeight(), colour.mark);\n}\nfunction paintStrip(key, y, end) {\n  const life = liv\
+es.get(key) || [];\n  const now = lifeAt(key, step);\n  life.forEach((it, i) => {\n    const x1 = it.step ? columnX(stepColumn(it.step - 1)) : GUTTE\
+R - 2;\n    const x2 = i + 1 < life.length ? columnX(stepColumn(life[i + 1].step - 1)) : end;\n    if (it.value === null || x2 < GUTTER || x1 > widt\
+h) return;\n    const x = Math.max(GUTTER - 2, x1);\n    const wide = Math.min(width + 2, x2) - x;\n    fill(x, y + 1, wide, 15, colour.insert);\
+\n    g.strokeStyle = colour['insert-line'];\n    g.lineWidth = it === now ? 2 : 0.7;\n    if (wide > 3) g.strokeRect(x, y + 1, wide, 15);\n    if (\
+wide > letter * 2 + 6) write(clip(it.value, wide - 6), Math.max(x, GUTTER) + 4, y + 9, colour.ink);\n    stripHits.push({ x1, x2, y, key, life: it }\
+);\n  });\n}\n\nfunction paintAxis() {\n  fill(0, 0, width, AXIS, colour.bg);\n  line(0, AXIS - 0.5, width, AXIS - 0.5, colour.line);\n  write('even\
+t', 6, AXIS / 2, colour.soft);\n  const wrongX = wrong ? eventX(wrong.to) : -1e9;\n  const hasFlag = wrongX > GUTTER - 40 && wrongX < width + 40;\
+\n  const text = wrong ? `event ${wrong.to}: goes wrong` : '';\n  const wide = text.length * letter + 12;\n  const flagX = Math.max(GUTTER, Math.min\
+(width - wide, wrongX - wide / 2));\n  const room = letter * (String(events.length).length + 2);\n  let free = GUTTER + 14;\n  for (let event = firs\
+tEvent(view.left - 1); event < events.length; event++) {\n    if (!isShown[callAt[event]]) continue;\n    const x = eventX(event);\n    if (x > widt\
+h - 10) break;\n    if (x < free || (hasFlag && x > flagX - room / 2 - 4 && x < flagX + wide + room / 2)) continue;\n    write(String(event), x, AXI\
+S / 2, colour.soft, 'center');\n    line(x, AXIS - 5, x, AXIS, colour.line);\n    free = x + room;\n  }\n  if (!hasFlag) return;\n  g.fillStyle = co\
+lour.bad;\n  g.beginPath();\n  g.roundRect(flagX, 3, wide, 17, 4);\n  g.fill();\n  write(text, flagX + 6, 12, colour.panel);\n}\nconst allEvents = e\
+vents.map((event, place) => place);\nconst firstEvent = column => Math.max(0, lastUpTo(allEvents, column, event => columnAt[momentOf[event]]));\n\n/\
+/ ---- The overview of all that is shown, kept as an image ----\n\nconst overview = $('overview');\nconst small = overview.getContext('2d');\nconst \
+overviewImage = document.createElement('canvas');\nlet overviewIsStale = true;\nconst overviewX = moment => (columnAt[moment] / Math.max(1, columns)\
+) * overview.width;\n\nfunction makeOverview() {\n  overviewImage.width = overview.width;\n  overviewImage.height = overview.height;\n  const image \
+= overviewImage.getContext('2d');\n  const margin = 6 * density;\n  const lane = (overview.height - 2 * margin) / Math.max(1, lanes.length);\n  cons\
+t box = (x, y, w, h, style) => {\n    image.fillStyle = style;\n    image.fillRect(x, y, w, h);\n  };\n  box(0, 0, overview.width, overview.height, \
+colour.panel);\n  image.globalAlpha = 0.75;\n  for (const call of shown) {\n    const x = overviewX(momentOf[call.from]);\n    const end = isPending\
+(call) ? overview.width : overviewX(momentOf[call.to]);\n    const y = margin + laneOf(call) * lane;\n    box(x, y, Math.max(0.8, end - x), Math.max\
+(1, lane - 1), colour[call.kind + '-line']);\n  }\n  image.globalAlpha = 1;\n  for (const call of shown) {\n    const x = overviewX(momentOf[call.fr\
+om]) - density * 0.75;\n    const tick = margin - density;\n    if (matchSet.has(call)) box(x, 0, 1.5 * density, tick, colour.match);\n    else if (\
+fewOf.has(call)) box(x, overview.height - margin, 1.5 * density, tick, colour.ink);\n  }\n  if (wrong) box(overviewX(momentOf[wrong.to]) - density, \
+0, 2 * density, overview.height, colour.bad);\n}\nfunction paintOverview() {\n  if (overviewIsStale) makeOverview();\n  overviewIsStale = false;\n  \
+small.drawImage(overviewImage, 0, 0);\n  const a = Math.max(0, ((view.left + 0.5) / Math.max(1, columns)) * overview.width);\n  const shownPart = pl\
+otWidth() / view.scale / Math.max(1, columns);\n  const b = Math.min(overview.width, a + Math.max(3 * density, shownPart * overview.width));\n  smal\
+l.fillStyle = colour.after;\n  small.fillRect(0, 0, a, overview.height);\n  small.fillRect(b, 0, overview.width, overview.height);\n  small.strokeSt\
+yle = colour.selected;\n  small.lineWidth = 1.5 * density;\n  small.strokeRect(Math.max(density, a), density, b - Math.max(density, a) - density, ov\
+erview.height - 2 * density);\n  if (!order.length) return;\n  const x = overviewX(step ? pointOf[order[step - 1].number] : 0);\n  small.fillStyle \
+= colour.mark;\n  small.fillRect(x - density / 2, 0, density, overview.height);\n}\n\n// ---- Moving the view ----\n\nfunction moveView(left, scale\
+, top = view.top) {\n  Object.assign(view, { left, scale, top });\n  clampView();\n  draw();\n}\nfunction zoom(factor, x = width / 2) {\n  const col\
+umn = view.left + (x - GUTTER) / view.scale;\n  const scale = Math.min(160, Math.max(leastScale(), view.scale * factor));\n  moveView(column - (x - \
+GUTTER) / scale, scale);\n}\n// Moves no further than to bring a call into sight.\nfunction center(call) {\n  if (!isShown[call.number]) return;\n  \
+const room = plotWidth() / view.scale;\n  const a = firstColumn(call);\n  const b = isPending(call) ? a + 2 : lastColumn(call);\n  const y = laneOf(\
+call) * laneHeight();\n  let { left, top } = view;\n  if (a < left + 1 || Math.min(b, a + room) > left + room - 1) {\n    const middle = b - a <= ro\
+om ? (a + b) / 2 : call.place >= 0 ? stepColumn(call.place) : a + room / 2;\n    left = middle - room / 2;\n  }\n  if (y < top || y + laneHeight() \
+> top + laneRoom()) top = y - laneRoom() / 2;\n  moveView(left, view.scale, top);\n}\n// Moves to a call, at a scale at which words have room.\nfunc\
+tion focusOn(call) {\n  if (!isShown[call.number]) return;\n  const scale = Math.max(leastScale(), 26);\n  const a = firstColumn(call);\n  const b \
+= isPending(call) ? a + 2 : lastColumn(call);\n  const room = plotWidth() / scale;\n  moveView((Math.max(a, b - room * 0.8) + b - room) / 2, scale, \
+laneOf(call) * laneHeight() - laneRoom() / 2);\n}\n\n// The call at a point of the canvas, and what a strip holds there.\nfunction callAtPoint(x, y\
+) {\n  const lane = Math.floor((y - AXIS + view.top) / laneHeight());\n  if (y < AXIS || y > lanesEnd() || x < GUTTER || lane < 0 || lane >= lanes.l\
+ength) return null;\n  const list = shownBy.get(lanes[lane]);\n  const column = view.left + (x - GUTTER) / view.scale - 0.5;\n  let least = 4 / view\
+.scale;\n  let found = null;\n  for (let i = firstFrom(list, column - least - 1); i < list.length && firstColumn(list[i]) <= column + least; i++) {\
+\n    const far = Math.max(0, firstColumn(list[i]) - column, column - lastColumn(list[i]));\n    if (far > least) continue;\n    least = far;\n    f\
+ound = list[i];\n  }\n  return found;\n}\nconst stripAtPoint = (x, y) => stripHits.find(it => x >= it.x1 && x < it.x2 && y >= it.y && y < it.y + 18)\
+;\n\n// ---- The panels: every text reaches the page as text ----\n\n// Makes an element. Attributes that begin with \"on\" are listeners; what it c\
+ontains may be nested lists.\nfunction el(tag, attributes, ...content) {\n  const made = document.createElement(tag);\n  for (const [name, value] o\
+f Object.entries(attributes || {})) {\n    if (name.startsWith('on')) made.addEventListener(name.slice(2), value);\n    else made.setAttribute(name\
+, value);\n  }\n  made.append(...content.flat(9).filter(it => it !== null && it !== undefined && it !== ''));\n  return made;\n}\nconst mono = (text\
+, style = '') => el('span', { class: `mono ${style}` }, text);\nconst soft = text => el('span', { class: 'soft' }, text);\nconst bold = (text, style\
+) => el('b', { class: `mono ${style}` }, text);\nconst button = (text, onclick, more = {}) => el('button', { onclick, ...more }, text);\nconst isBa\
+d = text => el('b', { class: 'bad' }, text);\n\nfunction callButton(call, text = callWords(call)) {\n  const title = `call ${call.number} of proces\
+s ${call.process}, ${spanWords(call)}`;\n  return button(text, () => select(call), { class: 'link mono', title });\n}\nconst named = call => [callBu\
+tton(call), soft(` call ${call.number}, p${call.process}`)];\nfunction namedList(list, count = 6) {\n  const parts = list.slice(0, count).map((call\
+, i) => [i ? ', ' : '', named(call)]);\n  return [parts, list.length > count ? ` and ${list.length - count} more` : ''];\n}\nfunction table(heads, r\
+ows) {\n  return el('table', {}, el('tr', {}, heads.map(head => el('th', {}, head))), rows);\n}\n// Two lists of pairs, at the keys at which they di\
+ffer.\nfunction differences(got, would, heads) {\n  const [a, b] = [new Map(got), new Map(would)];\n  const cell = text => el('td', { class: 'mono' \
+}, text);\n  const row = key => el('tr', { class: 'differs' }, cell(key), cell(say(a.get(key))), cell(say(b.get(key))));\n  return table(['key', ...\
+heads], differingKeys(got, would).slice(0, 200).map(row));\n}\n\n// ---- Why ----\n\nfunction renderWhy() {\n  const sections = [whyYes(), whyUndeci\
+ded(), whyWrong(), whyFew(), whyFront(), whyOrigins(), whyOrder()];\n  $('tab-why').replaceChildren(...sections.flat(9).filter(Boolean));\n}\nfuncti\
+on whyYes() {\n  if (shownVerdict !== 'yes' || !order.length) return [];\n  const pending = order.length < calls.length ? ' The others are pending a\
+nd left out.' : '';\n  const thin = overlap < 0.1 ? ' Of calls that hardly overlap, a yes says little.' : '';\n  return [\n    el('h2', {}, 'It is l\
+inearizable'),\n    el('p', {}, `One order explains every response. It has ${order.length} of the ${many(calls.length, 'call')}.${pending}`),\n    e\
+l('p', {}, 'Each circle is the place of a call in that order. Step through it below the timeline: Map shows what the map then holds.'),\n    el('p'\
+, { class: thin ? 'bad' : 'soft' }, `As a call began, ${overlap} others were open, on average.${thin}`),\n  ];\n}\nfunction whyUndecided() {\n  if (\
+verdict !== 'undecided') return [];\n  let other = `The other search, of locate, says ${locatedVerdict}.`;\n  if (locatedVerdict === 'yes') other +\
+= order.length ? ' The history is linearizable.' : ' It reports no order.';\n  if (locatedVerdict === 'undecided') other += ` It ended at event ${lo\
+cated.event}, the response of call ${located.call}.`;\n  return [\n    el('h2', {}, 'judge is undecided'),\n    el('p', {}, `The search of the call\
+s at ${segmentWords} met more states than its budget. `, other),\n  ];\n}\nfunction whyWrong() {\n  if (!wrong) return [];\n  const next = front && \
+front.next.length === 1 && front.next[0].call === wrong ? front.next[0] : null;\n  return [\n    el('h2', {}, 'Where it goes wrong'),\n    el(\
+\n      'p',\n      {},\n      `The first ${wrong.to} events have a linearization. With event ${wrong.to} they have none, whatever follows. `,\
+\n      'It is the response of ',\n      named(wrong),\n      ': ',\n      mono(say(wrong.answer).slice(0, 300)),\n      '.',\n    ),\n    next ? wh\
+yNext(next) : null,\n    el('p', { class: 'noprint' }, button('Show it among all calls', showFault)),\n  ];\n}\n// What the map would answer, in on\
+e sentence.\nfunction whyNext({ answer, would }) {\n  const keysThat = differingKeys(answer, would);\n  if (!keysThat.length) {\n    if (say(answer\
+) === say(would)) return null;\n    const parts = [bold(say(would).slice(0, 200), 'good'), ', not ', bold(say(answer).slice(0, 200), 'bad'), '.'];\
+\n    return el('p', {}, 'After the calls below, the map would answer ', parts);\n  }\n  const [got, wanted] = [new Map(answer), new Map(would)];\
+\n  const parts = keysThat.slice(0, 3).map((key, i) => {\n    const comma = i ? ', ' : '';\n    return [comma, bold(say(wanted.get(key)), 'good'), \
+' at key ', mono(key), ', not ', bold(say(got.get(key)), 'bad')];\n  });\n  const rest = keysThat.length > 3 ? `, and differ at ${keysThat.length - \
+3} more keys` : '';\n  return el('p', {}, 'After the calls below, the map would report ', parts, rest, '.');\n}\nfunction whyFew() {\n  if (!few.len\
+gth) return [];\n  const title = few.length === 1 ? 'This call has no order on its own' : `These ${few.length} calls have no order on their own`;\
+\n  const isLeast = few.length > 1 && few.every(it => it.reason === 'order');\n  const least = isLeast ? 'Without any one of them, the others have a\
+n order. ' : '';\n  const grey = few.some(isLeftOut) ? 'Responses in grey are not needed to show it.' : '';\n  return [\n    el('h2', {}, title),\
+\n    beginWords(),\n    el('ol', { class: 'few' }, few.map(fewItem)),\n    least + grey && el('p', { class: 'soft' }, least + grey),\n  ];\n}\n// T\
+he values from which the few calls begin, and who wrote them.\nfunction beginWords(count = 12) {\n  const part = ({ key, value, writer }) => [`key $\
+{key} has `, mono(say(value)), writer ? [', written by ', named(writer)] : ''];\n  if (fewBegin.length < 2) return fewBegin.map(it => el('p', {}, 'T\
+hey begin where ', part(it), '.'));\n  const rest = fewBegin.length > count ? el('li', {}, `${fewBegin.length - count} more.`) : '';\n  return [el('\
+p', {}, 'They begin where:'), el('ul', {}, fewBegin.slice(0, count).map(it => el('li', {}, part(it), '.')), rest)];\n}\nconst REASONS = {\n  spent: \
+'Kept, since without it the search is beyond its budget.',\n  held: 'Kept, since a replace without a response waits for a value that this may have w\
+ritten.',\n};\nfunction fewItem(it) {\n  const { call } = it;\n  const answer = isLeftOut(it) ? say(call.answer).slice(0, 60) : say(it.answer).slice\
+(0, 400);\n  return el(\n    'li',\n    { class: call === wrong ? 'wrong' : '', 'data-call': call.number },\n    callButton(call),\n    isOpen(it) \
+? '' : mono(': ' + answer, isLeftOut(it) ? 'faint' : ''),\n    soft(` call ${call.number}, p${call.process}`),\n    isOpen(it) ? el('div', { class: \
+'soft' }, 'It has no response.') : '',\n    it.misses.map(missed => {\n      const over = `, which was over at event ${missed.to}, before this bega\
+n at ${call.from}.`;\n      return el('div', { class: 'bad' }, 'misses ', named(missed), over);\n    }),\n    REASONS[it.reason] ? el('div', { class\
+: 'soft' }, REASONS[it.reason]) : '',\n  );\n}\nfunction whyFront() {\n  if (!front) return [];\n  const steps = front.calls.map((call, i) => [i ? '\
+, ' : '', `${i + 1}. `, callButton(call)]);\n  const holds = front.holds.length ? mono(say(front.holds).slice(0, 600)) : 'nothing';\n  const next = \
+front.next.length > 1 ? 'What could come next:' : 'Only this could come next:';\n  return [\n    el('h2', {}, 'How far an order of them gets'),\
+\n    el('p', {}, steps.length ? steps : 'Not one of them can come first.'),\n    el('p', {}, 'The map then holds ', holds, '. ', next),\n    front.\
+next.map(nextItem),\n  ];\n}\nfunction nextItem({ call, answer, would }) {\n  const isFitting = say(answer) === say(would) || (answer instanceof Wor\
+d && answer.text === 'open');\n  if (isFitting) return el('p', {}, callButton(call), ': it fits here. The search ended before it, with its budget sp\
+ent.');\n  if (differingKeys(answer, would).length) {\n    return [el('p', {}, callButton(call), ', but it differs:'), differences(answer, would, ['\
+it answered', 'the map would'])];\n  }\n  const parts = [': it answered ', bold(say(answer), 'bad'), ', the map would answer ', bold(say(would), 'go\
+od'), '.'];\n  return el('p', {}, callButton(call), parts);\n}\nfunction whyOrigins() {\n  if (!origins.length) return [];\n  const nobody = 'no cal\
+l that was recorded. A starting pair was forgotten, a thread was not recorded, or the map makes up values';\n  const rows = origins.map(({ key, valu\
+e, start, puts }) => {\n    const from = [puts.length ? namedList(puts) : '', puts.length && start ? ', and ' : '', start ? 'the start' : ''];\n    \
+return el('p', {}, mono(value), ' at key ', mono(key), ': ', puts.length || start ? from : isBad(nobody), '.');\n  });\n  return [el('h2', {}, 'Who \
+wrote what they read'), rows];\n}\nfunction whyOrder() {\n  const sections = [];\n  if (shownVerdict !== 'yes' && order.length) {\n    const whose \
+= orderIsOfFew\n      ? 'The circles are the longest order of these few calls that the search met.'\n      : `The circles are one linearization of t\
+he first ${orderedTo} events, with ${many(order.length, 'call')}. There may be others.`;\n    sections.push(el('h2', {}, 'The circles'), el('p', {}\
+, whose, ' Step through it below the timeline: Map shows what the map then holds.'));\n  }\n  if (judged.calls && judged.calls.length < calls.length\
+) {\n    const count = many(judged.calls.length, 'call');\n    sections.push(el('p', { class: 'soft' }, `judge names the ${count} at ${segmentWords}\
+. No scan joins them to others, so they are judged apart.`));\n  }\n  if (replayFault) {\n    sections.push(el('p', { class: 'bad' }, `This page rep\
+lays the order otherwise than the program: ${replayFault}. Believe the program, and report it.`));\n  }\n  return sections;\n}\n\n// ---- Map: what \
+it holds at a step of the order ----\n\nfunction renderMap() {\n  if (!order.length || (orderIsOfFew && replayFault)) {\n    $('tab-map').replaceChi\
+ldren(el('p', { class: 'soft' }, 'No order is known, so this page cannot say what the map held.'));\n    return;\n  }\n  const call = step ? order[s\
+tep - 1] : null;\n  const where = call\n    ? [`After ${step} of ${many(order.length, 'call')}. The last of them is `, named(call), ': ', mono(answe\
+rWords(call).slice(0, 100)), '.']\n    : 'Before the first call.';\n  const whose = orderIsOfFew ? el('p', { class: 'soft' }, 'These are the few cal\
+ls of Why, not all calls.') : '';\n  const rows = keys.filter(key => meets(filter.few ? null : filter.keys, key, key)).map(key => mapRow(key, call))\
+;\n  const held = rows.filter(row => row.isHeld).length;\n  const kept = rows.filter(row => row.isHeld || row.isTouched || rows.length <= 40);\n  co\
+nst shownRows = kept.filter((row, i) => i < 250 || row.isTouched).map(row => row.element);\n  const more = kept.length > 250 ? el('p', { class: 'sof\
+t' }, 'The first 250 keys are shown. Filter keys to see others.') : '';\n  $('tab-map').replaceChildren(\n    el('p', {}, where),\n    whose,\n    .\
+..mapAtEnd(),\n    el('h2', {}, `The map: ${many(held, 'key')}`),\n    table(['key', 'value', 'written by'], shownRows),\n    more,\n  );\n}\nfuncti\
+on mapRow(key, call) {\n  const life = lifeAt(key, step);\n  const isHeld = Boolean(life && life.value !== null);\n  const isTouched = Boolean((lif\
+e && step && life.step === step) || (call && !isScan(call) && call.key === key));\n  const writer = life && life.call ? [callButton(life.call, `cal\
+l ${life.call.number}`), soft(` p${life.call.process}`)] : soft(life ? 'start' : '');\n  const cells = [mono(key), isHeld ? mono(life.value) : soft(\
+'none'), writer].map(it => el('td', {}, it));\n  return { isHeld, isTouched, element: el('tr', isTouched ? { class: 'touched' } : {}, cells) };\n}\n\
+function mapAtEnd() {\n  if (step !== order.length || !wrong) return [];\n  const would = wouldAnswer(wrong, key => holdsAt(key, step));\n  const is\
+List = differingKeys(wrong.answer, would).length > 0;\n  const parts = ['It answered ', bold(say(wrong.answer), 'bad'), '. At this end of this order\
+, the map would answer ', bold(say(would), ''), '.'];\n  return [\n    el('h2', {}, 'The call that goes wrong'),\n    el('p', {}, named(wrong)),\
+\n    isList ? differences(wrong.answer, would, ['it answered', 'the map here']) : el('p', {}, parts),\n    orderIsOfFew ? '' : el('p', { class: 'so\
+ft' }, 'Other orders of the same events may end with another map. None of them answers so.'),\n  ];\n}\n\n// ---- The selected call ----\n\nfunctio\
+n renderCard() {\n  const card = $('card');\n  card.hidden = !selected;\n  if (!selected) return;\n  const call = selected;\n  const role = call ==\
+= wrong ? el('span', { class: 'bad' }, 'goes wrong here') : fewOf.has(call) ? 'explains the verdict' : '';\n  const rows = cardRows(call).filter(ro\
+w => row[1] !== null);\n  card.replaceChildren(\n    el(\n      'div',\n      { class: 'bar' },\n      el('h2', {}, `Call ${call.number}`),\n      r\
+ole,\n      el('span', { class: 'gap' }),\n      button('← key', () => near(-1), { 'aria-label': 'The call before on this key', title: 'The call bef\
+ore on this key' }),\n      button('key →', () => near(1), { 'aria-label': 'The next call on this key', title: 'The next call on this key' }),\
+\n      button('×', () => select(null), { 'aria-label': 'Close' }),\n    ),\n    el('dl', {}, rows.map(([name, ...content]) => [el('dt', {}, name), \
+el('dd', {}, content)])),\n    pairsTable(call, 120),\n  );\n  card.scrollTop = 0;\n}\nfunction cardRows(call) {\n  const it = fewOf.get(call);\n  c\
+onst value = written(call);\n  const end = isPending(call) ? events.length : call.to;\n  const others = calls.filter(c => c !== call && c.from <= en\
+d && (isPending(c) || c.to > call.from));\n  const pairs = Array.isArray(call.answer) && call.answer.length > 3;\n  const answer = isPending(call) \
+? 'pending: it has no response' : pairs ? many(call.answer.length, 'pair') : mono(say(call.answer));\n  const jump = () => {\n    setStep(call.plac\
+e + 1);\n    pick('map');\n  };\n  const read = reported(call);\n  return [\n    ['call', mono(callWords(call))],\n    ['response', answer],\n    ['\
+process', String(call.process)],\n    ['events', isPending(call) ? `${call.from} on` : `${call.from} to ${call.to}`],\n    ['place', call.place < 0 \
+? null : [`${call.place + 1} of ${order.length} `, button('the map then', jump, { class: 'link' })]],\n    ['read by', value === undefined ? null : \
+namesOrNobody(readers(call.key, value), call)],\n    ['written by', isScan(call) || !read.length ? null : sourceOf(read[0][0], read[0][1], call)],\
+\n    ...(it ? it.misses : []).map(missed => ['misses', named(missed)]),\n    ...few.filter(other => other.misses.includes(call)).map(other => ['mis\
+sed by', named(other.call)]),\n    ['overlaps', many(others.length, 'call')],\n    ['note, invoked', call.note === undefined ? null : mono(noteWords\
+(call.note).slice(0, 4000))],\n    ['note, answered', call.answerNote === undefined ? null : mono(noteWords(call.answerNote).slice(0, 4000))],\n  ];\
+\n}\nfunction namesOrNobody(list, call) {\n  const others = list.filter(it => it !== call);\n  return others.length ? namedList(others, 8) : 'nobody\
+';\n}\nfunction sourceOf(key, value, call) {\n  const list = writers(key, value).filter(it => it !== call);\n  if (list.length) return namedList(lis\
+t);\n  return startValues.get(key) === value ? 'the start' : isBad('no call that was recorded');\n}\nfunction pairsTable(call, count) {\n  if (!isSc\
+an(call) || !Array.isArray(call.answer) || !call.answer.length) return '';\n  const rows = call.answer.slice(0, count).map(([key, value]) => {\n    \
+const writer = writers(key, value)[0];\n    const source = writer ? callButton(writer, `call ${writer.number}`) : startValues.get(key) === value ? '\
+start' : isBad('nobody');\n    return el('tr', {}, [mono(key), mono(value), source].map(it => el('td', {}, it)));\n  });\n  const whole = el('div', \
+{}, table(['key', 'value', 'written by'], rows));\n  if (call.answer.length > count) {\n    whole.append(button(`all ${call.answer.length} pairs`, (\
+) => whole.replaceWith(pairsTable(call, 5000))));\n  }\n  return whole;\n}\n\n// ---- Calls: a list of which only the part in sight is made ----\n\n\
+const ROW = 24;\nconst matchRoles = new Map();\nlet listed = [];\nlet foundWords = '';\nfunction renderList() {\n  listed = matches.length ? matche\
+s : shown;\n  $('list-height').style.height = listed.length * ROW + 'px';\n  const clear = button('clear', () => search(''), { class: 'link' });\n  \
+const head = matches.length ? [foundWords + ' ', clear] : [soft(`${shown.length} of ${many(calls.length, 'call')} pass the filter`)];\n  $('list-hea\
+d').replaceChildren(...head);\n  renderRows();\n}\nfunction renderRows() {\n  if ($('tab-calls').hidden) return;\n  const box = $('list');\n  const \
+from = Math.max(0, Math.floor(box.scrollTop / ROW) - 4);\n  const to = Math.min(listed.length, from + Math.ceil(box.clientHeight / ROW) + 10);\n  $(\
+'rows').style.top = from * ROW + 'px';\n  $('rows').replaceChildren(...listed.slice(from, to).map((call, i) => listRow(call, from + i)));\n  box.set\
+Attribute('aria-activedescendant', selected ? 'row' + selected.number : '');\n}\nfunction listRow(call, place) {\n  const role = matchRoles.has(call\
+) ? matchRoles.get(call) + ' ' : '';\n  const attributes = {\n    class: 'row',\n    role: 'option',\n    id: 'row' + call.number,\n    'aria-select\
+ed': call === selected,\n    'aria-setsize': listed.length,\n    'aria-posinset': place + 1,\n    onclick: () => select(call),\n  };\n  const span \
+= isPending(call) ? `${call.from}–` : `${call.from}–${call.to}`;\n  const text = mono(role + words(call, 120), call === wrong ? 'bad' : '');\n  retu\
+rn el('div', attributes, mono(String(call.number)), mono('p' + call.process), text, mono(span));\n}\nfunction scrollTo(call) {\n  const at = listed.\
+indexOf(call) * ROW;\n  const box = $('list');\n  if (at >= 0 && (at < box.scrollTop || at > box.scrollTop + box.clientHeight - ROW)) box.scrollTop \
+= at - box.clientHeight / 2;\n  renderRows();\n}\n\n// ---- Data: the lines of the program, as they are ----\n\nfunction renderData() {\n  if ($('ta\
+b-data').childElementCount) return;\n  const blocks = ['judge', 'locate', 'explain', 'order'].map(id => {\n    const text = blockText(id).trim();\
+\n    const title = id === 'order' ? 'locate --order' : id;\n    return text ? [el('h2', {}, title), el('pre', { tabindex: 0 }, visible(text).slice(\
+0, 60000))] : [];\n  });\n  const save = () => {\n    const address = URL.createObjectURL(new Blob([blockText('history')], { type: 'application/json\
+' }));\n    el('a', { href: address, download: 'history.json' }).click();\n    setTimeout(() => URL.revokeObjectURL(address), 5000);\n  };\n  $('tab\
+-data').append(\n    el('p', { class: 'soft' }, 'The lines of the program, as they are. All that this page draws comes from them and from the histor\
+y.'),\n    ...blocks.flat(),\n    el('h2', {}, 'History'),\n    el('p', {}, `Version ${recorded.version}, ${many(events.length, 'event')}.`),\n    e\
+l('p', {}, button('Save history.json', save)),\n  );\n}\n\n// ---- Searching ----\n\nfunction search(text) {\n  const asked = text.trim();\n  $('sea\
+rch').value = text;\n  matchRoles.clear();\n  matches = find(asked);\n  matchSet = new Set(matches);\n  foundWords = /^\\d+$/.test(asked) ? valueWor\
+ds(plainNumber(asked)) : many(matches.length, 'call');\n  overviewIsStale = true;\n  if (asked) pick('calls');\n  renderList();\n  if (asked && !mat\
+ches.length) $('list-head').replaceChildren(el('span', { class: 'bad' }, 'Nothing is found.'));\n  $('live').textContent = asked ? foundWords : '';\
+\n  draw();\n}\nfunction find(asked) {\n  if (!asked) return [];\n  const [, sign, digits] = /^([#@kp]?)(\\d+)$/.exec(asked) || [];\n  const number \
+= digits && plainNumber(digits);\n  if (sign === '#') return calls.filter(call => String(call.number) === number);\n  if (sign === '@') return calls\
+.filter(call => [call.from, call.to].map(String).includes(number));\n  if (sign === 'k') return calls.filter(call => touches(call, number));\n  if (\
+sign === 'p') return calls.filter(call => String(call.process) === number);\n  if (number) return calls.filter(call => noteRole(call, number));\n  c\
+onst low = asked.toLowerCase();\n  const texts = call => [words(call, 1e9), call.note || '', call.answerNote || ''];\n  return calls.filter(call => \
+texts(call).some(it => it.toLowerCase().includes(low)));\n}\n// What a call does with a value.\nfunction noteRole(call, value) {\n  const reads = (\
+) => reported(call).some(([, found]) => found === value);\n  const writes = call.kind === 'insert' ? call.a === value : call.kind === 'replace' && c\
+all.b === value;\n  const role = writes ? 'writes' : reads() ? 'reads' : call.kind === 'replace' && call.a === value ? 'expects' : '';\n  if (role) \
+matchRoles.set(call, role);\n  return role;\n}\nfunction valueWords(value) {\n  const roles = [...matchRoles.values()];\n  const count = role => rol\
+es.filter(it => it === role).length;\n  const expected = count('expects') ? `, expected by ${count('expects')}` : '';\n  const first = start.some(([\
+, found]) => found === value) ? ', there at the start' : '';\n  return `Value ${value}: written by ${count('writes')}, read by ${count('reads')}${ex\
+pected}${first}`;\n}\n\n// ---- Choosing calls and steps ----\n\nlet tab = 'why';\nconst TABS = ['why', 'map', 'calls', 'data'];\n\nfunction select(\
+call, goes = true) {\n  const before = selected;\n  selected = call;\n  const isOutside = it => it && !explaining.has(it);\n  if (call && !isShown[c\
+all.number] && !filter.few) showAll();\n  else if (filter.few && (isOutside(before) || isOutside(call))) refilter(call);\n  sizeStage();\n  if (cal\
+l && goes) center(call);\n  if (call) $('live').textContent = `Call ${call.number}, process ${call.process}, ${words(call, 120)}, ${spanWords(call)}\
+`;\n  renderCard();\n  if (call) scrollTo(call);\n  else renderRows();\n  for (const item of document.querySelectorAll('ol.few li')) {\n    item.cla\
+ssList.toggle('current', call !== null && Number(item.dataset.call) === call.number);\n  }\n  draw();\n  writeLink();\n}\nfunction setStep(wanted, g\
+oes = true) {\n  step = Math.max(0, Math.min(order.length, wanted));\n  const call = step ? order[step - 1] : null;\n  const text = call ? `${words(\
+call, 60)} (call ${call.number}, p${call.process})` : 'before the first call';\n  $('step').value = step;\n  $('step-words').textContent = order.len\
+gth ? `${step} of ${order.length}: ${text}` : 'No order is known.';\n  $('step').setAttribute('aria-valuetext', $('step-words').textContent);\n  if \
+(tab === 'map') renderMap();\n  if (call && goes) {\n    const column = stepColumn(step - 1);\n    const room = plotWidth() / view.scale;\n    if (c\
+olumn < view.left + 1 || column > view.left + room - 2) moveView(column - room / 2, view.scale);\n  }\n  draw();\n  writeLink();\n}\n// To the next \
+place of a call that is shown.\nfunction walk(by) {\n  let place = step - 1 + by;\n  while (place >= 0 && place < order.length && !isShown[order[pla\
+ce].number]) place += by;\n  setStep(place < 0 ? 0 : place + 1);\n}\n// To the call before, or the next one, on the selected call's key.\nfunction n\
+ear(by) {\n  const same = call => (isScan(selected) ? isScan(call) && call.key === selected.key : touches(call, selected.key));\n  for (let i = sele\
+cted.number + by; i >= 0 && i < calls.length; i += by) {\n    if (same(calls[i])) return select(calls[i]);\n  }\n}\nfunction along(by) {\n  if (!sel\
+ected) return select(wrong && isShown[wrong.number] ? wrong : shown[0] || null);\n  const list = shownBy.get(selected.process) || [];\n  const next \
+= list[list.indexOf(selected) + by];\n  if (next) select(next);\n}\nfunction across(by) {\n  if (!selected) return along(0);\n  const list = shownBy\
+.get(lanes[laneOf(selected) + by]);\n  if (!list) return;\n  const far = call => Math.abs(call.from - selected.from);\n  select(list.reduce((best, c\
+all) => (far(call) < far(best) ? call : best)));\n}\nlet matchPlace = -1;\nfunction nextMatch(by) {\n  if (!matches.length) return;\n  matchPlace = \
+matches.includes(selected) ? matches.indexOf(selected) : by > 0 ? -1 : 0;\n  select(matches[(matchPlace + by + matches.length) % matches.length]);\
+\n  scrollTo(selected);\n}\nfunction pick(name) {\n  tab = name;\n  for (const it of TABS) {\n    $('tab-' + it).hidden = it !== name;\n    $('to-' \
++ it).setAttribute('aria-selected', it === name);\n    $('to-' + it).tabIndex = it === name ? 0 : -1;\n  }\n  if (name === 'map') renderMap();\n  i\
+f (name === 'data') renderData();\n  if (name === 'calls') renderList();\n  if (name === 'calls' && selected) scrollTo(selected);\n}\n\n// ---- Filt\
+ers ----\n\nfunction showFilter() {\n  $('none').hidden = shown.length > 0;\n  for (const it of $('kinds').children) it.setAttribute('aria-pressed'\
+, filter.few || filter.kinds.has(it.dataset.kind));\n  $('show-few').setAttribute('aria-pressed', filter.few);\n  $('show-all').setAttribute('aria-p\
+ressed', !filter.few && shown.length === calls.length);\n  renderList();\n}\nfunction showAll() {\n  Object.assign(filter, { few: false, kinds: new \
+Set(KINDS), keys: null, processes: null });\n  for (const name of ['keys', 'processes']) {\n    $(name).value = '';\n    $(name).classList.remove('f\
+ault');\n  }\n  refilter(selected);\n  writeLink();\n}\nfunction showFew() {\n  if (!explaining.size) return;\n  filter.few = true;\n  refilter();\
+\n  writeLink();\n}\nfunction showFault() {\n  const call = wrong || (few[0] && few[0].call);\n  if (!call) return;\n  if (filter.few || !isShown[ca\
+ll.number]) showAll();\n  select(call, false);\n  focusOn(call);\n  setStep(order.length, false);\n}\nfunction filterBy(name) {\n  const ranges = re\
+adRanges($(name).value);\n  $(name).classList.toggle('fault', ranges === undefined);\n  if (ranges === undefined) return;\n  filter.few = false;\n  \
+filter[name] = ranges;\n  refilter();\n  if (selected && isShown[selected.number]) center(selected);\n  if (tab === 'map') renderMap();\n  writeLink\
+();\n}\nfunction toggleKind(kind) {\n  if (filter.few) filter.kinds = new Set(KINDS);\n  filter.few = false;\n  if (!filter.kinds.delete(kind)) filt\
+er.kinds.add(kind);\n  refilter();\n}\n\n// ---- Links: what is chosen, in the fragment of the address ----\n\nlet linkTimer = 0;\nlet isStarted = f\
+alse;\nfunction writeLink() {\n  if (!isStarted) return;\n  clearTimeout(linkTimer);\n  linkTimer = setTimeout(() => {\n    const parts = [];\n    i\
+f (selected) parts.push('call=' + selected.number);\n    if (order.length && step !== order.length) parts.push('step=' + step);\n    if (filter.keys\
+) parts.push('keys=' + encodeURIComponent($('keys').value));\n    if (filter.processes) parts.push('processes=' + encodeURIComponent($('processes').\
+value));\n    if (!filter.few && explaining.size) parts.push('all');\n    try {\n      history.replaceState(null, '', '#' + parts.join('&'));\n    \
+} catch {\n      // Some browsers let no file do that.\n    }\n  }, 150);\n}\n// Numbers are read, and anything else is passed over.\nfunction readL\
+ink() {\n  const asked = Object.create(null);\n  for (const part of location.hash.slice(1).split('&')) {\n    const [name, value = ''] = part.split(\
+'=', 2);\n    try {\n      asked[name] = decodeURIComponent(value);\n    } catch {\n      // It is no text.\n    }\n  }\n  const number = name => (/\
+^\\d{1,6}$/.test(asked[name] || '') ? Number(asked[name]) : -1);\n  if (asked.keys !== undefined || asked.processes !== undefined || asked.all !== u\
+ndefined) {\n    filter.few = false;\n    for (const name of ['keys', 'processes']) {\n      filter[name] = readRanges(asked[name] || '') || null;\
+\n      $(name).value = filter[name] ? asked[name] : '';\n    }\n    refilter();\n  }\n  if (number('step') >= 0) setStep(number('step'), false);\
+\n  const call = calls[number('call')] || calls[callAt[number('event')]];\n  if (!call) return;\n  select(call, false);\n  if (!filter.few) focusOn(\
+call);\n}\n\n// ---- Hands and keys ----\n\nfunction showHelp(on) {\n  $('help').hidden = !on;\n  if (on) $('close-help').focus();\n  else canvas.fo\
+cus({ preventScroll: true });\n}\nfunction setTheme(theme) {\n  document.documentElement.dataset.theme = theme;\n  $('theme').textContent = theme ==\
+= 'dark' ? 'Light' : 'Dark';\n  readColours();\n  draw();\n}\nconst otherTheme = () => setTheme(document.documentElement.dataset.theme === 'dark' ? \
+'light' : 'dark');\nfunction tip(text, x, y) {\n  const box = $('tip');\n  box.hidden = !text;\n  box.textContent = text;\n  const size = box.getBou\
+ndingClientRect();\n  const fitsBelow = y + 18 + size.height <= innerHeight;\n  box.style.left = Math.max(4, Math.min(innerWidth - size.width - 8, \
+x + 14)) + 'px';\n  box.style.top = (fitsBelow ? y + 18 : Math.max(4, y - size.height - 10)) + 'px';\n}\nfunction tipOf(call) {\n  const it = fewOf.\
+get(call);\n  const notes = [call.note, call.answerNote].filter(note => note !== undefined);\n  return [\n    `call ${call.number} of process ${call\
+.process}, ${spanWords(call)}`,\n    words(call, 400),\n    call.place < 0 ? '' : `place ${call.place + 1} of ${order.length}`,\n    call === wrong \
+? 'goes wrong here' : '',\n    ...(it ? it.misses : []).map(missed => `misses ${callWords(missed)} (call ${missed.number}, p${missed.process})`),\
+\n    ...notes.map(note => 'note ' + noteWords(note).slice(0, 200)),\n  ].filter(Boolean).join('\\n');\n}\nfunction tipOfStrip({ key, life }) {\n  c\
+onst writer = life.call ? `, written by ${callWords(life.call)} (call ${life.call.number}, p${life.call.process})` : ' from the start';\n  return `k\
+ey ${key} holds ${life.value}${writer}`;\n}\n\nfunction listenToCanvas() {\n  let from = null;\n  let isMoved = false;\n  canvas.addEventListener('p\
+ointerdown', event => {\n    from = [event.offsetX, event.offsetY];\n    isMoved = false;\n    canvas.setPointerCapture(event.pointerId);\n  });\n  \
+canvas.addEventListener('pointermove', event => {\n    const [x, y] = [event.offsetX, event.offsetY];\n    if (!from) return hover(x, y, event);\
+\n    if (!isMoved && Math.abs(x - from[0]) + Math.abs(y - from[1]) <= 4) return;\n    isMoved = true;\n    canvas.classList.add('drag');\n    tip('\
+', 0, 0);\n    moveView(view.left - (x - from[0]) / view.scale, view.scale, view.top - (y - from[1]));\n    from = [x, y];\n  });\n  const end = eve\
+nt => {\n    canvas.classList.remove('drag');\n    if (from && !isMoved && event.type === 'pointerup') {\n      const strip = stripAtPoint(event.off\
+setX, event.offsetY);\n      select(strip ? strip.life.call : callAtPoint(event.offsetX, event.offsetY), false);\n      canvas.focus({ preventScroll\
+: true });\n    }\n    from = null;\n  };\n  canvas.addEventListener('pointerup', end);\n  canvas.addEventListener('pointercancel', end);\n  canvas.\
+addEventListener('pointerleave', () => {\n    hovered = null;\n    tip('', 0, 0);\n    draw();\n  });\n  canvas.addEventListener('wheel', turnWheel\
+, { passive: false });\n}\nfunction hover(x, y, event) {\n  const call = callAtPoint(x, y);\n  const strip = call ? null : stripAtPoint(x, y);\n  i\
+f (call !== hovered) draw();\n  hovered = call;\n  canvas.style.cursor = call || strip ? 'pointer' : '';\n  tip(call ? tipOf(call) : strip ? tipOfSt\
+rip(strip) : '', event.clientX, event.clientY);\n}\n// The wheel zooms; with Shift it moves, and with Alt it scrolls the lanes. Of one column it scr\
+olls the page, unless Ctrl is held.\nfunction turnWheel(event) {\n  if (NARROW.matches && !event.ctrlKey && !event.shiftKey && !event.altKey) return\
+;\n  event.preventDefault();\n  const by = (event.deltaMode ? 16 : 1) * (event.deltaX || event.deltaY);\n  const isAcross = event.shiftKey || Math.a\
+bs(event.deltaX) > Math.abs(event.deltaY);\n  if (isAcross) moveView(view.left + by / view.scale, view.scale);\n  else if (event.altKey) moveView(vi\
+ew.left, view.scale, view.top + by);\n  else zoom(Math.exp(-by * 0.0022), event.offsetX);\n}\nfunction listenToOverview() {\n  let isDragged = false\
+;\n  const go = event => {\n    const box = overview.getBoundingClientRect();\n    const column = ((event.clientX - box.left) / box.width) * columns\
+;\n    moveView(column - plotWidth() / view.scale / 2, view.scale);\n  };\n  overview.onpointerdown = event => {\n    isDragged = true;\n    overvie\
+w.setPointerCapture(event.pointerId);\n    if (view.scale < leastScale() * 1.5 && columns > 80) view.scale = Math.min(26, leastScale() * 8);\n    go\
+(event);\n  };\n  overview.onpointermove = event => isDragged && go(event);\n  overview.onpointerup = overview.onpointercancel = () => {\n    isDrag\
+ged = false;\n  };\n}\n\nconst KEYS = {\n  ',': () => walk(-1),\n  '.': () => walk(1),\n  '+': () => zoom(1.4),\n  '=': () => zoom(1.4),\n  '-': () \
+=> zoom(1 / 1.4),\n  0: () => {\n    fitView();\n    draw();\n  },\n  f: showFault,\n  e: showFew,\n  a: showAll,\n  d: otherTheme,\n  n: () => next\
+Match(1),\n  N: () => nextMatch(-1),\n  '/': () => $('search').select(),\n  '?': () => showHelp(true),\n  Escape: () => (matches.length ? search(''\
+) : select(null)),\n};\nconst ARROWS = { ArrowRight: () => along(1), ArrowLeft: () => along(-1), ArrowDown: () => across(1), ArrowUp: () => across(-\
+1) };\nfunction pressKey(event) {\n  if (event.ctrlKey || event.metaKey || event.altKey) return;\n  if (!$('help').hidden) {\n    if (event.key === \
+'Escape' || event.key === '?') showHelp(false);\n    return;\n  }\n  if (event.target.tagName === 'INPUT' && event.target.type !== 'range') {\n    i\
+f (event.key === 'Escape') canvas.focus();\n    return;\n  }\n  const isFree = event.target === canvas || event.target === document.body;\n  const a\
+ct = KEYS[event.key] || KEYS[event.key.toLowerCase()] || (isFree && ARROWS[event.key]);\n  if (!act) return;\n  event.preventDefault();\n  act();\n}\
+\nfunction pressInTabs(event) {\n  const by = { ArrowRight: 1, ArrowLeft: -1 }[event.key];\n  if (!by) return;\n  pick(TABS[(TABS.indexOf(tab) + by \
++ TABS.length) % TABS.length]);\n  $('to-' + tab).focus();\n  event.preventDefault();\n}\nfunction pressInList(event) {\n  const by = { ArrowDown: 1\
+, ArrowUp: -1, PageDown: 15, PageUp: -15 }[event.key];\n  if (!by || !listed.length) return;\n  const place = selected ? listed.indexOf(selected) + \
+by : 0;\n  select(listed[Math.max(0, Math.min(listed.length - 1, place))]);\n  scrollTo(selected);\n  event.preventDefault();\n  event.stopPropagati\
+on();\n}\nfunction pressInSearch(event) {\n  if (event.key === 'Escape') search('');\n  if (event.key !== 'Enter') return;\n  if ($('search').value.\
+trim() !== searched) searchNow();\n  nextMatch(event.shiftKey ? -1 : 1);\n}\nlet searchTimer = 0;\nlet searched = '';\nfunction searchNow() {\n  cle\
+arTimeout(searchTimer);\n  searched = $('search').value.trim();\n  search($('search').value);\n}\n\nfunction listenToButtons() {\n  const actions = \
+{ 'show-few': showFew, 'show-all': showAll, 'show-fault': showFault, 'clear-filter': showAll, theme: otherTheme };\n  for (const [id, act] of Object\
+.entries(actions)) $(id).onclick = act;\n  for (const name of ['keys', 'processes']) $(name).oninput = () => filterBy(name);\n  for (const name of T\
+ABS) $('to-' + name).onclick = () => pick(name);\n  $('to-why').parentNode.onkeydown = pressInTabs;\n  $('first').onclick = () => setStep(0);\n  $('\
+back').onclick = () => walk(-1);\n  $('forward').onclick = () => walk(1);\n  $('last').onclick = () => setStep(order.length);\n  $('step').oninput \
+= () => {\n    setStep(Number($('step').value));\n    if (tab !== 'map') pick('map');\n  };\n  $('search').onkeydown = pressInSearch;\n  $('search')\
+.oninput = () => {\n    clearTimeout(searchTimer);\n    searchTimer = setTimeout(searchNow, 120);\n  };\n  $('list').onscroll = renderRows;\n  $('li\
+st').onkeydown = pressInList;\n  $('show-help').onclick = () => showHelp(true);\n  $('close-help').onclick = () => showHelp(false);\n  $('help').onc\
+lick = event => event.target === $('help') && showHelp(false);\n  document.addEventListener('keydown', pressKey);\n}\nfunction listenToWindow() {\
+\n  const dark = matchMedia('(prefers-color-scheme: dark)');\n  setTheme(dark.matches ? 'dark' : 'light');\n  dark.addEventListener('change', () => \
+setTheme(dark.matches ? 'dark' : 'light'));\n  addEventListener('hashchange', readLink);\n  new ResizeObserver(() => {\n    resize();\n    if (filte\
+r.few) fitView();\n  }).observe($('stage'));\n  let before = null;\n  const print = on => {\n    printing = on;\n    if (on) before = document.docum\
+entElement.dataset.theme;\n    setTheme(on ? 'light' : before);\n    canvas.style.width = on ? '100%' : '';\n    resize();\n    paint();\n  };\n  ad\
+dEventListener('beforeprint', () => print(true));\n  addEventListener('afterprint', () => print(false));\n}\n\n// ---- The start ----\n\nconst NARRO\
+W = matchMedia('(max-width: 1000px)');\nfunction headline() {\n  if (wrong) return `Goes wrong at event ${wrong.to}: ${words(wrong, 90)} (call ${wro\
+ng.number} of process ${wrong.process})`;\n  if (verdict === 'yes') return order.length ? `One order of ${many(order.length, 'call')} explains ever\
+y response.` : 'No call has to have an order.';\n  if (verdict === 'no') return `The ${many(judged.calls.length, 'call')} at ${segmentWords} have n\
+o order.`;\n  if (few.length) return `${many(few.length, 'call')} of it have no order on their own. At which event it goes wrong is not known.`;\n  \
+return locatedVerdict === 'yes' ? 'So says locate; judge is undecided.' : 'Its search met more states than the budget.';\n}\nfunction renderHeader(\
+) {\n  $('badge').textContent = { yes: 'Linearizable', no: 'Not linearizable', undecided: 'Undecided' }[shownVerdict];\n  $('badge').className = sho\
+wnVerdict;\n  $('headline').textContent = headline();\n  const counts = [many(calls.length, 'call'), many(processes.length, 'process'), many(keys.le\
+ngth, 'key')];\n  $('facts').textContent = [...counts, 'overlap ' + overlap].join(' · ');\n  document.title = `${$('badge').textContent} · ${counts[\
+0]} · Potzendai`;\n  for (const kind of KINDS.filter(it => calls.some(call => call.kind === it))) {\n    const mark = el('i', { class: 'mark-' + kin\
+d });\n    $('kinds').append(button([mark, kind], () => toggleKind(kind), { class: 'kind', 'data-kind': kind }));\n  }\n  $('step').max = order.leng\
+th;\n  for (const id of ['step', 'first', 'back', 'forward', 'last']) $(id).disabled = !order.length;\n  $('show-few').disabled = !explaining.size;\
+\n  $('show-fault').disabled = !wrong && !few.length;\n}\n\nrenderHeader();\nlistenToButtons();\nlistenToCanvas();\nlistenToOverview();\nlistenToWin\
+dow();\nresize();\nrefilter();\nrenderWhy();\nsetStep(order.length, false);\npick('why');\nreadLink();\nisStarted = true;\n</script>\n  </body>\n</h\
+tml>\n";

@@ -1,6 +1,5 @@
--- Which calls a picture shows: where nothing is asked for, of a no, or of what is located where the
--- verdict is undecided, the few that show it, with those that put what they read, and those that
--- they miss.
+-- Which calls a picture shows. If nothing is asked for, it shows a few calls of a no, or of what is
+-- located after an undecided, with those that put what they read, and those that they miss.
 use Rattle.std.specs.Prelude.{◌≡◌, ℕ, ◌&&◌, Bool, not, nat_lt, List, [], ◌∷◌, ◌++◌, length, map, Option, Some, None, MatchBool}
 use Rattle.events.specs.HistoryView.{HistoryView}
 use Rattle.events.specs.Limits.{call_limit}
@@ -10,11 +9,12 @@ use Rattle.map_object.specs.MapObject.{Contents}
 use Rattle.judge.specs.declared.verdict.Verdict.{Verdict}
 use Rattle.judge.specs.declared.verdict.Verdict.TheVariants as verdicts
 use Rattle.locating.specs.declared.location.Location.{Location}
-use Rattle.follower.specs.OwnParts.{OwnPart}
 use Rattle.locating.specs.declared.evidence.Evidence.{Evidence}
-use Rattle.locating.specs.declared.evidence.Evidence.TheVariants.{OfEvents, OfKey, Missing}
+use Rattle.locating.specs.declared.evidence.Evidence.TheVariants.{OfEvents, OfPart, Missing}
 use Rattle.locating.specs.Evidences.{IsEvidenceOf}
-use Rattle.locating.specs.Told.{told_calls}
+use Rattle.losses.specs.OwnParts.{AreOwnLosses, OwnPart}
+use Rattle.losses.specs.declared.lost_keys.KeyLoss.{KeyLoss}
+use Rattle.losses.specs.declared.lost_keys.Origin.{Origin}
 use Rattle.explaining.specs.declared.explanation.Explanation.{Explanation}
 use Rattle.explaining.specs.Explained.{IsExplanation}
 use Rattle.origins.specs.External.{AreExternal}
@@ -45,36 +45,48 @@ abbrev pub places_missed : List Operation → List Operation → List ℕ
 places_missed calls [] = []
 places_missed calls (a ∷ few) = places_of (missed_by a calls) ++ places_missed calls few
 
--- the events at which the calls of the history are invoked that few calls are, from some pairs, those
--- of the history that put what these read from outside, and those that they miss
-pub record AreShown (history : HistoryView) (start : Contents) (told few : List Operation) (places : List ℕ) : Type 0 where
+-- the events at which a few calls are invoked, from some pairs, those of the history that put what
+-- these read from outside, and those that they miss
+pub record AreShown (history : HistoryView) (start : Contents) (few : List Operation) (places : List ℕ) : Type 0 where
   pub pairs : List (ℕ × ℕ)
   pub external : AreExternal start few pairs
   pub places_are :
-      places ≡ (places_of told ++ places_put (operations history.events) pairs) ++ places_missed (operations history.events) told
+      places ≡ (places_of few ++ places_put (operations history.events) pairs) ++ places_missed (operations history.events) few
 
--- few calls are shown that stand at the places of their events
+-- a few calls are shown
 abbrev pub IsShownFew : HistoryView → Contents → List Operation → Choice → Type 0
-IsShownFew history start few (Few places) = AreShown history start few few places.items
+IsShownFew history start few (Few places) = AreShown history start few places.items
 IsShownFew history start few Part = ⊥
 
--- few of some calls that have no order from some pairs, which is why these have none, are shown
+-- a few of some calls are shown: they have no order from some pairs, so all of them have none
 pub record IsFewChoice (budget : ℕ) (history : HistoryView) (start : Contents) (calls : List Operation) (choice : Choice) : Type 0 where
   pub few : Explanation
   pub explains : IsExplanation start calls budget few
   pub shown : IsShownFew history start few.calls.items choice
 
--- the event at which the call is invoked that put a value, if any did
+-- the event at which the call is invoked that put a value, if it is known
 abbrev pub places_before : Option ℕ → List ℕ
 places_before None = []
 places_before (Some place) = place ∷ []
 
--- the calls of the history that few calls of a key are, and the one that put the value from which
--- they begin
+-- those at which the calls are invoked that put the values of a key
+abbrev pub places_from : List Origin → List ℕ
+places_from [] = []
+places_from (origin ∷ origins) = places_before origin.put ++ places_from origins
+
+-- those of each key
+abbrev pub places_begun : List KeyLoss → List ℕ
+places_begun [] = []
+places_begun (loss ∷ losses) = places_from loss.from.items ++ places_begun losses
+
+-- a few calls of a part that goes wrong by itself, and the calls that put the values of their keys
+-- before them
 pub record ArePartPlaces (history : HistoryView) (part : OwnPart) (few : Explanation) (places : List ℕ) : Type 0 where
   pub first : List ℕ
-  pub shown : AreShown history part.start (told_calls (operations history.events) part.events few.calls.items) few.calls.items first
-  pub places_are : places ≡ first ++ places_before part.put
+  pub shown : AreShown history part.start few.calls.items first
+  pub losses : List KeyLoss
+  pub are_losses : AreOwnLosses part few.calls.items losses
+  pub places_are : places ≡ first ++ places_begun losses
 
 abbrev pub IsPartChoice : HistoryView → OwnPart → Explanation → Choice → Type 0
 IsPartChoice history part few (Few places) = ArePartPlaces history part few places.items
@@ -83,7 +95,7 @@ IsPartChoice history part few Part = ⊥
 -- the few calls that show a location are shown
 abbrev pub IsChoiceFor : HistoryView → Evidence → Choice → Type 0
 IsChoiceFor history (OfEvents few) choice = IsShownFew history history.start few.calls.items choice
-IsChoiceFor history (OfKey part few) choice = IsPartChoice history part few choice
+IsChoiceFor history (OfPart part few) choice = IsPartChoice history part few choice
 IsChoiceFor history Missing choice = choice ≡ Part
 
 -- what is shown of a location
@@ -92,7 +104,7 @@ pub record IsChoiceAt (budget : ℕ) (history : HistoryView) (location : Locatio
   pub shows : IsEvidenceOf budget history location evidence
   pub shown : IsChoiceFor history evidence choice
 
--- what is shown of a verdict and a location where nothing is asked for
+-- what is shown of a verdict and a location if nothing is asked for
 abbrev pub IsUnaskedChoice : ℕ → HistoryView → Verdict → Location → Choice → Type 0
 IsUnaskedChoice budget history (verdicts.Yes order) location choice = choice ≡ Part
 IsUnaskedChoice budget history (verdicts.No segment) location choice = IsFewChoice budget history segment.start segment.calls choice

@@ -25,7 +25,7 @@ abbrev pub event_of : Location → Option ℕ
 event_of locations.Yes = None
 event_of (locations.No event number) = Some event
 event_of (locations.Lost loss) = Some loss.event
-event_of (locations.Undecided event number doubt) = None
+event_of (locations.Undecided event number) = None
 
 -- the view that shows a whole picture
 abbrev pub whole : View
@@ -50,7 +50,7 @@ pub record IsDrawnText (choice : Choice) (view : View) (history : HistoryView) (
   pub text_is : IsSvgOf STYLE.now part text
 
 -- the text is one of what is shown of a picture of the exact verdict on the history, which is this
--- answer; the event marked as wrong is that of a location that is so of the history
+-- answer; the event marked as wrong is that of a location of the history
 pub record IsDrawing (budget : ℕ) (view : View) (history : HistoryView) (answer : Answer) (text : List ℕ) : Type 0 where
   pub verdict : Verdict
   pub location : Location
@@ -68,8 +68,8 @@ pub record IsDrawing (budget : ℕ) (view : View) (history : HistoryView) (answe
   pub text_is : IsSvgOf STYLE.now part text
   pub answer_is : answer ≡ answer_of verdict
 
--- `draw` answers the text at the budget so: with what is shown of a picture of the verdict on the
--- history where this view is asked for
+-- what `draw` answers to the text at the budget: what is shown of a picture of the verdict on the
+-- history if this view is asked for
 pub record IsViewAnswer (budget : ℕ) (view : View) (text : List ℕ) (answer : Answer) (bytes : List ℕ) : Type 0 where
   pub history : HistoryView
   pub drawing : List ℕ
@@ -81,6 +81,6 @@ pub record IsViewAnswer (budget : ℕ) (view : View) (text : List ℕ) (answer :
 abbrev pub IsDrawAnswer : ℕ → List ℕ → Answer → List ℕ → Type 0
 IsDrawAnswer budget text answer bytes = IsViewAnswer budget whole text answer bytes
 
--- or with what is shown of it where nothing is asked for
+-- or with what is shown of it if nothing is asked for
 abbrev pub IsUnaskedAnswer : ℕ → List ℕ → Answer → List ℕ → Type 0
 IsUnaskedAnswer budget text answer bytes = IsViewAnswer budget unasked text answer bytes

@@ -7,6 +7,6 @@ use Rattle.history_engines.specs.Answers.{IsHistoryRefusal}
 use Rattle.pictures.specs.declared.picture.View.{View}
 use Rattle.picture_engines.specs.Drawings.{IsViewAnswer}
 
--- the outcome of `draw` at this budget, where this view is asked for
+-- the outcome of `draw` at this budget, if this view is asked for
 abbrev pub IsDrawOutcome : ℕ → View → Change → RunOutcome → Type 0
 IsDrawOutcome budget view source outcome = IsReadOutcome (IsViewAnswer budget view) IsHistoryRefusal source outcome

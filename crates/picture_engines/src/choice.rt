@@ -10,26 +10,26 @@ ghost use Rattle.origins.specs.External.{AreExternal};
 ghost use Rattle.origins.specs.declared.missing.Missed.{Missed};
 ghost use Rattle.origins.specs.Missed.{missed_by};
 ghost use Rattle.origins.specs.Writers.{writers_of};
-ghost use Rattle.picture_engines.specs.Choices.{asks_for_nothing, places_before, places_of, places_put, places_missed};
+ghost use Rattle.picture_engines.specs.Choices.{asks_for_nothing, places_before, places_begun, places_from, places_of, places_put, places_missed};
 ghost use Rattle.picture_engines.specs.Choices.{IsChoiceOf, IsUnaskedChoice, IsChoiceAt, IsChoiceFor, IsFewChoice, IsPartChoice};
-ghost use Rattle.picture_engines.specs.Choices.{IsShownFew};
+ghost use Rattle.picture_engines.specs.Choices.{AreShown, IsShownFew};
 
 use crate::shown::Choice;
 use events::{History, MAX_CALLS, Memory, Operation};
 use explaining::{Explanation, explain_calls};
-use follower::OwnPart;
 use judge::Verdict;
-use locating::{Evidence, Location, evidence_of, told_calls};
+use locating::{Evidence, Location, evidence_of};
+use losses::{KeyLoss, Origin, OwnPart, own_losses};
 use map_object::SortedMap;
 use origins::{Missed, external_pairs, missed_by, writers_of};
 use pictures::View;
 use segments::Segment;
 use std::alloc::Global;
 
-/// What is shown of a verdict and of where the history goes wrong. Where nothing is asked for: of a
-/// no few calls that show it, with those that put what these read from outside and those that these
-/// miss; of an undecided the same of the events up to where the history goes wrong, if that was
-/// found. Else the part that is asked for.
+/// What is shown of a verdict and of where the history goes wrong. If nothing is asked for: after a
+/// no a few calls that show it, with those that put what these read from outside and those that these
+/// miss; after an undecided the same of the events up to where the history goes wrong, if that was
+/// found. Otherwise the part that is asked for.
 pub(crate) fn choice_of(
     alloc: Global,
     history: &History,
@@ -49,7 +49,7 @@ pub(crate) fn choice_of(
     }
 }
 
-/// What is shown where nothing is asked for.
+/// What is shown if nothing is asked for.
 fn unasked_choice(
     alloc: Global,
     history: &History,
@@ -106,13 +106,13 @@ fn evidence_choice(alloc: Global, history: &History, evidence: &Evidence) -> Res
 {
     match evidence {
         Evidence::OfEvents(few) => few_shown(alloc, history, history.start(), few),
-        Evidence::OfKey(part, few) => part_choice(alloc, history, part, few),
+        Evidence::OfPart(part, few) => part_choice(alloc, history, part, few),
         Evidence::Missing => Ok(Choice::Part),
     }
 }
 
-/// The calls of the history that few calls of a key are, with those that put what these read from
-/// outside, those that these miss, and the one that put the value from which they begin.
+/// A few calls of a part that goes wrong by itself, with those that put what these read from outside,
+/// those that these miss, and those that put the values of their keys before them.
 fn part_choice(
     alloc: Global,
     history: &History,
@@ -122,10 +122,30 @@ fn part_choice(
     requires { IsRising part.now.start }
     ensures { IfOk result (IsPartChoice history.now part.now few.now) }
 {
-    let told = told_calls(alloc, history.calls(), &part.events, &few.calls)?;
-    let mut places = places_of_few(alloc, history, &part.start, &told, &few.calls)?;
-    push_place(&mut places, part.put)?;
+    let mut places = places_of_few(alloc, history, &part.start, &few.calls)?;
+    let losses = own_losses(alloc, part, &few.calls)?;
+    push_begun(&mut places, &losses)?;
     Ok(Choice::Few(places))
+}
+
+/// Adds the events at which the calls are invoked that put the values of keys.
+fn push_begun(places: &mut Vec<usize>, losses: &[KeyLoss]) -> Result<(), Memory>
+    ensures { OnOk result (places.new.items ≡ places.old.items ++ places_begun losses.now) }
+{
+    for loss in losses {
+        push_from(places, &loss.from)?;
+    }
+    Ok(())
+}
+
+/// Adds those at which the calls are invoked that put the values of a key.
+fn push_from(places: &mut Vec<usize>, from: &[Origin]) -> Result<(), Memory>
+    ensures { OnOk result (places.new.items ≡ places.old.items ++ places_from from.now) }
+{
+    for origin in from {
+        push_place(places, origin.put)?;
+    }
+    Ok(())
 }
 
 /// Adds the event at which a call is invoked, if there is one.
@@ -155,46 +175,41 @@ fn few_shown(
     requires { IsRising start.now }
     ensures { IfOk result (IsShownFew history.now start.now few.now.calls.items) }
 {
-    let places = places_of_few(alloc, history, start, &few.calls, &few.calls)?;
+    let places = places_of_few(alloc, history, start, &few.calls)?;
     Ok(Choice::Few(places))
 }
 
-/// The events at which the calls of the history are invoked that few calls are which have no order
-/// from these pairs, and those of the history that put what these read from outside, or that these
-/// miss.
+/// The events at which a few calls are invoked that have no order from these pairs, and those of the
+/// history that put what these read from outside, or that these miss.
 fn places_of_few(
     alloc: Global,
     history: &History,
     start: &[(u64, u64)],
-    told: &[Operation],
     few: &[Operation],
 ) -> Result<Vec<usize>, Memory>
     requires { IsRising start.now }
-    ensures { IfOk result (λ places. (pairs : List (ℕ × ℕ)) × AreExternal start.now few.now pairs
-        × (places.items ≡ (places_of told.now ++ places_put (operations history.now.events) pairs)
-        ++ places_missed (operations history.now.events) told.now)) }
+    ensures { IfOk result (λ places. AreShown history.now start.now few.now places.items) }
 {
     let start = SortedMap::of(alloc, start)?;
-    let mut places = few_places(alloc, history, &start, told, few)?;
-    push_missed(alloc, &mut places, history.calls(), told)?;
+    let mut places = few_places(alloc, history, &start, few)?;
+    push_missed(alloc, &mut places, history.calls(), few)?;
     Ok(places)
 }
 
-/// The events at which the calls of the history are invoked that few calls are, and those of the
-/// history that put what these read from outside, where the map holds these pairs at the start.
+/// The events at which a few calls are invoked, and those of the history that put what these read
+/// from outside, if the map holds these pairs at the start.
 fn few_places(
     alloc: Global,
     history: &History,
     start: &SortedMap,
-    told: &[Operation],
     few: &[Operation],
 ) -> Result<Vec<usize>, Memory>
     ensures { IfOk result (λ places. (pairs : List (ℕ × ℕ)) × AreExternal start.now few.now pairs
-        × (places.items ≡ places_of told.now
+        × (places.items ≡ places_of few.now
         ++ places_put (operations history.now.events) pairs)) }
 {
     let pairs = external_pairs(alloc, start, few)?;
-    let mut places = places_of(alloc, told)?;
+    let mut places = places_of(alloc, few)?;
     push_puts(alloc, &mut places, history.calls(), &pairs)?;
     Ok(places)
 }

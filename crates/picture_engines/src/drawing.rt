@@ -35,11 +35,11 @@ use std::alloc::Global;
 use streams::{Sink, Source};
 
 /// Reads a history text to the end of the source, or until it is too long, has it judged, and draws
-/// the verdict; for a no or an undecided the event at which the history goes wrong is marked, where
+/// the verdict. A no or an undecided has two marks: the event at which the history goes wrong, if
 /// the judge's budget suffices to locate it, and the longest front that a search of the named
-/// segment meets. Of the picture the part that the view asks for is drawn; where it asks for
-/// nothing, of a no, or of what was located behind an undecided, few calls that show it, with those
-/// that put what they read and those that they miss. Answers the exit status, that of the verdict.
+/// segment meets. The part of the picture is drawn that the view asks for. If it asks for nothing, a
+/// few calls are drawn that show a no, or what was located after an undecided, with those that put
+/// what they read and those that they miss. Returns the exit status, that of the verdict.
 pub fn run_draw<S: Source, O: Sink, F: Sink, H: Sink, J: Judge>(
     alloc: Global,
     source: &mut S,
@@ -84,7 +84,7 @@ pub fn draw_outcome<J: Judge>(alloc: Global, text: &[u8], judge: &J, view: View)
     }
 }
 
-/// How a drawing comes out, or want of memory for it.
+/// How a drawing comes out, or that memory ran out.
 fn outcome_of(drawn: Result<(Answer, String), Memory>) -> RunOutcome
     ensures outcome { (budget : ℕ) (view : View) (text : List ℕ) (history : HistoryView)
         → IsTextOf text history

@@ -3,7 +3,7 @@
 /// What a picture shows of a history.
 #[derive(Drop)]
 pub(crate) enum Choice {
-    /// The calls are shown that were invoked at these events alone.
+    /// Only the calls are shown that were invoked at these events.
     Few(Vec<usize>),
     /// The part is shown that a view asks for.
     Part,

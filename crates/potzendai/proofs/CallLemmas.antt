@@ -1,4 +1,4 @@
--- What is told is a call's, and what its status says of the text.
+-- What a call writes is what it may write, and what its status says of the text.
 use Rattle.std.proofs.Common.{◌≡◌, ℕ, List, length, inl, refl, Some}
 use Rattle.events.specs.HistoryView.{HistoryView}
 use Rattle.events.specs.Operations.{operations}
@@ -16,7 +16,7 @@ use Rattle.explain_engines.specs.Answers.{IsExplainAnswer}
 use Rattle.potzendai.specs.Calls.{IsBudget, IsCall, status_of, text_of, written}
 use Rattle.potzendai.specs.Verdicts.{SpellsLinearizable, SpellsUnlinearizable}
 
--- an outcome is told
+-- an outcome is written
 pub IsCall-outcome : (IsOutcome : RunOutcome → Type 0) (budget : ℕ) (before after : List ℕ) (size status : ℕ) (outcome : RunOutcome)
     → IsBudget budget → IsOutcome outcome → status ≡ status_of outcome → size ≡ length (text_of outcome)
     → after ≡ written (text_of outcome) before
@@ -28,7 +28,7 @@ IsCall-outcome IsOutcome budget before after size status outcome within comes st
   room = room;
 }
 
--- what is told of a verdict with its hint is told of one without
+-- what is written of a verdict with its hint is written of one without
 pub record IsToldAs (budget : ℕ) (text : List ℕ) (outcome : RunOutcome) : Type 0 where
   pub plain : RunOutcome
   pub comes : IsTextOutcome (IsJudgeAnswer budget) IsHistoryRefusal (Some text) plain

@@ -1,4 +1,4 @@
--- What is told of a follower that C holds.
+-- What is written of the follower of a handle.
 use Rattle.std.proofs.Common.{◌≡◌, ℕ, List, [], Option, Some, None, refl, sym, ◌∙◌, append-nil}
 use Rattle.stream_engines.specs.declared.handed.LineFollower.{LineFollower}
 use Rattle.stream_engines.specs.declared.handed.LineFollower.TheVariants.{Going, Ended}
@@ -22,7 +22,7 @@ standing_no budget all (Some (Going followed lines given)) follows is = cc
 standing_no budget all (Some (Ended outcome)) follows is =
     no_has_none budget all outcome (follows (Some all) (all_begin (Some all) (lines_of all) refl)) is
 
--- the same of what is told of a follower, and of yes
+-- the same of what is written of a follower, and of yes
 pub told_yes : (budget : ℕ) (all before after : List ℕ) (size status : ℕ) → IsToldSoFar budget (lines_of all) before after size status
     → status ≡ 0 → SpellLinearizable (lines_of all)
 told_yes budget all before after size status told is =

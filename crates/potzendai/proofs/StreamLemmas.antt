@@ -8,7 +8,7 @@ use Rattle.orders.specs.Orders.{IsLinearizable}
 use Rattle.outcomes.specs.declared.outcome.Answer.TheVariants.{Yes, No, Undecided}
 use Rattle.outcomes.specs.declared.outcome.RunOutcome.{RunOutcome}
 use Rattle.outcomes.specs.declared.outcome.RunOutcome.TheVariants.{Answered, Noted, Refused, Memory, Words, Failed}
-use Rattle.follower.specs.declared.answered.Loss.{Loss}
+use Rattle.losses.specs.declared.loss.Loss.{Loss}
 use Rattle.stream_text.specs.Cuts.{lines_of}
 use Rattle.stream_engines.specs.Answers.{GoesWrongHere}
 use Rattle.stream_engines.specs.Outcomes.{IsStreamOutcome}

@@ -1,5 +1,5 @@
--- What a call of the library leaves: in the room that the caller gave, as the length of the text,
--- and as the status that is answered.
+-- What a call of the library leaves in the room that the caller gave, as the length of the text, and
+-- as the status that it returns.
 use Rattle.std.specs.Prelude.{◌≡◌, ◌⊎◌, ℕ, ◌≤◌, List, [], ◌∷◌, ◌++◌, length, take, drop, min, codes, string_bytes}
 use Rattle.search.specs.Limits.{budget_limit}
 use Rattle.outcomes.specs.declared.outcome.RunOutcome.{RunOutcome}
@@ -34,7 +34,7 @@ abbrev pub hint_of : RunOutcome → List ℕ
 hint_of (Refused bytes hint) = string_bytes hint
 hint_of outcome = []
 
--- the text of an outcome: its line, and behind that of a refusal the hint; without a note
+-- the text of an outcome, without a note: its line, and the hint after that of a refusal
 abbrev pub text_of : RunOutcome → List ℕ
 text_of outcome = line_of outcome ++ hint_of outcome
 
@@ -56,14 +56,14 @@ pub record IsToldOutcome (IsOutcome : RunOutcome → Type 0) (budget status : �
   pub status_is : status ≡ status_of outcome
   pub text_is : text ≡ text_of outcome
 
--- they tell that no search may have the budget
+-- they say that no search may have the budget
 pub record IsToldBudget (budget status : ℕ) (text : List ℕ) : Type 0 where
   pub is_none : IsBudget budget → ⊥
   pub status_is : status ≡ words_status
   pub text_is : text ≡ budget_line
 
--- a call that can have these outcomes tells one, or that the budget is none: this is the status,
--- this the length of the text, and the room was this before and is that after it
+-- a call that can have these outcomes gives one, or says that no search may have the budget: this is
+-- the status, this the length of the text, and the room was this before and is that after it
 pub record IsCall (IsOutcome : RunOutcome → Type 0) (budget : ℕ) (before after : List ℕ) (size status : ℕ) : Type 0 where
   pub text : List ℕ
   pub told : IsToldOutcome IsOutcome budget status text ⊎ IsToldBudget budget status text

@@ -1,4 +1,4 @@
--- What a call on a stream that C holds leaves there and answers.
+-- What a call on a handle leaves there, and what it returns.
 use Rattle.std.specs.Prelude.{◌≡◌, ◌⊎◌, ℕ, List, [], length, Option, None, Some, codes}
 use Rattle.outcomes.specs.declared.outcome.RunOutcome.{RunOutcome}
 use Rattle.outcomes.specs.Lines.{line}
@@ -10,7 +10,7 @@ use Rattle.stream_engines.specs.Outcomes.{IsStreamOutcome}
 use Rattle.stream_engines.specs.Reading.{AreLinesOf}
 use Rattle.potzendai.specs.Calls.{IsBudget, status_of, text_of, written}
 
--- there is a follower, to which these lines were handed over at this budget
+-- there is a follower, to which these lines were given at this budget
 abbrev pub Follows : ℕ → List (List ℕ) → Option LineFollower → Type 0
 Follows budget lines None = ⊥
 Follows budget lines (Some follower) = IsHanded budget lines follower
@@ -20,7 +20,7 @@ abbrev pub standing : LineFollower → ℕ
 standing (Going followed lines budget) = 0
 standing (Ended outcome) = status_of outcome
 
--- the same where there may be none
+-- the status of a handle, which may be closed
 abbrev pub standing_of : Option LineFollower → ℕ
 standing_of None = words_status
 standing_of (Some follower) = standing follower
@@ -31,7 +31,7 @@ pub record Begins (budget : ℕ) (follows : Option LineFollower) (status : ℕ) 
   pub no_line : Follows budget [] follows
   pub status_is : status ≡ 0
 
--- none begins: memory was wanting, or no search may have the budget
+-- none begins: memory ran out, or no search may have the budget
 pub record BeginsNone (budget : ℕ) (follows : Option LineFollower) (status : ℕ) : Type 0 where
   pub none : follows ≡ None
   pub reason : (status ≡ memory_status) ⊎ ((status ≡ words_status) × (IsBudget budget → ⊥))
@@ -39,12 +39,12 @@ pub record BeginsNone (budget : ℕ) (follows : Option LineFollower) (status : �
 abbrev pub IsOpening : ℕ → Option LineFollower → ℕ → Type 0
 IsOpening budget follows status = Begins budget follows status ⊎ BeginsNone budget follows status
 
--- the text where there is no follower
+-- the text if there is no follower
 abbrev pub closed_line : List ℕ
 closed_line = line (codes "follower: none")
 
--- what is told of a follower: an outcome, that `follow` can have for each text with the lines that
--- were handed over
+-- what is written of a follower: an outcome that `follow` can have for each text with the lines that
+-- were given
 pub record IsToldSoFar (budget : ℕ) (lines : List (List ℕ)) (before after : List ℕ) (size status : ℕ) : Type 0 where
   pub outcome : RunOutcome
   pub comes : (told : Option (List ℕ)) → AreLinesOf told lines → IsStreamOutcome budget told outcome
@@ -52,7 +52,7 @@ pub record IsToldSoFar (budget : ℕ) (lines : List (List ℕ)) (before after : 
   pub size_is : size ≡ length (text_of outcome)
   pub room : after ≡ written (text_of outcome) before
 
--- it is told that there is none
+-- it is written that there is none
 pub record IsToldClosed (before after : List ℕ) (size status : ℕ) : Type 0 where
   pub status_is : status ≡ words_status
   pub size_is : size ≡ length closed_line

@@ -1,4 +1,4 @@
--- What is owned where C holds a stream that is followed.
+-- What the handle of a stream owns.
 use Rattle.std.specs.Prelude.{◌≡◌, Bool, true, false, Option, None, Some}
 use base.Fml.{Fml, ftrue, fsep, fex}
 use denote.RawPtr.{Ptr}
@@ -16,7 +16,7 @@ heap = record { memory = record { seal = tt } }
 abbrev pub boxed : Ptr → LineFollower → Fml
 boxed place follower = box_owns (ghosts.dealloc_token heap) the_row place follower
 
--- where there is one, this is it, and it is owned; else there is none
+-- if there is one, this is it, and it is owned; otherwise there is none
 abbrev pub held : Bool → Ptr → Option LineFollower → Fml
 held true place follows = fex LineFollower (λ follower. fsep (fex (follows ≡ Some follower) (λ _. ftrue)) (boxed place follower))
 held false place follows = fex (follows ≡ None) (λ _. ftrue)

@@ -16,7 +16,7 @@ pub record SpellLinearizable (lines : List (List ℕ)) : Type 0 where
   pub well_formed : IsWellFormed stream.events
   pub linearizable : IsLinearizable stream.start (operations stream.events)
 
--- the lines begin with those of a stream whose events have no order, whatever comes behind them
+-- the lines begin with those of a stream whose events have no order, whatever comes after them
 pub record BeginUnlinearizable (lines : List (List ℕ)) : Type 0 where
   pub stream : HistoryView
   pub version : TextVersion

@@ -1,4 +1,4 @@
-// The calls on a stream whose lines are handed over as they come.
+// The calls on a stream whose lines are given as they come.
 ghost use Rattle.std.specs.Prelude.{◌≡◌, ℕ, List, ◌++◌, None};
 ghost use Rattle.potzendai.specs.Follows.{Follows, standing_of, IsOpening, IsToldSoFar, IsToldClosed};
 ghost use Rattle.potzendai.specs.Streams.{SpellLinearizable, BeginUnlinearizable};
@@ -12,9 +12,9 @@ use std::alloc::Global;
 use std::mem::replace;
 use stream_engines::LineFollower;
 
-/// Begins to follow a stream, before its first line: each answer is to be judged by searches of at
-/// most `budget` positions. What the handle held is closed first. Answers 0; or the status of want
-/// of memory, or of a budget that is none, and then the handle is closed.
+/// Begins to follow a stream, before its first line. Each answer will be judged by searches of at
+/// most `budget` configurations. If the handle is open, it is closed first. Returns 0. If memory ran
+/// out, or no search may have the budget, it returns that status, and then the handle is closed.
 #[unsafe(no_mangle)]
 pub extern "C" fn potzendai_follow_open(
     alloc: Global,
@@ -37,10 +37,10 @@ pub extern "C" fn potzendai_follow_open(
     0
 }
 
-/// Hands over the next lines of the stream: those of the text, each ended by a line feed, which the
-/// last may lack. Answers the status of the stream so far: 0 while it is followed; else that of
-/// `bench follow`, which has ended with a line handed over, and stays. A handle that is closed
-/// stays so.
+/// Takes the next lines of the stream: those of the text. A line feed ends each line, and the last may
+/// lack it. Returns the status of the stream so far: 0 while it is followed. If `bench follow` ends
+/// with one of these lines, it returns the status of that, now and later. If the handle is closed, it
+/// stays closed.
 #[unsafe(no_mangle)]
 pub extern "C" fn potzendai_follow_event(
     alloc: Global,
@@ -52,7 +52,7 @@ pub extern "C" fn potzendai_follow_event(
     ensures closed { handle.old.follows ≡ None → handle.new.follows ≡ None }
     ensures status { result ≡ standing_of handle.new.follows }
 
-    // What an answer of no says of a stream of which all lines so far were handed over.
+    // What a no says of a stream if all its lines so far were given.
     ensures no { (budget : ℕ) (all : List ℕ) → Follows budget (lines_of all) handle.new.follows
         → result ≡ 1 → BeginUnlinearizable (lines_of all) }
 {
@@ -67,8 +67,8 @@ pub extern "C" fn potzendai_follow_event(
     status
 }
 
-/// Tells what `bench follow` writes where the lines so far are all. The handle keeps its follower,
-/// so that more lines may come.
+/// Writes what `bench follow` writes if the lines so far are all. The handle stays open, so that more
+/// lines may come.
 #[unsafe(no_mangle)]
 pub extern "C" fn potzendai_follow_verdict(
     alloc: Global,
@@ -81,7 +81,7 @@ pub extern "C" fn potzendai_follow_verdict(
         → IsToldSoFar budget lines room.old room.new size.new result }
     ensures closed { handle.old.follows ≡ None → IsToldClosed room.old room.new size.new result }
 
-    // What an answer of yes or no says of a stream of which all lines so far were handed over.
+    // What a yes or a no says of a stream if all its lines so far were given.
     ensures yes { (budget : ℕ) (all : List ℕ) → Follows budget (lines_of all) handle.old.follows
         → result ≡ 0 → SpellLinearizable (lines_of all) }
     ensures no { (budget : ℕ) (all : List ℕ) → Follows budget (lines_of all) handle.old.follows
@@ -95,7 +95,7 @@ pub extern "C" fn potzendai_follow_verdict(
     status
 }
 
-/// Ends it, and gives back all memory.
+/// Closes the handle, and frees all its memory.
 #[unsafe(no_mangle)]
 pub extern "C" fn potzendai_follow_close(alloc: Global, handle: &mut PotzendaiFollower)
     ensures { handle.new.follows ≡ None }
@@ -103,7 +103,7 @@ pub extern "C" fn potzendai_follow_close(alloc: Global, handle: &mut PotzendaiFo
     drop(take(alloc, handle));
 }
 
-/// Tells what a follower comes to, were the lines so far all.
+/// Writes the outcome of a follower if the lines so far are all.
 fn tell_follower(alloc: Global, follower: &LineFollower, room: &mut [u8], size: &mut usize) -> u32
     ensures { (budget : ℕ) (lines : List (List ℕ)) → IsHanded budget lines follower.now
         → IsToldSoFar budget lines room.old room.new size.new result }

@@ -1,4 +1,4 @@
-// The calls that are exported.
+// The exported calls on a history.
 ghost use Rattle.std.specs.Prelude.{◌≡◌, Some};
 ghost use Rattle.explain_engines.specs.Answers.{IsExplainAnswer};
 ghost use Rattle.history_engines.specs.Answers.{IsHistoryRefusal, IsJudgeAnswer};
@@ -17,8 +17,8 @@ use picture_engines::{draw_outcome, whole_view};
 use std::alloc::Global;
 
 /// Judges the history that the text spells, by a search of at most `budget` configurations in each
-/// of its segments. The room is given what `bench judge` writes, with a zero byte behind it, as far
-/// as there is place, and `size` its length. Answers the exit status of `bench judge`.
+/// of its segments. Writes what `bench judge` writes into the room, and a zero byte after it, as far
+/// as there is place, and its length into `size`. Returns the exit status of `bench judge`.
 #[unsafe(no_mangle)]
 pub extern "C" fn potzendai_judge(
     alloc: Global,
@@ -30,7 +30,7 @@ pub extern "C" fn potzendai_judge(
     ensures call { IsCall (IsTextOutcome (IsJudgeAnswer budget) IsHistoryRefusal (Some text.now))
         budget room.old room.new size.new result }
 
-    // What an answer of yes or no says of the history.
+    // What a yes or a no says of the history.
     ensures yes { result ≡ 0 → SpellsLinearizable text.now }
     ensures no { result ≡ 1 → SpellsUnlinearizable text.now }
 {
@@ -43,7 +43,7 @@ pub extern "C" fn potzendai_judge(
 }
 
 /// Finds the event at which the history that the text spells goes wrong, as `bench locate` does.
-/// Else as `potzendai_judge`.
+/// The rest is as for `potzendai_judge`.
 #[unsafe(no_mangle)]
 pub extern "C" fn potzendai_locate(
     alloc: Global,
@@ -63,8 +63,8 @@ pub extern "C" fn potzendai_locate(
     }
 }
 
-/// Explains the verdict on the history that the text spells, as `bench explain` does: behind the
-/// report of a no, few calls that show it. Else as `potzendai_judge`.
+/// Explains the verdict on the history that the text spells, as `bench explain` does: after the
+/// report of a no come a few calls that show it. The rest is as for `potzendai_judge`.
 #[unsafe(no_mangle)]
 pub extern "C" fn potzendai_explain(
     alloc: Global,
@@ -76,7 +76,7 @@ pub extern "C" fn potzendai_explain(
     ensures call { IsCall (IsTextOutcome (IsExplainAnswer budget) IsHistoryRefusal (Some text.now))
         budget room.old room.new size.new result }
 
-    // What an answer of yes or no says of the history.
+    // What a yes or a no says of the history.
     ensures yes { result ≡ 0 → SpellsLinearizable text.now }
     ensures no { result ≡ 1 → SpellsUnlinearizable text.now }
 {
@@ -88,8 +88,8 @@ pub extern "C" fn potzendai_explain(
     }
 }
 
-/// Draws the verdict on the history that the text spells, as `bench draw --calls 0` does. Else as
-/// `potzendai_judge`.
+/// Draws the verdict on the history that the text spells, as `bench draw --calls 0` does. The rest is
+/// as for `potzendai_judge`.
 #[unsafe(no_mangle)]
 pub extern "C" fn potzendai_draw(
     alloc: Global,

@@ -1,4 +1,4 @@
-// What C holds of a stream that is followed.
+// The handle of a stream that is followed.
 ghost use Rattle.std.specs.Prelude.{◌≡◌, Option, None, Some, option_map};
 ghost use Rattle.stream_engines.specs.declared.handed.LineFollower.{LineFollower};
 
@@ -9,7 +9,7 @@ use std::mem::replace;
 use std::ptr::null_mut;
 use stream_engines::LineFollower;
 
-/// Where a follower lies, if there is one: then it is owned from here. Contracts see the follower.
+/// Owns a follower, if there is one, by a pointer to it. Contracts see the follower.
 #[repr(C)]
 pub struct PotzendaiFollower {
     at: *mut u8,
@@ -73,7 +73,7 @@ pub(crate) fn take(alloc: Global, handle: &mut PotzendaiFollower) -> Option<Box<
     }
 }
 
-/// Puts a follower in, and lets go of one that was there.
+/// Puts a follower in, and drops one that was there.
 pub(crate) fn put(alloc: Global, handle: &mut PotzendaiFollower, follower: Box<LineFollower>)
     ensures { handle.new.follows ≡ Some follower.value }
 {

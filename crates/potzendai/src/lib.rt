@@ -2,7 +2,7 @@
 //! goes wrong, explain or draw the verdict, show it as a page, and follow a stream's text.
 //!
 //! A call starts no thread and waits for nobody. Only a follower stays in memory between calls. It
-//! takes the lines of a stream as they come. A call writes its answer into room of the caller's.
+//! takes the lines of a stream as they come. A call writes its answer into a room of the caller.
 #![tactic(auto)]
 
 mod by_lines;

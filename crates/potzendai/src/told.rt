@@ -1,4 +1,4 @@
-// What a call tells its caller.
+// What a call gives its caller.
 ghost use Rattle.std.specs.Prelude.{◌≡◌, ◌≤◌, ◌↔◌, ◌++◌, IsTrue, length};
 ghost use Rattle.outcomes.specs.Statuses.{words_status};
 ghost use Rattle.potzendai.specs.Calls.{budget_line, hint_of, line_of, IsBudget, status_of, text_of, written};
@@ -15,8 +15,7 @@ pub(crate) fn is_budget(budget: u32) -> bool
     1 <= budget && budget <= MAX_BUDGET
 }
 
-/// Tells an outcome: its text goes into the room, its length into `size`, and its status is
-/// answered.
+/// Writes the text of an outcome into the room and its length into `size`, and returns its status.
 pub(crate) fn tell(outcome: &RunOutcome, room: &mut [u8], size: &mut usize) -> u32
     ensures status { result ≡ status_of outcome.now }
     ensures size { size.new ≡ length (text_of outcome.now) }
@@ -29,7 +28,7 @@ pub(crate) fn tell(outcome: &RunOutcome, room: &mut [u8], size: &mut usize) -> u
     u32::from(status_of(outcome))
 }
 
-/// Tells that the budget is none.
+/// Writes that no search may have the budget.
 pub(crate) fn tell_budget(room: &mut [u8], size: &mut usize) -> u32
     ensures status { result ≡ words_status }
     ensures size { size.new ≡ length budget_line }
@@ -41,7 +40,7 @@ pub(crate) fn tell_budget(room: &mut [u8], size: &mut usize) -> u32
     u32::from(WORDS)
 }
 
-/// Tells that there is no follower.
+/// Writes that the handle is closed.
 pub(crate) fn tell_closed(room: &mut [u8], size: &mut usize) -> u32
     ensures { IsToldClosed room.old room.new size.new result }
 {
@@ -97,7 +96,7 @@ fn status_of(outcome: &RunOutcome) -> u8
     }
 }
 
-/// Writes two texts as one, one behind the other.
+/// Writes two texts as one, one after the other.
 fn write_both(text: &[u8], more: &[u8], room: &mut [u8])
     ensures { room.new ≡ written (text.now ++ more.now) room.old }
 {
@@ -108,7 +107,7 @@ fn write_both(text: &[u8], more: &[u8], room: &mut [u8])
     }
 }
 
-/// Writes as much of the text as leaves place for one byte more, and a zero byte behind it.
+/// Writes as much of the text as leaves place for one byte more, and a zero byte after it.
 fn write(text: &[u8], room: &mut [u8])
     ensures { room.new ≡ written text.now room.old }
 {

@@ -1,4 +1,4 @@
--- What lines that are handed over come to.
+-- The outcomes of lines that are handed over.
 use Rattle.std.proofs.Common.{◌≡◌, ◌≢◌, ℕ, zero, suc, ◌+◌, ◌-◌, ◌<◌, ◌≤◌, ◌==◌, Bool, true, false, List, [], ◌∷◌, ◌++◌, length}
 use Rattle.std.proofs.Common.{take, drop, Option, Some, None, get_or, refl, sym, ap, ◌∙◌, subst, inr, append_assoc, append-nil, length-drop}
 use Rattle.std.proofs.Common.{arith, string_bytes}
@@ -57,7 +57,7 @@ lines_of-cut count bytes within here before =
     ∙ ap (λ (rest : List ℕ). take count bytes ∷ lines_of rest)
     (drop_one count bytes ∙ (sym (from_is 1 (drop count bytes)) ∙ ap (λ (rest : List ℕ). from 1 rest) (sym (from_is count bytes))))
 
--- and the only one of bytes that have none
+-- the only line of bytes that have no line feed
 lines_of-unfed : (byte : ℕ) (bytes : List ℕ) → HasNoLineFeed (byte ∷ bytes) → lines_of (byte ∷ bytes) ≡ (byte ∷ bytes) ∷ []
 lines_of-unfed byte [] whole = with_byte byte [] [] (All-head (λ b. b ≢ line_feed) byte [] whole) refl
 lines_of-unfed byte (next ∷ bytes) whole =
@@ -70,7 +70,7 @@ lines_of-unfed byte (next ∷ bytes) whole =
 pub handed_many : (budget given count number : ℕ) (lines : List (List ℕ)) (line : List ℕ) (f : Followed) (outcome : RunOutcome)
     → IsHanded budget lines (Going f count given) → most_lines ≤ count → number ≡ most_lines + 1 → IsManyRefusal number outcome
     → IsHanded budget (lines ++ line ∷ []) (Ended outcome)
-handed_many budget given count number lines line f outcome handed many numbers is = λ told begins. refused told outcome begins is
+handed_many budget given count number lines line f outcome handed many numbers is = λ known begins. refused known outcome begins is
   where
     counted : count ≡ length lines
     counted = handed.1
@@ -78,13 +78,13 @@ handed_many budget given count number lines line f outcome handed many numbers i
     most : length lines ≡ most_lines
     most = let top = handed.2 in omega (arith, counted, many, top)
 
-    refused : (told : Option (List ℕ)) (outcome : RunOutcome) → BeginsWith told (lines ++ line ∷ []) → IsManyRefusal number outcome
-        → IsStreamOutcome budget told outcome
-    refused told Memory begins is = tt
-    refused told (Answered answer bytes) begins is = absurd is
-    refused told (Noted answer bytes note) begins is = absurd is
-    refused told (Words bytes) begins is = absurd is
-    refused told Failed begins is = absurd is
+    refused : (known : Option (List ℕ)) (outcome : RunOutcome) → BeginsWith known (lines ++ line ∷ []) → IsManyRefusal number outcome
+        → IsStreamOutcome budget known outcome
+    refused known Memory begins is = tt
+    refused known (Answered answer bytes) begins is = absurd is
+    refused known (Noted answer bytes note) begins is = absurd is
+    refused known (Words bytes) begins is = absurd is
+    refused known Failed begins is = absurd is
     refused None (Refused bytes hint) begins is = tt
     refused (Some text) (Refused bytes hint) begins is =
         refusal_of text lines (line ∷ begins.0) f too_many_name (string_bytes bytes) (string_bytes hint) handed.3 (next_of text lines begins.0 line begins.1)

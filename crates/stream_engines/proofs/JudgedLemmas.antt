@@ -1,28 +1,25 @@
--- What an answer that was judged comes to, and the end of the lines.
+-- The outcomes of an answer that was judged, and of the end of the lines.
 use Rattle.std.proofs.Common.{◌≡◌, ℕ, List, [], ◌∷◌, ◌++◌, length, Option, Some, None, refl, sym, subst, string_bytes}
-use Rattle.serde_json.specs.Written.{compact_text}
 use Rattle.events.specs.declared.event.Reply.{Reply}
 use Rattle.events.specs.declared.event.Event.TheVariants.{Answer}
 use Rattle.events.specs.Operations.{operations}
 use Rattle.stream_text.specs.Cuts.{lines_of}
 use Rattle.stream_text.specs.Lines.{SpellsEvent}
-use Rattle.follower.specs.declared.answered.Doubt.{Doubt}
-use Rattle.follower.specs.declared.answered.Loss.{Loss}
-use Rattle.follower.specs.WindowOutcomes.{IsLost}
+use Rattle.losses.specs.declared.loss.Loss.{Loss}
+use Rattle.monitor.specs.Outcomes.{IsLost, IsSpent}
 use Rattle.outcomes.specs.declared.outcome.Answer as answers
-use Rattle.outcomes.specs.declared.outcome.Answer.TheVariants.{Yes, Undecided}
+use Rattle.outcomes.specs.declared.outcome.Answer.TheVariants.{Yes, No, Undecided}
 use Rattle.outcomes.specs.declared.outcome.RunOutcome.{RunOutcome}
 use Rattle.outcomes.specs.declared.outcome.RunOutcome.TheVariants.{Answered, Noted, Refused, Memory, Words, Failed}
-use Rattle.outcomes.specs.Lines.{line}
 use Rattle.stream_engines.specs.declared.followed.Followed.{Followed}
 use Rattle.stream_engines.specs.Followed.{IsFollowed}
 use Rattle.stream_engines.specs.StreamTexts.{SpellStream, BeginsWith}
 use Rattle.answer_hints.specs.Overlaps.{overlap_of}
-use Rattle.stream_engines.specs.Reports.{yes_line, spent_data}
+use Rattle.stream_engines.specs.Reports.{yes_line}
 use Rattle.answer_hints.specs.Hints.{yes_hint}
 use Rattle.stream_engines.specs.Reading.{AreLinesOf}
-use Rattle.stream_engines.specs.Leaves.{IsAnsweredBy, IsYesOutcome, IsLostOutcome}
-use Rattle.stream_engines.specs.Answers.{IsWholeAnswer, Judgement, IsJudgedAnswer, IsSpentBy, IsFollowAnswer}
+use Rattle.stream_engines.specs.Leaves.{IsAnsweredWith, IsYesOutcome, IsLostOutcome, IsSpentOutcome}
+use Rattle.stream_engines.specs.Answers.{IsWholeAnswer, Judgement, IsJudgedAnswer, IsLostText, IsSpentText, IsFollowAnswer}
 use Rattle.stream_engines.specs.Outcomes.{IsStreamOutcome}
 use Rattle.stream_engines.proofs.RefusalLemmas.{next_of}
 
@@ -47,47 +44,48 @@ judged_of text read rest next f process reply IsWhat followed spelled parts judg
   judged = judged;
 }
 
-pub lost_at : (budget : ℕ) (told : Option (List ℕ)) (read : List (List ℕ)) (next : List ℕ) (f : Followed) (process : ℕ)
+-- this answer with such bytes, to any text that begins with these lines
+answered_with : (budget : ℕ) (known : Option (List ℕ)) (lines : List (List ℕ)) (answer : answers.Answer) (IsText : List ℕ → Type 0)
+    (outcome : RunOutcome) → BeginsWith known lines → IsAnsweredWith answer IsText outcome
+    → ((text bytes : List ℕ) → BeginsWith (Some text) lines → IsText bytes → IsFollowAnswer budget text answer bytes [])
+    → IsStreamOutcome budget known outcome
+answered_with budget known lines answer IsText Memory begins is made = tt
+answered_with budget known lines answer IsText (Refused bytes hint) begins is made = absurd is
+answered_with budget known lines answer IsText (Noted given bytes note) begins is made = absurd is
+answered_with budget known lines answer IsText (Words bytes) begins is made = absurd is
+answered_with budget known lines answer IsText Failed begins is made = absurd is
+answered_with budget None lines answer IsText (Answered given bytes) begins is made = tt
+answered_with budget (Some text) lines answer IsText (Answered given bytes) begins is made =
+    subst (λ (a : answers.Answer). IsFollowAnswer budget text a (string_bytes bytes) []) (sym is.0)
+    (made text (string_bytes bytes) begins is.1)
+
+pub lost_at : (budget : ℕ) (known : Option (List ℕ)) (read : List (List ℕ)) (next : List ℕ) (f : Followed) (process : ℕ)
     (reply : Reply) (loss : Loss) (outcome : RunOutcome) (followed : IsFollowed read f) → SpellsEvent f.version next (Answer process reply)
-    → BeginsWith told (read ++ next ∷ [])
+    → BeginsWith known (read ++ next ∷ [])
     → IsLost followed.stream.start followed.stream.events process reply loss
-    → IsLostOutcome loss outcome → IsStreamOutcome budget told outcome
-lost_at budget told read next f process reply loss Memory followed spelled begins judged is = tt
-lost_at budget told read next f process reply loss (Refused bytes hint) followed spelled begins judged is = absurd is
-lost_at budget told read next f process reply loss (Noted answer bytes note) followed spelled begins judged is = absurd is
-lost_at budget told read next f process reply loss (Words bytes) followed spelled begins judged is = absurd is
-lost_at budget told read next f process reply loss Failed followed spelled begins judged is = absurd is
-lost_at budget None read next f process reply loss (Answered answer bytes) followed spelled begins judged is = tt
-lost_at budget (Some text) read next f process reply loss (Answered answer bytes) followed spelled begins judged is =
-    subst (λ (a : answers.Answer). IsFollowAnswer budget text a (string_bytes bytes) []) (sym is.0) (
+    → IsLostOutcome loss outcome → IsStreamOutcome budget known outcome
+lost_at budget known read next f process reply loss outcome followed spelled begins judged is =
+    answered_with budget known (read ++ next ∷ []) No (IsLostText loss) outcome begins is (λ text bytes begins is. (
       loss,
       judged_of text read begins.0 next f process reply (λ start events process reply. IsLost start events process reply loss)
           followed spelled begins.1 judged,
-      is.1,
+      is,
       refl,
-    )
+    ))
 
-pub spent_at : (budget : ℕ) (told : Option (List ℕ)) (read : List (List ℕ)) (next : List ℕ) (f : Followed) (process : ℕ)
-    (reply : Reply) (event number : ℕ) (doubt : Doubt) (outcome : RunOutcome) (followed : IsFollowed read f)
-    → SpellsEvent f.version next (Answer process reply) → BeginsWith told (read ++ next ∷ [])
-    → IsSpentBy followed.stream.start followed.stream.events process reply budget event number doubt
-    → IsAnsweredBy Undecided (line (compact_text (spent_data event number doubt))) outcome → IsStreamOutcome budget told outcome
-spent_at budget told read next f process reply event number doubt Memory followed spelled begins judged is = tt
-spent_at budget told read next f process reply event number doubt (Refused bytes hint) followed spelled begins judged is = absurd is
-spent_at budget told read next f process reply event number doubt (Noted answer bytes note) followed spelled begins judged is = absurd is
-spent_at budget told read next f process reply event number doubt (Words bytes) followed spelled begins judged is = absurd is
-spent_at budget told read next f process reply event number doubt Failed followed spelled begins judged is = absurd is
-spent_at budget None read next f process reply event number doubt (Answered answer bytes) followed spelled begins judged is = tt
-spent_at budget (Some text) read next f process reply event number doubt (Answered answer bytes) followed spelled begins judged is =
-    subst (λ (a : answers.Answer). IsFollowAnswer budget text a (string_bytes bytes) []) (sym is.0) (
-      event,
-      number,
-      doubt,
-      judged_of text read begins.0 next f process reply
-          (λ start events process reply. IsSpentBy start events process reply budget event number doubt) followed spelled begins.1 judged,
-      is.1,
+pub spent_at : (budget : ℕ) (known : Option (List ℕ)) (read : List (List ℕ)) (next : List ℕ) (f : Followed) (process : ℕ)
+    (reply : Reply) (loss : Loss) (outcome : RunOutcome) (followed : IsFollowed read f)
+    → SpellsEvent f.version next (Answer process reply) → BeginsWith known (read ++ next ∷ [])
+    → IsSpent followed.stream.start followed.stream.events process reply budget loss
+    → IsSpentOutcome loss outcome → IsStreamOutcome budget known outcome
+spent_at budget known read next f process reply loss outcome followed spelled begins judged is =
+    answered_with budget known (read ++ next ∷ []) Undecided (IsSpentText loss) outcome begins is (λ text bytes begins is. (
+      loss,
+      judged_of text read begins.0 next f process reply (λ start events process reply. IsSpent start events process reply budget loss)
+          followed spelled begins.1 judged,
+      is,
       refl,
-    )
+    ))
 
 -- what is said of a yes, by its calls and how much they overlap
 abbrev IsSaid : ℕ → ℕ → List ℕ → List ℕ → Type 0
@@ -118,13 +116,13 @@ yes_of budget text read f calls overlap answer bytes note followed lines count m
     (subst (λ (n : ℕ). IsSaid (length (operations followed.stream.events)) n bytes note) many
     (subst (λ (n : ℕ). IsSaid n overlap bytes note) count is)))
 
-pub whole_at : (budget : ℕ) (told : Option (List ℕ)) (read : List (List ℕ)) (f : Followed) (calls overlap : ℕ) (outcome : RunOutcome)
-    (followed : IsFollowed read f) → AreLinesOf told read → calls ≡ length (operations followed.stream.events)
-    → overlap ≡ overlap_of followed.stream.events → IsYesOutcome calls overlap outcome → IsStreamOutcome budget told outcome
-whole_at budget told read f calls overlap Memory followed lines count many is = tt
-whole_at budget told read f calls overlap (Refused bytes hint) followed lines count many is = absurd is
-whole_at budget told read f calls overlap (Words bytes) followed lines count many is = absurd is
-whole_at budget told read f calls overlap Failed followed lines count many is = absurd is
+pub whole_at : (budget : ℕ) (known : Option (List ℕ)) (read : List (List ℕ)) (f : Followed) (calls overlap : ℕ) (outcome : RunOutcome)
+    (followed : IsFollowed read f) → AreLinesOf known read → calls ≡ length (operations followed.stream.events)
+    → overlap ≡ overlap_of followed.stream.events → IsYesOutcome calls overlap outcome → IsStreamOutcome budget known outcome
+whole_at budget known read f calls overlap Memory followed lines count many is = tt
+whole_at budget known read f calls overlap (Refused bytes hint) followed lines count many is = absurd is
+whole_at budget known read f calls overlap (Words bytes) followed lines count many is = absurd is
+whole_at budget known read f calls overlap Failed followed lines count many is = absurd is
 whole_at budget None read f calls overlap (Answered answer bytes) followed lines count many is = tt
 whole_at budget None read f calls overlap (Noted answer bytes note) followed lines count many is = tt
 whole_at budget (Some text) read f calls overlap (Answered answer bytes) followed lines count many is =

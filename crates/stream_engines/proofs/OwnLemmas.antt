@@ -1,34 +1,45 @@
 -- What goes wrong by itself has no order.
-use Rattle.std.proofs.Common.{ℕ, List, [], ◌∷◌, Option, All, Any}
-use Rattle.std.proofs.lemmas.List.Elements.{All-head}
-use Rattle.std.proofs.lemmas.List.Quantifiers.{Any-push}
+use Rattle.std.proofs.Common.{◌≡◌, ℕ, List, [], ◌∷◌, length, map, All, ap, arith}
+use Rattle.std.proofs.lemmas.List.Elements.{All-nil, All-cons, All-head, All-tail}
 use Rattle.std.specs.Prelude.{IfSome}
+use Rattle.events.specs.declared.event.Event.{Event}
+use Rattle.events.specs.declared.event.Reply.{Reply}
+use Rattle.map_object.specs.MapObject.{Contents}
 use Rattle.orders.specs.Orders.{IsLinearizable}
-use Rattle.following.specs.keys.KeyStates.{Configuration}
-use Rattle.kept_rows.specs.Judging.{HasOrderFrom}
-use Rattle.kept_rows.specs.Views.{KeptView}
-use Rattle.kept_rows.specs.Outcomes.{HasNoOrder}
-use Rattle.kept_rows.specs.KeyLoss.{KeyLoss}
-use Rattle.follower.specs.OwnParts.{OwnPart, part_from, part_of, part_at}
+use Rattle.part_cuts.specs.PartCuts.{kept_of}
+use Rattle.part_cuts.specs.declared.past.Past.{Past}
+use Rattle.part_pasts.specs.Pasts.{IsDead}
+use Rattle.parts.specs.Keeping.{pasts_of}
+use Rattle.losses.specs.declared.loss.Loss.{Loss}
+use Rattle.losses.specs.declared.puts.Put.{Put}
+use Rattle.losses.specs.OwnParts.{OwnPart, part_of}
+use Rattle.monitor.specs.Calls.{MayReply}
+use Rattle.monitor.specs.Outcomes.{IsLost}
 
 abbrev pub IsRefuted : OwnPart → Type 0
 IsRefuted part = IsLinearizable part.start part.calls → ⊥
 
-from_values : (key : ℕ) (kept : KeptView) (c : Configuration) (values : List (Option ℕ)) → (Any (HasOrderFrom key kept c) values → ⊥)
-    → IfSome (part_from key kept c values) IsRefuted
-from_values key kept c [] none = tt
-from_values key kept c (value ∷ []) none = λ order. none (Any-push (HasOrderFrom key kept c) [] value order)
-from_values key kept c (value ∷ other ∷ values) none = tt
+-- if the only past is dead, its calls have no order
+pub own_refuted : (puts : List Put) (pasts : List Past) → All IsDead (map kept_of pasts) → IfSome (part_of puts pasts) IsRefuted
+own_refuted puts [] dead = tt
+own_refuted puts (past ∷ []) dead = All-head IsDead (kept_of past) [] dead
+own_refuted puts (past ∷ other ∷ pasts) dead = tt
 
-of_configurations : (key : ℕ) (kept : KeptView) (cs : List Configuration) → (Any (λ c. Any (HasOrderFrom key kept c) c.values) cs → ⊥)
-    → IfSome (part_of key kept cs) IsRefuted
-of_configurations key kept [] none = tt
-of_configurations key kept (c ∷ []) none =
-    from_values key kept c c.values (λ some. none (Any-push (λ (c : Configuration). Any (HasOrderFrom key kept c) c.values) [] c some))
-of_configurations key kept (c ∷ other ∷ cs) none = tt
+some_past : (past : Past) (pasts : List Past) → past ∷ pasts ≡ [] → ⊥
+some_past past pasts none = let size = ap (length {A = Past}) none in omega arith
 
--- no key has an order, so what goes wrong at the only one has none
-pub own_refuted : (keys : List KeyLoss) → All HasNoOrder keys → IfSome (part_at keys) IsRefuted
-own_refuted [] none = tt
-own_refuted (at ∷ []) none = of_configurations at.key at.kept at.kept.configurations (All-head HasNoOrder at [] none)
-own_refuted (at ∷ other ∷ keys) none = tt
+-- pasts are dead if they are so by some fact, and there are none if it is false
+dead_by : (Fact : Type 0) (pasts : List Past) → (Fact → All IsDead (map kept_of pasts)) → ((Fact → ⊥) → pasts ≡ [])
+    → All IsDead (map kept_of pasts)
+dead_by Fact [] dead none = All-nil IsDead
+dead_by Fact (past ∷ pasts) dead none =
+    All-cons IsDead (kept_of past) (map kept_of pasts)
+    (λ order. some_past past pasts (none (λ fact. All-head IsDead (kept_of past) (map kept_of pasts) (dead fact) order)))
+    (dead_by Fact pasts (λ fact. All-tail IsDead (kept_of past) (map kept_of pasts) (dead fact))
+    (λ wrong. absurd (some_past past pasts (none wrong))))
+
+-- if the events go wrong, no past of the part has an order
+pub lost_dead : (start : Contents) (events : List Event) (process : ℕ) (reply : Reply) (loss : Loss) → IsLost start events process reply loss
+    → All IsDead (pasts_of loss.part)
+lost_dead start events process reply loss lost =
+    dead_by (MayReply loss.call reply) loss.part.pasts.items (λ may. (lost.part may).1) lost.none

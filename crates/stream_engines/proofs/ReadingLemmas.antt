@@ -32,23 +32,23 @@ more_of law text lines rest line (Some more) is taken = (
       (lines_of more))),
 )
 
-pub HasRead-more : TakesFirstLine → (told : Option (List ℕ)) (lines : List (List ℕ)) (old new : Option (List ℕ)) (line : List ℕ)
-    → HasRead told lines old
-    → TakesLine old line new → HasRead told (lines ++ line ∷ []) new
+pub HasRead-more : TakesFirstLine → (known : Option (List ℕ)) (lines : List (List ℕ)) (old new : Option (List ℕ)) (line : List ℕ)
+    → HasRead known lines old
+    → TakesLine old line new → HasRead known (lines ++ line ∷ []) new
 HasRead-more law None lines old new line read taken = tt
 HasRead-more law (Some text) lines old new line read taken =
     more_of law text lines read.0 line new read.2 (subst (λ (o : Option (List ℕ)). TakesLine o line new) read.1 taken)
 
 -- the lines read are the first ones
-pub BeginsWith-read : (told : Option (List ℕ)) (lines : List (List ℕ)) (new : Option (List ℕ)) → HasRead told lines new
-    → BeginsWith told lines
+pub BeginsWith-read : (known : Option (List ℕ)) (lines : List (List ℕ)) (new : Option (List ℕ)) → HasRead known lines new
+    → BeginsWith known lines
 BeginsWith-read None lines new read = tt
 BeginsWith-read (Some text) lines new read = (lines_of read.0, read.2)
 
--- and all, where nothing is to come
-pub AreLinesOf-end : (told : Option (List ℕ)) (lines : List (List ℕ)) (old new : Option (List ℕ)) (line : List ℕ) → HasRead told lines old
+-- the lines read are all of them, if nothing is to come
+pub AreLinesOf-end : (known : Option (List ℕ)) (lines : List (List ℕ)) (old new : Option (List ℕ)) (line : List ℕ) → HasRead known lines old
     → FindsEnd old line new
-    → AreLinesOf told lines
+    → AreLinesOf known lines
 AreLinesOf-end None lines old new line read end = tt
 AreLinesOf-end (Some text) lines old new line read end =
     let none : read.0 ≡ [] = subst IsAtEnd read.1 end.before in
@@ -134,15 +134,15 @@ long_hint : (read : List (List ℕ)) (next hint : List ℕ) → hint ≡ line_fa
 long_hint [] next hint is = is
 long_hint (line ∷ read) next hint is = is
 
-pub long_at : (budget : ℕ) (told : Option (List ℕ)) (read : List (List ℕ)) (f : Followed) (number : ℕ) (old : Option (List ℕ))
+pub long_at : (budget : ℕ) (known : Option (List ℕ)) (read : List (List ℕ)) (f : Followed) (number : ℕ) (old : Option (List ℕ))
     (outcome : RunOutcome) → IsFollowed read f
-    → length read + 1 ≡ number → HasRead told read old → BeginsTooLong old → IsLineRefusal number [] faults.TooLong outcome
-    → IsStreamOutcome budget told outcome
-long_at budget told read f number old Memory followed count has long is = tt
-long_at budget told read f number old (Answered answer bytes) followed count has long is = absurd is
-long_at budget told read f number old (Noted answer bytes note) followed count has long is = absurd is
-long_at budget told read f number old (Words bytes) followed count has long is = absurd is
-long_at budget told read f number old Failed followed count has long is = absurd is
+    → length read + 1 ≡ number → HasRead known read old → BeginsTooLong old → IsLineRefusal number [] faults.TooLong outcome
+    → IsStreamOutcome budget known outcome
+long_at budget known read f number old Memory followed count has long is = tt
+long_at budget known read f number old (Answered answer bytes) followed count has long is = absurd is
+long_at budget known read f number old (Noted answer bytes note) followed count has long is = absurd is
+long_at budget known read f number old (Words bytes) followed count has long is = absurd is
+long_at budget known read f number old Failed followed count has long is = absurd is
 long_at budget None read f number old (Refused bytes hint) followed count has long is = tt
 long_at budget (Some text) read f number old (Refused bytes hint) followed count has long is =
     let begins = too_long has.0 (subst BeginsTooLong has.1 long) in
@@ -162,15 +162,15 @@ long_at budget (Some text) read f number old (Refused bytes hint) followed count
 
 -- ---- too many lines
 
-pub many_at : (budget : ℕ) (told : Option (List ℕ)) (read : List (List ℕ)) (f : Followed) (number : ℕ) (new : Option (List ℕ))
+pub many_at : (budget : ℕ) (known : Option (List ℕ)) (read : List (List ℕ)) (f : Followed) (number : ℕ) (new : Option (List ℕ))
     (outcome : RunOutcome) → IsFollowed read f
-    → length read ≡ most_lines → length read + 1 ≡ number → HasRead told read new → IsManyRefusal number outcome
-    → IsStreamOutcome budget told outcome
-many_at budget told read f number new Memory followed many count has is = tt
-many_at budget told read f number new (Answered answer bytes) followed many count has is = absurd is
-many_at budget told read f number new (Noted answer bytes note) followed many count has is = absurd is
-many_at budget told read f number new (Words bytes) followed many count has is = absurd is
-many_at budget told read f number new Failed followed many count has is = absurd is
+    → length read ≡ most_lines → length read + 1 ≡ number → HasRead known read new → IsManyRefusal number outcome
+    → IsStreamOutcome budget known outcome
+many_at budget known read f number new Memory followed many count has is = tt
+many_at budget known read f number new (Answered answer bytes) followed many count has is = absurd is
+many_at budget known read f number new (Noted answer bytes note) followed many count has is = absurd is
+many_at budget known read f number new (Words bytes) followed many count has is = absurd is
+many_at budget known read f number new Failed followed many count has is = absurd is
 many_at budget None read f number new (Refused bytes hint) followed many count has is = tt
 many_at budget (Some text) read f number new (Refused bytes hint) followed many count has is =
     refusal_of text read (lines_of has.0) f too_many_name (string_bytes bytes) (string_bytes hint) followed has.2
@@ -179,19 +179,19 @@ many_at budget (Some text) read f number new (Refused bytes hint) followed many 
 
 -- ---- the next line was taken, or was not
 
-pub went_on : (told : Option (List ℕ)) (read : List (List ℕ)) (line : List ℕ) (new : Option (List ℕ)) (r : Result Followed RunOutcome)
-    → HasRead told (read ++ line ∷ []) new → IfOk r (IsFollowed (read ++ line ∷ []))
-    → IfOk r (λ f. (line : List ℕ) × IsFollowed (read ++ line ∷ []) f × HasRead told (read ++ line ∷ []) new)
-went_on told read line new (Ok f) has followed = (line, followed, has)
-went_on told read line new (Err outcome) has followed = tt
+pub went_on : (known : Option (List ℕ)) (read : List (List ℕ)) (line : List ℕ) (new : Option (List ℕ)) (r : Result Followed RunOutcome)
+    → HasRead known (read ++ line ∷ []) new → IfOk r (IsFollowed (read ++ line ∷ []))
+    → IfOk r (λ f. (line : List ℕ) × IsFollowed (read ++ line ∷ []) f × HasRead known (read ++ line ∷ []) new)
+went_on known read line new (Ok f) has followed = (line, followed, has)
+went_on known read line new (Err outcome) has followed = tt
 
-pub came_out : (budget : ℕ) (told : Option (List ℕ)) (before after : ℕ) (new : Option (List ℕ))
+pub came_out : (budget : ℕ) (known : Option (List ℕ)) (before after : ℕ) (new : Option (List ℕ))
     (r : Result Followed RunOutcome) → after ≡ before
-    → IfErr r (IsStreamOutcome budget told)
+    → IfErr r (IsStreamOutcome budget known)
     → IfErr r (IsFollowOutcome budget (record {
-      old = record { bytes = told; failures = before };
+      old = record { bytes = known; failures = before };
       new = record
           { bytes = new; failures = after };
     }))
-came_out budget told before after new (Ok f) sound stopped = tt
-came_out budget told before after new (Err outcome) sound stopped = inr (sound, stopped)
+came_out budget known before after new (Ok f) sound stopped = tt
+came_out budget known before after new (Err outcome) sound stopped = inr (sound, stopped)

@@ -1,5 +1,5 @@
--- What a refused line comes to.
-use Rattle.follower.specs.declared.fault.FollowFault.TheVariants as turns
+-- The outcome of a line that is refused.
+use Rattle.monitor.specs.declared.fault.FollowFault.TheVariants as turns
 use Rattle.std.proofs.Common.{◌≡◌, ◌≢◌, ℕ, ◌+◌, ◌<◌, List, [], ◌∷◌, ◌++◌, length, Option, Some, None, refl, sym, ap, ◌∙◌}
 use Rattle.std.proofs.Common.{inl, inr, append_assoc, arith, string_bytes}
 use Rattle.events.specs.declared.event.Event.{Event}
@@ -8,8 +8,8 @@ use Rattle.stream_text.specs.declared.line_fault.LineFault.{LineFault}
 use Rattle.stream_text.specs.Cuts.{lines_of}
 use Rattle.stream_text.specs.Lines.{SpellsEvent}
 use Rattle.stream_text.specs.LineFaults.{IsEventLineFault}
-use Rattle.follower.specs.declared.fault.FollowFault.{FollowFault}
-use Rattle.follower.specs.Faults.{shown}
+use Rattle.monitor.specs.declared.fault.FollowFault.{FollowFault}
+use Rattle.monitor.specs.Faults.{shown}
 use Rattle.outcomes.specs.declared.outcome.RunOutcome.{RunOutcome}
 use Rattle.outcomes.specs.declared.outcome.RunOutcome.TheVariants.{Answered, Noted, Refused, Memory, Words, Failed}
 use Rattle.stream_engines.specs.declared.followed.Followed.{Followed}
@@ -21,7 +21,7 @@ use Rattle.stream_engines.specs.Answers.{IsStreamRefusal}
 use Rattle.stream_engines.specs.Leaves.{IsLineRefusal, IsRefusalAfter, IsTurnRefusal}
 use Rattle.stream_engines.specs.Outcomes.{IsStreamOutcome}
 
--- a text that begins with lines that are followed, and stops behind them
+-- a text begins with lines that are followed, and stops after them
 pub refusal_of : (text : List ℕ) (read more : List (List ℕ)) (f : Followed) (name bytes hint : List ℕ) (followed : IsFollowed read f)
     → lines_of text ≡ read ++ more
     → StopsFor read f.version followed.stream.events more name hint → bytes ≡ stream_fault_line (length read + 1) name
@@ -40,7 +40,7 @@ refusal_of text read more f name bytes hint followed parts stops is = record {
   bytes_are = is;
 }
 
--- the line behind some, and those behind it
+-- the line after some, and those after it
 pub next_of : (text : List ℕ) (read rest : List (List ℕ)) (line : List ℕ) → lines_of text ≡ (read ++ line ∷ []) ++ rest
     → lines_of text ≡ read ++ line ∷ rest
 next_of text read rest line h = h ∙ append_assoc read (line ∷ []) rest
@@ -50,15 +50,15 @@ pub numbered : (count number : ℕ) (name bytes : List ℕ) → count ≡ number
 numbered count number name bytes same is = is ∙ ap (λ (n : ℕ). stream_fault_line n name) (sym same)
 
 -- the next line has a fault
-pub refused_at : (budget : ℕ) (told : Option (List ℕ)) (read : List (List ℕ)) (line : List ℕ) (f : Followed) (number : ℕ)
+pub refused_at : (budget : ℕ) (known : Option (List ℕ)) (read : List (List ℕ)) (line : List ℕ) (f : Followed) (number : ℕ)
     (fault : LineFault) (outcome : RunOutcome)
-    → IsFollowed read f → length read + 1 ≡ number → IsLineFaultAfter read f.version line fault → BeginsWith told (read ++ line ∷ [])
-    → IsRefusalAfter read number line fault outcome → IsStreamOutcome budget told outcome
-refused_at budget told read line f number fault Memory followed count wrong begins is = tt
-refused_at budget told read line f number fault (Answered answer bytes) followed count wrong begins is = absurd is
-refused_at budget told read line f number fault (Noted answer bytes note) followed count wrong begins is = absurd is
-refused_at budget told read line f number fault (Words bytes) followed count wrong begins is = absurd is
-refused_at budget told read line f number fault Failed followed count wrong begins is = absurd is
+    → IsFollowed read f → length read + 1 ≡ number → IsLineFaultAfter read f.version line fault → BeginsWith known (read ++ line ∷ [])
+    → IsRefusalAfter read number line fault outcome → IsStreamOutcome budget known outcome
+refused_at budget known read line f number fault Memory followed count wrong begins is = tt
+refused_at budget known read line f number fault (Answered answer bytes) followed count wrong begins is = absurd is
+refused_at budget known read line f number fault (Noted answer bytes note) followed count wrong begins is = absurd is
+refused_at budget known read line f number fault (Words bytes) followed count wrong begins is = absurd is
+refused_at budget known read line f number fault Failed followed count wrong begins is = absurd is
 refused_at budget None read line f number fault (Refused bytes hint) followed count wrong begins is = tt
 refused_at budget (Some text) read line f number fault (Refused bytes hint) followed count wrong begins is =
     refusal_of text read (line ∷ begins.0) f (line_fault_name fault) (string_bytes bytes) (string_bytes hint) followed
@@ -74,17 +74,17 @@ refused_at budget (Some text) read line f number fault (Refused bytes hint) foll
       hint_is = is.2;
     })) (numbered (length read + 1) number (line_fault_name fault) (string_bytes bytes) count is.1)
 
--- the event of the next line is out of its turn
-pub refused_turn : (budget : ℕ) (told : Option (List ℕ)) (read : List (List ℕ)) (line : List ℕ) (f : Followed) (number : ℕ) (e : Event)
+-- the event of the next line is out of turn
+pub refused_turn : (budget : ℕ) (known : Option (List ℕ)) (read : List (List ℕ)) (line : List ℕ) (f : Followed) (number : ℕ) (e : Event)
     (fault : FollowFault)
     (outcome : RunOutcome) (followed : IsFollowed read f) → length read + 1 ≡ number → SpellsEvent f.version line e
     → (fault ≢ turns.Memory → turn_fault followed.stream.events e ≡ Some fault)
-    → BeginsWith told (read ++ line ∷ []) → IsTurnRefusal number line fault outcome → IsStreamOutcome budget told outcome
-refused_turn budget told read line f number e fault Memory followed count spelled wrong begins is = tt
-refused_turn budget told read line f number e fault (Answered answer bytes) followed count spelled wrong begins is = absurd is
-refused_turn budget told read line f number e fault (Noted answer bytes note) followed count spelled wrong begins is = absurd is
-refused_turn budget told read line f number e fault (Words bytes) followed count spelled wrong begins is = absurd is
-refused_turn budget told read line f number e fault Failed followed count spelled wrong begins is = absurd is
+    → BeginsWith known (read ++ line ∷ []) → IsTurnRefusal number line fault outcome → IsStreamOutcome budget known outcome
+refused_turn budget known read line f number e fault Memory followed count spelled wrong begins is = tt
+refused_turn budget known read line f number e fault (Answered answer bytes) followed count spelled wrong begins is = absurd is
+refused_turn budget known read line f number e fault (Noted answer bytes note) followed count spelled wrong begins is = absurd is
+refused_turn budget known read line f number e fault (Words bytes) followed count spelled wrong begins is = absurd is
+refused_turn budget known read line f number e fault Failed followed count spelled wrong begins is = absurd is
 refused_turn budget None read line f number e fault (Refused bytes hint) followed count spelled wrong begins is = tt
 refused_turn budget (Some text) read line f number e fault (Refused bytes hint) followed count spelled wrong begins is =
     refusal_of text read (line ∷ begins.0) f (turn_fault_name fault) (string_bytes bytes) (string_bytes hint) followed
@@ -101,7 +101,7 @@ refused_turn budget (Some text) read line f number e fault (Refused bytes hint) 
       hint_is = is.2;
     }))) (numbered (length read + 1) number (turn_fault_name fault) (string_bytes bytes) count is.1)
 
--- what an error shows of an event, unless memory was wanting
+-- what an error shows of an event, unless memory ran out
 pub shown_some : (fault : FollowFault) (seen : Option FollowFault) → seen ≡ shown fault → fault ≢ turns.Memory → seen ≡ Some fault
 shown_some turns.Shape seen is other = is
 shown_some turns.NotWellFormed seen is other = is

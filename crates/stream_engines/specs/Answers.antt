@@ -1,5 +1,5 @@
 -- What the program answers to the lines of a stream.
-use Rattle.std.specs.Prelude.{◌≡◌, ◌⊎◌, ℕ, ◌+◌, ◌<◌, List, [], ◌∷◌, ◌++◌, length, MatchOption}
+use Rattle.std.specs.Prelude.{◌≡◌, ◌⊎◌, ℕ, ◌+◌, ◌<◌, List, [], ◌∷◌, ◌++◌, length, Some, MatchOption}
 use Rattle.serde_json.specs.Written.{compact_text}
 use Rattle.events.specs.HistoryView.{HistoryView}
 use Rattle.events.specs.declared.event.Reply.{Reply}
@@ -15,11 +15,12 @@ use Rattle.history_text.specs.Limits.{text_limit}
 use Rattle.small_histories.specs.SmallHistories.{AreOfNoHistory, IsSmallHistory, IsWrittenAs, text_of}
 use Rattle.stream_text.specs.Cuts.{lines_of}
 use Rattle.stream_text.specs.Lines.{SpellsEvent}
-use Rattle.follower.specs.declared.answered.Doubt.{Doubt}
-use Rattle.follower.specs.declared.answered.Loss.{Loss}
-use Rattle.follower.specs.Followed.{IsFollowed}
-use Rattle.follower.specs.WindowOutcomes.{IsLost, IsSpent, IsDoubtOfOne}
-use Rattle.follower.specs.WindowsView.{WindowsView}
+use Rattle.parts.specs.Keeping.{pasts_of}
+use Rattle.losses.specs.declared.lost_keys.KeyLoss.{KeyLoss}
+use Rattle.losses.specs.declared.loss.Loss.{Loss}
+use Rattle.losses.specs.KeyLosses.{AreKeyLosses}
+use Rattle.losses.specs.OwnParts.{own_part}
+use Rattle.monitor.specs.Outcomes.{IsLost, IsSpent}
 use Rattle.outcomes.specs.declared.outcome.Answer as outcomes
 use Rattle.outcomes.specs.declared.outcome.Answer.TheVariants as verdicts
 use Rattle.outcomes.specs.Lines.{line}
@@ -28,7 +29,6 @@ use Rattle.answer_hints.specs.Overlaps.{overlap_of}
 use Rattle.answer_hints.specs.Hints.{yes_hint}
 use Rattle.stream_engines.specs.Refusals.{stream_fault_line, StopsFor}
 use Rattle.stream_engines.specs.Reports.{yes_line, lost_data, spent_data}
-use Rattle.follower.specs.OwnParts.{own_part}
 
 -- all lines spell a stream, whose events have an order; the hint is that on its calls and how much
 -- they overlap
@@ -41,12 +41,12 @@ pub record IsWholeAnswer (lines : List (List ℕ)) (bytes hint : List ℕ) : Typ
   pub bytes_are : bytes ≡ yes_line (length (operations stream.events)) (overlap_of stream.events)
   pub hint_is : hint ≡ yes_hint (length (operations stream.events)) (overlap_of stream.events)
 
--- what an answer of a process comes to, behind events from some pairs
+-- what an answer of a process makes of events from some pairs
 abbrev pub Judgement : Type 1
 Judgement = Contents → List Event → ℕ → Reply → Type 0
 
--- the lines begin with those of a stream whose events have an order, and then comes an answer that
--- was judged
+-- the lines begin with those of a stream whose events have an order, and the next one is an answer
+-- that was judged
 pub record IsJudgedAnswer (lines : List (List ℕ)) (IsWhat : Judgement) : Type 0 where
   pub stream : HistoryView
   pub version : TextVersion
@@ -62,39 +62,40 @@ pub record IsJudgedAnswer (lines : List (List ℕ)) (IsWhat : Judgement) : Type 
   pub answer : SpellsEvent version next (Answer process reply)
   pub judged : IsWhat stream.start stream.events process reply
 
--- with this answer, and whatever comes behind it, the events go wrong; what is told of keys is what
--- was kept of them of what was followed, which is some of the events, as they were or telling
--- nothing
+-- the events go wrong at this answer, whatever follows: of the part that is kept with it, no past
+-- has an order
 abbrev pub GoesWrongHere : List (List ℕ) → Loss → Type 0
 GoesWrongHere lines loss = IsJudgedAnswer lines (λ start events process reply. IsLost start events process reply loss)
 
--- the answer is spent, and where that is for the number of rows, those of one that a follower of
--- the events has come to too many by it
-abbrev pub IsSpentBy : Contents → List Event → ℕ → Reply → ℕ → ℕ → ℕ → Doubt → Type 0
-IsSpentBy start events process reply budget event number doubt =
-    IsSpent start events process reply budget event number doubt
-    × ((w : WindowsView) × IsFollowed start events w × IsDoubtOfOne w process reply doubt)
+-- it is not known whether they do: the search of a past of that part is beyond this budget
+abbrev pub IsDoubtedHere : ℕ → List (List ℕ) → Loss → Type 0
+IsDoubtedHere budget lines loss = IsJudgedAnswer lines (λ start events process reply. IsSpent start events process reply budget loss)
 
--- it is not known whether they do, at this budget
-abbrev pub IsDoubtedHere : ℕ → List (List ℕ) → ℕ → ℕ → Doubt → Type 0
-IsDoubtedHere budget lines event number doubt =
-    IsJudgedAnswer lines (λ start events process reply. IsSpentBy start events process reply budget event number doubt)
-
--- the line of the text of a history; nothing where that would be too long
+-- the line of the text of a history; nothing if the text would be too long
 abbrev pub IsHistoryLine : HistoryView → List ℕ → Type 0
 IsHistoryLine history bytes =
     ((bytes ≡ []) × (text_limit < length (text_of history))) ⊎ ((text : List ℕ) × (bytes ≡ line text) × IsWrittenAs history text)
 
--- that of a history with calls that have no order; nothing where no history has them
+-- the line of a history of calls that have no order; nothing if no history has these calls
 abbrev pub IsSmallLine : Contents → List Operation → List ℕ → Type 0
 IsSmallLine start calls bytes =
     ((bytes ≡ []) × AreOfNoHistory start calls)
     ⊎ ((history : HistoryView) × IsSmallHistory start calls history × IsHistoryLine history bytes)
 
--- what is told where the events go wrong; a small history only where one value alone goes wrong
-abbrev pub IsLostText : Loss → List ℕ → Type 0
-IsLostText loss bytes = (small : List ℕ) × MatchOption (own_part loss) (small ≡ []) (λ part. IsSmallLine part.start part.calls small)
-    × (bytes ≡ line (compact_text (lost_data loss)) ++ small)
+-- What is printed if the events go wrong: what is said of the keys of the part that does not go on.
+-- If the part has one past, the line of a history of its calls follows.
+pub record IsLostText (loss : Loss) (bytes : List ℕ) : Type 0 where
+  pub losses : List KeyLoss
+  pub are_losses : AreKeyLosses (Some loss.call) (pasts_of loss.part) loss.puts.items losses
+  pub small : List ℕ
+  pub small_is : MatchOption (own_part loss) (small ≡ []) (λ part. IsSmallLine part.start part.calls small)
+  pub bytes_are : bytes ≡ line (compact_text (lost_data loss.event loss.number losses)) ++ small
+
+-- what is printed if it is not known whether they do: what is said of the keys of the part
+pub record IsSpentText (loss : Loss) (bytes : List ℕ) : Type 0 where
+  pub losses : List KeyLoss
+  pub are_losses : AreKeyLosses (Some loss.call) (pasts_of loss.part) loss.puts.items losses
+  pub bytes_are : bytes ≡ line (compact_text (spent_data loss.event loss.number losses))
 
 -- `follow` answers the lines at the budget so, with this hint, which only a yes may have
 abbrev pub IsLinesAnswer : ℕ → List (List ℕ) → outcomes.Answer → List ℕ → List ℕ → Type 0
@@ -102,11 +103,9 @@ IsLinesAnswer budget lines verdicts.Yes bytes hint = IsWholeAnswer lines bytes h
 IsLinesAnswer budget lines verdicts.No bytes hint =
     (loss : Loss) × GoesWrongHere lines loss × IsLostText loss bytes × (hint ≡ [])
 IsLinesAnswer budget lines verdicts.Undecided bytes hint =
-    (event : ℕ) × (number : ℕ) × (doubt : Doubt) × IsDoubtedHere budget lines event number doubt
-    × (bytes ≡ line (compact_text (spent_data event number doubt))) × (hint ≡ [])
+    (loss : Loss) × IsDoubtedHere budget lines loss × IsSpentText loss bytes × (hint ≡ [])
 
--- with this line and this hint `follow` refuses the lines: those before are followed, and there it
--- stops
+-- `follow` refuses the lines with this line and this hint: it follows some, and stops at the next
 pub record IsLinesRefusal (lines : List (List ℕ)) (bytes hint : List ℕ) : Type 0 where
   pub stream : HistoryView
   pub version : TextVersion
@@ -120,7 +119,7 @@ pub record IsLinesRefusal (lines : List (List ℕ)) (bytes hint : List ℕ) : Ty
   pub stops : StopsFor read version stream.events more name hint
   pub bytes_are : bytes ≡ stream_fault_line (length read + 1) name
 
--- the same of a text
+-- `follow` answers a text as it answers its lines, and refuses it so
 abbrev pub IsFollowAnswer : ℕ → List ℕ → outcomes.Answer → List ℕ → List ℕ → Type 0
 IsFollowAnswer budget text answer bytes hint = IsLinesAnswer budget (lines_of text) answer bytes hint
 

@@ -1,12 +1,12 @@
--- How single answers and refusals come out.
+-- The outcomes of single answers and refusals.
 use Rattle.stream_text.specs.declared.line_fault.LineFault.TheVariants as lines
-use Rattle.follower.specs.declared.fault.FollowFault.TheVariants as turns
+use Rattle.monitor.specs.declared.fault.FollowFault.TheVariants as turns
 use Rattle.std.specs.Prelude.{◌≡◌, ◌≢◌, ℕ, List, ⊤, string_bytes}
 use Rattle.stream_text.specs.declared.line_fault.LineFault.{LineFault}
-use Rattle.follower.specs.declared.answered.Loss.{Loss}
-use Rattle.follower.specs.declared.fault.FollowFault.{FollowFault}
+use Rattle.losses.specs.declared.loss.Loss.{Loss}
+use Rattle.monitor.specs.declared.fault.FollowFault.{FollowFault}
 use Rattle.outcomes.specs.declared.outcome.Answer.{Answer}
-use Rattle.outcomes.specs.declared.outcome.Answer.TheVariants.{Yes, No}
+use Rattle.outcomes.specs.declared.outcome.Answer.TheVariants.{Yes, No, Undecided}
 use Rattle.outcomes.specs.declared.outcome.RunOutcome.{RunOutcome}
 use Rattle.outcomes.specs.declared.outcome.RunOutcome.TheVariants.{Answered, Refused, Memory}
 use Rattle.answer_hints.specs.Hints.{yes_hint}
@@ -14,7 +14,7 @@ use Rattle.answer_hints.specs.Outcomes.{IsHintedBy}
 use Rattle.stream_engines.specs.Refusals.{line_fault_name, turn_fault_name, too_many_name, stream_fault_line}
 use Rattle.stream_engines.specs.Refusals.{line_fault_hint, turn_fault_hint, too_many_hint, IsHintAfter}
 use Rattle.stream_engines.specs.Reports.{yes_line}
-use Rattle.stream_engines.specs.Answers.{IsLostText}
+use Rattle.stream_engines.specs.Answers.{IsLostText, IsSpentText}
 
 -- the outcome of the line of this number, which has this fault
 abbrev pub IsLineRefusal : ℕ → List ℕ → LineFault → RunOutcome → Type 0
@@ -23,40 +23,42 @@ IsLineRefusal number next fault (Refused bytes hint) = (fault ≢ lines.Memory)
 IsLineRefusal number next fault Memory = ⊤
 IsLineRefusal number next fault outcome = ⊥
 
--- the same of the line after these, of which a first one may be a history
+-- the outcome of the line after these, of which a first one may be a history
 abbrev pub IsRefusalAfter : List (List ℕ) → ℕ → List ℕ → LineFault → RunOutcome → Type 0
 IsRefusalAfter read number next fault (Refused bytes hint) = (fault ≢ lines.Memory)
     × (string_bytes bytes ≡ stream_fault_line number (line_fault_name fault)) × IsHintAfter read next fault (string_bytes hint)
 IsRefusalAfter read number next fault Memory = ⊤
 IsRefusalAfter read number next fault outcome = ⊥
 
--- and of its event
+-- the outcome of the event of a line, which has this fault
 abbrev pub IsTurnRefusal : ℕ → List ℕ → FollowFault → RunOutcome → Type 0
 IsTurnRefusal number next fault (Refused bytes hint) = (fault ≢ turns.Memory)
     × (string_bytes bytes ≡ stream_fault_line number (turn_fault_name fault)) × (string_bytes hint ≡ turn_fault_hint next fault)
 IsTurnRefusal number next fault Memory = ⊤
 IsTurnRefusal number next fault outcome = ⊥
 
--- the outcome where there are too many lines
+-- the outcome if there are too many lines
 abbrev pub IsManyRefusal : ℕ → RunOutcome → Type 0
 IsManyRefusal number (Refused bytes hint) = (string_bytes bytes ≡ stream_fault_line number too_many_name)
     × (string_bytes hint ≡ too_many_hint)
 IsManyRefusal number Memory = ⊤
 IsManyRefusal number outcome = ⊥
 
--- an answer with these bytes, where memory suffices
-abbrev pub IsAnsweredBy : Answer → List ℕ → RunOutcome → Type 0
-IsAnsweredBy answer bytes (Answered given text) = (given ≡ answer) × (string_bytes text ≡ bytes)
-IsAnsweredBy answer bytes Memory = ⊤
-IsAnsweredBy answer bytes outcome = ⊥
-
--- the outcome of so many calls that have an order, with so much overlap in all: a yes with its
--- hint, where it has one
+-- the outcome of so many calls that have an order, with so much overlap in all: a yes, with its hint
+-- if it has one
 abbrev pub IsYesOutcome : ℕ → ℕ → RunOutcome → Type 0
 IsYesOutcome calls overlap outcome = IsHintedBy Yes (yes_line calls overlap) (yes_hint calls overlap) outcome
 
--- the outcome where an answer was judged and the events go wrong
+-- this answer with such bytes, or out of memory
+abbrev pub IsAnsweredWith : Answer → (List ℕ → Type 0) → RunOutcome → Type 0
+IsAnsweredWith answer IsText (Answered given text) = (given ≡ answer) × IsText (string_bytes text)
+IsAnsweredWith answer IsText Memory = ⊤
+IsAnsweredWith answer IsText outcome = ⊥
+
+-- the outcome if the events go wrong
 abbrev pub IsLostOutcome : Loss → RunOutcome → Type 0
-IsLostOutcome loss (Answered given text) = (given ≡ No) × IsLostText loss (string_bytes text)
-IsLostOutcome loss Memory = ⊤
-IsLostOutcome loss outcome = ⊥
+IsLostOutcome loss outcome = IsAnsweredWith No (IsLostText loss) outcome
+
+-- the outcome if it is not known whether they do
+abbrev pub IsSpentOutcome : Loss → RunOutcome → Type 0
+IsSpentOutcome loss outcome = IsAnsweredWith Undecided (IsSpentText loss) outcome

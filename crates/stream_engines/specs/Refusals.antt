@@ -1,6 +1,6 @@
 -- Why a line of a stream is refused, as the program says it.
 use Rattle.stream_text.specs.declared.line_fault.LineFault.TheVariants as lines
-use Rattle.follower.specs.declared.fault.FollowFault.TheVariants as turns
+use Rattle.monitor.specs.declared.fault.FollowFault.TheVariants as turns
 use Rattle.std.specs.Prelude.{◌≡◌, ◌≢◌, ◌⊎◌, ℕ, ◌-◌, ◌^◌, List, [], ◌∷◌, ◌++◌, length, Option, Some, codes, decimal}
 use Rattle.events.specs.declared.event.Event.{Event}
 use Rattle.events.specs.declared.event.Event.TheVariants.{Invoke, Answer}
@@ -11,8 +11,8 @@ use Rattle.history_text.specs.declared.version.TextVersion.{TextVersion}
 use Rattle.stream_text.specs.declared.line_fault.LineFault.{LineFault}
 use Rattle.stream_text.specs.Lines.{SpellsEvent}
 use Rattle.stream_text.specs.LineFaults.{IsEventLineFault, IsFirstLineFault}
-use Rattle.follower.specs.declared.fault.FollowFault.{FollowFault}
-use Rattle.follower.specs.Faults.{invocation_fault, answer_fault}
+use Rattle.monitor.specs.declared.fault.FollowFault.{FollowFault}
+use Rattle.monitor.specs.Faults.{invocation_fault, answer_fault}
 use Rattle.outcomes.specs.Lines.{line}
 use Rattle.outcomes.specs.Found.{found_hint}
 use Rattle.outcomes.specs.Wanted.{wanted_hint}
@@ -42,7 +42,7 @@ turn_fault_name turns.NotWellFormed = codes "6 NotWellFormed"
 turn_fault_name turns.TooMany = too_many_name
 turn_fault_name turns.Memory = codes "7 Memory"
 
--- the hint on a line with a fault: the line, but of one that is too long, and what was wanted
+-- the hint on a line with a fault: the line, unless it is too long, and what was expected
 abbrev pub line_fault_hint : List ℕ → LineFault → List ℕ
 line_fault_hint next lines.TooLong = wanted_hint (line_wanted lines.TooLong)
 line_fault_hint next fault = found_hint next (line_wanted fault)
@@ -51,23 +51,24 @@ line_fault_hint next fault = found_hint next (line_wanted fault)
 abbrev pub IsHistoryLine : List ℕ → Type 0
 IsHistoryLine next = (history : HistoryView) × Spells next history × IsHistory history
 
--- the hint on a first line with a fault: where it has no shape of a line, and is a history, which
--- subcommands read those
+-- the hint on a first line with a fault: if it has no shape of a line, and is a history, which
+-- subcommands read histories
 abbrev pub IsFirstHint : List ℕ → LineFault → List ℕ → Type 0
 IsFirstHint next lines.Shape hint =
     (IsHistoryLine next × (hint ≡ found_hint next history_elsewhere))
     ⊎ ((IsHistoryLine next → ⊥) × (hint ≡ line_fault_hint next lines.Shape))
 IsFirstHint next fault hint = hint ≡ line_fault_hint next fault
 
--- and on a line after these
+-- the hint on a line after these
 abbrev pub IsHintAfter : List (List ℕ) → List ℕ → LineFault → List ℕ → Type 0
 IsHintAfter [] next fault hint = IsFirstHint next fault hint
 IsHintAfter (line ∷ lines) next fault hint = hint ≡ line_fault_hint next fault
 
+-- the hint on an event with a fault: its line, and what was expected
 abbrev pub turn_fault_hint : List ℕ → FollowFault → List ℕ
 turn_fault_hint next fault = found_hint next (turn_wanted_for fault)
 
--- and where there are too many lines
+-- the hint if there are too many lines
 abbrev pub too_many_hint : List ℕ
 too_many_hint = wanted_hint too_many_wanted
 
@@ -85,7 +86,7 @@ abbrev pub IsLineFaultAfter : List (List ℕ) → TextVersion → List ℕ → L
 IsLineFaultAfter [] version next fault = IsFirstLineFault next fault
 IsLineFaultAfter (line ∷ lines) version next fault = IsEventLineFault version next fault
 
--- the next line spells nothing that may stand there
+-- the next line spells nothing that may follow these
 pub record IsFaulty (read : List (List ℕ)) (version : TextVersion) (more : List (List ℕ)) (name hint : List ℕ) : Type 0 where
   pub next : List ℕ
   pub rest : List (List ℕ)
@@ -114,7 +115,7 @@ pub record AreMany (read : List (List ℕ)) (name hint : List ℕ) : Type 0 wher
   pub name_is : name ≡ too_many_name
   pub hint_is : hint ≡ too_many_hint
 
--- why reading stops behind these lines, which spell these events
+-- why reading stops after these lines, which spell these events
 abbrev pub StopsFor : List (List ℕ) → TextVersion → List Event → List (List ℕ) → List ℕ → List ℕ → Type 0
 StopsFor read version events more name hint =
     IsFaulty read version more name hint ⊎ IsOutOfTurn version events more name hint ⊎ AreMany read name hint

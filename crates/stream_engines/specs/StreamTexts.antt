@@ -1,5 +1,5 @@
--- What the lines of a stream spell: starting pairs, where the first line has such, and then events,
--- a line each.
+-- What the lines of a stream spell: starting pairs, if the first line has such, and then events, a
+-- line each.
 use Rattle.history_text.specs.declared.version.TextVersion.TheVariants.{One, Two, Three}
 use Rattle.std.specs.Prelude.{◌≡◌, ℕ, List, [], ◌∷◌, ◌++◌, Option, IfSome, ⊤}
 use Rattle.events.specs.declared.event.Event.{Event}
@@ -28,6 +28,6 @@ SpellStream One lines stream = (stream.start ≡ []) × SpellEvents One lines st
 SpellStream Two lines stream = SpellFromStart Two lines stream
 SpellStream Three lines stream = SpellFromStart Three lines stream
 
--- the text that is told begins with these lines
+-- the text, if it is known, begins with these lines
 abbrev pub BeginsWith : Option (List ℕ) → List (List ℕ) → Type 0
-BeginsWith told lines = IfSome told (λ text. (rest : List (List ℕ)) × (lines_of text ≡ lines ++ rest))
+BeginsWith known lines = IfSome known (λ text. (rest : List (List ℕ)) × (lines_of text ≡ lines ++ rest))

@@ -1,9 +1,9 @@
--- What was wanted in the place of a line that is refused, as the program says it.
+-- What was expected instead of a line that is refused, as the program says it.
 use Rattle.std.specs.Prelude.{ℕ, List, [], codes}
 use Rattle.stream_text.specs.declared.line_fault.LineFault.{LineFault}
 use Rattle.stream_text.specs.declared.line_fault.LineFault.TheVariants as lines
-use Rattle.follower.specs.declared.fault.FollowFault.{FollowFault}
-use Rattle.follower.specs.declared.fault.FollowFault.TheVariants as turns
+use Rattle.monitor.specs.declared.fault.FollowFault.{FollowFault}
+use Rattle.monitor.specs.declared.fault.FollowFault.TheVariants as turns
 use Rattle.outcomes.specs.Wanted.{json_wanted, event_wanted, turn_wanted, pair_wanted}
 
 abbrev pub too_many_wanted : List ℕ

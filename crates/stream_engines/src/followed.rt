@@ -11,37 +11,37 @@ ghost use Rattle.stream_engines.specs.StreamTexts.{BeginsWith};
 use crate::refusals::{refused_event, refused_first, refused_line};
 use crate::reports::{lost_outcome, spent_outcome, yes_outcome};
 use events::{Call, Memory, Pairs, Reply};
-use follower::{AnsweredWindows, WindowFollower};
 use history_text::TextVersion;
+use monitor::{Answered, Monitor};
 use outcomes::RunOutcome;
 use std::alloc::Global;
 use stream_text::{FirstLine, StreamEvent, read_event_line, read_first_line};
 
-/// A stream, as far as it was followed: its follower, its version, how many calls are open, and how
+/// A stream, as far as it was followed: its monitor, its version, how many calls are open, and how
 /// many other calls were open at the invocations, in all.
 #[derive(Drop)]
 pub struct Followed {
-    pub follower: WindowFollower,
+    pub monitor: Monitor,
     pub version: TextVersion,
     pub pending: u64,
     pub overlap: u64,
 }
 
 impl Followed {
-    /// Before any line.
+    /// No line was read yet.
     pub fn new(alloc: Global) -> Result<Followed, Memory>
         ensures { IfOk result (IsFollowed []) }
     {
-        let follower = WindowFollower::new(alloc, &[])?;
+        let monitor = Monitor::new(alloc, &[])?;
         Ok(Followed {
-            follower,
+            monitor,
             version: TextVersion::One,
             pending: 0,
             overlap: 0,
         })
     }
 
-    /// Behind a first line of starting pairs.
+    /// The first line has starting pairs.
     fn from_start(
         alloc: Global,
         version: TextVersion,
@@ -50,21 +50,21 @@ impl Followed {
         requires { KeysRise start.now }
         ensures taken { (line : List ℕ) → SpellsStart version line start.now
             → IfOk result (IsFollowed (line ∷ [])) }
-        ensures stopped { (told : Option (List ℕ)) (budget : ℕ)
-            → IfErr result (IsStreamOutcome budget told) }
+        ensures stopped { (known : Option (List ℕ)) (budget : ℕ)
+            → IfErr result (IsStreamOutcome budget known) }
     {
-        let Ok(follower) = WindowFollower::new(alloc, start.as_slice()) else {
+        let Ok(monitor) = Monitor::new(alloc, start.as_slice()) else {
             return Err(RunOutcome::Memory);
         };
         Ok(Followed {
-            follower,
+            monitor,
             version,
             pending: 0,
             overlap: 0,
         })
     }
 
-    /// Takes the line that stands behind so many.
+    /// Takes the line after so many.
     pub fn take_line(
         self,
         alloc: Global,
@@ -75,9 +75,9 @@ impl Followed {
         requires { before < u64.MAX }
         ensures taken { (read : List (List ℕ)) → length read ≡ before → IsFollowed read self
             → IfOk result (IsFollowed (read ++ line.now ∷ [])) }
-        ensures stopped { (told : Option (List ℕ)) (read : List (List ℕ)) → length read ≡ before
+        ensures stopped { (known : Option (List ℕ)) (read : List (List ℕ)) → length read ≡ before
             → IsFollowed read self
-            → BeginsWith told (read ++ line.now ∷ []) → IfErr result (IsStreamOutcome budget told) }
+            → BeginsWith known (read ++ line.now ∷ []) → IfErr result (IsStreamOutcome budget known) }
     {
         if before == 0 {
             return self.take_first(alloc, line, budget);
@@ -91,9 +91,9 @@ impl Followed {
     /// Takes the first line.
     fn take_first(self, alloc: Global, line: &[u8], budget: u32) -> Result<Followed, RunOutcome>
         ensures taken { IsFollowed [] self → IfOk result (IsFollowed (line.now ∷ [])) }
-        ensures stopped { (told : Option (List ℕ)) → IsFollowed [] self
-            → BeginsWith told (line.now ∷ [])
-            → IfErr result (IsStreamOutcome budget told) }
+        ensures stopped { (known : Option (List ℕ)) → IsFollowed [] self
+            → BeginsWith known (line.now ∷ [])
+            → IfErr result (IsStreamOutcome budget known) }
     {
         match read_first_line(alloc, line) {
             Ok(FirstLine::Event(event)) => self.take_event(alloc, 1, line, event, budget),
@@ -104,7 +104,7 @@ impl Followed {
         }
     }
 
-    /// Takes an event, which the line of this number spells.
+    /// Takes the event that the line of this number spells.
     fn take_event(
         self,
         alloc: Global,
@@ -116,11 +116,11 @@ impl Followed {
         ensures taken { (read : List (List ℕ)) → IsFollowed read self
             → SpellsEvent self.version line.now (as_event event)
             → IfOk result (IsFollowed (read ++ line.now ∷ [])) }
-        ensures stopped { (told : Option (List ℕ)) (read : List (List ℕ))
+        ensures stopped { (known : Option (List ℕ)) (read : List (List ℕ))
             → length read + 1 ≡ number → IsFollowed read self
             → SpellsEvent self.version line.now (as_event event)
-            → BeginsWith told (read ++ line.now ∷ [])
-            → IfErr result (IsStreamOutcome budget told) }
+            → BeginsWith known (read ++ line.now ∷ [])
+            → IfErr result (IsStreamOutcome budget known) }
     {
         match event {
             StreamEvent::Invoke { process, call } => {
@@ -144,16 +144,16 @@ impl Followed {
         ensures taken { (read : List (List ℕ)) → IsFollowed read self
             → SpellsEvent self.version line.now (events.Invoke process call)
             → IfOk result (IsFollowed (read ++ line.now ∷ [])) }
-        ensures stopped { (told : Option (List ℕ)) (read : List (List ℕ)) (budget : ℕ)
+        ensures stopped { (known : Option (List ℕ)) (read : List (List ℕ)) (budget : ℕ)
             → length read + 1 ≡ number
             → IsFollowed read self → SpellsEvent self.version line.now (events.Invoke process call)
-            → BeginsWith told (read ++ line.now ∷ []) → IfErr result (IsStreamOutcome budget told) }
+            → BeginsWith known (read ++ line.now ∷ []) → IfErr result (IsStreamOutcome budget known) }
     {
         let version = self.version;
         let (pending, overlap) = (self.pending, self.overlap);
-        match self.follower.invoke(alloc, process, call) {
-            Ok(follower) => Ok(Followed {
-                follower,
+        match self.monitor.invoke(alloc, process, call) {
+            Ok(monitor) => Ok(Followed {
+                monitor,
                 version,
                 pending: pending.saturating_add(1),
                 overlap: overlap.saturating_add(pending),
@@ -162,7 +162,7 @@ impl Followed {
         }
     }
 
-    /// Takes an answer, and has it judged.
+    /// Takes an answer, and judges it.
     fn take_answer(
         self,
         alloc: Global,
@@ -175,40 +175,32 @@ impl Followed {
         ensures taken { (read : List (List ℕ)) → IsFollowed read self
             → SpellsEvent self.version line.now (events.Answer process reply)
             → IfOk result (IsFollowed (read ++ line.now ∷ [])) }
-        ensures stopped { (told : Option (List ℕ)) (read : List (List ℕ)) → length read + 1 ≡ number
+        ensures stopped { (known : Option (List ℕ)) (read : List (List ℕ)) → length read + 1 ≡ number
             → IsFollowed read self → SpellsEvent self.version line.now (events.Answer process reply)
-            → BeginsWith told (read ++ line.now ∷ []) → IfErr result (IsStreamOutcome budget told) }
+            → BeginsWith known (read ++ line.now ∷ []) → IfErr result (IsStreamOutcome budget known) }
     {
         let version = self.version;
         let (pending, overlap) = (self.pending, self.overlap);
-        match self.follower.answer(alloc, process, reply, budget) {
-            Ok(AnsweredWindows::Going(follower)) => Ok(Followed {
-                follower,
+        match self.monitor.answer(alloc, process, reply, budget) {
+            Ok(Answered::Going(monitor)) => Ok(Followed {
+                monitor,
                 version,
                 pending: pending.saturating_sub(1),
                 overlap,
             }),
-            Ok(AnsweredWindows::Lost(loss)) => Err(lost_outcome(alloc, &loss)),
-            Ok(
-                AnsweredWindows::Spent {
-                    event,
-                    number: call,
-                    doubt,
-                },
-            ) => Err(spent_outcome(alloc, event, call, &doubt)),
-            Ok(AnsweredWindows::Refused(_, fault)) => Err(refused_event(
-                alloc, number, line, &fault,
-            )),
+            Ok(Answered::Lost(loss)) => Err(lost_outcome(alloc, &loss)),
+            Ok(Answered::Spent(loss)) => Err(spent_outcome(alloc, &loss)),
+            Ok(Answered::Refused(_, fault)) => Err(refused_event(alloc, number, line, &fault)),
             Err(_) => Err(RunOutcome::Memory),
         }
     }
 
-    /// All lines were taken.
+    /// The outcome if all lines were taken.
     pub fn finish(&self, alloc: Global) -> RunOutcome
-        ensures { (told : Option (List ℕ)) (read : List (List ℕ)) (budget : ℕ)
-            → IsFollowed read self.now → AreLinesOf told read
-            → IsStreamOutcome budget told result }
+        ensures { (known : Option (List ℕ)) (read : List (List ℕ)) (budget : ℕ)
+            → IsFollowed read self.now → AreLinesOf known read
+            → IsStreamOutcome budget known result }
     {
-        yes_outcome(alloc, self.follower.calls(), self.overlap)
+        yes_outcome(alloc, self.monitor.calls(), self.overlap)
     }
 }

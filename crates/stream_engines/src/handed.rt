@@ -1,5 +1,4 @@
-// A stream whose lines are handed over, and wait for nobody: what each makes of it, and its outcome
-// so far.
+// A stream whose lines are handed over as they come: what each makes of it, and the outcome.
 ghost use Rattle.std.specs.Prelude.{◌≡◌, ℕ, List, [], ◌∷◌, ◌++◌, Option, Some, IfOk};
 ghost use Rattle.stream_text.specs.Cuts.{lines_of};
 ghost use Rattle.stream_engines.specs.Handed.{IsHanded};
@@ -17,19 +16,19 @@ use stream_text::first_line_feed;
 /// Follows a stream whose lines are handed over.
 #[derive(Drop)]
 pub enum LineFollower {
-    /// So many lines were handed over, and are followed: a search reaches at most `budget`
-    /// positions.
+    /// So many lines were handed over, and are followed. A search reaches at most `budget`
+    /// configurations.
     Going {
         followed: Followed,
         lines: u64,
         budget: u32,
     },
-    /// They came to this, and what comes behind them is passed over.
+    /// This is the outcome, and further lines are ignored.
     Ended(RunOutcome),
 }
 
 impl LineFollower {
-    /// Before any line.
+    /// No line was handed over yet.
     pub fn new(alloc: Global, budget: u32) -> Result<LineFollower, Memory>
         ensures { IfOk result (IsHanded budget []) }
     {
@@ -41,7 +40,7 @@ impl LineFollower {
         })
     }
 
-    /// Takes the lines of some bytes, each ended by a line feed, which the last may lack.
+    /// Takes the lines of some bytes. A line feed ends each line, but the last one may lack it.
     pub fn take_lines(self, alloc: Global, bytes: &[u8]) -> LineFollower
         ensures { (budget : ℕ) (lines : List (List ℕ)) → IsHanded budget lines self
             → IsHanded budget (lines ++ lines_of bytes.now) result }
@@ -88,7 +87,7 @@ impl LineFollower {
     }
 }
 
-/// What the text of a whole stream is answered, before anything is written: as `follow_outcome`.
+/// The outcome of the text of a whole stream (`follow_outcome`). Nothing is written.
 pub fn follow_text(alloc: Global, text: &[u8], budget: u32) -> RunOutcome
     ensures { IsStreamOutcome budget (Some text.now) result }
 {

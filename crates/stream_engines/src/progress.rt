@@ -1,7 +1,7 @@
-// How far a stream was followed, for whoever waits.
+// How far a stream was followed, for a user who waits.
 
-/// What is told behind each line that was taken. No clause speaks of what becomes of it.
+/// A display that is called after each line. No contract says what it shows.
 pub trait ProgressDisplay {
-    /// So many calls were taken.
+    /// So many calls were invoked.
     fn show(&mut self, calls: usize);
 }

@@ -1,4 +1,4 @@
-// `bench follow`: the stream of events on the input, judged as it comes.
+// `bench follow` judges a stream of events as it comes.
 ghost use Rattle.std.specs.Prelude.{◌≡◌, ℕ, ◌<◌, List, [], ◌∷◌, ◌++◌, length, Option, IfOk, IfErr, OnOk};
 ghost use Rattle.std.specs.Io.KnownBytes.{prepend_known};
 ghost use Rattle.outcomes.specs.Ends.{change};
@@ -19,10 +19,9 @@ use streams::{Sink, Source};
 pub(crate) const MOST_LINES: u64 = u64::MAX - 1;
 
 /// Reads the lines of a stream one by one, each at most `MAX_LINE` bytes, and judges each answer as
-/// it comes: a search at a key reaches at most `budget` positions from each value that the key may
-/// have had. It ends at the end of the source, or at the first line that goes wrong. Memory is
-/// taken for the longest line, and for what the follower keeps. Behind each line it is told how far
-/// this is. Answers the exit status.
+/// it comes. A search reaches at most `budget` configurations. It ends at the end of the source, or
+/// at the first line that goes wrong. It takes memory for the longest line, and for what the monitor
+/// keeps. After each line it shows how many calls there were. Returns the exit status.
 pub fn run_follow<S: Source, O: Sink, F: Sink, H: Sink, P: ProgressDisplay>(
     alloc: Global,
     source: &mut S,
@@ -46,7 +45,7 @@ pub fn run_follow<S: Source, O: Sink, F: Sink, H: Sink, P: ProgressDisplay>(
     write_outcome(output, faults, hints, &outcome)
 }
 
-/// What a stream is answered, before anything is written.
+/// The outcome of a stream (`run_follow`). Nothing is written.
 pub fn follow_outcome<S: Source, P: ProgressDisplay>(
     alloc: Global,
     source: &mut S,
@@ -83,7 +82,7 @@ fn follow_lines<S: Source, P: ProgressDisplay>(
     for before in 0..MOST_LINES {
         match follow_next(alloc, buffer, source, followed, before, budget) {
             Ok(next) => {
-                progress.show(next.follower.calls());
+                progress.show(next.monitor.calls());
                 followed = next;
             }
             Err(outcome) => return outcome,
@@ -92,7 +91,7 @@ fn follow_lines<S: Source, P: ProgressDisplay>(
     refused_many(alloc, u64::MAX)
 }
 
-/// Takes the next line, behind so many.
+/// Takes the line after so many.
 fn follow_next<S: Source>(
     alloc: Global,
     buffer: &mut LineBuffer,
@@ -104,17 +103,17 @@ fn follow_next<S: Source>(
     requires few { S.failures source.old < u64.MAX }
     requires before { before < u64.MAX }
     ensures sound { OnOk result (S.failures source.new ≡ S.failures source.old) }
-    ensures went { (told : Option (List ℕ)) (read : List (List ℕ)) → length read ≡ before
+    ensures went { (known : Option (List ℕ)) (read : List (List ℕ)) → length read ≡ before
         → IsFollowed read followed
-        → HasRead told read (prepend_known buffer.old.bytes (S.remaining source.old))
+        → HasRead known read (prepend_known buffer.old.bytes (S.remaining source.old))
         → IfOk result (λ next. (line : List ℕ) × IsFollowed (read ++ line ∷ []) next
-        × HasRead told (read ++ line ∷ [])
+        × HasRead known (read ++ line ∷ [])
         (prepend_known buffer.new.bytes (S.remaining source.new))) }
-    ensures stopped { (told : Option (List ℕ)) (read : List (List ℕ)) → length read ≡ before
+    ensures stopped { (known : Option (List ℕ)) (read : List (List ℕ)) → length read ≡ before
         → IsFollowed read followed
-        → HasRead told read (prepend_known buffer.old.bytes (S.remaining source.old))
+        → HasRead known read (prepend_known buffer.old.bytes (S.remaining source.old))
         → IfErr result (IsFollowOutcome budget (record {
-          old = record { bytes = told; failures = S.failures source.old };
+          old = record { bytes = known; failures = S.failures source.old };
           new = record { bytes = S.remaining source.new; failures = S.failures source.new };
         })) }
 {

@@ -1,4 +1,4 @@
-// Why a line of a stream is refused, as an outcome.
+// The refusal of a line of a stream.
 ghost use Rattle.std.specs.Prelude.{◌≡◌, ◌↔◌, [], IsTrue, IfOk, string_bytes};
 ghost use Rattle.stream_text.specs.declared.line_fault.LineFault.TheVariants as lines;
 ghost use Rattle.stream_engines.specs.Leaves.{IsLineRefusal, IsRefusalAfter, IsTurnRefusal, IsManyRefusal};
@@ -6,15 +6,15 @@ ghost use Rattle.stream_engines.specs.Refusals.{line_fault_name, turn_fault_name
 ghost use Rattle.stream_engines.specs.Wanted.{too_many_wanted, history_elsewhere, line_wanted, turn_wanted_for};
 
 use events::{HistoryFault, Memory};
-use follower::FollowFault;
 use history_text::read_history;
+use monitor::FollowFault;
 use outcomes::{
     RunOutcome, event_wanted, found_hint, json_wanted, pair_wanted, turn_wanted, wanted_hint,
 };
 use std::alloc::{AllocError, Global};
 use stream_text::LineFault;
 
-/// The refusal of the line of this number, or want of memory.
+/// The refusal of the line of this number, or out of memory.
 pub fn refused_line(alloc: Global, number: u64, line: &[u8], fault: LineFault) -> RunOutcome
     ensures { IsLineRefusal number line.now fault result }
 {
@@ -27,8 +27,8 @@ pub fn refused_line(alloc: Global, number: u64, line: &[u8], fault: LineFault) -
     )
 }
 
-/// The refusal of the first line, or want of memory. Where it is a history the hint says what reads
-/// those.
+/// The refusal of the first line, or out of memory. If it is a history, the hint says which
+/// subcommands read histories.
 pub fn refused_first(alloc: Global, line: &[u8], fault: LineFault) -> RunOutcome
     ensures { IsRefusalAfter [] 1 line.now fault result }
 {
@@ -67,7 +67,7 @@ fn is_history(alloc: Global, line: &[u8]) -> Result<bool, Memory>
     }
 }
 
-/// The refusal of the event of the line of this number, or want of memory.
+/// The refusal of the event of the line of this number, or out of memory.
 pub fn refused_event(alloc: Global, number: u64, line: &[u8], fault: &FollowFault) -> RunOutcome
     ensures { IsTurnRefusal number line.now fault.now result }
 {
@@ -80,7 +80,7 @@ pub fn refused_event(alloc: Global, number: u64, line: &[u8], fault: &FollowFaul
     }
 }
 
-/// The refusal of a line behind as many as are read, or want of memory.
+/// The refusal of a line after as many as are read, or out of memory.
 pub fn refused_many(alloc: Global, number: u64) -> RunOutcome
     ensures { IsManyRefusal number result }
 {
@@ -90,7 +90,7 @@ pub fn refused_many(alloc: Global, number: u64) -> RunOutcome
     )
 }
 
-/// The line of a fault of this name, at the line of this number.
+/// The report of a fault of this name, at the line of this number.
 fn fault_line(alloc: Global, number: u64, name: &str) -> Result<String, AllocError>
     ensures { IfOk result (λ text. string_bytes text ≡ stream_fault_line number name.now) }
 {
@@ -100,7 +100,7 @@ fn fault_line(alloc: Global, number: u64, name: &str) -> Result<String, AllocErr
     Ok(line)
 }
 
-/// The line of the fault of a line.
+/// The report of a fault, at the line of this number.
 fn line_fault_line(alloc: Global, number: u64, fault: LineFault) -> Result<String, AllocError>
     ensures { IfOk result (λ text. string_bytes text ≡ stream_fault_line number
         (line_fault_name fault)) }
@@ -147,14 +147,14 @@ fn turn_fault_name(fault: &FollowFault) -> &'static str
     }
 }
 
-/// What was wanted in the place of a first line that is a history.
+/// What was expected instead of a first line that is a history.
 fn history_elsewhere() -> &'static str
     ensures { result.now ≡ history_elsewhere }
 {
     "an event in a line of its own; bench judge and bench locate read histories"
 }
 
-/// What was wanted in the place of a line with this fault.
+/// What was expected instead of a line with this fault.
 fn line_wanted(fault: LineFault) -> &'static str
     ensures { result.now ≡ line_wanted fault }
 {
@@ -169,7 +169,7 @@ fn line_wanted(fault: LineFault) -> &'static str
     }
 }
 
-/// What was wanted in the place of an event with this fault.
+/// What was expected instead of an event with this fault.
 fn turn_wanted_for(fault: &FollowFault) -> &'static str
     ensures { result.now ≡ turn_wanted_for fault.now }
 {

@@ -1,51 +1,53 @@
-// The lines that a stream is answered with.
-ghost use Rattle.std.specs.Prelude.{◌≡◌, ◌++◌, [], map, All, IfOk, OnOk, MatchOption, codes, string_bytes};
-ghost use Rattle.follower.specs.Doubts.{doubt_word};
+// The lines that answer a stream.
+ghost use Rattle.std.specs.Prelude.{◌≡◌, [], map, All, IfOk, OnOk, MatchOption, codes, string_bytes};
 ghost use Rattle.history_text.specs.Texts.{number_data};
-ghost use Rattle.kept_rows.specs.Puts.{put_in};
-ghost use Rattle.kept_rows.specs.Outcomes.{HasNoOrder};
+ghost use Rattle.losses.specs.OwnParts.{own_part};
 ghost use Rattle.outcomes.specs.Lines.{line};
-ghost use Rattle.outcomes.specs.declared.outcome.Answer.TheVariants.{Undecided};
-ghost use Rattle.serde_json.specs.Data.{object, string, put as with_member};
+ghost use Rattle.part_pasts.specs.Pasts.{IsDead};
+ghost use Rattle.parts.specs.Keeping.{pasts_of};
+ghost use Rattle.serde_json.specs.Data.{object, put as with_member};
 ghost use Rattle.serde_json.specs.View.{view, members_view};
 ghost use Rattle.serde_json.specs.Written.{compact_text};
-ghost use Rattle.stream_engines.specs.Answers.{IsLostText, IsSmallLine};
-ghost use Rattle.stream_engines.specs.Leaves.{IsAnsweredBy, IsLostOutcome, IsYesOutcome};
 ghost use Rattle.small_histories.specs.Values.{value_data};
-ghost use Rattle.follower.specs.OwnParts.{own_part};
-ghost use Rattle.stream_engines.specs.Reports.{yes_line, numbers_data, values_data, puts_data, key_data, keys_data, lost_data};
-ghost use Rattle.stream_engines.specs.Reports.{doubted_keys, spent_data};
+ghost use Rattle.stream_engines.specs.Answers.{IsLostText, IsSmallLine};
+ghost use Rattle.stream_engines.specs.Leaves.{IsLostOutcome, IsSpentOutcome, IsYesOutcome};
+ghost use Rattle.stream_engines.specs.Reports.{yes_line, numbers_data, values_data, puts_data, key_data, keys_data};
+ghost use Rattle.stream_engines.specs.Reports.{lost_data, spent_data};
 
 use crate::small_lines::small_line;
 use answer_hints::{average_text, hinted_yes};
 use events::Memory;
-use follower::{Doubt, Loss, own_part};
-use kept_rows::{Configuration, KeptKey, KeyLoss};
+use losses::{KeyLoss, Loss, Origin, key_losses, own_part};
 use outcomes::{Answer, RunOutcome, line_of};
 use serde_json::{Map, Value, put};
 use small_histories::value_or_null;
 use std::alloc::{AllocError, Global};
 
-/// The answer to a stream whose events have an order, with its hint, where it has one.
+/// The answer to a stream whose events have an order, with its hint if it has one.
 pub fn yes_outcome(alloc: Global, calls: usize, overlap: u64) -> RunOutcome
     ensures { IsYesOutcome calls overlap result }
 {
     hinted_yes(alloc, yes_line(alloc, calls, overlap), calls, overlap)
 }
 
-/// The answer where it is not known whether the events go wrong at this one, which answers the call
-/// of this number.
-pub fn spent_outcome(alloc: Global, event: usize, number: usize, doubt: &Doubt) -> RunOutcome
-    ensures { IsAnsweredBy Undecided (line (compact_text (spent_data event number doubt.now)))
-        result }
+/// The answer if it is not known whether the events go wrong. Its line names the keys of the part that
+/// may not go on.
+pub fn spent_outcome(alloc: Global, loss: &Loss) -> RunOutcome
+    ensures { IsSpentOutcome loss.now result }
 {
-    RunOutcome::from_answer(Answer::Undecided, spent_line(alloc, event, number, doubt))
+    let Ok(losses) = key_losses(alloc, loss) else {
+        return RunOutcome::Memory;
+    };
+    RunOutcome::from_answer(
+        Answer::Undecided,
+        spent_line(alloc, loss.event, loss.number, &losses),
+    )
 }
 
-/// The answer where the events go wrong: its line, and where one value alone goes wrong the line of
-/// a small history.
+/// The answer if the events go wrong. Its first line names the keys of the part that does not go on. If
+/// the part has one past, a second line has a history of its calls.
 pub fn lost_outcome(alloc: Global, loss: &Loss) -> RunOutcome
-    ensures { All HasNoOrder loss.now.keys.items → IsLostOutcome loss.now result }
+    ensures { All IsDead (pasts_of loss.now.part) → IsLostOutcome loss.now result }
 {
     match lost_lines(alloc, loss) {
         Ok(lines) => RunOutcome::Answered {
@@ -57,18 +59,20 @@ pub fn lost_outcome(alloc: Global, loss: &Loss) -> RunOutcome
 }
 
 fn lost_lines(alloc: Global, loss: &Loss) -> Result<String, Memory>
-    ensures { All HasNoOrder loss.now.keys.items
+    ensures { All IsDead (pasts_of loss.now.part)
         → IfOk result (λ text. IsLostText loss.now (string_bytes text)) }
 {
-    let mut lines = lost_line(alloc, loss)?;
+    let losses = key_losses(alloc, loss)?;
+    let mut lines = lost_line(alloc, loss.event, loss.number, &losses)?;
     let small = own_line(alloc, loss)?;
     lines.push_str(small.as_str())?;
     Ok(lines)
 }
 
-/// The line of a small history of what goes wrong by itself, where something does.
+/// The line of a history of the calls of a part that does not go on. It is empty unless the part has
+/// one past.
 fn own_line(alloc: Global, loss: &Loss) -> Result<String, Memory>
-    ensures { All HasNoOrder loss.now.keys.items
+    ensures { All IsDead (pasts_of loss.now.part)
         → IfOk result (λ small. MatchOption (own_part loss.now) (string_bytes small ≡ [])
         (λ part. IsSmallLine part.start part.calls (string_bytes small))) }
 {
@@ -91,43 +95,60 @@ fn yes_line(alloc: Global, calls: usize, overlap: u64) -> Result<String, AllocEr
     Ok(line)
 }
 
-/// The line of a stream that goes wrong.
-fn lost_line(alloc: Global, loss: &Loss) -> Result<String, AllocError>
-    ensures { IfOk result (λ text. string_bytes text ≡ line (compact_text (lost_data loss.now))) }
+/// The line of a stream that goes wrong at an event, the answer of the call of this number.
+fn lost_line(
+    alloc: Global,
+    event: usize,
+    number: usize,
+    losses: &[KeyLoss],
+) -> Result<String, AllocError>
+    ensures { IfOk result (λ text. string_bytes text ≡ line
+        (compact_text (lost_data event number losses.now))) }
 {
-    let value = lost_value(alloc, loss)?;
+    let value = lost_value(alloc, event, number, losses)?;
     line_of(value.to_string(alloc)?)
 }
 
-fn lost_value(alloc: Global, loss: &Loss) -> Result<Value, AllocError>
-    ensures { IfOk result (λ value. view value ≡ lost_data loss.now) }
+fn lost_value(
+    alloc: Global,
+    event: usize,
+    number: usize,
+    losses: &[KeyLoss],
+) -> Result<Value, AllocError>
+    ensures { IfOk result (λ value. view value ≡ lost_data event number losses.now) }
 {
     let mut members = Map::new(alloc);
-    put_lost(alloc, &mut members, loss)?;
+    put_lost(alloc, &mut members, event, number, losses)?;
     Ok(Value::Object(members))
 }
 
-/// Puts what is told of a stream that goes wrong into an object without members.
-fn put_lost(alloc: Global, members: &mut Map<String, Value>, loss: &Loss) -> Result<(), AllocError>
+/// Puts the members of that line into an object without members.
+fn put_lost(
+    alloc: Global,
+    members: &mut Map<String, Value>,
+    event: usize,
+    number: usize,
+    losses: &[KeyLoss],
+) -> Result<(), AllocError>
     requires { members.old.entries ≡ [] }
-    ensures { OnOk result (object (members_view members.new.entries) ≡ lost_data loss.now) }
+    ensures { OnOk result (object (members_view members.new.entries) ≡ lost_data event number
+        losses.now) }
 {
-    put_answer(alloc, members, loss.number, loss.event)?;
-    put(members, alloc, "keys", keys_value(alloc, &loss.keys)?)?;
+    put_losses(alloc, members, event, number, losses)?;
     put(members, alloc, "verdict", Value::try_from_str(alloc, "no")?)
 }
 
-/// The line of a stream of which it is not known whether it goes wrong.
+/// The line of a stream that may go wrong at an event, the answer of the call of this number.
 fn spent_line(
     alloc: Global,
     event: usize,
     number: usize,
-    doubt: &Doubt,
+    losses: &[KeyLoss],
 ) -> Result<String, AllocError>
     ensures { IfOk result (λ text. string_bytes text ≡ line
-        (compact_text (spent_data event number doubt.now))) }
+        (compact_text (spent_data event number losses.now))) }
 {
-    let value = spent_value(alloc, event, number, doubt)?;
+    let value = spent_value(alloc, event, number, losses)?;
     line_of(value.to_string(alloc)?)
 }
 
@@ -135,29 +156,34 @@ fn spent_value(
     alloc: Global,
     event: usize,
     number: usize,
-    doubt: &Doubt,
+    losses: &[KeyLoss],
 ) -> Result<Value, AllocError>
-    ensures { IfOk result (λ value. view value ≡ spent_data event number doubt.now) }
+    ensures { IfOk result (λ value. view value ≡ spent_data event number losses.now) }
 {
     let mut members = Map::new(alloc);
-    put_spent(alloc, &mut members, event, number, doubt)?;
+    put_spent(alloc, &mut members, event, number, losses)?;
     Ok(Value::Object(members))
 }
 
-/// Puts what is told of such a stream into an object without members.
+/// Puts the members of that line into an object without members.
 fn put_spent(
     alloc: Global,
     members: &mut Map<String, Value>,
     event: usize,
     number: usize,
-    doubt: &Doubt,
+    losses: &[KeyLoss],
 ) -> Result<(), AllocError>
     requires { members.old.entries ≡ [] }
     ensures { OnOk result (object (members_view members.new.entries) ≡ spent_data event number
-        doubt.now) }
+        losses.now) }
 {
-    put_answer(alloc, members, number, event)?;
-    put_doubt(alloc, members, doubt)?;
+    put_losses(alloc, members, event, number, losses)?;
+    put(
+        members,
+        alloc,
+        "reason",
+        Value::try_from_str(alloc, "budget")?,
+    )?;
     put(
         members,
         alloc,
@@ -166,96 +192,61 @@ fn put_spent(
     )
 }
 
-/// Puts the number and the event of an answer.
-fn put_answer(
+/// Puts the number and the event of an answer, and what is said of keys.
+fn put_losses(
     alloc: Global,
     members: &mut Map<String, Value>,
-    number: usize,
     event: usize,
+    number: usize,
+    losses: &[KeyLoss],
 ) -> Result<(), AllocError>
     ensures { OnOk result (members_view members.new.entries
-        ≡ with_member (codes "event") (number_data event)
+        ≡ with_member (codes "keys") (keys_data losses.now)
+        (with_member (codes "event") (number_data event)
         (with_member (codes "call") (number_data number)
-        (members_view members.old.entries))) }
+        (members_view members.old.entries)))) }
 {
     put(members, alloc, "call", Value::from(number))?;
-    put(members, alloc, "event", Value::from(event))
+    put(members, alloc, "event", Value::from(event))?;
+    put(members, alloc, "keys", keys_value(alloc, losses)?)
 }
 
-/// Puts why it is not known whether a stream goes wrong.
-fn put_doubt(
-    alloc: Global,
-    members: &mut Map<String, Value>,
-    doubt: &Doubt,
-) -> Result<(), AllocError>
-    ensures { OnOk result (members_view members.new.entries
-        ≡ with_member (codes "reason") (string (doubt_word doubt.now))
-        (with_member (codes "keys") (keys_data (doubted_keys doubt.now))
-        (members_view members.old.entries))) }
+fn keys_value(alloc: Global, losses: &[KeyLoss]) -> Result<Value, AllocError>
+    ensures { IfOk result (λ value. view value ≡ keys_data losses.now) }
 {
-    put(members, alloc, "keys", doubted_value(alloc, doubt)?)?;
-    put(
-        members,
-        alloc,
-        "reason",
-        Value::try_from_str(alloc, doubt.word())?,
-    )
-}
-
-/// The keys of which that is said.
-fn doubted_value(alloc: Global, doubt: &Doubt) -> Result<Value, AllocError>
-    ensures { IfOk result (λ value. view value ≡ keys_data (doubted_keys doubt.now)) }
-{
-    let mut items = Vec::new(alloc);
-    if let Doubt::Budget(at) = doubt {
-        items.push(key_value(alloc, at)?)?;
+    let mut items = Vec::with_capacity(alloc, losses.len())?;
+    for loss in losses {
+        items.push(key_value(alloc, loss)?)?;
     }
     Ok(Value::from(items))
 }
 
-/// Keys, with what is left at each.
-fn keys_value(alloc: Global, keys: &[KeyLoss]) -> Result<Value, AllocError>
-    ensures { IfOk result (λ value. view value ≡ keys_data keys.now) }
-{
-    let mut items = Vec::with_capacity(alloc, keys.len())?;
-    for at in keys {
-        items.push(key_value(alloc, at)?)?;
-    }
-    Ok(Value::from(items))
-}
-
-fn key_value(alloc: Global, at: &KeyLoss) -> Result<Value, AllocError>
-    ensures { IfOk result (λ value. view value ≡ key_data at.now) }
+fn key_value(alloc: Global, loss: &KeyLoss) -> Result<Value, AllocError>
+    ensures { IfOk result (λ value. view value ≡ key_data loss.now) }
 {
     let mut members = Map::new(alloc);
-    put_key(alloc, &mut members, at)?;
+    put_key(alloc, &mut members, loss)?;
     Ok(Value::Object(members))
 }
 
-/// Puts what is left at a key into an object without members.
-fn put_key(alloc: Global, members: &mut Map<String, Value>, at: &KeyLoss) -> Result<(), AllocError>
+/// Puts what is said of a key into an object without members.
+fn put_key(
+    alloc: Global,
+    members: &mut Map<String, Value>,
+    loss: &KeyLoss,
+) -> Result<(), AllocError>
     requires { members.old.entries ≡ [] }
-    ensures { OnOk result (object (members_view members.new.entries) ≡ key_data at.now) }
+    ensures { OnOk result (object (members_view members.new.entries) ≡ key_data loss.now) }
 {
     put(
         members,
         alloc,
         "invoked",
-        numbers_value(alloc, &at.kept.names)?,
+        numbers_value(alloc, &loss.invoked)?,
     )?;
-    put(members, alloc, "key", Value::from(at.key))?;
-    put(
-        members,
-        alloc,
-        "put",
-        puts_value(alloc, &at.kept, &at.kept.configurations)?,
-    )?;
-    put(
-        members,
-        alloc,
-        "values",
-        values_value(alloc, &at.kept.configurations)?,
-    )
+    put(members, alloc, "key", Value::from(loss.key))?;
+    put(members, alloc, "put", puts_value(alloc, &loss.from)?)?;
+    put(members, alloc, "values", values_value(alloc, &loss.from)?)
 }
 
 fn numbers_value(alloc: Global, numbers: &[usize]) -> Result<Value, AllocError>
@@ -268,63 +259,33 @@ fn numbers_value(alloc: Global, numbers: &[usize]) -> Result<Value, AllocError>
     Ok(Value::from(items))
 }
 
-/// The values of configurations.
-fn values_value(alloc: Global, configurations: &[Configuration]) -> Result<Value, AllocError>
-    ensures { IfOk result (λ value. view value ≡ values_data configurations.now) }
+/// The values that a key may have had.
+fn values_value(alloc: Global, from: &[Origin]) -> Result<Value, AllocError>
+    ensures { IfOk result (λ value. view value ≡ values_data from.now) }
 {
-    let mut items = Vec::new(alloc);
-    for configuration in configurations {
-        push_values(&mut items, &configuration.values)?;
+    let mut items = Vec::with_capacity(alloc, from.len())?;
+    for origin in from {
+        items.push(value_or_null(origin.value))?;
     }
     Ok(Value::from(items))
 }
 
-fn push_values(items: &mut Vec<Value>, values: &[Option<u64>]) -> Result<(), AllocError>
-    ensures { OnOk result (map view items.new.items ≡ map view items.old.items ++ map value_data
-        values.now) }
+/// The calls that put these values, by the events of their invocations.
+fn puts_value(alloc: Global, from: &[Origin]) -> Result<Value, AllocError>
+    ensures { IfOk result (λ value. view value ≡ puts_data from.now) }
 {
-    for value in values {
-        items.push(value_or_null(*value))?;
-    }
-    Ok(())
-}
-
-/// The calls that put the values of configurations.
-fn puts_value(
-    alloc: Global,
-    kept: &KeptKey,
-    configurations: &[Configuration],
-) -> Result<Value, AllocError>
-    ensures { IfOk result (λ value. view value ≡ puts_data kept.now configurations.now) }
-{
-    let mut items = Vec::new(alloc);
-    for configuration in configurations {
-        push_puts(&mut items, kept, configuration, &configuration.values)?;
+    let mut items = Vec::with_capacity(alloc, from.len())?;
+    for origin in from {
+        items.push(event_or_null(origin.put))?;
     }
     Ok(Value::from(items))
 }
 
-fn push_puts(
-    items: &mut Vec<Value>,
-    kept: &KeptKey,
-    configuration: &Configuration,
-    values: &[Option<u64>],
-) -> Result<(), AllocError>
-    ensures { OnOk result (map view items.new.items
-        ≡ map view items.old.items ++ map value_data
-        (map (put_in kept.now configuration.now) values.now)) }
+fn event_or_null(event: Option<usize>) -> Value
+    ensures { view result ≡ value_data event }
 {
-    for value in values {
-        items.push(place_or_null(kept.put_in(configuration, *value)))?;
-    }
-    Ok(())
-}
-
-fn place_or_null(place: Option<usize>) -> Value
-    ensures { view result ≡ value_data place }
-{
-    let Some(place) = place else {
+    let Some(event) = event else {
         return Value::Null;
     };
-    Value::from(place)
+    Value::from(event)
 }

@@ -1,4 +1,4 @@
-// The line of a history with calls that have no order.
+// The line of a history of calls that have no order.
 ghost use Rattle.std.specs.Prelude.{IfOk, string_bytes};
 ghost use Rattle.orders.specs.Orders.{IsLinearizable};
 ghost use Rattle.stream_engines.specs.Answers.{IsHistoryLine, IsSmallLine};
@@ -8,8 +8,8 @@ use outcomes::line_of;
 use small_histories::{small_history, small_text};
 use std::alloc::Global;
 
-/// The line of the text of a history with these calls, from these pairs; nothing where no history
-/// has them, or the text is too long.
+/// The line of the text of a history with these calls, from these pairs. It is empty if no history
+/// has them, or if the text is too long.
 pub(crate) fn small_line(
     alloc: Global,
     start: &[(u64, u64)],
@@ -24,7 +24,7 @@ pub(crate) fn small_line(
     }
 }
 
-/// The line of the text of a history; nothing where the text is too long.
+/// The line of the text of a history. It is empty if the text is too long.
 fn history_line(alloc: Global, history: &History) -> Result<String, Memory>
     ensures { IfOk result (λ text. IsHistoryLine history.now (string_bytes text)) }
 {

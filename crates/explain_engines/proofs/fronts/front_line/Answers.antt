@@ -7,6 +7,6 @@ use Rattle.explain_engines.proofs.fronts.front_line.Goals as goal
 pub returns : goal.returns
 returns c =
     let is = c.in_ok-value.ensures in
-    let no_float = ap has_float is ∙ has_float-front c.args.start.now c.args.events.now c.args.calls.now c.args.front.now in
+    let no_float = ap has_float is ∙ has_float-front c.args.start.now c.args.calls.now c.args.front.now in
     let text = c.in_ok-to_string.ensures.text no_float ∙ ap compact_text is in
     rw text at c.in_ok-line_of.ensures

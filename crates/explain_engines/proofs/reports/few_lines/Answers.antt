@@ -1,4 +1,4 @@
-use Rattle.std.proofs.Common.{ℕ, List, ◌++◌, ◌≡◌, string_bytes, ap, ◌∙◌, subst}
+use Rattle.std.proofs.Common.{ℕ, List, ◌++◌, ◌≡◌, string_bytes, ap, ap₂, ◌∙◌, subst}
 use Rattle.events.specs.HistoryView.{HistoryView}
 use Rattle.events.specs.declared.operation.Operation.{Operation}
 use Rattle.explaining.specs.declared.explanation.Reason.{Reason}
@@ -9,12 +9,12 @@ use Rattle.explain_engines.specs.Reports.{rows}
 use Rattle.explain_engines.proofs.LineLemmas.{few_from}
 use Rattle.explain_engines.proofs.reports.few_lines.Goals as goal
 
--- what is told of calls is told of those that they are
-told_of : (budget : ℕ) (start : Contents) (events : List (ℕ × ℕ)) (calls those : List Operation) (bytes : List ℕ) → calls ≡ those
-    → (IsLinearizable start those → ⊥) → ((IsLinearizable start calls → ⊥) → AreHistoryLines budget start events calls bytes)
-    → AreHistoryLines budget start events those bytes
-told_of budget start events calls those bytes is none lines =
-    subst (λ (l : List Operation). AreHistoryLines budget start events l bytes) is
+-- the lines of calls are those of the same calls
+shown_of : (budget : ℕ) (start : Contents) (calls those : List Operation) (bytes : List ℕ) → calls ≡ those
+    → (IsLinearizable start those → ⊥) → ((IsLinearizable start calls → ⊥) → AreHistoryLines budget start calls bytes)
+    → AreHistoryLines budget start those bytes
+shown_of budget start calls those bytes is none lines =
+    subst (λ (l : List Operation). AreHistoryLines budget start l bytes) is
     (lines (λ order. none (subst (λ (l : List Operation). IsLinearizable start l) is order)))
 
 origins_of : (history : HistoryView) (start : Contents) (calls those : List Operation) (bytes : List ℕ) → calls ≡ those
@@ -26,15 +26,14 @@ returns c =
     let history = c.args.history.now in
     let few = c.args.few.now in
     let start = c.args.start.now in
-    let told = c.args.told.now in
     let outside = string_bytes c.in_ok-outside.outside in
     let small = string_bytes c.in_ok-small.small in
     let calls = c.as_slice-calls.result.now in
-    few_from c.args.budget history start c.args.events.now told few (string_bytes c.in_ok-text.text) outside small
+    few_from c.args.budget history start few (string_bytes c.in_ok-text.text) outside small
     (string_bytes c.push_str.new.self) (string_bytes c.push_str-2.new.self)
-    (c.in_ok-text.ensures ∙ ap (λ (l : List Reason). rows history told l) c.deref.ensures.value)
+    (c.in_ok-text.ensures
+    ∙ ap₂ (λ (l : List Operation) (reasons : List Reason). rows history l reasons) c.as_slice-calls.ensures.value c.deref.ensures.value)
     (origins_of history start calls few.calls.items outside c.as_slice-calls.ensures.value c.in_ok-outside.ensures)
-    (told_of c.args.budget start c.args.events.now calls few.calls.items small c.as_slice-calls.ensures.value c.requires.none
-    c.in_ok-small.ensures)
+    (shown_of c.args.budget start calls few.calls.items small c.as_slice-calls.ensures.value c.requires.none c.in_ok-small.ensures)
     (c.in_ok-push_str.ensures.bytes ∙ ap (λ (l : List ℕ). string_bytes c.in_ok-text.text ++ l) c.as_str.ensures.value)
     (c.in_ok-push_str-2.ensures.bytes ∙ ap (λ (l : List ℕ). string_bytes c.push_str.new.self ++ l) c.as_str-2.ensures.value)

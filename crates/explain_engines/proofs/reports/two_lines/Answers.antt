@@ -12,6 +12,6 @@ returns c = λ is_text refuted. record {
   is_front = c.in_ok-front.ensures refuted;
   bytes_are = c.in_ok-push_str.ensures.bytes
       ∙ ap₂ (λ (first : List ℕ) (second : List ℕ). first ++ second) c.in_ok-lines.ensures
-      (c.as_str.ensures.value ∙ (c.in_ok-told.ensures
-      ∙ ap (λ (front : List ℕ). line (compact_text (front_data c.args.start.now c.args.events.now c.args.calls.now front))) c.deref.ensures.value));
+      (c.as_str.ensures.value ∙ (c.in_ok-last.ensures
+      ∙ ap (λ (front : List ℕ). line (compact_text (front_data c.args.start.now c.args.calls.now front))) c.deref.ensures.value));
 }

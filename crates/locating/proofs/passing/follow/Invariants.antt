@@ -1,7 +1,7 @@
--- The follower has taken the events so far.
+-- The monitor has taken the events so far.
 use Rattle.std.proofs.Common.{take}
-use Rattle.follower.specs.Followed.{IsFollowed}
+use Rattle.monitor.specs.Following.{IsFollowing}
 use Rattle.locating.proofs.passing.follow.Given as goal
 
 abbrev pub invariant-loop-place : goal.invariant-loop-place
-invariant-loop-place l = IsFollowed l.history.start (take l.place l.history.events) l.follower
+invariant-loop-place l = IsFollowing l.history.start (take l.place l.history.events) l.monitor

@@ -1,8 +1,8 @@
 use Rattle.std.proofs.Common.{◌∙◌, take, sym, subst}
 use Rattle.std.proofs.lemmas.Option.{none-some}
 use Rattle.events.specs.declared.event.Event.TheVariants.{Answer}
-use Rattle.follower.specs.Followed.{IsFollowed}
-use Rattle.follower.specs.WindowOutcomes.{IsAnswered, IsCountedAs}
+use Rattle.monitor.specs.Following.{IsFollowing}
+use Rattle.monitor.specs.Outcomes.{IsAnswered}
 use Rattle.locating.proofs.PassLemmas.{fine_answer, lost, next, spent}
 use Rattle.locating.proofs.passing.pass_answer.Goals as goal
 
@@ -10,8 +10,8 @@ pub unreachable-requires : goal.unreachable-requires
 unreachable-requires c =
     let history = c.args.history.now in
     let before = take c.args.place history.events in
-    let is = subst (IsAnswered history.start before c.args.follower c.args.process c.args.reply c.args.budget) c.in-Refused.is
-    (c.in_ok-next.ensures.answered history.start before c.requires.follows) in
+    let is = subst (IsAnswered history.start before c.args.monitor c.args.process c.args.reply c.args.budget) c.in-Refused.is
+    (c.in_ok-next.ensures history.start before c.requires.follows) in
     let fine = fine_answer history c.args.place c.args.process c.args.reply c.requires.event c.histories_have_few_events.ensures c.requires.history in
     none-some c.in-Refused.field-1 (sym fine ∙ is.0)
 
@@ -19,26 +19,25 @@ pub returns-in-Going : goal.returns-in-Going
 returns-in-Going c =
     let history = c.args.history.now in
     let before = take c.args.place history.events in
-    let is = subst (IsAnswered history.start before c.args.follower c.args.process c.args.reply c.args.budget) c.in-Going.is
-    (c.in_ok-next.ensures.answered history.start before c.requires.follows) in
-    subst (λ es. IsFollowed history.start es c.in-Going.next)
+    let is = subst (IsAnswered history.start before c.args.monitor c.args.process c.args.reply c.args.budget) c.in-Going.is
+    (c.in_ok-next.ensures history.start before c.requires.follows) in
+    subst (λ es. IsFollowing history.start es c.in-Going.next)
     (next history c.args.place (Answer c.args.process c.args.reply) c.requires.event) is.1
 
 pub returns-in-Lost : goal.returns-in-Lost
 returns-in-Lost c =
     let history = c.args.history.now in
     let before = take c.args.place history.events in
-    let is = subst (IsAnswered history.start before c.args.follower c.args.process c.args.reply c.args.budget) c.in-Lost.is
-    (c.in_ok-next.ensures.answered history.start before c.requires.follows) in
-    lost history c.args.place c.args.process c.args.reply c.requires.event c.args.budget c.args.follower c.requires.follows c.in-Lost.loss
+    let is = subst (IsAnswered history.start before c.args.monitor c.args.process c.args.reply c.args.budget) c.in-Lost.is
+    (c.in_ok-next.ensures history.start before c.requires.follows) in
+    lost history c.args.place c.args.process c.args.reply c.requires.event c.args.budget c.args.monitor c.requires.follows c.in-Lost.loss
     c.requires.open_to_judge is
 
 pub returns-in-Spent : goal.returns-in-Spent
 returns-in-Spent c =
     let history = c.args.history.now in
     let before = take c.args.place history.events in
-    let is = subst (IsAnswered history.start before c.args.follower c.args.process c.args.reply c.args.budget) c.in-Spent.is
-    (c.in_ok-next.ensures.answered history.start before c.requires.follows) in
-    spent history c.args.place c.args.process c.args.reply c.requires.event c.args.budget c.args.follower c.requires.follows
-    c.in-Spent.event c.in-Spent.number c.in-Spent.doubt c.requires.open_to_judge is
-    (subst (IsCountedAs c.args.follower c.args.process c.args.reply) c.in-Spent.is (c.in_ok-next.ensures.counted history.start before c.requires.follows))
+    let is = subst (IsAnswered history.start before c.args.monitor c.args.process c.args.reply c.args.budget) c.in-Spent.is
+    (c.in_ok-next.ensures history.start before c.requires.follows) in
+    spent history c.args.place c.args.process c.args.reply c.requires.event c.args.budget c.args.monitor c.requires.follows
+    c.in-Spent.loss c.requires.open_to_judge is

@@ -1,6 +1,6 @@
 use Rattle.std.proofs.Common.{◌∙◌, take, sym, subst}
 use Rattle.events.specs.declared.event.Event.TheVariants.{Invoke}
-use Rattle.follower.specs.Followed.{IsFollowed}
+use Rattle.monitor.specs.Following.{IsFollowing}
 use Rattle.locating.proofs.PassLemmas.{fine_call, next}
 use Rattle.locating.proofs.passing.pass_invocation.Goals as goal
 
@@ -15,6 +15,6 @@ pub returns-in-Ok : goal.returns-in-Ok
 returns-in-Ok c =
     let history = c.args.history.now in
     let before = take c.args.place history.events in
-    subst (λ es. IsFollowed history.start es c.in-Ok.next)
+    subst (λ es. IsFollowing history.start es c.in-Ok.next)
     (next history c.args.place (Invoke c.args.process c.args.call) c.requires.event)
     (c.in-Ok.ensures.follows history.start before c.requires.follows)

@@ -31,9 +31,9 @@ loop-before-preserved g c =
 pub returns-in-Err : goal.returns-in-Err
 returns-in-Err g c =
     let at = c.loop-before.invariant in
-    let told = g.S.Source.remaining c.args.source.now in
+    let known = g.S.Source.remaining c.args.source.now in
     subst (λ (n : ℕ). IsFollowOutcome c.args.budget (record {
-      old = record { bytes = told; failures = n };
+      old = record { bytes = known; failures = n };
       new = record
           { bytes = g.S.Source.remaining c.follow_next.new.source; failures = g.S.Source.failures c.follow_next.new.source };
-    }) c.in-Err.outcome) at.0 (c.in-Err.ensures.stopped told at.1.0 at.1.1 at.1.2 at.1.3)
+    }) c.in-Err.outcome) at.0 (c.in-Err.ensures.stopped known at.1.0 at.1.1 at.1.2 at.1.3)

@@ -4,5 +4,5 @@ use Rattle.serde_json.specs.View.{view}
 use Rattle.stream_engines.specs.Reports.{key_data}
 use Rattle.stream_engines.proofs.reports.keys_value.Given as goal
 
-abbrev pub invariant-loop-at : goal.invariant-loop-at
-invariant-loop-at l = map view l.items.items ≡ map key_data (take l.at-index l.keys)
+abbrev pub invariant-loop-loss : goal.invariant-loop-loss
+invariant-loop-loss l = map view l.items.items ≡ map key_data (take l.loss-index l.losses)

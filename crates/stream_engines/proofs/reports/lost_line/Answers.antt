@@ -7,5 +7,6 @@ use Rattle.stream_engines.proofs.reports.lost_line.Goals as goal
 pub returns : goal.returns
 returns c =
     let is = c.in_ok-value.ensures in
-    let text = c.in_ok-to_string.ensures.text (ap has_float is ∙ has_float-lost c.args.loss.now) ∙ ap compact_text is in
+    let text = c.in_ok-to_string.ensures.text (ap has_float is ∙ has_float-lost c.args.event c.args.number c.args.losses.now)
+    ∙ ap compact_text is in
     rw text at c.line_of.ensures

@@ -1,12 +1,22 @@
 use Rattle.std.proofs.Common.{ℕ, List, ◌++◌, ap, ◌∙◌, string_bytes}
+use Rattle.serde_json.specs.Written.{compact_text}
+use Rattle.outcomes.specs.Lines.{line}
+use Rattle.losses.specs.declared.lost_keys.KeyLoss.{KeyLoss}
+use Rattle.stream_engines.specs.Reports.{lost_data}
 use Rattle.stream_engines.proofs.reports.lost_lines.Goals as goal
 
 pub returns : goal.returns
-returns c = λ none.
+returns c = λ dead.
     let lines = string_bytes c.in_ok-lines.lines in
-    let small = string_bytes c.in_ok-small.small in (
-      small,
-      c.in_ok-small.ensures none,
-      c.in_ok-push_str.ensures.bytes
-          ∙ (ap (λ (l : List ℕ). lines ++ l) c.as_str.ensures.value ∙ ap (λ (l : List ℕ). l ++ small) c.in_ok-lines.ensures),
-    )
+    let small = string_bytes c.in_ok-small.small in
+    let loss = c.args.loss.now in
+    record {
+      losses = c.in_ok-losses.losses.items;
+      are_losses = c.in_ok-losses.ensures;
+      small = small;
+      small_is = c.in_ok-small.ensures dead;
+      bytes_are = c.in_ok-push_str.ensures.bytes
+          ∙ (ap (λ (l : List ℕ). lines ++ l) c.as_str.ensures.value
+          ∙ ap (λ (l : List ℕ). l ++ small) (c.in_ok-lines.ensures
+          ∙ ap (λ (losses : List KeyLoss). line (compact_text (lost_data loss.event loss.number losses))) c.deref.ensures.value));
+    }

@@ -4,16 +4,16 @@ use Rattle.events.specs.declared.operation.Operation.{Operation}
 use Rattle.map_object.specs.MapObject.{Contents}
 use Rattle.orders.specs.Orders.{IsLinearizable}
 use Rattle.stream_engines.specs.Answers.{IsSmallLine}
-use Rattle.follower.specs.OwnParts.{OwnPart}
+use Rattle.losses.specs.OwnParts.{OwnPart}
 use Rattle.stream_engines.proofs.OwnLemmas.{IsRefuted, own_refuted}
 use Rattle.stream_engines.proofs.reports.own_line.Goals as goal
 
 -- the line of what goes wrong by itself, from pairs and with calls that are the part's
-told : {E : Type 0} (own : Option OwnPart) (part : OwnPart) (start : Contents) (calls : List Operation) (r : Result (String Global) E)
+line_of_part : {E : Type 0} (own : Option OwnPart) (part : OwnPart) (start : Contents) (calls : List Operation) (r : Result (String Global) E)
     → own ≡ Some part → start ≡ part.start → calls ≡ part.calls → IfSome own IsRefuted
     → ((IsLinearizable start calls → ⊥) → IfOk r (λ text. IsSmallLine start calls (string_bytes text)))
     → IfOk r (λ small. MatchOption own (string_bytes small ≡ []) (λ part. IsSmallLine part.start part.calls (string_bytes small)))
-told own part start calls r is first second refuted line =
+line_of_part own part start calls r is first second refuted line =
     let none : IsLinearizable part.start part.calls → ⊥ = subst (λ (o : Option OwnPart). IfSome o IsRefuted) is refuted in
     subst (λ (o : Option OwnPart). IfOk r (λ small. MatchOption o (string_bytes small ≡ [])
     (λ part. IsSmallLine part.start part.calls (string_bytes small)))) (sym is)
@@ -23,8 +23,8 @@ told own part start calls r is first second refuted line =
     (subst (λ (l : List Operation). IsLinearizable start l) second order))))))
 
 pub returns-in-Some : goal.returns-in-Some
-returns-in-Some c = λ none.
-    told _ c.in-Some.part c.deref.result.now c.deref-in-Some.result.now c.small_line.result (sym c.in_ok-part.ensures ∙ c.in-Some.is)
+returns-in-Some c = λ dead.
+    line_of_part _ c.in-Some.part c.deref.result.now c.deref-in-Some.result.now c.small_line.result (sym c.in_ok-part.ensures ∙ c.in-Some.is)
     (c.deref.ensures.value ∙ ap (λ (p : OwnPart). p.start) c.part.view_is)
     (c.deref-in-Some.ensures.value ∙ ap (λ (p : OwnPart). p.calls) c.part.view_is)
-    (own_refuted c.args.loss.now.keys.items none) c.small_line.ensures
+    (own_refuted c.args.loss.now.puts.items c.args.loss.now.part.pasts.items dead) c.small_line.ensures

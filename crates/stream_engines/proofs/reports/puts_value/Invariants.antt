@@ -1,10 +1,8 @@
--- The calls so far are those that put the values of the configurations.
-use Rattle.std.proofs.Common.{◌≡◌, map, take, flat_map}
+-- The values so far are those of their calls.
+use Rattle.std.proofs.Common.{◌≡◌, map, take}
 use Rattle.serde_json.specs.View.{view}
-use Rattle.kept_rows.specs.Puts.{put_in}
 use Rattle.small_histories.specs.Values.{value_data}
 use Rattle.stream_engines.proofs.reports.puts_value.Given as goal
 
-abbrev pub invariant-loop-configuration : goal.invariant-loop-configuration
-invariant-loop-configuration l =
-    map view l.items.items ≡ map value_data (flat_map (λ c. map (put_in l.kept c) c.values) (take l.configuration-index l.configurations))
+abbrev pub invariant-loop-origin : goal.invariant-loop-origin
+invariant-loop-origin l = map view l.items.items ≡ map (λ origin. value_data origin.put) (take l.origin-index l.from)

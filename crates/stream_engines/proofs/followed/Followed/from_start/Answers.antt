@@ -1,5 +1,5 @@
 use Rattle.std.proofs.Common.{ℕ, List, [], refl, subst}
-use Rattle.follower.specs.Followed.{IsFollowed as IsFollowedBy}
+use Rattle.monitor.specs.Following.{IsFollowing}
 use Rattle.stream_engines.proofs.FirstLemmas.{start_alone}
 use Rattle.stream_engines.proofs.followed.Followed.from_start.Goals as goal
 
@@ -7,7 +7,7 @@ pub returns-clause-taken : goal.returns-clause-taken
 returns-clause-taken c = λ line spelled. record {
   stream = record { start = c.args.start.now; events = [] };
   spelled = start_alone c.args.version line c.args.start.now spelled;
-  follows = subst (λ (start : List (ℕ × ℕ)). IsFollowedBy start [] c.in-Ok.follower) c.as_slice.ensures
+  follows = subst (λ (start : List (ℕ × ℕ)). IsFollowing start [] c.in-Ok.monitor) c.as_slice.ensures
       c.in-Ok.ensures;
   pending = refl;
   overlap = refl;

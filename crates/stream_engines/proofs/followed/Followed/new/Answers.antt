@@ -5,7 +5,7 @@ pub returns : goal.returns
 returns c = record {
   stream = record { start = []; events = [] };
   spelled = (refl, tt);
-  follows = c.in_ok-follower.ensures;
+  follows = c.in_ok-monitor.ensures;
   pending = refl;
   overlap = refl;
 }

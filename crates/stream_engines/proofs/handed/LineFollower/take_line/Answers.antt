@@ -26,14 +26,14 @@ went_on budget given count lines line f next handed few taken = (
 -- or ends the stream
 came_out : (budget given count : ℕ) (lines : List (List ℕ)) (line : List ℕ) (f : Followed) (outcome : RunOutcome)
     → IsHanded budget lines (Going f count given)
-    → ((told : Option (List ℕ)) (read : List (List ℕ)) → length read ≡ count → IsFollowed read f → BeginsWith told (read ++ line ∷ [])
-    → IsStreamOutcome given told outcome)
+    → ((known : Option (List ℕ)) (read : List (List ℕ)) → length read ≡ count → IsFollowed read f → BeginsWith known (read ++ line ∷ [])
+    → IsStreamOutcome given known outcome)
     → IsHanded budget (lines ++ line ∷ []) (Ended outcome)
-came_out budget given count lines line f outcome handed stopped = λ told begins.
-    subst (λ (b : ℕ). IsStreamOutcome b told outcome) handed.0 (stopped told lines (sym handed.1) handed.3 begins)
+came_out budget given count lines line f outcome handed stopped = λ known begins.
+    subst (λ (b : ℕ). IsStreamOutcome b known outcome) handed.0 (stopped known lines (sym handed.1) handed.3 begins)
 
--- what begins with a line more begins with the others
-begins_before : (told : Option (List ℕ)) (lines : List (List ℕ)) (line : List ℕ) → BeginsWith told (lines ++ line ∷ []) → BeginsWith told lines
+-- a text that begins with these lines and one more begins with these
+begins_before : (known : Option (List ℕ)) (lines : List (List ℕ)) (line : List ℕ) → BeginsWith known (lines ++ line ∷ []) → BeginsWith known lines
 begins_before None lines line begins = tt
 begins_before (Some text) lines line begins = (line ∷ begins.0, begins.1 ∙ append_assoc lines (line ∷ []) begins.0)
 
@@ -55,6 +55,6 @@ returns-in-Err c = λ budget lines handed.
     (subst (λ (f : LineFollower). IsHanded budget lines f) c.in-Going.is handed) c.in-Err.ensures.stopped
 
 pub returns-in-Ended : goal.returns-in-Ended
-returns-in-Ended c = λ budget lines handed told begins.
-    subst (λ (f : LineFollower). IsHanded budget lines f) c.in-Ended.is handed told
-    (begins_before told lines c.args.line.now begins)
+returns-in-Ended c = λ budget lines handed known begins.
+    subst (λ (f : LineFollower). IsHanded budget lines f) c.in-Ended.is handed known
+    (begins_before known lines c.args.line.now begins)

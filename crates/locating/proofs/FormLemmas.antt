@@ -1,0 +1,55 @@
+-- Whether some map answers a call so depends on comparisons of numbers only: it does, unless that is refuted.
+use Rattle.events.specs.declared.event.Reply.TheVariants as replies
+use Rattle.std.proofs.Common.{◌≡◌, ℕ, ◌<◌, ◌≤◌, ⊎_elim, List, Some, All, ap, arith, sym, ◌∙◌}
+use Rattle.std.proofs.lemmas.Bool.{cases_lt}
+use Rattle.std.proofs.lemmas.Option.{none-some}
+use Rattle.events.specs.declared.event.Call.{Call}
+use Rattle.events.specs.declared.event.Call.TheVariants.{Get, Insert, Remove, Scan, Replace}
+use Rattle.events.specs.declared.event.Event.{Event}
+use Rattle.events.specs.declared.event.Reply.{Reply}
+use Rattle.map_object.specs.MapObject.{Contents}
+use Rattle.key_effects.specs.Forms.{ArePairsOf, IsScanReply}
+use Rattle.part_pasts.specs.Pasts.{IsDead}
+use Rattle.parts.specs.Keeping.{pasts_of}
+use Rattle.losses.specs.declared.loss.Loss.{Loss}
+use Rattle.losses.specs.OwnParts.{OwnPart, own_part, part_of}
+use Rattle.monitor.specs.Calls.{MayReply}
+use Rattle.monitor.specs.Outcomes.{IsKeptWith, IsLost}
+
+less : (a b : ℕ) → ((a < b → ⊥) → ⊥) → a < b
+less a b is = ⊎_elim (λ h. h) (λ not_less. absurd (is (λ h. omega arith))) (cases_lt a b)
+
+no_more : (a b : ℕ) → ((a ≤ b → ⊥) → ⊥) → a ≤ b
+no_more a b is = ⊎_elim (λ more. absurd (is (λ h. omega arith))) (λ h. h) (cases_lt b a)
+
+are_pairs : (low high : ℕ) (pairs : Contents) → ((ArePairsOf low high pairs → ⊥) → ⊥) → ArePairsOf low high pairs
+are_pairs low high pairs is = record {
+  rising = λ i j d before inside. less _ _ (λ never. is (λ h. never (h.rising i j d before inside)));
+  within = λ n d inside. (
+    no_more _ _ (λ never. is (λ h. never (h.within n d inside).0)),
+    no_more _ _ (λ never. is (λ h. never (h.within n d inside).1)),
+  );
+}
+
+scan_reply : (low high : ℕ) (reply : Reply) → ((IsScanReply low high reply → ⊥) → ⊥) → IsScanReply low high reply
+scan_reply low high replies.None is = absurd (is (λ h. h))
+scan_reply low high (replies.Some value) is = absurd (is (λ h. h))
+scan_reply low high (replies.Pairs pairs) is = are_pairs low high pairs is
+scan_reply low high replies.Refused is = tt
+scan_reply low high replies.Done is = tt
+scan_reply low high replies.Found is = absurd (is (λ h. h))
+scan_reply low high replies.Other is = absurd (is (λ h. h))
+
+may_reply : (call : Call) (reply : Reply) → ((MayReply call reply → ⊥) → ⊥) → MayReply call reply
+may_reply (Get key) reply is = tt
+may_reply (Insert key value) reply is = tt
+may_reply (Remove key) reply is = tt
+may_reply (Scan low high) reply is = scan_reply low high reply is
+may_reply (Replace key expected value) reply is = tt
+
+-- so the part of a loss is kept, and its pasts have no order, if something goes wrong on its own
+pub kept_of_own : (start : Contents) (events : List Event) (process : ℕ) (reply : Reply) (loss : Loss) (part : OwnPart)
+    → IsLost start events process reply loss → own_part loss ≡ Some part
+    → IsKeptWith start events process reply loss × All IsDead (pasts_of loss.part)
+kept_of_own start events process reply loss part is own =
+    is.part (may_reply loss.call reply (λ never. none-some part (sym (ap (part_of loss.puts.items) (is.none never)) ∙ own)))
