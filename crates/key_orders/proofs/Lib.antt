@@ -1,5 +1,0 @@
-pub mod FrontLemmas
-mod GuessLemmas
-mod JudgeFewLemmas
-pub mod JudgeLemmas
-mod JudgeVerdictLemmas

@@ -1,7 +1,0 @@
-use Rattle.std.proofs.Common.{◌≡◌, take}
-use Rattle.orders.specs.Orders.{calls_at}
-use Rattle.key_orders.proofs.fronts.calls_of.Given as goal
-
--- of the places so far
-abbrev pub invariant-loop-place : goal.invariant-loop-place
-invariant-loop-place l = l.copies.items ≡ calls_at l.calls (take l.place-index l.places)

@@ -1,3 +1,0 @@
-pub mod Few
-pub mod Fronts
-pub mod Judging

@@ -1,3 +1,0 @@
-pub mod KnownLemmas
-pub mod RestingLemmas
-pub mod ScanListLemmas

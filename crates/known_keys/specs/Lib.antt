@@ -1,9 +1,0 @@
-pub mod Entries
-pub mod Resting
-pub use Rattle.kept_keys.specs.Cuts
-pub use Rattle.kept_keys.specs.Judging
-pub use Rattle.kept_keys.specs.Reads
-pub use Rattle.kept_keys.specs.Retiming
-pub use Rattle.kept_keys.specs.Settling
-pub use Rattle.kept_keys.specs.Steps
-pub use Rattle.kept_keys.specs.Views

@@ -1,9 +1,0 @@
-pub mod Answers
-pub mod Digests
-pub mod Equality
-pub mod Feeding
-pub mod PastChoices
-pub mod Positions
-pub mod Starts
-pub mod Steps
-pub mod Ways

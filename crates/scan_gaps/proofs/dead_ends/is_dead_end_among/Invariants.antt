@@ -1,8 +1,0 @@
-use Rattle.std.specs.Prelude.{zip}
-use Rattle.scan_gaps.specs.Passing.{IsDeadEndOf}
-use Rattle.scan_rows.proofs.ScanListLemmas.{NoneBefore}
-use Rattle.scan_gaps.proofs.dead_ends.is_dead_end_among.Given as goal
-
--- no call so far is such a one
-abbrev pub invariant-loop-i : goal.invariant-loop-i
-invariant-loop-i l = NoneBefore (IsDeadEndOf l.value l.place (zip l.names l.calls)) (zip l.names l.calls) l.i

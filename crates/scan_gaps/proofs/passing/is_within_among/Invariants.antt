@@ -1,8 +1,0 @@
-use Rattle.std.specs.Prelude.{zip}
-use Rattle.scan_gaps.specs.Passing.{IsWithinCall}
-use Rattle.scan_rows.proofs.ScanListLemmas.{NoneBefore}
-use Rattle.scan_gaps.proofs.passing.is_within_among.Given as goal
-
--- no call so far is such a one
-abbrev pub invariant-loop-i : goal.invariant-loop-i
-invariant-loop-i l = NoneBefore (IsWithinCall l.low l.high) (zip l.names l.calls) l.i
