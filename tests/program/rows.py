@@ -22,7 +22,7 @@ INSERT_THEN_GET = """{"events":[
 # What a terminal shows of a yes that says little, of such calls apart, of a no and of an undecided; of a fault, or its second line, a hint.
 RARE = "note: {} other calls were open at an invocation on average, and of calls that hardly overlap a yes says little\n"
 APART = RARE.format("0.00")
-EXPLAIN = "note: bench explain names a few of the calls that have no order by themselves\n"
+EXPLAIN = "note: bench explain names a few of the calls that have no order on their own\n"
 LOCATE = "note: bench locate may decide it\n"
 JSON = "wanted JSON in UTF-8\n"
 LENGTH = "wanted at most 16777216 bytes\n"

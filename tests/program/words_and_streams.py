@@ -122,7 +122,7 @@ FAULTS = [
     ),
     ("help", "Tests whether recorded histories of a concurrent ordered map are linearizable"),
     ("--help", "Tests whether recorded histories of a concurrent ordered map are linearizable"),
-    ("check --help", "Tells whether operations"),
+    ("check --help", "Checks whether an order of operations"),
 ]
 POINTER = "\n\nFor more information, try '--help'.\n"
 
@@ -141,13 +141,13 @@ REFUSALS = [
 ]
 
 # What the user is shown who asks for help on `judge`.
-JUDGE_HELP = """Tells whether the history on standard input is linearizable
+JUDGE_HELP = """Reports whether the history on standard input is linearizable
 
 Usage: bench judge [OPTIONS]
 
 Options:
-      --budget <N>   How many states (configurations) the search of each partition meets at most, from 1 to 1000000 [default: 100000]
-      --workers <N>  How many workers search the partitions side by side, from 1 to 64 [default: 1]
+      --budget <N>   Most states of one search, from 1 to 1000000 [default: 100000]
+      --workers <N>  Threads that search, from 1 to 64 [default: 1]
   -h, --help         Print help
 """
 

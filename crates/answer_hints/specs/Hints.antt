@@ -22,7 +22,7 @@ yes_hint calls overlap =
 
 -- on a no, and where it is not known
 abbrev pub no_hint : List ℕ
-no_hint = line (codes "note: bench explain names a few of the calls that have no order by themselves")
+no_hint = line (codes "note: bench explain names a few of the calls that have no order on their own")
 
 abbrev pub undecided_hint : List ℕ
 undecided_hint = line (codes "note: bench locate may decide it")

@@ -68,7 +68,7 @@ fn no_hint(alloc: Global) -> Result<String, AllocError>
 {
     String::from_str(
         alloc,
-        "note: bench explain names a few of the calls that have no order by themselves\n",
+        "note: bench explain names a few of the calls that have no order on their own\n",
     )
 }
 

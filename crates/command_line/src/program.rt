@@ -37,8 +37,8 @@ macro_rules! required_option {
 
 // The budget of a search.
 macro_rules! budget_option {
-    ($help:literal) => {
-        number_option!("budget", $help, 1 to 1000000, default 100000)
+    () => {
+        number_option!("budget", "Most states of one search", 1 to 1000000, default 100000)
     };
 }
 
@@ -47,26 +47,21 @@ macro_rules! tree_options {
     ($($before:expr),* ; $($after:expr),*) => {
         &[
             $($before,)*
-            number_option!("rows4", "How many nodes (rows) with up to 4 children its tree may have", 0 to 4096, default 1024),
-            number_option!("rows16", "How many nodes (rows) with up to 16 children its tree may have", 0 to 1024, default 256),
-            number_option!("rows48", "How many nodes (rows) with up to 48 children its tree may have", 0 to 256, default 64),
-            number_option!("rows256", "How many nodes (rows) with up to 256 children its tree may have", 1 to 64, default 16),
+            number_option!("rows4", "Most nodes with up to 4 children", 0 to 4096, default 1024),
+            number_option!("rows16", "Most nodes with up to 16 children", 0 to 1024, default 256),
+            number_option!("rows48", "Most nodes with up to 48 children", 0 to 256, default 64),
+            number_option!("rows256", "Most nodes with up to 256 children", 1 to 64, default 16),
             $($after),*
         ]
     };
 }
 
-// The options of a search, and others behind them.
+// The options of a search, and others after them.
 macro_rules! search_options {
     ($($other:expr),*) => {
         &[
-            budget_option!("How many states (configurations) the search of each partition meets at most"),
-            number_option!(
-                "workers",
-                "How many workers search the partitions side by side",
-                1 to 64,
-                default 1
-            ),
+            budget_option!(),
+            number_option!("workers", "Threads that search", 1 to 64, default 1),
             $($other),*
         ]
     };
@@ -76,30 +71,26 @@ macro_rules! search_options {
 pub(crate) static SUBCOMMANDS: [Subcommand<'static>; 11] = [
     Subcommand {
         name: "check",
-        about: "Tells whether operations, in this order, are a linearization of the history on standard input",
+        about: "Checks whether an order of operations is a linearization",
         options: &[],
         takes_calls: true,
     },
     Subcommand {
         name: "judge",
-        about: "Tells whether the history on standard input is linearizable",
+        about: "Reports whether the history on standard input is linearizable",
         options: search_options!(),
         takes_calls: false,
     },
     Subcommand {
         name: "locate",
-        about: "Tells at which response the history on standard input stops being linearizable",
-        options: &[budget_option!(
-            "How many states a search meets at most, of a partition or at one key"
-        )],
+        about: "Reports the response at which a history stops being linearizable",
+        options: &[budget_option!()],
         takes_calls: false,
     },
     Subcommand {
         name: "explain",
-        about: "Shrinks the history on standard input to few operations that are not linearizable, and tells why",
-        options: &[budget_option!(
-            "How many states (configurations) the search of each partition, or of some of its operations, meets at most"
-        )],
+        about: "Shrinks a history that is not linearizable, and says why",
+        options: &[budget_option!()],
         takes_calls: false,
     },
     Subcommand {
@@ -108,13 +99,13 @@ pub(crate) static SUBCOMMANDS: [Subcommand<'static>; 11] = [
         options: search_options!(
             number_option!(
                 "around",
-                "The event in the middle; one that the history has not names none",
+                "The event to center on; 8192: none",
                 0 to 8192,
                 default 8192
             ),
             number_option!(
                 "calls",
-                "For how many operations there is room; 0 draws the whole history, and 4097 names no number",
+                "Operations drawn; 0: all, 4097: a few",
                 0 to 4097,
                 default 4097
             )
@@ -129,17 +120,15 @@ pub(crate) static SUBCOMMANDS: [Subcommand<'static>; 11] = [
     },
     Subcommand {
         name: "follow",
-        about: "Monitors the events on standard input, one a line: tells at each response whether they are linearizable",
-        options: &[budget_option!(
-            "How many states (positions) a search at one key meets at most, from one value of it"
-        )],
+        about: "Monitors the events on standard input, one a line, as they come",
+        options: &[budget_option!()],
         takes_calls: false,
     },
     Subcommand {
         name: "generate",
         about: "Draws a workload (plan): a script of operations for each process",
         options: &[
-            required_option!("seed", "From what the operations are drawn", u64::MAX),
+            required_option!("seed", "Seed of the operations", u64::MAX),
             required_option!("processes", "How many processes there are"),
             required_option!("calls", "How many operations each process has"),
             required_option!("get", "How many of a hundred operations are gets"),
@@ -153,16 +142,16 @@ pub(crate) static SUBCOMMANDS: [Subcommand<'static>; 11] = [
     },
     Subcommand {
         name: "schedule",
-        about: "Draws a schedule (replay) of a tree for the workload (plan) on standard input",
+        about: "Draws a schedule (replay) of a tree for the plan on standard input",
         options: tree_options!(
-            required_option!("seed", "From what the schedule is drawn", u64::MAX),
+            required_option!("seed", "Seed of the schedule", u64::MAX),
             ValueOption {
                 name: "strategy",
-                help: "How the process of each turn is chosen: walk, pos or pct [default: pos]",
+                help: "How each turn is drawn: walk, pos or pct [default: pos]",
                 values: Values::Among(&["walk", "pos", "pct"]),
                 default: Some(1),
             },
-            number_option!("depth", "One more than the turns at which pct lowers a priority", 1 to 64, default 3),
+            number_option!("depth", "One more than the priority changes of pct", 1 to 64, default 3),
             ValueOption {
                 name: "tree",
                 help: "The tree: coupled, optimistic, read-unchecked, scan-unvalidated, lock-unchecked or early-release [default: optimistic]",
@@ -176,19 +165,19 @@ pub(crate) static SUBCOMMANDS: [Subcommand<'static>; 11] = [
                 ]),
                 default: Some(1),
             };
-            number_option!("limit", "How many turns the schedule has at most", 1 to 1_000_000, default 1_000_000)
+            number_option!("limit", "Most turns", 1 to 1_000_000, default 1_000_000)
         ),
         takes_calls: false,
     },
     Subcommand {
         name: "replay",
-        about: "Runs trees by the schedule (replay) on standard input, and writes the history that is recorded",
+        about: "Runs trees by the replay on standard input, and writes the history",
         options: &[],
         takes_calls: false,
     },
     Subcommand {
         name: "drive",
-        about: "Does the workload (plan) on standard input at a map, by threads, and writes the history that is recorded",
+        about: "Runs the plan on standard input on threads, and writes the history",
         options: tree_options!(
             ValueOption {
                 name: "tree",
@@ -204,7 +193,7 @@ pub(crate) static SUBCOMMANDS: [Subcommand<'static>; 11] = [
                 ]),
                 default: Some(2),
             };
-            number_option!("limit", "How many steps an operation has at most before it is left pending", 1 to 1_000_000, default 1_000_000)
+            number_option!("limit", "Most steps of an operation", 1 to 1_000_000, default 1_000_000)
         ),
         takes_calls: false,
     },
