@@ -167,22 +167,47 @@ static inline size_t potzendai_count_text(const char *text, const char *what)
     return count;
 }
 
-/* The history of the calls left at a key, with the notes that the stream has of them; NULL if the stream has no notes, or not all of these calls. */
+/* Compares two events, for qsort. */
+static inline int potzendai_compare_events(const void *one, const void *other)
+{
+    uint64_t a = *(const uint64_t *)one, b = *(const uint64_t *)other;
+    return (a > b) - (a < b);
+}
+
+/* The events "invoked" of all keys of a report, each once and rising; NULL if memory is refused. */
+static inline uint64_t *potzendai_invoked(const char *report, size_t *count)
+{
+    const char *at = report, *end = report + strcspn(report, "\n");
+    size_t room = 1, all = 0;
+    for (const char *comma = report; comma < end; comma++)
+        room += *comma == ',';
+    uint64_t *events = (uint64_t *)calloc(room, sizeof *events);
+    *count = 0;
+    if (!events)
+        return NULL;
+    while ((at = potzendai_next_named(at, end, "\"invoked\":[")) != NULL)
+        for (char *next; *at >= '0' && *at <= '9'; at = next + (*next == ','))
+            events[all++] = strtoull(at, &next, 10);
+    qsort(events, all, sizeof *events, potzendai_compare_events);
+    for (size_t i = 0; i < all; i++)
+        if (i == 0 || events[i] != events[i - 1])
+            events[(*count)++] = events[i];
+    return events;
+}
+
+/* The history of the calls that are left, with the notes that the stream has of them; NULL if the stream has no notes, or not all of these calls. */
 static inline char *potzendai_note_left(const struct potzendai_following *f, const char *text)
 {
-    const char *invoked = potzendai_member(f->told.report, "\"invoked\":["), *from = text;
-    size_t calls = potzendai_count_text(text, "{\"invoke\":"), numbers = invoked && *invoked != ']';
-    for (const char *at = invoked; at && *at && *at != ']'; at++)
-        numbers += *at == ',';
-    bool is_noted = f->kept && calls == numbers && strstr(text, "\"version\":3}");
-    char *noted = is_noted ? (char *)calloc(1, strlen(text) + calls * RECORDING_EVENT_TEXT + 1) : NULL, *to = noted;
+    size_t calls = potzendai_count_text(text, "{\"invoke\":"), count = 0, call = 0;
+    uint64_t *invoked = f->kept && strstr(text, "\"version\":3}") ? potzendai_invoked(f->told.report, &count) : NULL;
+    char *noted = invoked && calls == count ? (char *)calloc(1, strlen(text) + calls * RECORDING_EVENT_TEXT + 1) : NULL, *to = noted;
+    const char *from = text;
     struct potzendai_kept kept = {NULL, NULL, 0};
     for (const char *at = potzendai_event_from(text); noted && at; at = potzendai_event_from(at + 1)) {
-        char line[RECORDING_EVENT_TEXT], *next = NULL;
+        char line[RECORDING_EVENT_TEXT];
         if (strncmp(at, "{\"invoke\":", 10) != 0)
             continue;
-        potzendai_find_kept(f, &kept, strtoull(invoked, &next, 10), line);
-        invoked = next + (*next == ',');
+        potzendai_find_kept(f, &kept, invoked[call++], line);
         const char *note = potzendai_note_of(line), *member = strstr(at, ",\"process\":");
         if (!note || !member)
             continue;
@@ -193,10 +218,11 @@ static inline char *potzendai_note_left(const struct potzendai_following *f, con
     }
     if (noted)
         recording_put(to, from);
+    free(invoked);
     return noted;
 }
 
-/* Shows few of the calls left at a key that have no order, and saves the history of all. If no few calls are found, saves only that history. */
+/* Shows a few of the calls left that have no order, and saves the history of all. If no few calls are found, saves only that history. */
 static inline void potzendai_tell_left(struct potzendai_following *f, const char *text)
 {
     struct potzendai_told left;
@@ -208,8 +234,7 @@ static inline void potzendai_tell_left(struct potzendai_following *f, const char
     left.length = left.text ? strlen(left.text) : 0;
     enum potzendai_status status = left.text ? potzendai_explained(f->tester->options, &left) : POTZENDAI_NO_MEMORY;
     if (status <= POTZENDAI_IS_UNDECIDED && strstr(left.report, "\n{\"answer\":")) {
-        fputs("here and in the files, events and processes have new numbers. The calls are those \"invoked\" above that had not taken effect, "
-              "in that order:\n", stderr);
+        fputs("here and in the files, events and processes have new numbers. The calls are those \"invoked\" above, by rising event:\n", stderr);
         potzendai_tell_no(f->tester, &left, false);
     } else {
         potzendai_tell_unexplained(f->tester->options, status, left.report);
@@ -218,12 +243,12 @@ static inline void potzendai_tell_left(struct potzendai_following *f, const char
     potzendai_forget(&left);
 }
 
-/* Shows a stream that has no order. If the calls left at a key say why, they are a history, which is explained; if not, a line says so. Saves the
+/* Shows a stream that has no order. If the calls that are left say why, they are a history, which is explained; if not, a line says so. Saves the
  * stream so far, unless it is long. Saves the report if not all of it is shown, or if nothing else is saved. */
 static inline void potzendai_tell_stream(struct potzendai_following *f)
 {
     const char *left = potzendai_next_line(f->told.report);
-    bool is_whole = potzendai_tell_keys(stderr, f->told.report, (size_t)POTZENDAI_SHOWN);
+    bool is_whole = potzendai_tell_lost(stderr, f->told.report, (size_t)POTZENDAI_SHOWN);
     if (left)
         potzendai_tell_left(f, left);
     else

@@ -18,10 +18,10 @@
  *     schedule_pinned.h    what has to be the same in each process
  *     schedule_places.h    where an instruction is in the source */
 #if defined(__SANITIZE_THREAD__)
-#error "compile potzendai_schedule.c without -fsanitize=thread: it stands in the place of what that links"
+#error "compile potzendai_schedule.c without -fsanitize=thread: it takes the place of what that links"
 #elif defined(__has_feature)
 #if __has_feature(thread_sanitizer)
-#error "compile potzendai_schedule.c without -fsanitize=thread: it stands in the place of what that links"
+#error "compile potzendai_schedule.c without -fsanitize=thread: it takes the place of what that links"
 #endif
 #endif
 #undef _FORTIFY_SOURCE /* otherwise memcpy is an inline function of string.h; here it is defined */

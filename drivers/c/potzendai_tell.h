@@ -227,7 +227,7 @@ static inline void potzendai_tell_origin(FILE *out, const char *line, bool is_le
     fprintf(out, "%s\n", *comma ? "" : potzendai_nobody(is_left));
 }
 
-/* Writes from which value of a key the few calls have no order. Only an undecided report has this line. */
+/* Writes from which value of a key the few calls have no order. Only an undecided report has such lines. */
 static inline void potzendai_tell_from(FILE *out, const char *line)
 {
     const char *value = line + strlen("{\"from\":"), *put = potzendai_member(line, "\"put\":{");
@@ -281,62 +281,38 @@ static inline void potzendai_tell_front(FILE *out, const char *text, const char 
     }
 }
 
+/* The text after the next such name before an end, or NULL. */
+static inline const char *potzendai_next_named(const char *at, const char *end, const char *name)
+{
+    at = strstr(at, name);
+    return at && at < end ? at + strlen(name) : NULL;
+}
+
 /* Why the report of a stream without order has no history of few calls. */
 static inline const char *potzendai_why_not_few(const char *report)
 {
-    const char *first = potzendai_member(report, "\"key\":"), *values = potzendai_member(report, "\"values\":[");
-    if (!first || !values)
+    const char *at = report, *end = report + strcspn(report, "\n");
+    bool is_key = false, is_value = false, is_more = false;
+    while ((at = potzendai_next_named(at, end, "\"values\":[")) != NULL) {
+        is_key = true;
+        is_value = is_value || *at != ']';
+        is_more = is_more || at[strcspn(at, ",]")] == ',';
+    }
+    if (!is_key)
         return "no map gives a scan the answer of this event";
-    if (potzendai_member(first, "\"key\":"))
-        return "scans may have taken effect in more than one way, and each goes wrong at one of these keys";
-    if (*values == ']')
-        return "the call had taken effect by then, and its answer gainsays what it found";
-    if (values[strcspn(values, ",]")] == ',')
-        return "the key may have had each of these values before the calls \"invoked\"";
-    return "the calls \"invoked\" fit no history: they are too many, or too many are open at once";
+    if (!is_value)
+        return "the call had taken effect by then, and its answer contradicts what it found";
+    if (is_more)
+        return "a key may have had each of these values before the calls \"invoked\"";
+    return "the calls \"invoked\" may have taken effect in several ways, or they fit no history: they are too many, or too many are open at once";
 }
 
-/* Where a report is shown, how many more characters may be, and whether it was cut. */
-struct potzendai_shown { FILE *out; size_t room; bool is_cut; };
-
-static inline void potzendai_show(struct potzendai_shown *shown, const char *text, size_t length)
+/* Writes the report of a stream without order, up to so many characters. Returns whether that is the whole report. */
+static inline bool potzendai_tell_lost(FILE *out, const char *report, size_t most)
 {
-    size_t some = length < shown->room ? length : shown->room;
-    if (shown->is_cut)
-        return;
-    fprintf(shown->out, "%.*s%s", (int)some, text, some < length ? ".." : "");
-    shown->room -= some;
-    shown->is_cut = some < length;
-}
-
-/* Whether a key of a report is among those from `keys` up to `end` with the same values. `key` is its text after its calls. */
-static inline bool potzendai_is_shown(const char *keys, const char *end, const char *key)
-{
-    size_t length = strcspn(key, "}") + 1;
-    for (const char *at = strstr(keys, "\"key\":"); at && at < end; at = strstr(at + 1, "\"key\":"))
-        if (strncmp(at, key, length) == 0)
-            return true;
-    return false;
-}
-
-/* Writes the report of a stream without order, up to so many characters. Of several ways in which scans may have taken effect, each key is shown once
- * with its values. Returns whether that is the whole report. */
-static inline bool potzendai_tell_keys(FILE *out, const char *report, size_t most)
-{
-    struct potzendai_shown shown = {out, most, false};
-    const char *keys = potzendai_member(report, "\"keys\":["), *at = keys ? keys : report;
-    uint64_t all = 0, told = 0;
-    potzendai_show(&shown, report, (size_t)(at - report));
-    for (; *at == '{' && keys; at = strchr(at, '}') + 1, at += *at == ',', all++)
-        if (!potzendai_is_shown(keys, at, strstr(at, "\"key\":"))) {
-            potzendai_show(&shown, ",", told++ > 0);
-            potzendai_show(&shown, at, strcspn(at, "}") + 1);
-        }
-    potzendai_show(&shown, at, strcspn(at, "\n"));
-    fputs("\n", out);
-    if (told < all)
-        fprintf(out, "each key is shown once with its values, of %" PRIu64 " ways in which scans may have taken effect\n", all);
-    return told == all && !shown.is_cut;
+    size_t length = strcspn(report, "\n");
+    fprintf(out, "%.*s%s\n", (int)(length < most ? length : most), report, length > most ? ".." : "");
+    return length <= most;
 }
 
 /* Writes the first line of a report; a long list of calls in it as "..". */

@@ -2252,7 +2252,7 @@ func saidOrigin(r *round, line reported) string {
 	return fmt.Sprintf("  %v at %v is %s", line.Value, line.Key, strings.Join(who, ", "))
 }
 
-// From which value of a key the few calls have no order. Only a report of undecided has this line.
+// From which value of a key the few calls have no order. Only an undecided report has such lines.
 func saidFrom(line reported) string {
 	if line.From == "" {
 		return fmt.Sprintf("  from key %v holding nothing", line.Key)
@@ -2361,12 +2361,14 @@ func (r *run) keepMade(command, ending, text string) string {
 	return r.keep(ending, made)
 }
 
-// Reports a stream that has no order. If the calls left at a key show the fault, their history is explained; else a line says why not. The stream
+// Reports a stream that has no order. If the calls that are left show the fault, their history is explained; else a line says why not. The stream
 // so far is saved, unless it is long. The report is saved if it is not shown whole, or if nothing else is saved.
 func (r *run) refutedStream() []string {
 	report, left, _ := strings.Cut(r.report, "\n")
-	said := saidKeys(report)
-	isWhole := len(said) == 1 && said[0] == report
+	said, isWhole := []string{report}, len(report) <= reportShown
+	if !isWhole {
+		said[0] = report[:reportShown] + ".."
+	}
 	if left != "" {
 		said = append(said, r.shownLeft(left)...)
 	} else {
@@ -2383,29 +2385,7 @@ func (r *run) refutedStream() []string {
 	return append(said, saidAgain+r.options.again(0))
 }
 
-// The report of a stream without order: of ways in which scans may have taken effect each key once with its values, and no more than so many
-// characters.
-func saidKeys(report string) []string {
-	begin, end := strings.Index(report, `"keys":[`)+len(`"keys":[`), strings.LastIndex(report, `],"verdict"`)
-	all, shown, once := strings.SplitAfter(report[begin:end], "},"), []string{}, map[string]bool{}
-	for _, key := range all {
-		key = strings.TrimSuffix(key, ",")
-		if own := key[strings.Index(key+`"key":`, `"key":`):]; !once[own] {
-			once[own] = true
-			shown = append(shown, key)
-		}
-	}
-	said := []string{report[:begin] + strings.Join(shown, ",") + report[end:]}
-	if len(said[0]) > reportShown {
-		said[0] = said[0][:reportShown] + ".."
-	}
-	if len(shown) < len(all) {
-		said = append(said, fmt.Sprintf("each key is shown once with its values, of %d ways in which scans may have taken effect", len(all)))
-	}
-	return said
-}
-
-// Saves the history of the calls left at a key, and a few calls of it that have no order. If these are not found, it saves only the history.
+// Saves the history of the calls that are left, and a few calls of it that have no order. If these are not found, it saves only the history.
 func (r *run) shownLeft(left string) []string {
 	explained, wrong := r.program.tried("explain", left)
 	if wrong != nil {
@@ -2423,17 +2403,28 @@ func (r *run) noted(left *round) *round {
 		Keys []struct{ Invoked []uint64 }
 	}
 	report, _, _ := strings.Cut(r.report, "\n")
-	if json.Unmarshal([]byte(report), &told) != nil || len(told.Keys) == 0 {
+	if json.Unmarshal([]byte(report), &told) != nil {
 		return left
 	}
+	var invoked []uint64
+	isSeen := map[uint64]bool{}
+	for _, key := range told.Keys {
+		for _, number := range key.Invoked {
+			if !isSeen[number] {
+				isSeen[number] = true
+				invoked = append(invoked, number)
+			}
+		}
+	}
+	sort.Slice(invoked, func(i, j int) bool { return invoked[i] < invoked[j] })
 	var calls []*event
 	for i := range left.events {
 		if left.events[i].call != nil {
 			calls = append(calls, &left.events[i])
 		}
 	}
-	for i, number := range told.Keys[0].Invoked {
-		if len(calls) == len(told.Keys[0].Invoked) {
+	for i, number := range invoked {
+		if len(calls) == len(invoked) {
 			calls[i].note = r.notes[number]
 		}
 	}
@@ -2448,17 +2439,21 @@ func whyNotFew(report string) string {
 	if err := json.Unmarshal([]byte(report), &told); err != nil {
 		fail(badFile, "follow: %s", err)
 	}
+	most := 0
+	for _, key := range told.Keys {
+		if len(key.Values) > most {
+			most = len(key.Values)
+		}
+	}
 	switch {
 	case len(told.Keys) == 0:
 		return "no map gives a scan the answer of this event"
-	case len(told.Keys) > 1:
-		return "scans may have taken effect in more than one way, and each goes wrong at one of these keys"
-	case len(told.Keys[0].Values) == 0:
-		return "the call had taken effect by then, and its answer gainsays what it found"
-	case len(told.Keys[0].Values) > 1:
-		return "the key may have had each of these values before the calls \"invoked\""
+	case most == 0:
+		return "the call had taken effect by then, and its answer contradicts what it found"
+	case most > 1:
+		return "a key may have had each of these values before the calls \"invoked\""
 	}
-	return "the calls \"invoked\" fit no history: they are too many, or too many are open at once"
+	return "the calls \"invoked\" may have taken effect in several ways, or they fit no history: they are too many, or too many are open at once"
 }
 
 // What a report of explain says of a history, and the files that show it. The words and the picture have the processes and events of the first
@@ -2554,8 +2549,7 @@ func (o *options) less(how int) *options {
 	return &less
 }
 
-const saidRenumbered = "here and in the files, events and processes have new numbers. The calls are those \"invoked\" above that had not taken " +
-	"effect, in that order:"
+const saidRenumbered = "here and in the files, events and processes have new numbers. The calls are those \"invoked\" above, by rising event:"
 const saidAgain = "  again (draws the same calls; threads may interleave otherwise): "
 
 // The words that repeat the draws of a run of so many rounds.

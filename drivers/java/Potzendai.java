@@ -23,6 +23,7 @@ import java.util.Set;
 import java.util.Timer;
 import java.util.TimerTask;
 import java.util.TreeMap;
+import java.util.TreeSet;
 import java.util.concurrent.ConcurrentHashMap;
 import java.util.concurrent.ConcurrentMap;
 import java.util.concurrent.ConcurrentNavigableMap;
@@ -170,8 +171,7 @@ public final class Potzendai {
     private static final int BESIDE = 32, NOTES = 1000000, OPEN_SHOWN = 6;
     private static final int BATCH_ROUNDS = 64, BATCH_CALLS = 256; // so many rounds are judged together, of so many calls
     private static final String RENUMBERED =
-        "here and in the files, events and processes have new numbers. The calls are those \"invoked\" above that had not taken effect, "
-        + "in that order:";
+        "here and in the files, events and processes have new numbers. The calls are those \"invoked\" above, by rising event:";
     private static final String AGAIN = "  again (draws the same calls; threads may interleave otherwise): ";
     private static final Set<String> LESS = Set.of("\"done\"", "\"found\"", "\"other\"");
     private static final Map<String, Kind> BREAKS = new LinkedHashMap<>();
@@ -1176,8 +1176,8 @@ public final class Potzendai {
             }
         }
 
-        /** The same calls, with the notes that a stream had of them: those of the calls "invoked" of its report, in that order. */
-        void note(List<?> invoked, Map<Long, String> notes) {
+        /** The same calls, with the notes that a stream had of them: those of the calls "invoked" of its report, by rising event. */
+        void note(List<Long> invoked, Map<Long, String> notes) {
             List<Integer> calls = new ArrayList<>();
             for (int i = 0; i < events.size(); i++)
                 if (events.get(i).call != null)
@@ -1870,7 +1870,7 @@ public final class Potzendai {
             + (who.isEmpty() ? "what " + round.nobody + " put" : String.join(", ", who));
     }
 
-    /** From which value of a key the few calls have no order. Only a report of undecided has this line. */
+    /** From which value of a key the few calls have no order. Only an undecided report has such lines. */
     private static String saidFrom(Map<?, ?> line) {
         String begin = "  from key " + saidAnswer(line.get("key")) + " holding ";
         if (line.get("from") == null)
@@ -1961,13 +1961,13 @@ public final class Potzendai {
         }
     }
 
-    /** Reports a stream that has no order. If the calls left at a key show the fault, their history is explained; else a line says why not. The
+    /** Reports a stream that has no order. If the calls that are left show the fault, their history is explained; else a line says why not. The
      * stream so far is saved, unless it is long. The report is saved if it is not shown whole, or if nothing else is saved. */
     private static List<String> refutedStream(Run run) {
         List<String> lines = run.report.lines().toList(), said = new ArrayList<>();
         String report = lines.get(0), left = lines.size() > 1 ? lines.get(1) + "\n" : null;
-        said.addAll(saidKeys(report));
-        boolean isWhole = said.equals(List.of(report));
+        boolean isWhole = report.length() <= REPORT_SHOWN;
+        said.add(isWhole ? report : report.substring(0, REPORT_SHOWN) + "..");
         if (left != null)
             said.addAll(shownLeft(run, left));
         else
@@ -1980,23 +1980,7 @@ public final class Potzendai {
         return said;
     }
 
-    /** The report of a stream without order: of ways in which scans may have taken effect each key once with its values, and no more than so many
-     * characters. */
-    private static List<String> saidKeys(String report) {
-        int begin = report.indexOf("\"keys\":[") + 8, end = report.lastIndexOf("],\"verdict\"");
-        String keys = report.substring(begin, end);
-        List<String> all = keys.isEmpty() ? List.of() : List.of(keys.substring(1, keys.length() - 1).split("\\},\\{"));
-        Map<String, String> once = new LinkedHashMap<>();
-        for (String key : all)
-            once.putIfAbsent(key.substring(key.indexOf("\"key\":")), "{" + key + "}");
-        String text = report.substring(0, begin) + String.join(",", once.values()) + report.substring(end);
-        List<String> said = new ArrayList<>(List.of(text.length() > REPORT_SHOWN ? text.substring(0, REPORT_SHOWN) + ".." : text));
-        if (once.size() < all.size())
-            said.add("each key is shown once with its values, of " + all.size() + " ways in which scans may have taken effect");
-        return said;
-    }
-
-    /** Saves the history of the calls left at a key, and a few calls of it that have no order. If these are not found, it saves only the
+    /** Saves the history of the calls that are left, and a few calls of it that have no order. If these are not found, it saves only the
      * history. */
     private static List<String> shownLeft(Run run, String left) {
         String explained;
@@ -2009,23 +1993,26 @@ public final class Potzendai {
             return List.of("few calls are not shown: they are not found within a budget of " + run.program.more(), keep(run, ".json", left));
         List<String> said = new ArrayList<>(List.of(RENUMBERED));
         Round round = new Round(left);
-        List<?> keys = (List<?>) ((Map<?, ?>) Json.of(run.report.lines().findFirst().orElse(""))).get("keys");
-        round.note((List<?>) ((Map<?, ?>) keys.get(0)).get("invoked"), run.notes);
+        TreeSet<Long> invoked = new TreeSet<>();
+        for (Object key : (List<?>) ((Map<?, ?>) Json.of(run.report.lines().findFirst().orElse(""))).get("keys"))
+            for (Object event : (List<?>) ((Map<?, ?>) key).get("invoked"))
+                invoked.add((Long) event);
+        round.note(List.copyOf(invoked), run.notes);
         said.addAll(shown(run, left, explained, round));
         return said;
     }
 
     /** Why no history of few calls follows a no of a stream. */
     private static String whyNotFew(String report) {
-        List<?> keys = (List<?>) ((Map<?, ?>) Json.of(report)).get("keys");
-        if (keys.isEmpty())
-            return "no map gives a scan the answer of this event";
-        if (keys.size() > 1)
-            return "scans may have taken effect in more than one way, and each goes wrong at one of these keys";
-        return switch (((List<?>) ((Map<?, ?>) keys.get(0)).get("values")).size()) {
-            case 0 -> "the call had taken effect by then, and its answer gainsays what it found";
-            case 1 -> "the calls \"invoked\" fit no history: they are too many, or too many are open at once";
-            default -> "the key may have had each of these values before the calls \"invoked\"";
+        int most = -1;
+        for (Object key : (List<?>) ((Map<?, ?>) Json.of(report)).get("keys"))
+            most = Math.max(most, ((List<?>) ((Map<?, ?>) key).get("values")).size());
+        return switch (most) {
+            case -1 -> "no map gives a scan the answer of this event";
+            case 0 -> "the call had taken effect by then, and its answer contradicts what it found";
+            case 1 -> "the calls \"invoked\" may have taken effect in several ways, or they fit no history: they are too many, or too many are open "
+                + "at once";
+            default -> "a key may have had each of these values before the calls \"invoked\"";
         };
     }
 

@@ -32,7 +32,7 @@ HERE = os.path.dirname(os.path.abspath(__file__))
 GREATEST = 2 ** 64 - 1
 CALLS, PROCESSES = 4096, 64  # limits of a history
 SHAPES = {"get": 2, "insert": 3, "remove": 2, "scan": 3, "replace": 4}  # how many members a call has
-SHOWN = 12  # the most calls that a no shows
+SHOWN = 12  # the most calls that a no shows, and the most keys
 
 
 class Stop(Exception):
@@ -478,11 +478,12 @@ class Run:
                 calls[opened.pop(event["process"])][2] = "answered " + json.dumps(event["answer"])
         named = told[0].get("calls", [])[:SHOWN] if status == NO else []
         said = ["%s, %s" % (words_of(calls[n][1]), calls[n][2]) for n in named]
-        for key in reports[0].get("keys", []) if len(reports) > 1 else []:
+        held = []
+        for key in reports[0].get("keys", [])[:SHOWN] if len(reports) > 1 else []:
             for value, event in zip(key["values"], key["put"]):
                 by = "at the start of the life" if event is None else "by event %d: %s" % (event, words_of(json.loads(lines[event + 1])["invoke"]))
-                said.insert(0, "before these calls %d held %s" % (key["key"], "nothing" if value is None else "%d, written %s" % (value, by)))
-        return said
+                held.append("before these calls %d held %s" % (key["key"], "nothing" if value is None else "%d, written %s" % (value, by)))
+        return held + said
 
     def verdict(self, status):
         parts = ["%d lives" % self.lives if self.lives != 1 else "1 life", "%d calls in %.1f seconds" % (self.calls, time.monotonic() - self.begun),

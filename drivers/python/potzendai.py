@@ -168,7 +168,7 @@ def checked(kind, answer, cache=None):
         return answer
     if isinstance(answer, str) and answer in words:
         return answer
-    hint = "nothing: NONE where the key held none, DONE where that is not told" if answer is None else "%s, which does not fit it" % (answer,)
+    hint = "nothing: NONE if the key held none, DONE if that is not known" if answer is None else "%s, which does not fit it" % (answer,)
     raise Stop(WORDS, "%s said %s" % (word(kind), hint))
 
 
@@ -539,8 +539,7 @@ def stamps(processes):
 
 
 RUNNING, OVER, FAILED = range(3)
-RENUMBERED = ("here and in the files, events and processes have new numbers. The calls are those \"invoked\" above that had not taken effect, in "
-              "that order:")
+RENUMBERED = "here and in the files, events and processes have new numbers. The calls are those \"invoked\" above, by rising event:"
 AGAIN = "  again (draws the same calls; threads may interleave otherwise): "
 OPEN_SHOWN = 6  # of the other calls that were open
 REPORT_SHOWN = 1000  # characters of the report of a stream without order
@@ -1403,7 +1402,7 @@ def said_origin(one, line):
 
 
 def said_from(line):
-    """From which value of a key the few calls have no order. Only a report of undecided has this line."""
+    """From which value of a key the few calls have no order. Only an undecided report has such lines."""
     if line["from"] is None:
         return "  from key %d holding nothing" % line["key"]
     put = line["put"]
@@ -1688,11 +1687,11 @@ def tested(make, options):
 
 
 def refuted_stream(run):
-    """Reports a stream that has no order. If the calls left at a key show the fault, their history is explained; else a line says why not. The
+    """Reports a stream that has no order. If the calls that are left show the fault, their history is explained; else a line says why not. The
     stream so far is saved, unless it is long. The report is saved if it is not shown whole, or if nothing else is saved."""
     report, _, left = run.failed.partition("\n")
-    run.options.round, said = 0, said_keys(report)
-    is_whole = said == [report]
+    run.options.round, is_whole = 0, len(report) <= REPORT_SHOWN
+    said = [report if is_whole else report[:REPORT_SHOWN] + ".."]
     said += shown_left(run, left) if left else ["few calls are not shown: " + why_not_few(json.loads(report)["keys"])]
     said += ["the stream is not kept, since it is longer than %d bytes" % KEPT] if run.kept is None else [
         keep(run.options, ".jsonl", b"".join(run.kept))]
@@ -1700,20 +1699,8 @@ def refuted_stream(run):
     return said + [AGAIN + words_again(run.options, 0)]
 
 
-def said_keys(report):
-    """The report of a stream without order: of ways in which scans may have taken effect each key once with its values, and no more than so many
-    characters."""
-    whole, once = json.loads(report), {}
-    for key in whole["keys"]:
-        once.setdefault(json.dumps((key["key"], key["put"], key["values"])), key)
-    said = json.dumps({**whole, "keys": list(once.values())}, separators=(",", ":"), sort_keys=True)
-    return [said[:REPORT_SHOWN] + ".." * (len(said) > REPORT_SHOWN)] + [
-        "each key is shown once with its values, of %d ways in which scans may have taken effect" % len(whole["keys"])
-    ][:len(whole["keys"]) - len(once)]
-
-
 def shown_left(run, left):
-    """Saves the history of the calls left at a key, and a few calls of it that have no order. If these are not found, it saves only the
+    """Saves the history of the calls that are left, and a few calls of it that have no order. If these are not found, it saves only the
     history."""
     try:
         told_of = run.program.asked("explain", left)[1]
@@ -1722,7 +1709,8 @@ def shown_left(run, left):
     if "\n{\"answer\":" not in told_of:
         return ["few calls are not shown: they are not found within a budget of %d" % run.program.more(), keep(run.options, ".json", left)]
     whole = json.loads(left)
-    invoked, calls = json.loads(run.failed.partition("\n")[0])["keys"][0]["invoked"], [each for each in whole["events"] if "invoke" in each]
+    keys, calls = json.loads(run.failed.partition("\n")[0])["keys"], [each for each in whole["events"] if "invoke" in each]
+    invoked = sorted({number for key in keys for number in key["invoked"]})
     for number, event in zip(invoked, calls if len(calls) == len(invoked) else []):
         if number in run.notes:
             event["note"] = run.notes[number]
@@ -1734,13 +1722,13 @@ def why_not_few(keys):
     """Why no history of few calls follows a no of a stream."""
     if not keys:
         return "no map gives a scan the answer of this event"
-    if len(keys) > 1:
-        return "scans may have taken effect in more than one way, and each goes wrong at one of these keys"
-    if not keys[0]["values"]:
-        return "the call had taken effect by then, and its answer gainsays what it found"
-    if len(keys[0]["values"]) > 1:
-        return "the key may have had each of these values before the calls \"invoked\""
-    return "the calls \"invoked\" fit no history: they are too many, or too many are open at once"
+    most = max(len(key["values"]) for key in keys)
+    if most == 0:
+        return "the call had taken effect by then, and its answer contradicts what it found"
+    if most > 1:
+        return "a key may have had each of these values before the calls \"invoked\""
+    return ("the calls \"invoked\" may have taken effect in several ways, or they fit no history: they are too many, or too many are open at "
+            "once")
 
 
 def shown(run, text, report, one):

@@ -11,7 +11,7 @@
 #![allow(dead_code, unused_imports, unknown_lints, unexpected_cfgs)]
 
 use std::cell::RefCell;
-use std::collections::{BTreeMap, HashMap, HashSet};
+use std::collections::{BTreeMap, BTreeSet, HashMap, HashSet};
 use std::fmt::Write as _;
 use std::io::{IsTerminal, Read, Write};
 use std::panic::{catch_unwind, AssertUnwindSafe};
@@ -145,8 +145,7 @@ const OPEN_SHOWN: usize = 6;
 const BATCH_ROUNDS: usize = 64;
 const BATCH_CALLS: usize = 256;
 const AGAIN: &str = "  again (draws the same calls; threads may interleave otherwise): ";
-const RENUMBERED: &str = "here and in the files, events and processes have new numbers. The calls are those \"invoked\" above that had not \
-                          taken effect, in that order:";
+const RENUMBERED: &str = "here and in the files, events and processes have new numbers. The calls are those \"invoked\" above, by rising event:";
 const AHEAD: u64 = 8192;
 const BATCH: usize = 65536;
 
@@ -1305,13 +1304,14 @@ impl Round {
         Round { start: Arc::new(start), events, at_start, nobody, ..Round::default() }
     }
 
-    /// The calls that a follower still had, with the notes that the stream had of them: those of the calls "invoked" of its report, in that order.
+    /// The calls that a follower still had, with the notes that the stream had of them: those of the calls "invoked" of its report, by rising event.
     fn note(&mut self, report: &str, notes: &HashMap<u64, String>) {
         let report = Json::read(&mut &*report);
-        let invoked = report.member("keys").items().first().map_or(&[] as &[Json], |key| key.member("invoked").items());
+        let invoked = report.member("keys").items().iter().flat_map(|key| key.member("invoked").items());
+        let invoked: BTreeSet<u64> = invoked.map(Json::number).collect();
         let mut calls: Vec<&mut One> = self.events.iter_mut().filter(|one| one.call().is_some()).collect();
         if calls.len() == invoked.len() {
-            calls.iter_mut().zip(invoked).for_each(|(one, number)| one.note = notes.get(&number.number()).cloned());
+            calls.iter_mut().zip(invoked).for_each(|(one, number)| one.note = notes.get(&number).cloned());
         }
     }
 
@@ -2376,7 +2376,7 @@ fn said_origin(round: &Round, line: &Json) -> String {
     format!("  {} at {} is {who}", line.member("value").number(), line.member("key").number())
 }
 
-/// From which value of a key the few calls have no order. Only a report of undecided has this line.
+/// From which value of a key the few calls have no order. Only an undecided report has such lines.
 fn said_from(line: &Json) -> String {
     let key = line.member("key").number();
     let (Json::Number(value), put) = (line.member("from"), line.member("put")) else {
@@ -2469,12 +2469,12 @@ fn keep(run: &Run, ending: &str, text: &str) -> String {
     }
 }
 
-/// Reports a stream that has no order. If the calls left at a key show the fault, their history is explained; else a line says why not. The
+/// Reports a stream that has no order. If the calls that are left show the fault, their history is explained; else a line says why not. The
 /// stream so far is saved, unless it is long. The report is saved if it is not shown whole, or if nothing else is saved.
 fn refuted_stream(run: &Run, program: &Program) -> Result<Vec<String>, Stop> {
     let (report, left) = run.report.split_once('\n').unwrap_or((&run.report, ""));
-    let mut said = said_keys(report);
-    let is_whole = said == [report];
+    let is_whole = report.len() <= REPORT_SHOWN;
+    let mut said = vec![if is_whole { report.to_string() } else { format!("{}..", &report[..REPORT_SHOWN]) }];
     if left.is_empty() {
         said.push(format!("few calls are not shown: {}", why_not_few(report)));
     } else {
@@ -2491,28 +2491,7 @@ fn refuted_stream(run: &Run, program: &Program) -> Result<Vec<String>, Stop> {
     Ok(said)
 }
 
-/// The report of a stream without order: of ways in which scans may have taken effect each key once with its values, and no more than so many
-/// characters.
-fn said_keys(report: &str) -> Vec<String> {
-    let (begin, end) = (report.find("\"keys\":[").map_or(0, |at| at + 8), report.rfind("],\"verdict\"").unwrap_or(report.len()));
-    let all: Vec<&str> = report[begin..end].split("},{").map(|key| key.trim_matches(['{', '}'])).filter(|key| !key.is_empty()).collect();
-    let (mut seen, mut shown) = (HashSet::new(), vec![]);
-    for key in &all {
-        if seen.insert(&key[key.find("\"key\":").unwrap_or(0)..]) {
-            shown.push(format!("{{{key}}}"));
-        }
-    }
-    let mut said = vec![format!("{}{}{}", &report[..begin], shown.join(","), &report[end..])];
-    if said[0].len() > REPORT_SHOWN {
-        said[0] = format!("{}..", &said[0][..REPORT_SHOWN]);
-    }
-    if shown.len() < all.len() {
-        said.push(format!("each key is shown once with its values, of {} ways in which scans may have taken effect", all.len()));
-    }
-    said
-}
-
-/// Saves the history of the calls left at a key, and a few calls of it that have no order. If these are not found, it saves only the history.
+/// Saves the history of the calls that are left, and a few calls of it that have no order. If these are not found, it saves only the history.
 fn shown_left(run: &Run, left: &str, program: &Program) -> Vec<String> {
     let explained = match program.ask_twice("explain", left) {
         Ok((_, explained)) => explained,
@@ -2532,14 +2511,12 @@ fn shown_left(run: &Run, left: &str, program: &Program) -> Vec<String> {
 /// Why no history of few calls follows a no of a stream.
 fn why_not_few(report: &str) -> &'static str {
     let report = Json::read(&mut &*report);
-    match report.member("keys").items() {
-        [] => "no map gives a scan the answer of this event",
-        [key] => match key.member("values").items().len() {
-            0 => "the call had taken effect by then, and its answer gainsays what it found",
-            1 => "the calls \"invoked\" fit no history: they are too many, or too many are open at once",
-            _ => "the key may have had each of these values before the calls \"invoked\"",
-        },
-        _ => "scans may have taken effect in more than one way, and each goes wrong at one of these keys",
+    match report.member("keys").items().iter().map(|key| key.member("values").items().len()).max() {
+        None => "no map gives a scan the answer of this event",
+        Some(0) => "the call had taken effect by then, and its answer contradicts what it found",
+        Some(1) => "the calls \"invoked\" may have taken effect in several ways, or they fit no history: they are too many, or too many are open at \
+                    once",
+        Some(_) => "a key may have had each of these values before the calls \"invoked\"",
     }
 }
 
