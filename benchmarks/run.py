@@ -19,7 +19,6 @@ What each part runs on:
 `crates/rates` does the last two. The time of the same threads with nothing to do is subtracted.
 """
 
-import itertools
 import json
 import os
 import random
@@ -29,12 +28,14 @@ import sys
 import tempfile
 import time
 
+sys.dont_write_bytecode = True
+from streams import Stream  # noqa: E402
+
 TOP = os.path.dirname(os.path.dirname(os.path.abspath(__file__)))
 PROGRAM = os.path.join(TOP, "crates", "bench", "out", "bench")
 RATES = os.path.join(TOP, "crates", "rates", "out", "rates")
 MAX_TEXT = 16_777_216
 MAX_BUDGET = 1_000_000
-compact = json.JSONEncoder(separators=(",", ":")).encode
 
 
 def text_of(events):
@@ -129,21 +130,35 @@ def run(words, text, statuses=(0, 1, 2), program=PROGRAM):
     return seconds, peak, answer
 
 
+def peak_of(process):
+    """The most memory that a process has had so far, in MiB, or 0 once it has ended. What the system says of one that has ended is at least what
+    its parent had."""
+    try:
+        with open(f"/proc/{process.pid}/status", encoding="ascii") as status:
+            return next((int(line.split()[1]) / 1024 for line in status if line.startswith("VmHWM")), 0)
+    except OSError:
+        return 0
+
+
 def run_on(words, path, statuses=(0, 1, 2), program=PROGRAM, limit=None):
     """The same for a run on a file, with the seconds of a processor after those on the clock. None if it takes more of a processor than a limit."""
     def limited():
         resource.setrlimit(resource.RLIMIT_CPU, (limit or resource.RLIM_INFINITY,) * 2)
 
-    with open(path, "rb") as source:
-        began = time.monotonic()
-        process = subprocess.Popen([program, *words], stdin=source, stdout=subprocess.PIPE, stderr=subprocess.DEVNULL, preexec_fn=limited)
-        answer = process.stdout.read()
-        _, status, usage = os.wait4(process.pid, 0)
+    with open(path, "rb") as source, tempfile.TemporaryFile() as output:
+        began, peak = time.monotonic(), 0
+        process = subprocess.Popen([program, *words], stdin=source, stdout=output, stderr=subprocess.DEVNULL, preexec_fn=limited)
+        while not (ended := os.wait4(process.pid, os.WNOHANG))[0]:
+            peak = max(peak, peak_of(process))
+            time.sleep(0.002)
+        _, status, usage = ended
         seconds = time.monotonic() - began
+        output.seek(0)
+        answer = output.read()
     if limit and os.WIFSIGNALED(status):
         return None
     assert os.WIFEXITED(status) and os.WEXITSTATUS(status) in statuses, status
-    return seconds, usage.ru_utime + usage.ru_stime, usage.ru_maxrss / 1024, answer
+    return seconds, usage.ru_utime + usage.ru_stime, peak, answer
 
 
 def show(name, words, text, wanted):
@@ -286,90 +301,57 @@ def workers():
         show(f"judge, 8 equal segments, {number} workers", words, text, b'{"calls":')
 
 
-# Streams: how many calls a second are wanted, and how the stream is drawn.
+# Streams: how many calls a second are expected, and how the stream is drawn.
 STREAMS = {
-    "8 processes on 1,000 keys": (350_000, {}),
-    "the same, puts and removes done": (300_000, {"is_told": False}),
-    "the same, told, each 1,000th a scan of all": (250_000, {"scans": 1000}),
-    "done, each 1,000th a scan of all": (250_000, {"is_told": False, "scans": 1000}),
-    "told, each 100th a scan of all": (150_000, {"scans": 100}),
-    "done, each 100th a scan of all": (150_000, {"is_told": False, "scans": 100}),
-    "60 processes on 64 keys": (200_000, {"processes": 60, "keys": 64}),
-    "the same, puts and removes done ": (200_000, {"processes": 60, "keys": 64, "is_told": False}),
-    "the same, told, each 1,000th a scan": (100_000, {"processes": 60, "keys": 64, "scans": 1000}),
-    "8 processes on one key": (30_000, {"keys": 1}),
-    "the same, puts and removes done  ": (30_000, {"keys": 1, "is_told": False}),
-    "5 processes dead in puts, 1,000 keys": (250_000, {"opened": [["insert", key, 0] for key in range(5)]}),
-    "a scan of all keys that stays open": (100_000, {"opened": [["scan", 0, 999]]}),
-    "a get that stays open on a hot key": (100_000, {"keys": 8, "opened": [["get", 0]]}),
-    "16,384 processes open at once": (100_000, {"processes": 16_384, "keys": 65_536}),
+    "8 processes, 1,000 keys": (400_000, {}),
+    "the same, done": (400_000, {"done": True}),
+    "the same, each 1,000th a scan of all keys": (250_000, {"scans": 0.1}),
+    "done, each 1,000th a scan of all keys": (250_000, {"done": True, "scans": 0.1}),
+    "each 100th a scan of all keys": (100_000, {"scans": 1}),
+    "done, each 100th a scan of all keys": (100_000, {"done": True, "scans": 1}),
+    "60 processes, 64 keys": (200_000, {"processes": 60, "keys": 64}),
+    "60 processes, 64 keys, done": (200_000, {"processes": 60, "keys": 64, "done": True}),
+    "60 processes, 64 keys, 0.1 % scans": (60_000, {"processes": 60, "keys": 64, "scans": 0.1}),
+    "8 processes, 16 keys, 30 % scans": (20_000, {"keys": 16, "scans": 30}),
+    "16 processes, 16 keys, 10 % scans": (20_000, {"processes": 16, "keys": 16, "scans": 10}),
+    "YCSB-E, 8 processes": (100_000, {"scans": 95, "length": 10, "puts": 100, "removes": 0, "is_zipf": True}),
+    "YCSB-E, 16 processes": (100_000, {"processes": 16, "scans": 95, "length": 10, "puts": 100, "removes": 0, "is_zipf": True}),
+    "8 processes, one key": (30_000, {"keys": 1}),
+    "16 processes, one key": (30_000, {"processes": 16, "keys": 1}),
+    "60 processes, one key": (5_000, {"processes": 60, "keys": 1}),
+    "8 processes, one key, done": (30_000, {"keys": 1, "done": True}),
+    "16 processes, one key, done": (20_000, {"processes": 16, "keys": 1, "done": True}),
+    "a slow process, one key": (50_000, {"keys": 1, "slow": 1}),
+    "a slow process, 1,000 keys": (50_000, {"slow": 1}),
+    "scans open for 5,000 calls, 64 keys": (50_000, {"processes": 60, "keys": 64, "held": 5000}),
+    "all die each 100th call": (100_000, {"keys": 100, "dies": 100}),
+    "all die each 100th call, 5 % scans": (10_000, {"keys": 100, "dies": 100, "scans": 5, "length": 20}),
+    "5 dead in puts": (100_000, {"opened": [["insert", key, 0] for key in range(5)]}),
+    "a scan that stays open": (100_000, {"opened": [["scan", 0, 999]]}),
+    "a get that stays open, 8 keys": (100_000, {"keys": 8, "opened": [["get", 0]]}),
+    "a put that stays open, one key": (100_000, {"keys": 1, "opened": [["insert", 0, 0]]}),
+    "16,384 processes": (100_000, {"processes": 16_384, "keys": 65_536}),
     "each call puts a new key": (100_000, {"are_new": True}),
 }
 
 
-def stream_calls(count, keys, choose, scans, are_new):
-    """Calls on some keys, half of them gets; where `scans` is not 0 each call of that number is a scan over all keys."""
-    for number in range(1, count + 1):
-        key = int(choose.random() * keys)
-        kind = choose.random()
-        if are_new:
-            yield ("insert", number, number)
-        elif scans and number % scans == 0:
-            yield ("scan", 0, keys - 1)
-        elif kind < 0.5:
-            yield ("get", key)
-        elif kind < 0.8:
-            yield ("insert", key, number)
-        else:
-            yield ("remove", key)
-
-
-def write_stream(file, count, processes=8, keys=1000, scans=0, is_told=True, opened=(), are_new=False):
-    """Writes a stream line by line. In a random turn a process has the effect of its call, or is answered and begins its next. Some
-    calls are open from the first event on, and stay so."""
-    choose = random.Random(count + processes)
-    calls = stream_calls(count, keys, choose, scans, are_new)
-    held = {}
-    begun = dict(enumerate(itertools.islice(calls, processes)))
-    answers = {}
-    file.write('{"start":[],"version":3}\n')
-    for process, call in [*begun.items(), *enumerate(opened, processes)]:
-        file.write(f'{{"invoke":{compact(call)},"process":{process}}}\n')
-    turns = list(begun)
-    while turns:
-        place = int(choose.random() * len(turns))
-        process = turns[place]
-        if process not in answers:
-            name, *numbers = begun[process]
-            found = answer_of(held, name, numbers)
-            answers[process] = compact(found if is_told or name in ("get", "scan") else "done")
-            continue
-        file.write(f'{{"answer":{answers.pop(process)},"process":{process}}}\n')
-        call = next(calls, None)
-        if call is None:
-            turns.pop(place)
-        else:
-            begun[process] = call
-            file.write(f'{{"invoke":{compact(call)},"process":{process}}}\n')
-
-
 def follow():
     """Follows each stream, of so many calls and of twice as many: the seconds of both show whether it takes linear time."""
-    # The peak of a program's memory is at least what the one that starts it holds, so that nothing is held of a stream here.
-    for name, (wanted, drawn) in STREAMS.items():
-        told = f"follow, {name.strip():<42}"
+    for name, (expected, drawn) in STREAMS.items():
+        row = f"follow, {name:<42}"
         for count in (100_000, 200_000):
             with tempfile.NamedTemporaryFile("w+", encoding="utf-8") as file:
-                write_stream(file, count, **drawn)
+                stream = Stream(file, count, **drawn)
+                stream.write_all()
                 file.flush()
                 done = run_on(["follow"], file.name, limit=30)
             if done is None:
-                told += " not done in 30 s"
+                row += " not done in 30 s"
                 break
             _, seconds, peak, answer = done
-            is_yes = answer.startswith(f'{{"calls":{count + len(drawn.get("opened", ()))},'.encode())
-            told += f" {count / seconds:>9,.0f} calls/s {peak:6.1f} MiB" + " undecided" * (not is_yes)
-        print(f"{told}, wanted {wanted:,}", flush=True)
+            is_yes = answer.startswith(f'{{"calls":{stream.invoked},'.encode())
+            row += f" {count / seconds:>9,.0f} calls/s {peak:6.1f} MiB" + " undecided" * (not is_yes)
+        print(f"{row}, expected {expected:,}", flush=True)
 
 
 def generated(processes, calls, seed, most):
