@@ -4,22 +4,27 @@
     tests/program/explanations.py [HISTORIES]
 
 Histories are those of the examples that are not refused, the small ones that `follow` writes of the examples of streams, and drawn ones as in
-tests/program/streams.py, half of them with answers that tell less, until so many of them have no order, 300 where no number is given. `explain` has to print the report of `judge` first; of a no then a
-line for each of few calls, each of them a call of the history with its answer, or without where it may tell what a call that is not named
-put, and with those that it misses; a line for each value that these read and none of them put, with each call of the history that put it; the
-history of these calls alone, of which `judge` says no; and how far an order of them gets. Without any one of them, and without the answers
-that tell what it put, `judge` says yes or undecided of the others, as the reason says. The front of the last line is a list of
-these calls that a map allows, each behind all that were answered before it began, and none is longer; behind it stand what the map then
-holds, and each call that could come next, with what it was answered, which is not what the map would answer. Then long ones: of 4,096
-calls of one key one answer is wrong, in the middle or near the end, and the explanation has fewer than 20 calls, and takes less than a second
-of a processor. And scans that disagree:
-24 at once over 24 keys and over 2,000, beside puts of two values at each of 24 keys, one put behind the other; each scan lists the second
-values, but at one key the first, and this at another key than the others. Each is explained in less than two seconds of a processor.
-And of 2,000 calls of 16 processes at one key, of which some tell less, a get answers an old value: of these `judge` is undecided, and `explain`
-says behind that what `locate` says, and explains the calls up to the event that it names. Or it explains calls that are left at the key from
-the one value that it may have had before them, which are those that `follow` names where it loses the order: of the few calls all orders
-from that value are tried, and the line in front of them tells the value, the key, and who put it. Nothing is explained only where `follow`
-names several values. The last line here counts what passed and failed.
+tests/program/streams.py. Half of the drawn ones have answers that do not say what the map answers. They are drawn until so many have no order,
+300 if no number is given.
+
+- `explain` has to print the report of `judge` first.
+- After a no it prints a line for each of a few calls. Each is a call of the history with its answer, or without it if it may show what a call that
+  is not named put. The line has the calls that it misses. Then comes a line for each value that these calls read and none of them put, with each call
+  of the history that put it; the history of only these calls, of which `judge` says no; and how far an order of them gets.
+- Without any one of the calls, and without the answers that show what it put, `judge` says yes or undecided of the others, as the reason says.
+- The front of the last line is a list of these calls that a map allows, each after all that were answered before it began, and none is longer. The
+  line has what the map then holds, and each call that could come next, with its answer, which is not what the map would answer.
+
+Then long ones. Of 4,096 calls of one key one answer is wrong, in the middle or near the end. The explanation has fewer than 20 calls, and takes less
+than a second of a processor. And scans that disagree: 24 at once over 24 keys and over 2,000, while others put two values at each of 24 keys, one
+after the other. Each scan lists the second values, but at one key the first, and this at another key than the others. Each is explained in less than
+two seconds of a processor.
+
+And of 2,000 calls of 16 processes at one key, of which some answers only say that the call was done, a get answers an old value. `judge` is undecided
+of these. `explain` prints what `locate` says, and explains the calls up to the event that it names. Or it explains the calls that are left of the part
+of the keys at which `follow` loses the order, if that has one past. All orders of the few calls from the pairs of the part are tried. Lines before
+these have the value from which each of their keys begins, and who put it, as `follow` says. Nothing is explained only if the part has several pasts.
+At budgets of a few configurations many small histories are explained so. The last line here counts what passed and failed.
 """
 
 import concurrent.futures
@@ -47,6 +52,9 @@ CONNECTIONS = 16
 UNDECIDED_HISTORIES = 3
 CONNECTION_CALLS = 2000
 MANY_KEYS = 2000
+# Small histories that are explained at budgets of 1 up to so many configurations.
+SMALL_HISTORIES = 3000
+SMALL_BUDGETS = 4
 
 
 def calls_of(events):
@@ -325,10 +333,16 @@ def wrong_with_few(history, rows, origins, small, front, count=None, whole=None)
     return next((wrong for wrong in wrongs if wrong), None) or wrong_with_front(small, rows, front)
 
 
-def lost_keys(history):
-    """What `follow` tells of the keys at which it loses the order of a history, and the history of its second line, where that is there."""
+def said_at(budget, subcommand, text):
+    """The status and the lines of a subcommand at a budget."""
+    ran = subprocess.run([PROGRAM, subcommand, "--budget", str(budget)], input=text, capture_output=True, timeout=120, check=False)
+    return ran.returncode, [json.loads(line) for line in ran.stdout.splitlines()]
+
+
+def lost_keys(history, budget):
+    """What `follow` says of the keys of the part at which it loses the order of a history, and the history of its second line, if there is one."""
     events = [{"start": history.get("start", []), "version": max(history["version"], 2)}, *history["events"]]
-    _, lines = said("follow", b"".join(text_of(event) + b"\n" for event in events))
+    _, lines = said_at(budget, "follow", b"".join(text_of(event) + b"\n" for event in events))
     return lines[0].get("keys", []), *lines[1:2]
 
 
@@ -347,56 +361,65 @@ def has_order(small):
     return goes_on(frozenset(), held)
 
 
-def wrong_with_value(history, first, rows, origins, small, front, count):
-    """What is wrong with few calls of a key from a value, of the history's first events, so many: they are those that `follow` names, from the one
-    value that it names, and have no order from that."""
-    keys, *left = lost_keys(history)
-    if len(keys) != 1 or len(keys[0]["values"]) != 1:
-        return f"calls from {first}, where follow names the keys {keys}"
-    (lost,) = keys
-    put = lost["put"][0]
-    process = None if put is None else {"event": put, "process": history["events"][put]["process"]}
-    if first != {"from": lost["values"][0], "key": lost["key"], "put": process}:
-        return f"{first}, where follow names {lost}"
-    if small.get("start", []) != [[lost["key"], value] for value in lost["values"] if value is not None]:
-        return f"a history that begins otherwise than at {first}: {small}"
+def wrong_with_beginnings(history, begins, rows, small, keys):
+    """What is wrong with the values from which a few calls are said to begin: `follow` names them at these keys, each with the call that put it."""
+    pairs, lost = dict(map(tuple, small.get("start", []))), {key["key"]: key for key in keys}
+    for begin in begins:
+        put = begin["put"] and begin["put"]["event"]
+        named = lost.get(begin["key"], {})
+        if (named.get("values"), named.get("put")) != ([begin["from"]], [put]):
+            return f"{begin}, where follow names {keys}"
+        if begin["from"] != pairs.get(begin["key"]) or begin["put"] and begin["put"]["process"] != history["events"][put]["process"]:
+            return f"{begin}, but the calls begin with {pairs}"
+    wanted = set()
+    for row in rows:
+        name, low, *others = row["call"]
+        high = others[0] if name == "scan" else low
+        told = dict(row["answer"]) if isinstance(row["answer"], list) else {}
+        wanted |= {low} if low == high else {key for key in {*told, *pairs} if low <= key <= high and told.get(key) != pairs.get(key)}
+    return None if [begin["key"] for begin in begins] == sorted(wanted) else f"values of other keys than {wanted}: {begins}"
+
+
+def wrong_with_part(history, begins, rows, origins, small, front, count, budget):
+    """What is wrong with a few calls of a part at which `follow` loses the order, of the history's first events, so many: they begin from the values
+    that it names, and have no order from these."""
+    keys, *left = lost_keys(history, budget)
+    wrong = wrong_with_beginnings(history, begins, rows, small, keys)
+    if wrong:
+        return wrong
     if has_order(small) or said("judge", text_of(small))[0] != NO:
         return f"calls that have an order: {small}"
     every = {call["event"]: call for call in calls_of(history["events"])}
     known = {call["event"]: call for call in calls_of(history["events"][:count])}
     for row, call in zip(rows, calls_of(small["events"]), strict=True):
         whole = every.get(row["event"], {})
-        if row["event"] not in lost["invoked"] or (whole.get("process"), whole.get("call")) != (row["process"], row["call"]):
-            return f"{row}, which is no call of the history that is left at the key"
-        # A scan is a get of the key.
-        is_get = call["call"] == ["get", lost["key"]] and row["call"][0] == "scan"
-        if not is_get and (row["call"] != call["call"] or row["answer"] != call.get("answer", row["answer"])):
-            return f"{row}, of which the history says {call}"
+        if (whole.get("process"), whole.get("call")) != (row["process"], row["call"]) or row["call"] != call["call"]:
+            return f"{row}, which is no call of the history"
         word = "left out" if "answer" in whole else "open"
-        if row["answer"] not in (word, known[row["event"]].get("answer", word)) or ("answer" in call) != (row["answer"] not in ("left out", "open")):
+        if row["answer"] not in (word, known[row["event"]].get("answer", word)) or row["answer"] != call.get("answer", word):
             return f"{row}, with an answer that it has not"
-    if front["front"] and not set(front["front"]) <= {row["event"] for row in rows}:
+    if not set(front["front"]) <= {row["event"] for row in rows}:
         return f"{front}, whose calls are others"
-    # Where no call that is left took effect before, the calls are known of which the few are those that stay.
-    if left and len(calls_of(left[0]["events"])) == len(lost["invoked"]) and not any(known[event]["call"][0] == "scan" for event in lost["invoked"]):
-        return wrong_with_few(history, rows, origins, small, front, count, [known[event] for event in lost["invoked"]])
+    # If each call that is left has a key that is named, they are known, and the few are some of them.
+    invoked = sorted({event for key in keys for event in key["invoked"]})
+    if str(budget) == BUDGET[1] and left and len(calls_of(left[0]["events"])) == len(invoked):
+        return wrong_with_few(history, rows, origins, small, front, count, [known[event] for event in invoked])
     return None
 
 
-def wrong_with_located(history, lines, located):
-    """What is wrong with the lines behind an undecided: what `locate` says, and few calls up to the event that it names, if any show it."""
+def wrong_with_located(history, lines, located, budget=BUDGET[1]):
+    """What is wrong with the lines after an undecided: what `locate` says, and a few calls up to the event that it names, if any show it."""
     if lines[:1] != located:
         return f"{lines}, but locate says {located}"
-    first = [line for line in lines[1:2] if "from" in line]
+    begins = [line for line in lines if "from" in line]
     if len(lines) == 1:
-        keys, *_ = lost_keys(history)
-        is_one = located[0]["verdict"] == "no" and len(keys) == 1 and len(keys[0]["values"]) == 1
-        return f"nothing, where follow names {keys}" if is_one else None
-    parts = parts_of(lines[1 + len(first):])
-    if lines[1:] != [*first, *parts[0], *parts[1], *parts[2:]]:
+        _, *left = lost_keys(history, budget)
+        return f"nothing, where follow writes {left}" if left and located[0]["verdict"] == "no" else None
+    parts = parts_of(lines[1 + len(begins):])
+    if lines[1:] != [*begins, *parts[0], *parts[1], *parts[2:]]:
         return f"lines in another order: {lines}"
-    if first:
-        return wrong_with_value(history, first[0], *parts, located[0]["event"] + 1)
+    if begins:
+        return wrong_with_part(history, begins, *parts, located[0]["event"] + 1, budget)
     return wrong_with_few(history, *parts, located[0]["event"] + 1)
 
 
@@ -422,9 +445,9 @@ def explained(history):
 
 
 def parts_of(lines):
-    """The lines of few calls, who put what they read, the history behind them, and how far an order of it gets."""
-    behind = (next(line for line in lines if name in line) for name in ("events", "front"))
-    return [line for line in lines if "reason" in line], [line for line in lines if "puts" in line], *behind
+    """The lines of a few calls, who put what they read, the history after them, and how far an order of it gets."""
+    last = (next(line for line in lines if name in line) for name in ("events", "front"))
+    return [line for line in lines if "reason" in line], [line for line in lines if "puts" in line], *last
 
 
 def less_told(seed):
@@ -537,13 +560,39 @@ def wrong_with_what_comes_back():
     return None if (status, lines[2:]) == (UNDECIDED, COMES_BACK) else f"of a value that comes back explain says {lines}"
 
 
-# The undecided histories of which few calls were found.
+# Two inserts that overlap, of which the first one read what the other put, so it came last; and a get after both that reads what the other put.
+OF_PART = {
+    "events": [
+        {"invoke": ["insert", 7, 1], "process": 1}, {"invoke": ["insert", 7, 3], "process": 0}, {"answer": None, "process": 0},
+        {"answer": 3, "process": 1}, {"invoke": ["get", 7], "process": 1}, {"answer": 3, "process": 1},
+    ],
+    "version": 1,
+}
+# What `explain` says of it at a budget of one configuration, worked out by hand: before the get the key has the value of the first insert.
+OF_PART_SAID = [
+    {"calls": [0, 1, 2], "hi": 7, "lo": 7, "verdict": "undecided"},
+    {"call": 2, "event": 5, "verdict": "no"},
+    {"from": 1, "key": 7, "put": {"event": 0, "process": 1}},
+    {"answer": 3, "call": ["get", 7], "event": 4, "process": 1, "reason": "order"},
+    {"key": 7, "puts": [{"event": 1, "process": 0}], "start": False, "value": 3},
+    {"events": [{"invoke": ["get", 7], "process": 0}, {"answer": 3, "process": 0}], "start": [[7, 1]], "version": 2},
+    {"front": [], "holds": [[7, 1]], "next": [{"answer": 3, "event": 4, "would": 1}]},
+]
+
+
+def wrong_with_part_alone():
+    """What is wrong with the explanation of a get of a part that has one past, or None."""
+    status, lines = said_at(1, "explain", text_of(OF_PART))
+    return None if (status, lines) == (UNDECIDED, OF_PART_SAID) else f"of a part explain says {lines}"
+
+
+# The undecided histories of which a few calls were found.
 FOUND = []
 
 
 def undecided_explained(name, history, most):
-    """What is wrong with the explanation of a history of which `judge` is undecided and `locate` says no, or None: few calls show it, or none are
-    found, where `follow` names several values, and it ends behind what `locate` says."""
+    """What is wrong with the explanation of a history of which `judge` is undecided and `locate` says no, or None: a few calls show it. Or none are
+    found, if the part at which `follow` loses the order has several pasts, and it ends after what `locate` says."""
     text = text_of(history)
     (judged, report), (located, location), (_, lines) = (said(word, text) for word in ("judge", "locate", "explain"))
     if (judged, located) != (UNDECIDED, NO) or lines[:1] != report:
@@ -554,6 +603,15 @@ def undecided_explained(name, history, most):
         return f"{name} explain says too little or too much: {lines[1:]}"
     wrong = wrong_with_located(history, lines[1:], location)
     return wrong and f"{name} explain says {wrong}"
+
+
+def explained_at(budget, history):
+    """How many lines have a value from which a few calls of a history begin, if it is explained at a budget, and what is wrong with them, or None."""
+    text = text_of(history)
+    status, lines = said_at(budget, "explain", text)
+    begins = sum("from" in line for line in lines)
+    wrong = wrong_with_located(history, lines[1:], said_at(budget, "locate", text)[1], budget) if status == UNDECIDED and begins else None
+    return begins, wrong and f"at a budget of {budget} explain says {wrong}: {text.decode()}"
 
 
 def disagreeing_scans(keys):
@@ -635,15 +693,26 @@ def main():
     undecided = [(f"of {CONNECTIONS} connections", connections(random.Random(SEED + number)), FEW_CALLS) for number in range(UNDECIDED_HISTORIES)]
     undecided.append(("of a value that comes back", value_comes_back(), FEW_CALLS))
     wrongs = itertools.chain(itertools.starmap(quick_explained, quick_ones()), itertools.starmap(undecided_explained, undecided))
-    for wrong in itertools.chain(wrongs, [wrong_with_what_comes_back()]):
+    for wrong in itertools.chain(wrongs, [wrong_with_what_comes_back(), wrong_with_part_alone()]):
         passed += wrong is None
         failed += wrong is not None
         if wrong is not None:
             print(wrong)
-    # Few calls are found in each of them.
+    # A few calls are found in each of them.
     passed += len(FOUND) == len(undecided)
     failed += len(FOUND) < len(undecided)
-    print(f"{refuted} without order, with {most} lines at most; few calls behind {len(FOUND)} of {len(undecided)} undecided")
+    small = ((1 + seed % SMALL_BUDGETS, drawn_history(SEED + seed, True)) for seed in range(SMALL_HISTORIES))
+    with concurrent.futures.ThreadPoolExecutor(os.cpu_count()) as runs:
+        of_parts = [(begins, wrong) for begins, wrong in runs.map(lambda it: explained_at(*it), small) if begins]
+    passed += sum(wrong is None for _, wrong in of_parts)
+    failed += sum(wrong is not None for _, wrong in of_parts)
+    for _, wrong in of_parts:
+        if wrong is not None:
+            print(wrong)
+    # Some of them begin from values of several keys.
+    passed += max((begins for begins, _ in of_parts), default=0) > 1
+    failed += max((begins for begins, _ in of_parts), default=0) <= 1
+    print(f"{refuted} without order, with {most} lines at most; a few calls after {len(FOUND)} of {len(undecided)} undecided, of a part in {len(of_parts)}")
     print(f"{passed} passed, {failed} failed")
     return 1 if failed else 0
 

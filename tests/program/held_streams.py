@@ -1,9 +1,9 @@
 """Streams in which a scan or a get is held up while others go on with their calls: rows of them with their answers, and drawn ones. For
 `streams.py`, which compares what `follow` says of them.
 
-A scan that is open keeps the calls of its keys, so that the moments which the short scans behind its invocation may have had multiply: a
-*pause* is a short scan that misses a key which is removed and put again twice meanwhile, so it has two of them, and four pauses have sixteen
-ways. From so many on what came before may be put aside as a window, at a moment at which the scan that is held up is the only open call.
+While a scan is open, all later calls of its keys are left. Among them are short scans that may have come at several moments: a *pause* is a short
+scan that misses a key which is removed and put again twice meanwhile. It came at one of two moments, so four pauses have sixteen ways. A *stretch*
+is some calls of two other keys, and then pauses.
 """
 
 import json
@@ -56,7 +56,7 @@ def wrong_at(wrong, start, *events):
 
 
 def many_values(inside):
-    """A window may not end where a key may have several values: the scan was before the insert at key 1, so that at key 0 came first 2."""
+    """The scan came before the insert at key 1, so at key 0 the 2 came before the 1. Then the get does not find 2."""
     wrong = answered(0, [[0, 2], [PAUSED, KEPT]])
     return wrong_at(
         wrong, [], invoked(0, "scan", 0, PAUSED), invoked(1, "insert", 0, 2), *inside, *done(2, "done", "insert", 1, 9),
@@ -65,7 +65,7 @@ def many_values(inside):
 
 
 def beside_range(inside):
-    """Nor may what keys beside the range may have be joined: as the scan saw the 5, the other one was late, and at key 0 stays 7."""
+    """As the first scan saw the 5, the second one came after the insert of 1. So at key 0 the 7 stays, and this is no key of the first scan."""
     wrong = answered(0, [[1, 5], [PAUSED, KEPT]])
     return wrong_at(
         wrong, [[1, 1]], invoked(0, "scan", 1, PAUSED), invoked(1, "insert", 1, 5), *inside, *done(2, "done", "insert", 2, 9),
@@ -75,8 +75,8 @@ def beside_range(inside):
     )
 
 
-def in_window_first(inside):
-    """A scan that fits a window asks nothing of what is open at its answer: the insert that it may have seen may come late."""
+def early_or_late(inside):
+    """The scan came before the remove, or saw the insert that is open at its answer. That insert came later."""
     return wrong_at(
         None, [[0, 1]], invoked(0, "scan", 0, PAUSED), invoked(3, "get", 5), *inside, *done(1, 1, "remove", 0), answered(3),
         invoked(2, "insert", 0, 1), answered(0, [[0, 1], [PAUSED, KEPT]]), *done(1, None, "insert", 0, 2), answered(2, 2),
@@ -84,7 +84,7 @@ def in_window_first(inside):
 
 
 def open_insert(inside):
-    """A window may not end where an insert is open: if the scan saw it, it is done, and cannot find what is put behind the scan."""
+    """The scan saw the insert that is open. So that is done by then, and cannot find what is put after the scan."""
     wrong = answered(1, 2)
     return wrong_at(
         wrong, [], invoked(0, "scan", 0, PAUSED), invoked(1, "insert", 0, 1), *inside, *done(2, "done", "remove", 0),
@@ -93,7 +93,7 @@ def open_insert(inside):
 
 
 def two_scans(inside):
-    """Two scans that are held up and share a window may not be asked one by one: each sees an insert without the other's."""
+    """Two scans that are held up together: each sees an insert without the other one's."""
     wrong = answered(3, [[2, 2], [PAUSED, KEPT]])
     return wrong_at(
         wrong, [], invoked(0, "scan", 1, PAUSED), invoked(3, "scan", 1, PAUSED), invoked(1, "insert", 1, 1), *inside,
@@ -102,8 +102,8 @@ def two_scans(inside):
 
 
 def ways_differ(inside, found, pairs, is_right):
-    """Nor may it end where a key has one value in each way, but not the same: the scan of keys 0 and 1 was before the remove, so that at key 0
-    came first 7 and is 8, or behind the insert, so that it is 7. A get tells which, and so whether both keys can have had nothing at once."""
+    """The scan of keys 0 and 1 came before the remove, so at key 0 the 7 came first and the 8 stays. Or it came after the insert at key 1, so the 7
+    stays. The get says which, and so whether both keys can have had nothing at once."""
     answer = answered(0, pairs)
     return wrong_at(
         None if is_right else answer, [[1, 1]], invoked(0, "scan", 0, PAUSED), invoked(4, "scan", 0, 1), invoked(1, "insert", 0, 7), *inside,
@@ -112,126 +112,121 @@ def ways_differ(inside, found, pairs, is_right):
     )
 
 
-def window(number):
-    """A window of its own: keys 0 and 1 get 10 N + 1, where they had 10 less, by way of 10 N, one after another, and then come pauses."""
-    before, inside, behind = 10 * number - 9, 10 * number, 10 * number + 1
-    puts = [(0, before, inside), (1, before, inside), (0, inside, behind), (1, inside, behind)]
+def stretch(number):
+    """A stretch: keys 0 and 1 get 10 N + 1, where they had 10 less, by way of 10 N, one after another, and then come pauses."""
+    before, inside, after = 10 * number - 9, 10 * number, 10 * number + 1
+    puts = [(0, before, inside), (1, before, inside), (0, inside, after), (1, inside, after)]
     return [event for key, found, put in puts for event in done(1, found, "insert", key, put)] + pauses()
 
 
-def windows(first, last):
-    """So many of them, and what was there before the first."""
-    return [event for number in range(first, last + 1) for event in window(number)]
+def stretches(first, last):
+    """Those from the first to the last."""
+    return [event for number in range(first, last + 1) for event in stretch(number)]
 
 
 ALL = "scan", 0, PAUSED
 FROM = [[0, 1], [1, 1]]
-# What a scan of all keys may be told that is held up over the windows from 1 to 3 and two inserts behind them: in the first, in one in the
-# middle, in the last, at the moment between two of them, in a pause, behind all, and nothing. And what it may not: what was there at no moment,
-# or at two of different windows, or of one, or a pause where there was none.
-TOLD = [
+# What a scan of all keys may report that is held up over the stretches from 1 to 3 and two inserts after them: what was there in the first, in one
+# in the middle, in the last, at the moment between two of them, in a pause, after all, and nothing. And what it may not: what was there at no moment,
+# or at two of different stretches, or of one, or a pause at another time.
+RIGHT = [
     [[0, 1], [1, 1], [9, 1]], [[0, 10], [1, 1], [9, 1]], [[0, 20], [1, 20], [9, 1]], [[0, 20], [1, 11], [9, 1]], [[0, 31], [1, 30], [9, 1]],
     [[0, 11], [1, 11], [9, 1]], [[0, 31], [1, 31], [9, 1]], [[0, 21], [1, 21]], [[0, 31], [1, 31]], [[0, 40], [1, 31], [9, 1]],
     [[0, 40], [1, 40], [9, 1]], "done",
 ]  # fmt: skip
-UNTOLD = [
+WRONG = [
     [[0, 2], [1, 20], [9, 1]], [[0, 10], [1, 20], [9, 1]], [[0, 11], [1, 20], [9, 1]], [[0, 30], [1, 21]], [[0, 10], [9, 1]], [[9, 1]], [],
     [[0, 40], [1, 31]], [[0, 20], [1, 21], [9, 1]], [[0, 31], [1, 40], [9, 1]], [[0, 41], [1, 31], [9, 1]],
 ]  # fmt: skip
 
 
-def told(pairs, is_right, *behind):
-    """A scan that is held up over three windows and what comes behind them, and that is told these pairs; and then others."""
+def reported(pairs, is_right, *after):
+    """A scan that is held up over three stretches and what comes after them, and that reports these pairs; and then others."""
     answer = answered(0, pairs)
     late = [*done(1, 31, "insert", 0, 40), *done(1, 31, "insert", 1, 40)]
-    return wrong_at(None if is_right else answer, FROM, invoked(0, *ALL), *windows(1, 3), *late, answer, *behind)
+    return wrong_at(None if is_right else answer, FROM, invoked(0, *ALL), *stretches(1, 3), *late, answer, *after)
 
 
-def lost_behind(*before):
-    """What is behind a scan that is held up goes wrong: a get finds what was overwritten."""
+def lost_after(*before):
+    """After these events a get finds what was overwritten."""
     wrong = answered(2, 30)
     return wrong_at(wrong, FROM, *before, invoked(2, "get", 0), wrong)
 
 
-def keys_lost(value, put, *begun):
-    """What a no tells of key 0 where it is lost behind windows: the events of the calls that are left, and one value, and who put it."""
-    return [{"invoked": list(begun), "key": 0, "put": [put], "values": [value]}]
+def keys_lost(*left):
+    """What a no says of key 0 if these calls of it are left, by the events of their invocations. It has 1 before them, which nobody put."""
+    return [{"invoked": list(left), "key": 0, "put": [None], "values": [1]}]
 
 
 MANY = 150
 
 
 def one_after_another(pairs, is_right):
-    """Two scans that are held up, one behind the other, of which the second is told these pairs."""
+    """Two scans that are held up, one after the other. The second one reports these pairs."""
     answer = answered(0, pairs)
-    first = [invoked(0, *ALL), *windows(1, 2), answered(0, [[0, 10], [1, 10], [9, 1]])]
-    return wrong_at(None if is_right else answer, FROM, *first, invoked(0, *ALL), *windows(3, 4), answer)
+    first = [invoked(0, *ALL), *stretches(1, 2), answered(0, [[0, 10], [1, 10], [9, 1]])]
+    return wrong_at(None if is_right else answer, FROM, *first, invoked(0, *ALL), *stretches(3, 4), answer)
 
 
 def overlapping(pairs, is_right):
-    """Two that overlap: in the windows 1 and 2 the first is alone, in 3 both are open, and in 4 the second one is alone, which is told these."""
+    """Two that overlap: in the stretches 1 and 2 only the first is open, in 3 both are, and in 4 only the second one, which reports these pairs."""
     answer = answered(3, pairs)
     return wrong_at(
-        None if is_right else answer, FROM, invoked(0, *ALL), *windows(1, 2), invoked(3, *ALL), *window(3),
-        answered(0, [[0, 20], [1, 11], [9, 1]]), *window(4), answer,
+        None if is_right else answer, FROM, invoked(0, *ALL), *stretches(1, 2), invoked(3, *ALL), *stretch(3),
+        answered(0, [[0, 20], [1, 11], [9, 1]]), *stretch(4), answer,
     )
 
 
 def held_get(value, is_right):
-    """A get of key 0 that is held up over three windows, alone."""
+    """Only a get of key 0 is held up, over three stretches."""
     answer = answered(0, value)
-    return wrong_at(None if is_right else answer, FROM, invoked(0, "get", 0), *windows(1, 3), answer, *done(2, 31, "get", 0))
+    return wrong_at(None if is_right else answer, FROM, invoked(0, "get", 0), *stretches(1, 3), answer, *done(2, 31, "get", 0))
 
 
 def get_and_scan(value, pairs, wrong):
-    """A get and a scan that are held up over one window, the scan over two more; which of the answers is wrong, if one is."""
+    """A get and a scan that are held up over one stretch, the scan over two more; which of the answers is wrong, if one is."""
     answers = answered(2, value), answered(0, pairs)
-    events = [invoked(0, *ALL), invoked(2, "get", 0), *window(1), answers[0], *windows(2, 3), answers[1]]
+    events = [invoked(0, *ALL), invoked(2, "get", 0), *stretch(1), answers[0], *stretches(2, 3), answers[1]]
     return wrong_at(None if wrong is None else answers[wrong], FROM, *events)
 
 
-def many_windows(pairs, is_right):
-    """A scan that is held up over as many windows as a history has room for, and that is told these pairs."""
+def many_stretches(pairs, is_right):
+    """A scan that is held up over as many stretches as a history has room for, and that reports these pairs."""
     answer = answered(0, pairs)
-    return wrong_at(None if is_right else answer, FROM, invoked(0, *ALL), *windows(1, MANY), answer)
+    return wrong_at(None if is_right else answer, FROM, invoked(0, *ALL), *stretches(1, MANY), answer)
 
 
 def seen_late(found, is_right):
-    """A scan sees an insert that is open, of a value that was in no window: so a get behind it finds that."""
+    """A scan sees an insert that is open, of a value that was in no stretch: so a get after it finds that."""
     answer = answered(3, found)
     return wrong_at(
-        None if is_right else answer, FROM, invoked(0, *ALL), *windows(1, 3), invoked(1, "insert", 0, 50),
+        None if is_right else answer, FROM, invoked(0, *ALL), *stretches(1, 3), invoked(1, "insert", 0, 50),
         answered(0, [[0, 50], [1, 31], [9, 1]]), invoked(3, "get", 0), answer, answered(1, 31),
     )
 
 
 def seen_early(found):
-    """The same of what it may have seen in a window: the get may find either."""
+    """The same of what it may have seen in a stretch: the get may find either."""
     return wrong_at(
-        None, FROM, invoked(0, *ALL), *windows(1, 3), invoked(1, "insert", 0, 31), *done(2, 31, "insert", 0, 60),
+        None, FROM, invoked(0, *ALL), *stretches(1, 3), invoked(1, "insert", 0, 31), *done(2, 31, "insert", 0, 60),
         answered(0, [[0, 31], [1, 31], [9, 1]]), *done(3, found, "get", 0), answered(1, 31 if found == 60 else 60),
     )
 
 
 def rows_of_keys():
-    """Each row where a no tells how key 0 is lost: what it is of, the history, the event, and the keys. What a window leaves nobody put."""
-    for count in (1, 3):
-        held = [invoked(0, *ALL), *windows(1, count)]
-        value, end = 10 * count + 1, len(held)
-        yield f"{count} windows, lost", *lost_behind(*held), keys_lost(value, None, end)
-        history, event = lost_behind(*held, *done(1, value, "insert", 0, 5))
-        yield f"{count} windows, lost behind an insert", history, event, keys_lost(value, None, end, end + 2)
-
-
-# In these a call is open over the pauses besides the scan that is held up, or two scans are held up: no window ends there, so that the ways may
-# come to too many.
-WITHOUT_WINDOWS = ("overlapping, ", *(
-    f"{name}, {count} pauses" for name in ("many_values", "beside_range", "in_window_first", "open_insert", "two_scans") for count in (4, 5)))
+    """Each row in which a no names key 0, and no other key: what it is of, the history, the event, and the keys. The scan that is held up does not
+    join the parts of the keys, since it is not answered. But no part moves past its invocation, so all later calls of key 0 are left."""
+    for count, left in ((1, (1, 5)), (3, (1, 5, 49, 53, 97, 101))):
+        held = [invoked(0, *ALL), *stretches(1, count)]
+        end = len(held)
+        yield f"{count} stretches, lost", *lost_after(*held), keys_lost(*left, end)
+        history, event = lost_after(*held, *done(1, 10 * count + 1, "insert", 0, 5))
+        yield f"{count} stretches, lost after an insert", history, event, keys_lost(*left, end, end + 2)
 
 
 def rows():
     """Each row: what it is of, the history, and the event at which it goes wrong, or None."""
-    for make in (many_values, beside_range, in_window_first, open_insert, two_scans):
+    for make in (many_values, beside_range, early_or_late, open_insert, two_scans):
         for count in (0, 4, 5):
             yield f"{make.__name__}, {count} pauses", *make(pauses(count))
     for found, pairs, is_right in (
@@ -239,14 +234,14 @@ def rows():
     ):
         for count in (0, 4):
             yield f"ways differ, {count} pauses, {found}, {pairs}", *ways_differ(pauses(count), found, pairs, is_right)
-    for pairs in TOLD:
-        yield f"told {pairs}", *told(pairs, True, *done(2, 40, "get", 0))
-        yield f"told {pairs}, lost behind", *lost_behind(*told(pairs, True)[0]["events"])
-    for pairs in UNTOLD:
-        yield f"told {pairs}", *told(pairs, False)
+    for pairs in RIGHT:
+        yield f"reported {pairs}", *reported(pairs, True, *done(2, 40, "get", 0))
+        yield f"reported {pairs}, lost after it", *lost_after(*reported(pairs, True)[0]["events"])
+    for pairs in WRONG:
+        yield f"reported {pairs}", *reported(pairs, False)
     for count in (1, 3):
-        held = [invoked(0, *ALL), *windows(1, count)]
-        yield f"never answered, {count} windows", *wrong_at(None, FROM, *held)
+        held = [invoked(0, *ALL), *stretches(1, count)]
+        yield f"never answered, {count} stretches", *wrong_at(None, FROM, *held)
     for pairs, is_right in (
         ([[0, 30], [1, 30], [9, 1]], True), ([[0, 21], [1, 21], [9, 1]], True), ([[0, 41], [1, 41]], True), ("done", True),
         ([[0, 20], [1, 20], [9, 1]], False), ([[0, 10], [1, 10], [9, 1]], False), ([[0, 30], [1, 40], [9, 1]], False),
@@ -264,7 +259,7 @@ def rows():
         ([[0, 1], [1, 1], [9, 1]], True), ([[0, 740], [1, 731], [9, 1]], True), ([[0, 740], [1, 730], [9, 1]], False),
         ([[0, 1501], [1, 1501]], True), ([[0, 1501], [9, 1]], False),
     ):
-        yield f"{MANY} windows, {pairs}", *many_windows(pairs, is_right)
+        yield f"{MANY} stretches, {pairs}", *many_stretches(pairs, is_right)
     yield "seen late", *seen_late(50, True)
     yield "seen late, and missed", *seen_late(31, False)
     yield "seen early", *seen_early(60)
@@ -311,7 +306,7 @@ class Drawn:
             self.invoke(process, drawn_call(self.chance, self.keys, self.values, self.kinds))
 
     def burst(self, team):
-        """Few processes take turns, and then their calls end, but for one now and then."""
+        """A few processes take turns, and then their calls end, but for one now and then."""
         for process in self.chance.choices(team, k=self.chance.randint(4, 10) * len(team)):
             self.go_on(process)
         self.rest(team[self.chance.choice((0, 0, 1)) :])
@@ -348,8 +343,8 @@ def damage(chance, events):
 
 
 def drawn_held(seed):
-    """A stream in which one process has a call that is held up, one after another, and from two to six others go on with theirs, of few keys and
-    values, so that short scans may have taken effect at several moments."""
+    """A stream in which one process has a call that is held up, one after another. From two to six others go on with theirs, of few keys and values,
+    so short scans may have taken effect at several moments."""
     chance = random.Random(seed)
     drawn, calm = Drawn(chance), list(range(1, chance.randint(3, 7)))
     wanted, bursts, effect, end = 2 * chance.randint(60, 400), 0, 0, -1
@@ -391,7 +386,7 @@ def recorded():
 
 
 def with_pairs(history, place, pairs):
-    """The same where the scan that is answered at an event tells these."""
+    """The same, but the scan that is answered at an event reports these pairs."""
     events = history["events"]
     return {**history, "events": [*events[:place], answered(events[place]["process"], pairs), *events[place + 1 :]]}
 
@@ -405,7 +400,7 @@ def changed(history, place, change):
 
 
 def pair_before(history, place, key, value):
-    """Another pair of a key that a scan before an event told last."""
+    """Another pair of a key: the last that a scan before an event reported."""
     answers = [event.get("answer") for event in history["events"][:place]]
     return [pair for answer in answers if isinstance(answer, list) for pair in answer if pair[0] == key and pair[1] != value][-1]
 
@@ -421,8 +416,8 @@ def pairs_at(history, begun, place):
 
 
 def recordings():
-    """The recordings; and each where its scan that is held up tells a value that nobody put, one that a key had before, and what the map may
-    have held soon behind its beginning, in the middle, and late."""
+    """The recordings. And each with other pairs of its scan that is held up: with a value that nobody put, with one that a key had before, and with
+    what the map may have held soon after the scan began, in the middle, and late."""
     for history, begun, place in recorded():
         yield history
         yield changed(history, place, lambda key, value: [key, value + 1000])

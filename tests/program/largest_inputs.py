@@ -13,7 +13,7 @@ import re
 import sys
 
 sys.dont_write_bytecode = True
-from rows import MOST_CALLS, MOST_PAIRS, answer, as_bytes, compare, numbers, piped, scan_from_pairs, started  # noqa: E402
+from rows import MOST_CALLS, MOST_PAIRS, answer, as_bytes, compare, numbers, piped, report_of, scan_from_pairs, started  # noqa: E402
 
 MOST_PROCESSES = 64
 VARIANTS = ("coupled", "optimistic")
@@ -53,7 +53,7 @@ def others_from_pairs():
         yield functools.partial(begins, ["explain"], text, status, report)
         yield functools.partial(begins, ["draw", "--calls", "0"], text, status, r"<svg [^\0]*</svg>\n")
         lines = f'{{"start":[{pairs}],"version":2}}\n' + "".join(f"{{{it}}}\n" for it in events[1:-1].split("},{"))
-        lost = r'\{"call":0,"event":1,"keys":\[\{"invoked":\[0\],"key":0,"put":\[null\],"values":\[1\]\}\],"verdict":"no"\}\n[^\n]+\n'
+        lost = re.escape(report_of(0, 1, [(key, [0], [1], [None]) for key in range(MOST_PAIRS)])) + r"\n[^\n]+\n"
         followed = r'\{"calls":1,"overlap":0\.00,"verdict":"yes"\}\n' if listed else lost
         yield functools.partial(begins, ["follow"], lines, status, followed)
 

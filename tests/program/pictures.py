@@ -25,7 +25,7 @@ import subprocess
 import sys
 import xml.etree.ElementTree
 
-from explanations import SEED, UNDECIDED_HISTORIES, connections, left_of_examples, text_of, value_comes_back
+from explanations import OF_PART, SEED, UNDECIDED_HISTORIES, connections, left_of_examples, text_of, value_comes_back
 
 TOP = os.path.dirname(os.path.dirname(os.path.dirname(os.path.abspath(__file__))))
 PROGRAM = os.path.join(TOP, "crates", "bench", "out", "bench")
@@ -189,25 +189,18 @@ def may_change(call, answer):
     return call[0] not in ("get", "scan") and not is_undone(call, answer) and not is_same[call[0]]
 
 
-def at_key(row, first):
-    """The call, the answer and the event of a line; where the calls begin from a value of a key, a scan is the get of this key."""
-    call, answer = row["call"], row["answer"]
-    if not first or call[0] != "scan" or not isinstance(answer, list):
-        return call, answer, row["event"]
-    return ["get", first["key"]], dict(answer).get(first["key"]), row["event"]
-
-
-def few_of(history, rows, first):
+def few_of(history, explained):
     """The calls of a history, by number, that the lines of an explanation name, those that put what these read from outside, and those that they
-    miss. If they begin from a value of a key, as the first line says, also the one that put it."""
-    named = [at_key(row, first) for row in rows]
-    changes = [(call[1], call[-1] if call[0] != "remove" else None) for call, answer, _ in named if may_change(call, answer)]
-    start = {(first["key"], first["from"])} if first else {tuple(pair) for pair in history.get("start", [])}
-    read = {pair for call, answer, _ in named for pair in told_by(call, answer)} - set(changes)
+    miss. If they begin from values that lines name, also those that put these."""
+    rows, begins = [line for line in explained if "answer" in line], [line for line in explained if "from" in line]
+    small = next((line for line in explained if "events" in line), {"start": [(line["key"], line["from"]) for line in begins]})
+    changes = [(row["call"][1], row["call"][-1] if row["call"][0] != "remove" else None) for row in rows if may_change(row["call"], row["answer"])]
+    start = {tuple(pair) for pair in (small if begins else history).get("start", [])}
+    read = {pair for row in rows for pair in told_by(row["call"], row["answer"])} - set(changes)
     read -= {pair for pair in start if pair[0] not in {key for key, _ in changes}}
     spans, call_at = spans_of(history["events"])
-    events = {event for _, _, event in named} | {missed["event"] for row in rows for missed in row.get("misses", [])}
-    events |= {first["put"]["event"]} if first and first["put"] else set()
+    events = {row["event"] for row in rows} | {missed["event"] for row in rows for missed in row.get("misses", [])}
+    events |= {line["put"]["event"] for line in begins if line["put"]}
     for _, inv, res in spans:
         call = history["events"][inv]["invoke"]
         answer = "open" if res is None else history["events"][res]["answer"]
@@ -237,11 +230,9 @@ def fault_of_part(text, words, around, calls):
     history = json.loads(text)
     verdict, located = (json.loads(bench([word, *words], text)[1]) for word in ("judge", "locate"))
     marks = [call for _, call in places_in(groups_of(whole)[0])]
-    explained = bench(["explain", *words], text)[1].decode().splitlines()[1:]
-    rows = [row for row in map(json.loads, explained) if "reason" in row]
-    first = next((row for row in map(json.loads, explained) if "from" in row), None)
+    explained = [json.loads(line) for line in bench(["explain", *words], text)[1].splitlines()[1:]]
     is_free = calls is None and (around is None or around >= len(history["events"]))
-    few = few_of(history, rows, first) if rows and is_free else None
+    few = few_of(history, explained) if is_free and any("answer" in line for line in explained) else None
     room = 60 if calls is None else 3 * calls
     if few is None and (room == 0 or len(history["events"]) + len(marks) <= room):
         return None if picture == whole else "not the whole picture, where all of it has room"
@@ -360,6 +351,7 @@ def cases():
     for number in range(UNDECIDED_HISTORIES):
         yield f"calls of many connections, undecided, {number}", text_of(connections(random.Random(SEED + number))), []
     yield "a value that comes back, undecided", text_of(value_comes_back()), ["--budget", "20000"]
+    yield "calls of a part, undecided", text_of(OF_PART), ["--budget", "1"]
     for number, history in enumerate(left_of_examples()):
         yield f"what is left of stream {number}", text_of(history), []
 

@@ -3,23 +3,20 @@
 
     tests/program/streams.py [STREAMS]
 
-Streams are those of the examples that are not refused, and drawn ones, 5,000 where no number is given: up to 64 processes call a map, each
-call has its effect at a moment while it is open, and some stay open; then answers of half of them are changed, or swapped with what stands
-beside them. In a third of them answers tell less than the map answers. Of those of few calls, up to seven at once, all orders are tried here
-behind each answer; of the others `judge` says whether they have one, and `locate` at which event they lose it. Where one of them is
-undecided the others may say what fits. A small history that is written has no order, and it is there where one key is named that had one
-value for sure. Standard error, which is no terminal, has nothing.
+Streams are those of the examples that are not refused, and drawn ones: 5,000 if no number is given. Up to 64 processes call a map. Each call has
+its effect at a moment while it is open, and some stay open. Then answers of half of them are changed, or swapped with an event next to them. In a
+third of them some answers are partial. Of those of few calls, up to seven at once, all orders are tried here after each answer. Of the others
+`judge` says whether they have one, and `locate` at which event they lose it. If one of them is undecided, the others may say what fits. The second
+line of a no is a history without an order, from the only value of each key that is named. Standard error, which is no terminal, has nothing.
 
-Then streams are followed in which processes die: each stops inside an insert, a remove, a replace or a get and never answers, and the
-others call the map at its key thousands of times, one of them for long within a call now and then. Into half of these streams come wrong
-answers. What is expected of them a model in this file works out: it keeps, key by key, each value that the key may have, with the open calls
-that were done by then.
+Then streams are followed in which processes die. Each stops inside an insert, a remove, a replace or a get and never answers. The others call the
+map at its key thousands of times, and one of them stays long within a call now and then. Into half of these streams come wrong answers. A model
+in this file says what is expected of them. It has, key by key, each value that the key may have, with the open calls that were done by then.
 
-And streams in which one call, mostly a scan, is held up while others go on (`held_streams.py`): drawn ones, of half of which an answer is
-changed, often that of what was held up; rows that were worked out by hand, most of them with so many ways that what came so far may be put aside
-as a window before the scan is answered; and recordings of which the first thing known was that ways grew without end, whole and with a scan that
-tells what nobody put. Of drawn ones and rows a model (`stream_model.py`) keeps all maps that there may be, with the open calls that were done
-by then. Rows and recordings have to be decided, and each recording within five seconds of a processor.
+And streams in which one call, mostly a scan, is held up while others go on (`held_streams.py`). Some are drawn, and of half of these an answer is
+changed, often that of what was held up. Some are rows that were worked out by hand, most of them with short scans that may have come at several
+moments. And there are recordings, whole and with other pairs of their longest scan. A model (`stream_model.py`) has all maps that there may be, with
+the open calls that were done by then. Rows and recordings have to be decided, and each recording within twenty seconds of a processor.
 The last line counts what passed and failed.
 """
 
@@ -37,7 +34,7 @@ sys.dont_write_bytecode = True
 sys.path.insert(0, os.path.join(TOP, "drivers", "python"))
 import held_streams  # noqa: E402
 import stream_of  # noqa: E402
-from stream_model import LESS, READS, agrees, answer_of, lost_by_states, tell_less  # noqa: E402
+from stream_model import LESS, agrees, answer_of, lost_by_states, tell_less  # noqa: E402
 
 PROGRAM = os.path.join(TOP, "crates", "bench", "out", "bench")
 EXAMPLES = os.path.join(TOP, "examples")
@@ -141,8 +138,8 @@ def drawn_history(seed, is_small):
 
 
 def drawn_deaths(seed):
-    """A long history of few keys, without scans, in which processes die inside their calls, before the effect or behind it, and one at a time
-    sleeps there for long. Few processes at a time take turns, until all of their calls have ended but those of the dead and the sleeper."""
+    """A long history of few keys, without scans, in which processes die inside their calls, before the effect or after it, and one at a time
+    sleeps there for long. A few processes at a time take turns, until all of their calls have ended but those of the dead and the sleeper."""
     chance = random.Random(seed)
     keys, living = chance.randint(1, 3), list(range(chance.randint(5, 8)))
     deaths = {process: chance.randrange(DEAD_CALLS) for process in range(chance.randint(1, 2))}
@@ -185,8 +182,8 @@ def drawn_deaths(seed):
     return {"start": start, "version": version, "events": events}
 
 
-def behind_answer(cases, opened, process, answer):
-    """What may be the case at a key behind an answer: the value, and the answers of the calls that are done by then and still open."""
+def cases_after(cases, opened, process, answer):
+    """What may be the case at a key after an answer: the value, and the answers of the calls that are done by then and still open."""
     todo, seen, found = list(cases), set(cases), set()
     while todo:
         value, done = todo.pop()
@@ -220,7 +217,7 @@ def lost_by_deaths(history):
                 opened.setdefault(call[1], {})[process] = call, is_answered
             continue
         key = keys[process]
-        cases[key] = behind_answer(cases.get(key, {(start.get(key), frozenset())}), opened[key], process, event["answer"])
+        cases[key] = cases_after(cases.get(key, {(start.get(key), frozenset())}), opened[key], process, event["answer"])
         del opened[key][process]
         if not cases[key]:
             return place
@@ -294,22 +291,27 @@ def may_reply(call, answer):
 
 
 def wrong_with_keys(history, report):
-    """What is wrong with the keys that are named: a no has to name one, but where no map answers the call so, each call that is left there has to begin
-    before the event and to be of the key, and the call that was answered has to be among them, unless it tells nothing."""
+    """What is wrong with the keys that are named. They rise. A no names one, unless no map answers the call so. If the call that was answered has
+    one key, that is among them. The calls that are left at a key began before the event, rise, and have the key. Values of one writer differ."""
     events, event = history["events"], report["event"]
     begun = [place for place in range(event) if "invoke" in events[place]]
     call = max(place for place in begun if events[place]["process"] == events[event]["process"])
     if begun.index(call) != report["call"]:
         return f"{report}, whose event does not answer its call"
-    if report["verdict"] == "no" and bool(report["keys"]) != may_reply(events[call]["invoke"], events[event]["answer"]):
+    keys, (name, low, *_) = [kept["key"] for kept in report["keys"]], events[call]["invoke"]
+    if keys != sorted(set(keys)):
+        return f"{report}, whose keys do not rise"
+    may = may_reply(events[call]["invoke"], events[event]["answer"])
+    if bool(keys) != may or may and name != "scan" and low not in keys:
         return f"{report}, which names no key of its call, or names one where no map answers so"
     for kept in report["keys"]:
         ranges = [events[place]["invoke"] for place in kept["invoked"] if place in begun]
         are_of = [low <= kept["key"] <= (ends[0] if name == "scan" else low) for name, low, *ends in ranges]
-        if not all(are_of) or len(are_of) != len(set(kept["invoked"])) or len(are_of) != len(kept["invoked"]):
+        if not all(are_of) or len(are_of) != len(kept["invoked"]) or kept["invoked"] != sorted(set(kept["invoked"])):
             return f"{report}, whose key {kept['key']} has calls that are none of it"
-        if call not in kept["invoked"] and events[event]["answer"] not in ("refused", "done"):
-            return f"{report}, whose key {kept['key']} has not the call that is answered"
+        pairs = list(zip(kept["values"], kept["put"], strict=True))
+        if len(pairs) != len(set(pairs)):
+            return f"{report}, whose key {kept['key']} has a value twice"
     return None
 
 
@@ -330,7 +332,7 @@ def answered_at(events, place, event):
 
 
 def is_overwritten(events, event, kept, place, value):
-    """Whether the value that a call put at a key was surely overwritten by one that is gone there: that was invoked behind the call's answer, and was
+    """Whether the value that a call put at a key was surely overwritten by one that is gone there: that was invoked after the call's answer, and was
     answered, and left another value, or none."""
     answered = answered_at(events, place, event)
     for later in range(event if answered is None else answered, event):
@@ -346,44 +348,29 @@ def is_overwritten(events, event, kept, place, value):
     return False
 
 
-def last_alone(events, event):
-    """The last event before another one behind which a get or a scan is the only open call, or -1: there a window may have ended."""
-    opened, last = {}, -1
-    for place in range(event):
-        if "invoke" in events[place]:
-            opened[events[place]["process"]] = events[place]["invoke"]
-        else:
-            del opened[events[place]["process"]]
-            if [call[0] in READS for call in opened.values()] == [True]:
-                last = place
-    return last
-
-
 def wrong_with_puts(history, report):
-    """What is wrong with who put the values of the keys that are named: a call of the key that puts that, and that none overwrote that is gone,
-    or nobody, where it was there at the start, or may have been before a window ended."""
-    start, alone = dict(history.get("start", [])), last_alone(history["events"], report["event"])
+    """What is wrong with who put the values of the keys that are named. It is a call of the key that puts the value, and no call that is gone
+    overwrote it. It is nobody only if the key had the value at the start."""
+    start = dict(history.get("start", []))
     for kept in report["keys"]:
         puts = set(puts_before(history["events"], report["event"], kept["key"]))
-        older = {None, start.get(kept["key"]), *(value for place, value in puts if place < alone)}
         for value, place in zip(kept["values"], kept["put"], strict=True):
             if place is not None and is_overwritten(history["events"], report["event"], kept, place, value):
                 return f"{report}, where what {place} put at key {kept['key']} was overwritten"
-        for value, place in zip(kept["values"], kept["put"], strict=True):
-            if value not in older if place is None else (place, value) not in puts:
+            if value not in (None, start.get(kept["key"])) if place is None else (place, value) not in puts:
                 return f"{report}, where {place} did not put {value} at key {kept['key']}"
     return None
 
 
 def wrong_with_small(history, report, small):
-    """What is wrong with a no beside its event: the keys, and the small history."""
+    """What is wrong with a no besides its event: the keys, and the small history, which begins with the pairs of the keys that are named."""
     keys = report["keys"]
-    if len(small) != (len(keys) == 1 and len(keys[0]["values"]) == 1):
+    if len(small) > all(len(kept["values"]) == 1 for kept in keys):
         return f"{report}, with the small histories {small}"
     for few in small:
         count = sum("invoke" in event for event in few["events"])
-        start = [[keys[0]["key"], value] for value in keys[0]["values"] if value is not None]
-        if count > len(keys[0]["invoked"]) or few.get("start", []) != start:
+        start = dict(few.get("start", []))
+        if count < len({place for kept in keys for place in kept["invoked"]}) or any(kept["values"] != [start.get(kept["key"])] for kept in keys):
             return f"{report}, with a small history of other calls: {few}"
         judged = said("judge", text_of(few))
         if judged[0] == 0:
@@ -435,8 +422,7 @@ def wrong_with_no(history, text, report, small):
 
 def wrong_with_doubt(history, report, small):
     """What is wrong where `follow` does not know."""
-    keys = {"budget": 1, "scans": 0}.get(report["reason"])
-    if small or len(report["keys"]) != keys:
+    if small or report["reason"] != "budget":
         return f"{report}, with {small}"
     return wrong_with_keys(history, report) or wrong_with_puts(history, report)
 
@@ -471,17 +457,15 @@ def decided(history, lost):
 
 
 def row_verdict(row):
-    """The same of a row of streams with calls that are held up, of which `locate` and the model have to say the same, and all orders of a short
-    one, but that `locate` may be undecided where `follow` is; and the keys that a no tells, if these are given."""
+    """The same of a row of streams with calls that are held up. `locate` and the model have to say the same, and all orders of a short one. So do
+    the keys that a no names, if these are given."""
     name, history, lost, *keys = row
-    may_be_undecided = name.startswith(held_streams.WITHOUT_WINDOWS)
-    found, wrong = verdict(history, lambda _: lost) if may_be_undecided else decided(history, lost)
+    found, wrong = decided(history, lost)
     models = [lost_by_states, lost_by_all_orders][: 1 + (len(history["events"]) <= SHORT_ROW)]
     if any(model(history) != lost for model in models):
         wrong = f"a model says that it goes wrong at another event than {lost}"
     (located,) = said("locate", text_of(history))[1]
-    told = located["verdict"], located.get("event")
-    if told != ("yes" if lost is None else "no", lost) and (found, told[0]) != ("undecided", "undecided"):
+    if (located["verdict"], located.get("event")) != ("yes" if lost is None else "no", lost):
         wrong = wrong or f"follow says {found}, and locate {located}"
     if wrong is None and keys:
         report = run("follow", lines_of(history))[1][0]
@@ -490,8 +474,8 @@ def row_verdict(row):
 
 
 def recording_verdict(recording):
-    """The verdict of a recording, or of one whose scan that is held up tells something else, and what is wrong with it and its event, or None.
-    Who put what a no tells is not looked for here: that takes minutes with so many calls."""
+    """The verdict of a recording, or of one whose scan that is held up reports something else, and what is wrong with it and its event, or None.
+    Who put the values of a no is not looked for here: that takes minutes with so many calls."""
     lost = lost_by_states(recording)
     before = sum(resource.getrusage(resource.RUSAGE_CHILDREN)[:2])
     report = run("follow", lines_of(recording))[1][0]

@@ -99,6 +99,10 @@ SCAN_BEHIND_OVERLAPS = (
 DEAD_PUT = '{"invoke":["insert",5,99],"process":9},' + "".join(
     f'{{"invoke":["insert",5,{value}],"process":0}},{{"answer":"done","process":0}},' for value in range(1, 65)
 )
+# The same among fifteen others: then the part moves on for the first time. The last of them puts the same value.
+DEAD_PUT_OF_THE_LAST_VALUE = '{"invoke":["insert",5,15],"process":9},' + "".join(
+    f'{{"invoke":["insert",5,{value}],"process":0}},{{"answer":"done","process":0}},' for value in range(1, 16)
+)
 
 # A put that was read, so that it took effect before sixty-three others answered done, and found nothing. Then it is answered.
 SEEN_PUT = '{"invoke":["insert",5,99],"process":9},{"invoke":["get",5],"process":0},{"answer":99,"process":0},' + "".join(
@@ -214,10 +218,13 @@ def rows():
     for reply in ("null", '"done"'):
         text = stream(SEEN_PUT + f'{{"answer":{reply},"process":9}}', "")
         yield ["follow"], text, 0, '{"calls":65,"overlap":0.98,"verdict":"yes"}\n', ""
-    # A refused call is left no longer.
-    for reply, left in (('"found"', [0]), ("99", [0]), ('"other"', [0]), ('"refused"', [])):
+    # The put took effect in all pasts and found nothing. So none is left.
+    for reply in ('"found"', "99", '"other"', '"refused"'):
         text = stream(SEEN_PUT + f'{{"answer":{reply},"process":9}}', "")
-        yield ["follow"], text, 1, report_of(0, 129, [(5, left, [], [])]) + "\n", ""
+        yield ["follow"], text, 1, report_of(0, 129, [(5, [], [], [])]) + "\n", ""
+    # The put that is not answered is left in one past. In others it put the value.
+    text = stream(DEAD_PUT_OF_THE_LAST_VALUE + '{"invoke":["get",5],"process":0},{"answer":3,"process":0}', "")
+    yield ["follow"], text, 1, report_of(16, 32, [(5, [0, 31], [15, 15], [29, 0])]) + "\n", ""
 
 
 def putter(events, key, value):
