@@ -1,4 +1,4 @@
--- How far each call has come at each moment of a run, and how that is told along a schedule of a full tree.
+-- How far each call has come at each moment of a run, and how a schedule of a full tree decides that.
 pub mod Fitting
 pub mod Laws
 pub mod Stories

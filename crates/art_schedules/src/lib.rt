@@ -8,7 +8,7 @@
 //! - work: the work of a call in the rows that it holds: what it touches, and what it does where it goes on by itself;
 //! - effects: what the work of a call does to calm's tree in a run: nothing but at the one step that releases the row that
 //!   changes;
-//! - stories: how far each call has come at each moment of a run, and how that is told along a schedule of a full tree;
+//! - stories: how far each call has come at each moment of a run, and how a schedule of a full tree decides that;
 //! - coupled: calls under lock coupling: what each knows on its way, up to its work or its reply;
 //! - locked_scans: scans under lock coupling: what each knows on its way, up to its reply;
 //! - coupled_runs: every schedule under lock coupling is linearizable: what fits each of its calls, and that each step keeps it;

@@ -1,6 +1,6 @@
 //! Rows and versions of the two full trees, and the moments of their reads. Laws alone, in two parts:
-//! - versions: who holds a row and who writes it, and that a row stands still while its version does;
-//! - moments: the one moment of a validated scan, and of a checked get: where all that it read stands still.
+//! - versions: who holds a row and who writes it, and that a row does not change while its version does not;
+//! - moments: the one moment of a validated scan, and of a checked get: when nothing that it read changes.
 #![tactic(auto)]
 
 mod laws;

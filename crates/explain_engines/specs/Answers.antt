@@ -81,7 +81,7 @@ pub record AreFew (budget : ℕ) (history : HistoryView) (start : Contents) (cal
   pub explains : IsExplanation start calls budget few
   pub lines : AreFewLines budget history start few bytes
 
--- a few calls of a part that goes wrong by itself: from which values of their keys they begin, and
+-- a few calls of a part that goes wrong on its own: from which values of their keys they begin, and
 -- then their lines
 pub record ArePartLines (budget : ℕ) (history : HistoryView) (part : OwnPart) (few : Explanation) (bytes : List ℕ) : Type 0 where
   pub from : List ℕ

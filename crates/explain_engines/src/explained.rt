@@ -200,7 +200,7 @@ fn evidence_lines(
     }
 }
 
-/// The lines of a few calls of a part that goes wrong by itself: from which values of their keys
+/// The lines of a few calls of a part that goes wrong on its own: from which values of their keys
 /// they begin, and then those of the calls.
 fn part_lines(
     alloc: Global,

@@ -1,4 +1,4 @@
-//! The program's part that judges histories and streams, and tells where and why one goes wrong: it stands on no tree and on no
+//! The program's part that judges histories and streams, and says where and why one goes wrong. It uses no tree and no
 //! plan, so that it is proved and built in a fraction of the time.
 //!
 //! It takes the words of the whole program, and what it does for them is what the whole program does. Words that ask for

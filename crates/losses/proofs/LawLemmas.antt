@@ -1,4 +1,4 @@
--- What goes wrong by itself has no order: the only past of a part that is kept is of calls of the events, and sorted.
+-- What goes wrong on its own has no order: the only past of a part that is kept is of calls of the events, and sorted.
 use Rattle.std.proofs.Common.{◌≡◌, List, [], ◌∷◌, map, Some, subst}
 use Rattle.std.specs.Prelude.{All, Contains, false}
 use Rattle.std.proofs.lemmas.List.Elements.{All-contains, All-head}

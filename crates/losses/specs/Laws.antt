@@ -1,4 +1,4 @@
--- Laws of what goes wrong by itself.
+-- Laws of what goes wrong on its own.
 use Rattle.std.specs.Prelude.{◌≡◌, ℕ, ◌<◌, List, Some, All, AllPairs, Contains}
 use Rattle.events.specs.declared.event.Event.{Event}
 use Rattle.events.specs.Operations.{operations}
@@ -18,7 +18,7 @@ pub record IsOwnPartOf (events : List Event) (part : OwnPart) : Type 0 where
   pub apart : NonePrecedesItself part.calls
   pub are : All (Contains (operations events)) part.calls
 
--- what goes wrong by itself is so, if the part is kept beside others after the events, and its pasts have no order
+-- what goes wrong on its own is so, if the part is kept beside others after the events, and its pasts have no order
 abbrev pub OwnPartsHaveNoOrder : Type 0
 OwnPartsHaveNoOrder =
     (start : Contents) (place : ℕ) (events : List Event) (loss : Loss) (part : OwnPart) → IsKeptBeside start place (operations events) loss.part

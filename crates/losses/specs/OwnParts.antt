@@ -1,4 +1,4 @@
--- What goes wrong by itself, if a stream does.
+-- What goes wrong on its own, if a stream does.
 use Rattle.std.specs.Prelude.{◌==◌, not, List, [], ◌∷◌, filter, Option, Some, None}
 use Rattle.std.specs.List.{list_any}
 use Rattle.events.specs.declared.operation.Operation.{Operation}

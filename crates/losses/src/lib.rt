@@ -1,5 +1,5 @@
 //! Where a stream goes wrong, or may: the part of the keys that does not go on, what is said of its
-//! keys, and what goes wrong there by itself.
+//! keys, and what goes wrong there on its own.
 #![tactic(auto)]
 
 mod left_calls;

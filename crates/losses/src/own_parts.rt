@@ -1,4 +1,4 @@
-// What goes wrong by itself, if a stream does.
+// What goes wrong on its own, if a stream does.
 ghost use Rattle.std.specs.Prelude.{◌≡◌, ℕ, [], ◌∷◌, None, IfOk};
 ghost use Rattle.map_object.specs.MapObject.{value_at};
 ghost use Rattle.losses.specs.KeyLosses.{AreKeyLosses};
@@ -32,7 +32,7 @@ impl Model for OwnPart {
     ghost view = { λ p. record { start = p.start.items; calls = p.calls.items; puts = p.puts.items } };
 }
 
-/// What goes wrong by itself if a stream does: the part that does not go on, if it has one past. It
+/// What goes wrong on its own if a stream does: the part that does not go on, if it has one past. It
 /// has no order (`own_parts_have_no_order`).
 pub fn own_part(alloc: Global, loss: &Loss) -> Result<Option<OwnPart>, Memory>
     ensures { IfOk result (λ part. part ≡ own_part loss.now) }
@@ -120,7 +120,7 @@ fn past_of(alloc: Global, start: &[(u64, u64)], few: &[Operation]) -> Result<Pas
     })
 }
 
-/// What goes wrong by itself has no order: its calls are calls of the stream, by rising invocation.
+/// What goes wrong on its own has no order: its calls are calls of the stream, by rising invocation.
 pub fn own_parts_have_no_order()
     ensures { OwnPartsHaveNoOrder }
 {}

@@ -79,7 +79,7 @@ abbrev pub places_begun : List KeyLoss → List ℕ
 places_begun [] = []
 places_begun (loss ∷ losses) = places_from loss.from.items ++ places_begun losses
 
--- a few calls of a part that goes wrong by itself, and the calls that put the values of their keys
+-- a few calls of a part that goes wrong on its own, and the calls that put the values of their keys
 -- before them
 pub record ArePartPlaces (history : HistoryView) (part : OwnPart) (few : Explanation) (places : List ℕ) : Type 0 where
   pub first : List ℕ

@@ -111,7 +111,7 @@ fn evidence_choice(alloc: Global, history: &History, evidence: &Evidence) -> Res
     }
 }
 
-/// A few calls of a part that goes wrong by itself, with those that put what these read from outside,
+/// A few calls of a part that goes wrong on its own, with those that put what these read from outside,
 /// those that these miss, and those that put the values of their keys before them.
 fn part_choice(
     alloc: Global,

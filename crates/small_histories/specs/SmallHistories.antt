@@ -1,4 +1,4 @@
--- Calls as a history by themselves: at other places, and by other processes.
+-- Calls as a history on their own: at other places, and by other processes.
 use Rattle.std.specs.Prelude.{◌≡◌, ℕ, List}
 use Rattle.serde_json.specs.Written.{compact_text}
 use Rattle.events.specs.HistoryView.{HistoryView}

@@ -1,5 +1,5 @@
-//! Calls as a history by themselves: of few processes, at the places that are left where the other
-//! calls of a history go. Its text, and how reports beside it tell the value of a key.
+//! Calls as a history on their own: of few processes, at the places that are left if the other calls
+//! of a history go. Its text, and how reports next to it give the value of a key.
 #![tactic(auto)]
 
 mod histories;

@@ -1,4 +1,4 @@
--- What goes wrong by itself has no order.
+-- What goes wrong on its own has no order.
 use Rattle.std.proofs.Common.{◌≡◌, ℕ, List, [], ◌∷◌, length, map, All, ap, arith}
 use Rattle.std.proofs.lemmas.List.Elements.{All-nil, All-cons, All-head, All-tail}
 use Rattle.std.specs.Prelude.{IfSome}

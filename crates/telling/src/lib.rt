@@ -1,5 +1,5 @@
-//! Answers that tell less than the map answers, and calls of caches as they are recorded: what a
-//! reader has to believe of them. Only laws, of any calls.
+//! Partial answers, and calls of caches as they are recorded: what a reader may conclude from them.
+//! Only laws, of any calls.
 #![tactic(auto)]
 
 mod laws;

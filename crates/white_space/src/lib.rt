@@ -1,4 +1,4 @@
-//! White space around the text of a history, such as the line feed behind one that the program writes. The laws alone.
+//! White space around the text of a history, such as the line feed after one that the program writes. Laws only.
 #![tactic(auto)]
 
 mod laws;

@@ -8,7 +8,7 @@ use Rattle.losses.specs.OwnParts.{OwnPart}
 use Rattle.stream_engines.proofs.OwnLemmas.{IsRefuted, own_refuted}
 use Rattle.stream_engines.proofs.reports.own_line.Goals as goal
 
--- the line of what goes wrong by itself, from pairs and with calls that are the part's
+-- the line of what goes wrong on its own, from pairs and with calls that are the part's
 line_of_part : {E : Type 0} (own : Option OwnPart) (part : OwnPart) (start : Contents) (calls : List Operation) (r : Result (String Global) E)
     → own ≡ Some part → start ≡ part.start → calls ≡ part.calls → IfSome own IsRefuted
     → ((IsLinearizable start calls → ⊥) → IfOk r (λ text. IsSmallLine start calls (string_bytes text)))
