@@ -1,37 +1,22 @@
-//! Searches calls for an order from a map, reads first: Wing and Gong 1993, who take calls that may
-//! come next and go back where none may, with the memo of Lowe 2017.
+//! Searches calls for an order from a map: Wing and Gong 1993, who take calls that may come next
+//! and go back where none may, with the memo of Lowe 2017.
 //!
-//! The calls may be of any places, as those that are left of a stream of events are. A completed
-//! call that may come next and leaves the map as it is, wherever it may be answered so, is taken at
-//! once, and no other in its stead: what is left has an order exactly where it has one that begins
-//! with this call (`reads_go_first`). Pending calls are tried only where a completed one that could
-//! come next may wait for one of them: else one of the completed ones may go first.
+//! The calls may be of any places, as those that are left of a stream of events are. Which of them
+//! are tried where, and why these suffice, is said in `call_choices`.
 //!
-//! Where several calls are to be tried, those of a few keys may suffice: if what is left has an
-//! order, it has one that begins with one of them (`few_keys_go_first`). Such keys are a stubborn
-//! set of Valmari 1991. Then no call of another key is tried there.
-//!
-//! A call that is left is stuck if it reported a value that its key does not have, and that no call
-//! puts there before it. Then nothing is tried (`stuck_calls_are_dead_ends`), and a call that would
-//! leave another one stuck is not tried either. So it says of the calls only whether they have an
-//! order, and gives one; which configurations it counts is its own. The exact search of a segment,
-//! which counts what its definitions say, is `search`'s.
+//! It says of the calls only whether they have an order, and gives one; which configurations it
+//! counts is its own. The exact search of a segment, which counts what its definitions say, is
+//! `search`'s.
 #![tactic(auto)]
 
-mod branch;
-mod choices;
-mod dead;
-mod first_keys;
 mod found;
-mod idle;
-mod laws;
 mod searching;
 mod standing;
 #[cfg(test)]
 mod tests;
 
-pub use found::SearchEnd;
-pub use laws::{
+pub use call_choices::{
     few_keys_go_first, reads_go_first, stuck_calls_are_dead_ends, told_calls_leave_all,
 };
+pub use found::SearchEnd;
 pub use searching::search_calls;

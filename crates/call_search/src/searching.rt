@@ -3,9 +3,9 @@ ghost use Rattle.std.specs.Prelude.{◌≡◌, ◌<◌, ◌≤◌, ◌+◌, ◌^
 ghost use Rattle.events.specs.Precedence.{NonePrecedesItself};
 ghost use Rattle.map_object.specs.MapObject.{Contents, IsRising};
 ghost use Rattle.call_search.specs.Found.{IsFound};
-ghost use Rattle.call_search.specs.Standing.{places, StandsBare};
+ghost use Rattle.call_choices.specs.Standing.{places, StandsBare};
 
-use crate::branch::{CallSearch, SearchStep};
+use call_choices::{CallSearch, SearchStep};
 use crate::found::SearchEnd;
 use crate::standing::{look_on, make_step, open};
 use events::{Memory, Operation};

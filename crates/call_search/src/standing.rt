@@ -3,10 +3,9 @@ ghost use Rattle.std.specs.Prelude.{◌≡◌, ◌+◌, ◌<◌, ◌≤◌, ◌^
 ghost use Rattle.events.specs.Precedence.{NonePrecedesItself};
 ghost use Rattle.map_object.specs.MapObject.{Contents, IsRising};
 ghost use Rattle.orders.specs.Orders.{IsOrder, IsLinearizable};
-ghost use Rattle.call_search.specs.Standing.{places, Stands, StandsBare, IsNextOf, Closes, IsStep, IsPushed, IsTaken, IsLooked};
+ghost use Rattle.call_choices.specs.Standing.{places, Stands, StandsBare, IsNextOf, Closes, IsStep, IsPushed, IsTaken, IsLooked};
 
-use crate::branch::{Branch, CallSearch, SearchStep};
-use crate::choices::choices;
+use call_choices::{Branch, CallSearch, SearchStep, choices};
 use events::{Call, Memory, Operation};
 use map_object::SortedMap;
 use memo::{Memo, visited_at_start};

@@ -13,8 +13,8 @@ use Rattle.configurations.proofs.FrontLemmas.{IsNext, IsNext-from_front, IsFront
 use Rattle.list_laws.proofs.Lists.{place-push, slice_get-append_left, slice_get-middle}
 use Rattle.search.specs.Undo.{undone}
 use Rattle.search.specs.Standing.{pairs_after}
-use Rattle.call_search.specs.Standing.{AreMarked}
-use Rattle.call_search.proofs.MarkLemmas.{marked-push, marked-pop}
+use Rattle.call_choices.specs.Standing.{AreMarked}
+use Rattle.call_choices.proofs.MarkLemmas.{marked-push, marked-pop}
 use Rattle.kept_fronts.specs.Standing.{places, IsUndone, StandsWith}
 use Rattle.kept_fronts.specs.declared.front.Level.{Level}
 

@@ -7,7 +7,7 @@ use Rattle.orders.specs.Orders.{IsOrder}
 use Rattle.configurations.specs.Fronts.{IsFront}
 use Rattle.search.specs.Standing.{pairs_after}
 use Rattle.search.specs.Undo.{undone}
-use Rattle.call_search.specs.Standing.{AreMarked}
+use Rattle.call_choices.specs.Standing.{AreMarked}
 use Rattle.kept_fronts.specs.declared.front.Level.{Level}
 use Rattle.kept_fronts.specs.declared.front.Front.{Front}
 

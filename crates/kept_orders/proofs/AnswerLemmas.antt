@@ -17,7 +17,7 @@ use Rattle.orders.specs.Orders.{calls_at, after_calls, IsLegal, IsCompletedAt}
 use Rattle.configurations.specs.Fronts.{PrecedesAt, IsFront}
 use Rattle.configurations.proofs.FrontLemmas.{IsCompletedAt-from_PrecedesAt}
 use Rattle.search.specs.Undo.{undone}
-use Rattle.call_search.specs.Standing.{AreMarked}
+use Rattle.call_choices.specs.Standing.{AreMarked}
 use Rattle.list_laws.proofs.Lists.{AllPairs-at, AllPairs-from_at, All-at, All-from_contains, Contains-at, Contains-first, Contains-later}
 use Rattle.list_laws.proofs.Lists.{place_of-Contains, place_before-Contains, place-push}
 use Rattle.list_laws.proofs.FilterLemmas.{Contains-map}

@@ -15,7 +15,7 @@ use Rattle.orders.specs.Orders.{calls_at, after_calls, IsLegal, IsCompletedAt, I
 use Rattle.configurations.specs.Fronts.{PrecedesAt, IsFront}
 use Rattle.configurations.proofs.FrontLemmas.{IsOrder-from_front}
 use Rattle.search.specs.Undo.{undone}
-use Rattle.call_search.specs.Standing.{AreMarked}
+use Rattle.call_choices.specs.Standing.{AreMarked}
 use Rattle.list_laws.specs.Lists.{has_number}
 use Rattle.list_laws.proofs.Lists.{Contains-at, place_before-Contains, place-push, slice_get-append_left, slice_get-middle, All-from_contains}
 use Rattle.list_laws.proofs.FilterLemmas.{Contains-map}

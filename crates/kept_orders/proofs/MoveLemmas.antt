@@ -17,7 +17,7 @@ use Rattle.configurations.specs.Fronts.{PrecedesAt, IsFront}
 use Rattle.configurations.proofs.FrontLemmas.{completed}
 use Rattle.search.specs.Standing.{pairs_after}
 use Rattle.search.specs.Undo.{undone}
-use Rattle.call_search.specs.Standing.{AreMarked}
+use Rattle.call_choices.specs.Standing.{AreMarked}
 use Rattle.list_laws.specs.Lists.{has_number}
 use Rattle.list_laws.proofs.Lists.{All-at, place-push}
 use Rattle.list_laws.proofs.FilterLemmas.{AllPairs-map, AllPairs-weaker, Contains-map, Contains-from_map}

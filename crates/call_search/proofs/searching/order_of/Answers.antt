@@ -1,6 +1,6 @@
 use Rattle.std.proofs.Common.{◌≡◌, ◌≤◌, length, take, ap, ◌∙◌}
 use Rattle.std.proofs.lemmas.List.{take_all}
-use Rattle.call_search.specs.Standing.{places}
+use Rattle.call_choices.specs.Standing.{places}
 use Rattle.call_search.proofs.searching.order_of.Goals as goal
 
 pub returns : goal.returns

@@ -1,5 +1,5 @@
 use Rattle.std.proofs.Common.{◌≡◌, take}
-use Rattle.call_search.specs.Standing.{places}
+use Rattle.call_choices.specs.Standing.{places}
 use Rattle.call_search.proofs.searching.order_of.Given as goal
 
 -- the places of the levels so far

@@ -3,8 +3,8 @@ use Rattle.events.specs.declared.operation.Operation.{Operation}
 use Rattle.list_laws.proofs.Lists.{All-from_contains}
 use Rattle.map_object.specs.MapObject.{Contents}
 use Rattle.configurations.specs.Configurations.{IsReachable}
-use Rattle.call_search.specs.Standing.{HasMoved, rest_of}
-use Rattle.call_search.specs.declared.branch.CallSearch.{CallSearch}
+use Rattle.call_choices.specs.Standing.{HasMoved, rest_of}
+use Rattle.call_choices.specs.declared.branch.CallSearch.{CallSearch}
 use Rattle.call_search.proofs.searching.search_on.Goals as goal
 
 -- a search that has moved has less to do: a configuration more is one fewer that the budget allows

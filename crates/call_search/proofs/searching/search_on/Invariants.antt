@@ -1,5 +1,5 @@
 use Rattle.std.proofs.Common.{length}
-use Rattle.call_search.specs.Standing.{Stands, rest_of}
+use Rattle.call_choices.specs.Standing.{Stands, rest_of}
 use Rattle.call_search.proofs.searching.search_on.Given as goal
 
 abbrev pub ghost-look_on : goal.ghost-look_on

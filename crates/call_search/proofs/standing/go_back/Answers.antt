@@ -1,9 +1,9 @@
 use Rattle.std.proofs.Common.{◌≡◌, ◌-◌, ◌<◌, List, [], ◌∷◌, ◌++◌, take, ℕ, refl, ap, ◌∙◌, subst, inl, arith}
 use Rattle.std.specs.Prelude.{vec_len}
 use Rattle.std.proofs.lemmas.List.{append-nil}
-use Rattle.call_search.specs.declared.branch.Branch.{Branch}
-use Rattle.call_search.specs.Standing.{places, StandsWith, IsDead, to_try}
-use Rattle.call_search.proofs.StandingLemmas.{dead_end, none_at_end, below-popped, stands-pop, choices-pop, to_try-push}
+use Rattle.call_choices.specs.declared.branch.Branch.{Branch}
+use Rattle.call_choices.specs.Standing.{places, StandsWith, IsDead, to_try}
+use Rattle.call_choices.proofs.StandingLemmas.{dead_end, none_at_end, below-popped, stands-pop, choices-pop, to_try-push}
 use Rattle.call_search.proofs.standing.go_back.Goals as goal
 
 less : (levels old : List Branch) (level : Branch) (tried : List ℕ) → old ≡ levels ++ level ∷ [] → tried ≡ []

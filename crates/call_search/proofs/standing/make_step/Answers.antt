@@ -1,9 +1,9 @@
 use Rattle.std.proofs.Common.{Result, Ok, Err, ◌≡◌, ◌-◌, ◌+◌, ◌≤◌, List, ℕ, [], ◌∷◌, ◌++◌, length, take, refl, ap, ◌∙◌, subst, arith}
 use Rattle.std.specs.Prelude.{vec_len, IfOk}
 use Rattle.std.proofs.lemmas.List.{append-nil, length-append}
-use Rattle.call_search.specs.Standing.{places, AreChoices, Closes, to_try, IsStep, IsLooked}
-use Rattle.call_search.specs.declared.branch.CallSearch.{CallSearch}
-use Rattle.call_search.proofs.StandingLemmas.{last_of, step_from, step_on, step_back}
+use Rattle.call_choices.specs.Standing.{places, AreChoices, Closes, to_try, IsStep, IsLooked}
+use Rattle.call_choices.specs.declared.branch.CallSearch.{CallSearch}
+use Rattle.call_choices.proofs.StandingLemmas.{last_of, step_from, step_on, step_back}
 use Rattle.call_search.proofs.standing.make_step.Goals as goal
 
 -- nothing was left

@@ -1,8 +1,8 @@
 use Rattle.std.proofs.Common.{◌≡◌, Bool, ℕ, arith, false, [], ◌++◌, ◌-◌, List, length, take, replicate, ap, sym, refl, ◌∙◌}
 use Rattle.std.proofs.Common.{subst}
 use Rattle.std.proofs.lemmas.List.{take_all}
-use Rattle.call_search.specs.Standing.{StandsWith}
-use Rattle.call_search.proofs.StandingLemmas.{stands-open}
+use Rattle.call_choices.specs.Standing.{StandsWith}
+use Rattle.call_choices.proofs.StandingLemmas.{stands-open}
 use Rattle.call_search.proofs.standing.open.Goals as goal
 
 -- a list without items that grew

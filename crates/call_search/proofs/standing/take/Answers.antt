@@ -11,11 +11,11 @@ use Rattle.orders.specs.Orders.{after_call}
 use Rattle.search.proofs.MemoLemmas.{not_new}
 use Rattle.memo.specs.Taking.{after_one}
 use Rattle.memo.proofs.TakingLemmas.{Contains-with_place, with_place-rises}
-use Rattle.call_search.specs.Standing.{places, StandsWith, to_try, IsPushed}
-use Rattle.call_search.specs.declared.branch.CallSearch.{CallSearch}
+use Rattle.call_choices.specs.Standing.{places, StandsWith, to_try, IsPushed}
+use Rattle.call_choices.specs.declared.branch.CallSearch.{CallSearch}
 use Rattle.events.specs.declared.event.Call.{Call}
-use Rattle.call_search.specs.declared.branch.Branch.{Branch}
-use Rattle.call_search.proofs.StandingLemmas.{stands-push, dead-seen, to_try-push, stands-same}
+use Rattle.call_choices.specs.declared.branch.Branch.{Branch}
+use Rattle.call_choices.proofs.StandingLemmas.{stands-push, dead-seen, to_try-push, stands-same}
 use Rattle.call_search.proofs.standing.take.Goals as goal
 
 -- a call that is read at its place is the one that may come next

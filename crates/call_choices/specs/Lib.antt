@@ -1,0 +1,5 @@
+pub mod Reads
+pub mod Idle
+pub mod Dead
+pub mod Standing
+pub mod FirstKeys

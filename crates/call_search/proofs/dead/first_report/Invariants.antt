@@ -1,8 +1,0 @@
-use Rattle.std.specs.Prelude.{IfSome}
-use Rattle.call_search.specs.Dead.{IsReported}
-use Rattle.call_search.specs.Standing.{places}
-use Rattle.call_search.proofs.dead.first_report.Given as goal
-
--- the earliest answer so far
-abbrev pub invariant-loop-place : goal.invariant-loop-place
-invariant-loop-place g l = IfSome l.earliest (IsReported l.calls (places l.standing.levels.items) l.other l.key l.value)

@@ -1,8 +1,0 @@
-use Rattle.std.proofs.Common.{◌≡◌, ◌≤◌, ℕ, false, take}
-use Rattle.std.specs.Prelude.{Contains}
-use Rattle.call_search.proofs.first_keys.agrees.Given as goal
-
--- none of those so far is within the range, unless it is marked
-abbrev pub invariant-loop-key : goal.invariant-loop-key
-invariant-loop-key l =
-    l.over ≡ false → (key : ℕ) → Contains (take l.key-index l.keys) key → l.low ≤ key → key ≤ l.high → ⊥
