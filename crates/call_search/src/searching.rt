@@ -5,9 +5,9 @@ ghost use Rattle.map_object.specs.MapObject.{Contents, IsRising};
 ghost use Rattle.call_search.specs.Found.{IsFound};
 ghost use Rattle.call_choices.specs.Standing.{places, StandsBare};
 
-use call_choices::{CallSearch, SearchStep};
 use crate::found::SearchEnd;
 use crate::standing::{look_on, make_step, open};
+use call_choices::{CallSearch, SearchStep};
 use events::{Memory, Operation};
 use map_object::SortedMap;
 use std::alloc::Global;
