@@ -1,4 +1,4 @@
-// What stands in a JSON value: the members of an object, the items of an array, a number.
+// The parts of a JSON value: the members of an object, the items of an array, a number.
 ghost use Rattle.std.specs.Prelude.{◌≡◌, List, map, IsTrue, IsFalse, IfSome, IfNone};
 ghost use Rattle.serde_json.specs.Data.{Data, object, Members, no_members, member};
 ghost use Rattle.serde_json.specs.View.{view, members_view};
@@ -8,7 +8,7 @@ ghost use Rattle.history_text.specs.ValueFaults.{object_of_two, object_of_three}
 use serde_json::Value;
 use std::collections::btree_map::Iter;
 
-/// The values of an object that has two members alone, by these names in this order.
+/// The values of an object that has only two members, with these names in this order.
 pub fn two_members<'a>(
     value: &'a Value,
     first: &str,
@@ -25,7 +25,7 @@ pub fn two_members<'a>(
     Some((first_value, second_value))
 }
 
-/// The values of an object that has three members alone, by these names in this order.
+/// The values of an object that has only three members, with these names in this order.
 pub fn three_members<'a>(
     value: &'a Value,
     first: &str,
@@ -52,7 +52,7 @@ fn members_of(value: &Value) -> Option<Iter<'_, String, Value>>
     Some(value.as_object()?.iter())
 }
 
-/// The value of the only member that is left, where it has this name.
+/// The value of the only member that is left, if it has this name.
 fn last_member<'a>(members: Iter<'a, String, Value>, name: &str) -> Option<&'a Value>
     ensures some { IfSome result (λ value. members_view members.entry
         ≡ member name.now (view value.now) no_members) }
@@ -67,7 +67,7 @@ fn last_member<'a>(members: Iter<'a, String, Value>, name: &str) -> Option<&'a V
     }
 }
 
-/// The value of the next member, where it has this name.
+/// The value of the next member, if it has this name.
 fn next_member<'a>(members: &mut Iter<'a, String, Value>, name: &str) -> Option<&'a Value>
     ensures some { IfSome result (λ value. members_view members.old
         ≡ member name.now (view value.now) (members_view members.new)) }

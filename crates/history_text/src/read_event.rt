@@ -18,8 +18,9 @@ use events::{Call, Event, HistoryFault, MAX_START, Memory, Pairs, Reply};
 use serde_json::Value;
 use std::alloc::Global;
 
-/// The event at a place of a history's text, which is of a version. Otherwise why it is refused: `Shape`, what may not
-/// stand in that version among it, `TooMany` for a process number that no `u8` holds, or `Memory`.
+/// The event at a place of a history's text, which is of a version. Otherwise it returns why the
+/// event is refused: `Shape`, also for what this version may not have, `TooMany` for a process
+/// number that is too large for a `u8`, or `Memory`.
 pub fn event_of(
     alloc: Global,
     place: usize,
@@ -39,8 +40,8 @@ pub fn event_of(
     Err(HistoryFault::Shape { event: place })
 }
 
-/// The values of what was done and of the process, where an object has these members alone, what was done under this
-/// name; or a note beside them, where the version has notes.
+/// The values of what was done and of the process. The object has only these two members, and the
+/// first has this name. If the version has notes, it may have a note too.
 pub fn turn_of<'a>(
     version: TextVersion,
     name: &str,
@@ -107,7 +108,7 @@ fn response_of(
     Ok(Event::Answer { process, reply })
 }
 
-/// A process number, so far as it can be held; `PROCESSES` is tested with the event's turn.
+/// A process number that fits into a `u8`. `PROCESSES` is tested together with the event's turn.
 fn process_number(number: u64) -> Result<u8, HistoryFault>
     ensures ok { IfOk result (λ process. process ≡ number) }
     ensures refused { IfErr result (λ fault. (fault ≡ faults.TooMany) × (process_limit ≤ number)) }
@@ -115,7 +116,7 @@ fn process_number(number: u64) -> Result<u8, HistoryFault>
     u8::try_from(number).map_err(|_| HistoryFault::TooMany)
 }
 
-/// The call that a value spells, a scan only with its ends in order.
+/// The call that a value spells. The ends of a scan have to be in order.
 pub fn call_of(value: &Value) -> Option<Call>
     ensures some { IfSome result (λ call. view value.now ≡ call_data call) }
     ensures range { IfSome result (λ call. IsTrue (has_range call)) }
@@ -141,7 +142,7 @@ fn call_of_two(name: &Value, key: &Value) -> Option<Call>
     get_or_remove(name.as_str()?, key.as_u64()?)
 }
 
-/// The call that an array of three values spells, a scan only with its ends in order.
+/// The call that an array of three values spells. The ends of a scan have to be in order.
 fn call_of_three(name: &Value, first: &Value, second: &Value) -> Option<Call>
     ensures some { IfSome result (λ call. call_data call
         ≡ list_data (view name.now ∷ view first.now ∷ view second.now ∷ [])) }
@@ -181,7 +182,7 @@ fn get_or_remove(name: &str, key: u64) -> Option<Call>
     }
 }
 
-/// The call of this name with two numbers, a scan only with its ends in order.
+/// The call of this name with two numbers. The ends of a scan have to be in order.
 fn insert_or_scan(name: &str, first: u64, second: u64) -> Option<Call>
     ensures some { IfSome result (λ call. call_data call
         ≡ list_data (string name.now ∷ number_data first ∷ number_data second ∷ [])) }
@@ -267,8 +268,8 @@ pub fn pairs_of(alloc: Global, items: &[Value]) -> Result<Option<Vec<(u64, u64)>
     Ok(Some(pairs))
 }
 
-/// The pair at a place of a text's start. Otherwise why it is refused: `TooMany` past `MAX_START`, whatever it is,
-/// or `Start`.
+/// The pair at a place of a text's start. Otherwise it returns why the pair is refused: `TooMany`
+/// from place `MAX_START` on, whatever the value is, or `Start`.
 pub fn starting_pair(place: usize, value: &Value) -> Result<(u64, u64), HistoryFault>
     ensures ok { IfOk result (λ pair. view value.now ≡ pair_data pair) }
     ensures room { OnOk result (place < start_limit) }

@@ -15,10 +15,10 @@ use events::{Call, Event, History, Memory, Reply};
 use serde_json::{Map, Value, push, put};
 use std::alloc::{AllocError, Global};
 
-/// The text of a history in the compact form: no spaces, members by rising bytes, numbers in plain decimal. It is
-/// of version 1 where the history has neither starting pairs nor a replace and its answers tell all, else of version 2
-/// where these tell all, else of version 3.
-/// A text of more than `MAX_TEXT` bytes is written too, and the reader refuses it.
+/// Writes the text of a history in the compact form: no spaces, members by rising bytes, numbers in
+/// plain decimal. The version is 1 if the history has neither starting pairs nor a replace, and
+/// complete answers only. Otherwise it is 2 if all answers are complete, and else 3. A text of more
+/// than `MAX_TEXT` bytes is written too, although the reader refuses it.
 pub fn write_history(alloc: Global, history: &History) -> Result<String, Memory>
     ensures compact { IfOk result
         (λ text. string_bytes text ≡ compact_text (history_data history.now)) }
@@ -38,7 +38,7 @@ fn history_value(alloc: Global, history: &History) -> Result<Value, AllocError>
     Ok(Value::Object(members))
 }
 
-/// Puts what is written of a history into an object without members.
+/// Writes the members of a history into an object without members.
 fn put_history(
     alloc: Global,
     members: &mut Map<String, Value>,
@@ -66,7 +66,7 @@ fn put_history(
     put(members, alloc, "version", Value::from(version.number()))
 }
 
-/// The least version whose texts say all of a history.
+/// The lowest version that can represent a history.
 fn least_version(history: &History) -> TextVersion
     ensures { result ≡ least_version history.now }
 {
@@ -79,7 +79,7 @@ fn least_version(history: &History) -> TextVersion
     }
 }
 
-/// Whether a history has neither starting pairs nor a replace, and its answers tell all.
+/// Whether a history has neither starting pairs nor a replace, and complete answers only.
 fn is_plain(history: &History) -> bool
     ensures { result ≡ is_plain history.now }
 {
@@ -106,7 +106,7 @@ fn is_plain_event(event: &Event) -> bool
     }
 }
 
-/// Whether the answers of the events tell all.
+/// Whether each answer of the events is complete.
 fn are_told(events: &[Event]) -> bool
     ensures { result ≡ are_told events.now }
 {
