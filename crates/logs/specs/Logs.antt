@@ -11,7 +11,7 @@ abbrev pub placed : Stamped → List Stamped → List Stamped
 placed e [] = e ∷ []
 placed e (f ∷ fs) = if nat_le e.0 f.0 then e ∷ f ∷ fs else f ∷ placed e fs
 
--- the same events, by rising stamp
+-- these events, sorted by stamp
 abbrev pub by_stamp : List Stamped → List Stamped
 by_stamp [] = []
 by_stamp (e ∷ es) = placed e (by_stamp es)
