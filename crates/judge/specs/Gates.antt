@@ -13,13 +13,13 @@ pub record WasPassedForEach (WasPassed : ℕ → Type 0) (history : HistoryView)
   pub are_segments : AreSegments history.start (operations history.events) segments
   pub each : EachIndex segments WasPassed
 
--- the text spells a history of which this holds
+-- the text spells a history for which this holds
 pub record HoldsForText (Holds : HistoryView → Type 0) (text : List ℕ) : Type 0 where
   pub history : HistoryView
   pub spelled : Spells text history
   pub is_history : IsHistory history
   pub holds : Holds history
 
--- the text spells a history, and the gate was passed on the way to each of its segments
+-- the text spells a history, and the gate was passed for each of its segments
 abbrev pub WasPassedForText : (ℕ → Type 0) → List ℕ → Type 0
 WasPassedForText WasPassed text = HoldsForText (WasPassedForEach WasPassed) text

@@ -1,4 +1,4 @@
-// What the answers on all segments of a history say of the history.
+// From the answers on all segments of a history to the verdict on the history.
 ghost use Rattle.std.specs.Prelude.{◌≡◌, ◌≢◌, ◌<◌, length, map, slice_get, All, Some, IfOk, IfSome, IfNone};
 ghost use Rattle.std.specs.List.{AllZip};
 ghost use Rattle.events.specs.Operations.{operations};
@@ -20,8 +20,9 @@ use search::Found;
 use segments::Segment;
 use std::alloc::Global;
 
-/// The verdict on a history whose segments have these answers, found at the budget: no with the lowest segment
-/// without order; else undecided with the lowest that needs more than the budget; else yes with the merged order.
+/// The verdict on a history whose segments have these answers at the budget. It is no if a segment
+/// has no order, and names the lowest one. Otherwise it is undecided if a search needs more than
+/// the budget, and names the lowest such segment. Otherwise it is yes, with the merged order.
 pub(crate) fn conclude(
     alloc: Global,
     history: &History,

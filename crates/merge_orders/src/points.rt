@@ -1,4 +1,4 @@
-// The points of calls, as they stand in the orders of the segments.
+// The points of calls in the orders of the segments.
 ghost use Rattle.std.specs.Prelude.{◌≡◌, ◌≢◌, ◌<◌, ◌++◌, map, length, All, AllPairs, IfOk, OnOk};
 ghost use Rattle.std.specs.List.{concat};
 ghost use Rattle.merge_orders.specs.OrdersOfSegments.{NameCallsOnce};
