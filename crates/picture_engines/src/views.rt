@@ -1,4 +1,4 @@
-// Views that hold for every history.
+// Two views, which mean the same for every history.
 ghost use Rattle.std.specs.Prelude.{◌≡◌, ℕ, ◌*◌, ◌≤◌, true};
 ghost use Rattle.events.specs.Limits.{call_limit};
 ghost use Rattle.picture_engines.specs.Choices.{asks_for_nothing};

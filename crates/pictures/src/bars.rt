@@ -17,7 +17,7 @@ use events::{Event, History, Memory, Operation, Response};
 use judge::Verdict;
 use std::alloc::Global;
 
-/// What the bars of a picture are drawn from, besides the calls.
+/// The data from which the bars of a picture are drawn, apart from the calls.
 #[derive(Clone, Copy)]
 pub struct Scene<'a> {
     pub history: &'a History,
@@ -40,7 +40,7 @@ pub fn bars_of(alloc: Global, scene: &Scene<'_>) -> Result<Vec<Bar>, Memory>
     Ok(bars)
 }
 
-/// Adds one bar for each call, by number, where there is none yet.
+/// Adds one bar for each call, by number, to an empty list.
 fn push_bars(alloc: Global, scene: &Scene<'_>, bars: &mut Vec<Bar>) -> Result<(), Memory>
     requires lanes { scene.now.lanes.now ≡ lanes scene.now.history.now.events }
     requires history { IsHistory scene.now.history.now }
@@ -68,7 +68,7 @@ fn bar_of(alloc: Global, scene: &Scene<'_>, number: usize, call: &Operation) -> 
     Ok(bar_with(scene, number, call, words, reply))
 }
 
-/// The bar of a call with it and its reply in words.
+/// The bar of a call, with the call and its reply in words.
 fn bar_with(
     scene: &Scene<'_>,
     number: usize,
@@ -145,8 +145,8 @@ fn column_of(events: &[Event], points: &[usize], response: &Option<Response>) ->
     }
 }
 
-/// Whether a verdict speaks of a call: a yes of all, a no and an undecided of those of the segment
-/// that they name.
+/// Whether a verdict concerns a call: a yes concerns all calls, a no and an undecided those of the
+/// segment that they name.
 fn speaks_of(verdict: &Verdict, number: usize) -> bool
     ensures { result ≡ speaks_of verdict.now number }
 {

@@ -10,9 +10,10 @@ use crate::picture::{Bar, Mark, Picture, PicturePart, View};
 use events::{MAX_CALLS, Memory};
 use std::alloc::Global;
 
-/// The part of a picture of a history with so many events that a view shows: the picture itself
-/// where all its columns have room, else a viewport of the columns of the calls of which the verdict
-/// speaks. It takes time in proportion to the square of the columns. `Err` is want of memory.
+/// The part of a picture of a history with this many events that a view shows: the picture itself
+/// if there is room for all its columns, otherwise a viewport of the columns of the calls that the
+/// verdict concerns. It takes time in proportion to the square of the columns. It returns `Err` if
+/// memory runs out.
 pub fn part_of(
     alloc: Global,
     picture: Picture,
@@ -31,8 +32,8 @@ pub fn part_of(
     viewport_around(alloc, picture, room, column, event)
 }
 
-/// For how many columns there is room, where this is asked for: three for each call, and 20 calls
-/// where more are named than a history can have.
+/// For how many columns there is room: three for each call that the view asks for, and for 20 calls
+/// if it asks for more than a history can have.
 fn room_for(calls: u32) -> usize
     ensures { result ≡ room_for calls }
 {
@@ -43,7 +44,7 @@ fn room_for(calls: u32) -> usize
     }
 }
 
-/// The viewport that has so much room around a column, in which an event stands.
+/// The viewport with this much room around the column of an event.
 pub(crate) fn viewport_around(
     alloc: Global,
     picture: Picture,
@@ -67,7 +68,7 @@ fn is_whole(room: usize, columns: usize) -> bool
     room == 0 || columns <= room
 }
 
-/// The event in the middle: the one that is asked for, where there is such an event.
+/// The event in the middle: the one that the view asks for, if the history has it.
 fn event_shown(events: usize, wrong: Option<usize>, around: usize, marks: &[Mark]) -> usize
     ensures { result ≡ event_shown events wrong around marks.now }
 {
@@ -78,8 +79,8 @@ fn event_shown(events: usize, wrong: Option<usize>, around: usize, marks: &[Mark
     }
 }
 
-/// The event in the middle where none is asked for: the wrong one; else that behind which the last
-/// mark stands.
+/// The event in the middle if the view asks for none: the wrong one; otherwise the one after which
+/// the last mark is.
 pub(crate) fn event_meant(wrong: Option<usize>, marks: &[Mark]) -> usize
     ensures { result ≡ event_meant wrong marks.now }
 {
@@ -89,7 +90,7 @@ pub(crate) fn event_meant(wrong: Option<usize>, marks: &[Mark]) -> usize
     }
 }
 
-/// The event behind which the last mark stands, and the first one where nothing is marked.
+/// The event after which the last mark is, or the first event if nothing is marked.
 fn last_point(marks: &[Mark]) -> usize
     ensures { result ≡ last_point marks.now }
 {
@@ -106,8 +107,7 @@ pub(crate) fn column_of(marks: &[Mark], event: usize) -> u128
     event as u128 + marks.iter().filter(|mark| mark.point < event).count() as u128
 }
 
-/// The columns that the calls of which the verdict speaks, and the marks, have in the whole
-/// picture.
+/// The columns that the calls concerned and the marks have in the whole picture.
 fn columns_of(alloc: Global, bars: &[Bar], marks: &[Mark]) -> Result<Vec<usize>, Memory>
     ensures { IfOk result (λ v. v.items ≡ columns_of bars.now marks.now) }
 {
@@ -140,7 +140,7 @@ fn starts_of(alloc: Global, bars: &[Bar]) -> Result<Vec<usize>, Memory>
     Ok(bars.iter().filter_map(|bar| start_of(bar)).collect(alloc)?)
 }
 
-/// The column of an invocation, where the verdict speaks of the call.
+/// The column of an invocation, if the verdict concerns the call.
 fn start_of(bar: &Bar) -> Option<usize>
     ensures { result ≡ start_of bar.now }
 {
@@ -154,7 +154,7 @@ fn ends_of(alloc: Global, bars: &[Bar]) -> Result<Vec<usize>, Memory>
     Ok(bars.iter().filter_map(|bar| end_of(bar)).collect(alloc)?)
 }
 
-/// The column of a response, where the verdict speaks of the call.
+/// The column of a response, if the verdict concerns the call.
 fn end_of(bar: &Bar) -> Option<usize>
     ensures { result ≡ end_of bar.now }
 {
@@ -168,7 +168,7 @@ fn places_of(alloc: Global, marks: &[Mark]) -> Result<Vec<usize>, Memory>
     Ok(marks.iter().map(|mark| mark.column).collect(alloc)?)
 }
 
-/// How many of the columns stand before one.
+/// How many of the columns are before a column.
 fn rank(columns: &[usize], column: u128) -> usize
     ensures value { result ≡ rank columns.now column }
     ensures within { result ≤ length columns.now }
@@ -179,7 +179,8 @@ fn rank(columns: &[usize], column: u128) -> usize
         .count()
 }
 
-/// The first column of a viewport with so much room, as near to the middle as the columns let it be.
+/// The first column of a viewport with this much room: the middle is in its middle, as far as the
+/// columns allow.
 fn viewport_from(columns: usize, middle: usize, room: usize) -> usize
     ensures value { result ≡ viewport_from columns middle room }
     ensures within { result + min room columns ≤ columns }
@@ -225,8 +226,8 @@ fn viewport_at(
     })
 }
 
-/// The pairs at the start, the lanes, the bars and the marks of a viewport, where these are all pairs
-/// and all lanes.
+/// The pairs at the start, the lanes, the bars and the marks of a viewport, from all pairs and all
+/// lanes.
 fn kept_at(
     alloc: Global,
     bars: Vec<Bar>,
@@ -254,7 +255,7 @@ fn kept_at(
     Ok((start, lanes, bars, marks))
 }
 
-/// The marks in a viewport, as they stand in it with these of all lanes.
+/// The marks in a viewport, as it shows them, from all lanes.
 fn marks_at(
     alloc: Global,
     marks: &[Mark],
@@ -271,8 +272,8 @@ fn marks_at(
     cut_marks(alloc, &marks, all, lanes, from)
 }
 
-/// The bars of the calls of which the verdict speaks that meet a viewport, with their places among
-/// the columns.
+/// The bars in a viewport of the calls that the verdict concerns, with their places among the
+/// columns.
 fn bars_in(
     alloc: Global,
     bars: Vec<Bar>,
@@ -286,7 +287,7 @@ fn bars_in(
     Ok(kept)
 }
 
-/// The same, bar by bar.
+/// The bars in a viewport, one by one.
 fn bars_kept(
     alloc: Global,
     bars: Vec<Bar>,
@@ -303,8 +304,8 @@ fn bars_kept(
     )
 }
 
-/// A bar with its places among the columns, where the verdict speaks of the call and it meets a
-/// viewport.
+/// A bar with its places among the columns, if it meets a viewport and the verdict concerns the
+/// call.
 fn bar_in(columns: &[usize], from: usize, to: usize, bar: Bar) -> Option<Bar>
     ensures { result ≡ bar_in columns.now from to bar }
 {
@@ -378,7 +379,7 @@ fn ranked_mark(columns: &[usize], mark: &Mark) -> Mark
     Mark { column, ..*mark }
 }
 
-/// Whether a mark stands in a viewport.
+/// Whether a mark is in a viewport.
 fn is_within(from: usize, to: usize, mark: &Mark) -> bool
     ensures { result ≡ is_within from to mark.now }
 {
@@ -425,7 +426,7 @@ fn has_bar(bars: &[Bar], process: u8) -> bool
     bars.iter().any(|bar| bar.process == process)
 }
 
-/// Where the lane of a process stands among these.
+/// The place of a process's lane among these.
 fn place_of(lanes: &[u8], process: u8) -> usize
     ensures { result ≡ place_of lanes.now process }
 {
@@ -442,7 +443,7 @@ fn lane_of(lanes: &[u8], process: u8) -> Option<usize>
     lanes.iter().position(|lane| *lane == process)
 }
 
-/// The bars as they stand in a viewport with these lanes.
+/// The bars as a viewport with these lanes shows them.
 fn cut_bars(
     alloc: Global,
     bars: Vec<Bar>,
@@ -459,8 +460,8 @@ fn cut_bars(
     )
 }
 
-/// A bar as it stands in a viewport: where it begins before the viewport, or ends behind it, it is open
-/// at that end.
+/// A bar as a viewport shows it: open at the left if it begins before the viewport, and at the
+/// right if it ends after it.
 fn cut_bar(lanes: &[u8], from: usize, to: usize, bar: Bar) -> Bar
     ensures { result ≡ cut_bar lanes.now from to bar }
 {
@@ -473,7 +474,7 @@ fn cut_bar(lanes: &[u8], from: usize, to: usize, bar: Bar) -> Bar
     }
 }
 
-/// The end of a bar in a viewport, where it is in it.
+/// The end of a bar in a viewport, if it is there.
 fn cut_end(from: usize, to: usize, end: Option<usize>) -> Option<usize>
     ensures { result ≡ cut_end from to end }
 {
@@ -485,7 +486,7 @@ fn cut_end(from: usize, to: usize, end: Option<usize>) -> Option<usize>
     }
 }
 
-/// The marks as they stand in a viewport with these lanes.
+/// The marks as a viewport with these lanes shows them.
 fn cut_marks(
     alloc: Global,
     marks: &[Mark],
@@ -503,7 +504,7 @@ fn cut_marks(
     )
 }
 
-/// A mark as it stands in a viewport.
+/// A mark as a viewport shows it.
 fn cut_mark(all: &[u8], lanes: &[u8], from: usize, mark: &Mark) -> Mark
     ensures { result ≡ cut_mark all.now lanes.now from mark.now }
 {
