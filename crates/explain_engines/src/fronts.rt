@@ -20,8 +20,8 @@ use outcomes::line_of;
 use serde_json::{Map, Value, put};
 use std::alloc::{AllocError, Global};
 
-/// The line of a front of a few calls from some pairs: the calls, the pairs that they leave, and the
-/// calls that would come next.
+/// The line of a front of a few calls from some pairs: the calls, the pairs that they leave, and
+/// the calls that would come next.
 pub(crate) fn front_line(
     alloc: Global,
     start: &[(u64, u64)],
@@ -165,8 +165,8 @@ fn taken_value(
     Ok(Value::Object(members))
 }
 
-/// Puts calls taken, the pairs that the map then holds, and the calls that would come next, into an
-/// object without members.
+/// Adds the calls taken, the pairs that the map then holds, and the calls that would come next, to
+/// an object without members.
 fn put_taken(
     alloc: Global,
     members: &mut Map<String, Value>,
@@ -195,7 +195,7 @@ fn events_value(alloc: Global, calls: &[Operation]) -> Result<Value, AllocError>
     Ok(Value::from(items))
 }
 
-/// What calls that would come next were answered, and would be.
+/// The answers that calls which would come next had, and would have.
 fn all_stuck(alloc: Global, held: &SortedMap, next: &[Operation]) -> Result<Value, Memory>
     ensures { IfOk result (λ value. view value ≡ list_data (map (stuck_data held.now) next.now)) }
 {
@@ -229,8 +229,8 @@ fn answers_value(alloc: Global, call: &Operation, would: &Reply) -> Result<Value
     Ok(Value::Object(members))
 }
 
-/// Puts the event of a call, what it was answered, and what it would be, into an object without
-/// members.
+/// Adds the event of a call, the answer that it had, and the answer that it would have, to an
+/// object without members.
 fn put_answers(
     alloc: Global,
     members: &mut Map<String, Value>,

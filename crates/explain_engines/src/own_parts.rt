@@ -1,4 +1,4 @@
-// The lines that say from which values of their keys a few calls of an own part begin.
+// The lines of the values of their keys from which a few calls of an own part begin.
 ghost use Rattle.std.specs.Prelude.{◌≡◌, [], IfOk, OnOk, string_bytes};
 ghost use Rattle.serde_json.specs.Data.{object};
 ghost use Rattle.serde_json.specs.View.{view, members_view};
@@ -14,8 +14,8 @@ use serde_json::{Map, Value, put};
 use small_histories::value_or_null;
 use std::alloc::{AllocError, Global};
 
-/// A line for each value that a key of a few calls of a part has before them, with the call that put
-/// it.
+/// A line for each value that a key of a few calls of a part has before them, with the call that
+/// put it.
 pub(crate) fn from_lines(
     alloc: Global,
     history: &History,
@@ -74,7 +74,7 @@ fn from_value(
     Ok(Value::Object(members))
 }
 
-/// Puts a value, its key and the call that put it into an object without members.
+/// Adds a value, its key and the call that put it to an object without members.
 fn put_from(
     alloc: Global,
     members: &mut Map<String, Value>,
@@ -91,7 +91,7 @@ fn put_from(
     put(members, alloc, "put", put_value(alloc, events, origin.put)?)
 }
 
-/// The call that put a value, by the event of its invocation, with its process. Null if it is not
+/// The call that put a value, by the event of its invocation, with its process; null if it is not
 /// known.
 fn put_value(alloc: Global, events: &[Event], place: Option<usize>) -> Result<Value, AllocError>
     ensures { IfOk result (λ value. view value ≡ put_data events.now place) }

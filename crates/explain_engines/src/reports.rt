@@ -28,9 +28,9 @@ use serde_json::{Map, Value, put};
 use small_histories::{small_history, small_text};
 use std::alloc::{AllocError, Global};
 
-/// The lines of a few calls that have no order from these pairs: one for each call, one for each value
-/// that comes from outside of them, the text of a history of them, and how far an order of that
-/// gets.
+/// The lines of a few calls that have no order from these pairs: one for each call, one for each
+/// value that comes from outside of them, the text of a history of them, and how far an order of
+/// them gets.
 pub(crate) fn few_lines(
     alloc: Global,
     history: &History,
@@ -53,8 +53,8 @@ pub(crate) fn few_lines(
     Ok(text)
 }
 
-/// The line of a history with some calls from some pairs, and that of a front of these. Nothing if no
-/// history has them, or its text is too long.
+/// Two lines: a history with some calls from some pairs, and a front of these. There is nothing if
+/// no history has them, or if its text is too long.
 fn history_lines(
     alloc: Global,
     start: &[(u64, u64)],
@@ -72,8 +72,8 @@ fn history_lines(
     }
 }
 
-/// The line of a history with some calls from some pairs, and that of a front of these. Nothing if its
-/// text is too long.
+/// Two lines: a history with some calls from some pairs, and a front of these. There is nothing if
+/// its text is too long.
 fn lines_of(
     alloc: Global,
     history: &History,
@@ -132,7 +132,7 @@ fn front_of(alloc: Global, history: &History, budget: u32) -> Result<Vec<u32>, M
     }
 }
 
-/// A line for each call that is kept, with the reason why.
+/// A line for each call of an explanation, with the reason why it stays.
 fn row_lines(
     alloc: Global,
     history: &History,
@@ -181,7 +181,7 @@ fn row_value(
     Ok(Value::Object(members))
 }
 
-/// Puts what is said of a call that is kept into an object without members.
+/// Adds a call of an explanation to an object without members.
 fn put_row(
     alloc: Global,
     members: &mut Map<String, Value>,
@@ -207,7 +207,7 @@ fn put_row(
     put_missed(alloc, members, history.events(), missed)
 }
 
-/// Puts what counts of a call's answer, what was called, and the event of its invocation.
+/// Adds the answer of a call as far as it counts, what was called, and the event of its invocation.
 fn put_call(
     alloc: Global,
     members: &mut Map<String, Value>,
@@ -242,7 +242,7 @@ fn was_answered(calls: &[Operation], place: usize) -> bool
     false
 }
 
-/// What counts of the answer of a call that is kept: the reply, or a word.
+/// The answer of a call as far as it counts: the reply, or a word.
 fn kept_value(
     alloc: Global,
     answered: bool,
@@ -273,7 +273,7 @@ pub(crate) fn answer_value(alloc: Global, response: &Option<Response>) -> Result
     }
 }
 
-/// Why a call is kept, in a word.
+/// Why a call stays, in a word.
 fn reason_word(reason: &Reason) -> &'static str
     ensures { result.now ≡ reason_word reason.now }
 {

@@ -18,8 +18,8 @@ use outcomes::line_of;
 use serde_json::{Map, Value, put};
 use std::alloc::{AllocError, Global};
 
-/// A line for each pair of a key and a value that a few calls report from outside of them, from some
-/// pairs on.
+/// A line for each pair of a key and a value that a few calls report from outside of them, from
+/// some pairs on.
 pub(crate) fn outside_lines(
     alloc: Global,
     history: &History,
@@ -85,7 +85,7 @@ fn origin_value(
     Ok(Value::Object(members))
 }
 
-/// Puts a pair, the calls that put it, and whether the map held it at the start, into an object
+/// Adds a pair, the calls that put it, and whether the map held it at the start, to an object
 /// without members.
 fn put_origin(
     alloc: Global,
@@ -129,7 +129,7 @@ pub(crate) fn writer_value(
     Ok(Value::Object(members))
 }
 
-/// Puts the event of a call and its process into an object without members.
+/// Adds the event of a call and its process to an object without members.
 fn put_writer(
     alloc: Global,
     members: &mut Map<String, Value>,

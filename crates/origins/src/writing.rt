@@ -9,9 +9,9 @@ use explaining::put_by;
 use map_object::SortedMap;
 use std::alloc::Global;
 
-/// The events at which calls were invoked that put this value at this key, by rising event where
-/// the calls stand so: those without an answer too, and those that found the same value there, but
-/// not those whose answers say that they were not done.
+/// The events at which calls were invoked that put this value at this key, in the order of the
+/// calls. Calls without an answer count, and so do calls that found the same value there. Calls
+/// whose answers say that they were not done do not count.
 pub fn writers_of(
     alloc: Global,
     calls: &[Operation],
@@ -47,7 +47,7 @@ fn writes(call: &Operation, pair: (u64, u64)) -> bool
         && !is_undone(&call.call, &call.response)
 }
 
-/// Whether what is put at a key, if anything, is this value.
+/// Whether this value is put at a key.
 pub(crate) fn is_put(put: Option<Option<u64>>, value: u64) -> bool
     ensures { result ≡ is_put put value }
 {
@@ -68,7 +68,7 @@ pub(crate) fn is_undone(call: &Call, response: &Option<Response>) -> bool
 }
 
 /// Whether a reply says that the call was not done: it was refused, or a replace did not find the
-/// value that it expects.
+/// expected value.
 pub fn says_undone(call: &Call, reply: &Reply) -> bool
     ensures { result ≡ says_undone call.now reply.now }
 {
