@@ -14,7 +14,7 @@ pub fn line_of(mut text: String) -> Result<String, AllocError>
     Ok(text)
 }
 
-/// Why an order is none.
+/// Why a list of numbers is not an order.
 pub fn order_fault_line(alloc: Global, fault: &OrderFault) -> Result<String, AllocError>
     ensures { IfOk result (λ line. string_bytes line ≡ order_fault_line fault.now) }
 {

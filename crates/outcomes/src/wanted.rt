@@ -1,11 +1,11 @@
-// What is said beside the line of a fault of a text: what was wanted.
+// The hint next to the line of a fault of a text: what was expected.
 ghost use Rattle.std.specs.Prelude.{◌≡◌, IfOk, string_bytes};
 ghost use Rattle.outcomes.specs.Wanted.{wanted_hint, length_wanted, json_wanted, event_wanted, turn_wanted, pair_wanted, history_wanted};
 
 use events::HistoryFault;
 use std::alloc::{AllocError, Global};
 
-/// The hint that says what was wanted.
+/// The hint that says what was expected.
 pub fn wanted_hint(alloc: Global, wanted: &str) -> Result<String, AllocError>
     ensures { IfOk result (λ hint. string_bytes hint ≡ wanted_hint wanted.now) }
 {
@@ -53,7 +53,7 @@ pub fn pair_wanted() -> &'static str
     "[K,V] with K above that of the pair before; numbers are from 0 to 18446744073709551615"
 }
 
-/// What was wanted in the place of a fault of a history text.
+/// What was expected for a fault of a history text.
 pub fn history_wanted(fault: &HistoryFault) -> &'static str
     ensures { result.now ≡ history_wanted fault.now }
 {

@@ -12,11 +12,11 @@ pub struct ReaderSource<R> {
     failures: u64,
 }
 
-/// The standard input of the process, which tells no bytes.
+/// The standard input of the process, whose bytes no contract knows.
 pub type StandardInput = ReaderSource<Stdin>;
 
 impl<R: Read> ReaderSource<R> {
-    /// No call has failed yet.
+    /// The source of a reader, before any call has failed.
     pub fn new(reader: R) -> Self
         ensures remaining { ⟦<ReaderSource<R> as Source>⟧.remaining result ≡ R.remaining reader }
         ensures failures { ⟦<ReaderSource<R> as Source>⟧.failures result ≡ 0 }
