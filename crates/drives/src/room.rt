@@ -6,8 +6,8 @@ use art_steps::TreeCall;
 use events::MAX_CALLS;
 use plans::Plan;
 
-/// Whether a plan can be driven: all processes may begin equally many calls, so the number of scripts times the length of the
-/// longest one is at most `MAX_CALLS`.
+/// Whether a plan can be driven. All processes may begin equally many calls, so the number of
+/// scripts times the length of the longest one is at most `MAX_CALLS`.
 pub fn is_drivable(plan: &Plan) -> bool
     ensures { IsTrue result ↔ IsDrivable plan.now }
 {

@@ -17,8 +17,9 @@ use std::alloc::Global;
 use tickets::{Hand, Tickets};
 
 impl Recorder {
-    /// The history of all that was recorded: the events of all passes, in whatever order these are handed in, by rising
-    /// stamp. Open calls are pending. Else everything comes back. For n events it takes time n log n.
+    /// Closes the recorder, and returns the history of all that was recorded: the events of all
+    /// passes, by rising stamp. The passes may come in any order. Open calls are pending. If it
+    /// fails, it returns the recorder and the passes. For n events it takes time n log n.
     pub fn close(self, alloc: Global, passes: Vec<Pass>) -> Result<History, CloseFault>
         requires own { All (IsPassOf self) passes.items }
         ensures history { IfOk result (λ h. h ≡ with_no_start (history_of passes.items)) }
@@ -41,7 +42,7 @@ impl Recorder {
         }
     }
 
-    /// Whether each process has a pass among these, and all draws are with them.
+    /// Whether these passes include one of each process, and all draws.
     fn has_all(&self, passes: &[Pass]) -> bool
         requires own { All (IsPassOf self.now) passes.now }
         ensures { IsTrue result ↔ AreAll self.now passes.now }
@@ -53,7 +54,7 @@ impl Recorder {
         has_processes(passes, self.processes)
     }
 
-    /// The history of the passes, which keep their logs.
+    /// The history of the passes, which still have their logs afterwards.
     fn history(&self, alloc: Global, passes: &[Pass]) -> Result<History, Memory>
         requires own { All (IsPassOf self.now) passes.now }
         requires all { AreAll self.now passes.now }
@@ -65,7 +66,7 @@ impl Recorder {
         history_by_stamp(alloc, Vec::new(alloc), stamped)
     }
 
-    /// Joins all hands again, which shows that the stamps are the numbers below their count.
+    /// Joins all hands again. That shows that the stamps are the numbers below their count.
     fn join(self, passes: Vec<Pass>)
         requires own { All (IsPassOf self) passes.items }
         requires all { AreAll self passes.items }

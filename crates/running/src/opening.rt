@@ -14,7 +14,8 @@ use events::{MAX_CALLS, Memory, PROCESSES};
 use std::alloc::Global;
 
 impl Arena {
-    /// An empty tree for so many processes, each with so many calls, and a group that holds them all. `Err` is want of memory.
+    /// Opens an empty tree for this many processes, each with this many calls, and a group that has
+    /// them all. It returns `Err` if memory runs out.
     pub fn open(
         alloc: Global,
         shape: Shape,
