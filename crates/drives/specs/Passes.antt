@@ -35,7 +35,7 @@ pub record HasRecordedScript (may_answer : Call → Reply → Type 0) (script : 
   pub finished : HasFinished (events_by p) (process_number p) script
   pub answered : AnswersFit may_answer (events_by p)
 
--- a pass of one of so many processes, which has recorded nothing yet
+-- a pass of one of this many processes, which has recorded nothing yet
 pub record IsReady (r : Recorder) (processes : ℕ) (p : Pass) : Type 0 where
   pub own : IsPassOf r p
   pub known : process_number p < processes

@@ -28,13 +28,13 @@ abbrev pub is_out_of_turn : Bool → Event → Bool
 is_out_of_turn has_open (Invoke p call) = has_open
 is_out_of_turn has_open (Answer p reply) = not has_open
 
--- whether an event is an invocation above the limit, after so many calls
+-- whether an event is an invocation that is one too many, after a number of calls
 abbrev pub is_call_too_many : ℕ → Event → Bool
 is_call_too_many calls (Invoke p call) = nat_le call_limit calls
 is_call_too_many calls (Answer p reply) = false
 
--- the fault of an event at a place, after so many calls: first of its shape, then of a limit, then
--- of its turn
+-- the fault of an event at a place, after a number of calls: first of its shape, then of a limit,
+-- then of its turn
 abbrev pub event_fault : ℕ → ℕ → Bool → Event → Option HistoryFault
 event_fault place calls has_open e =
     if not (is_shaped e) then Some (faults.Shape place)

@@ -73,8 +73,8 @@ impl OpenCalls {
     }
 }
 
-/// The fault of an event at a place, after so many calls: first of its shape, then of a limit, then
-/// of its turn.
+/// The fault of an event at a place, after a number of calls: first of its shape, then of a limit,
+/// then of its turn.
 fn event_fault(place: usize, calls: usize, has_open: bool, event: &Event) -> Option<HistoryFault>
     ensures { result ≡ event_fault place calls has_open event.now }
 {

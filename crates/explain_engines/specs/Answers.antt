@@ -91,7 +91,7 @@ pub record ArePartLines (budget : ℕ) (history : HistoryView) (part : OwnPart) 
   pub lines : AreFewLines budget history part.start few rest
   pub bytes_are : bytes ≡ from ++ rest
 
--- the lines of the few calls that show a location
+-- the lines of a few calls that show a location
 abbrev pub AreEvidenceLines : ℕ → HistoryView → Evidence → List ℕ → Type 0
 AreEvidenceLines budget history (OfEvents few) bytes = AreFewLines budget history history.start few bytes
 AreEvidenceLines budget history (OfPart part few) bytes = ArePartLines budget history part few bytes

@@ -28,9 +28,9 @@ use serde_json::{Map, Value, put};
 use small_histories::{small_history, small_text};
 use std::alloc::{AllocError, Global};
 
-/// The lines of a few calls that have no order from these pairs: one for each call, one for each
-/// value that comes from outside of them, the text of a history of them, and how far an order of
-/// them gets.
+/// The lines of a few calls that have no order from these pairs: one for each call, and one for
+/// each value that comes from outside of them. Then come the text of a history of them, and how far
+/// an order of them gets.
 pub(crate) fn few_lines(
     alloc: Global,
     history: &History,

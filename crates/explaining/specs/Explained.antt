@@ -34,7 +34,7 @@ IsReasonFor start budget calls places (reasons.Order order) = IsOrder start (res
 IsReasonFor start budget calls places reasons.Spent = ReachesMoreThan start (rest_of places calls) budget
 IsReasonFor start budget calls places reasons.Held = are_held places calls ≡ true
 
--- the places at which some calls were invoked, but for one
+-- the places at which some calls were invoked, except one call
 abbrev pub others_than : List Operation → ℕ → List ℕ
 others_than kept place = map (λ (b : Operation). b.inv) (filter (λ b. not (b.inv == place)) kept)
 

@@ -38,7 +38,7 @@ is_touched puts gone b = list_any (λ a. may_tell puts a b b) gone
 abbrev pub is_held : List Operation → List Operation → Operation → Bool
 is_held puts gone b = is_touched puts gone b && list_any (λ a. may_tell puts a b (opened b)) gone
 
--- a call, but for pending gets and pending scans
+-- a call, or nothing if it is a pending get or a pending scan
 abbrev pub if_belongs : Operation → Option Operation
 if_belongs b = if belongs b then Some b else None
 

@@ -225,7 +225,7 @@ enum Nearness {
     Apart,
 }
 
-/// The call that the last of so many events answers.
+/// The call that the last of this many events answers.
 fn answered_by(calls: &[Operation], events: usize) -> Option<&Operation> {
     for call in calls {
         if let Some(response) = &call.response {

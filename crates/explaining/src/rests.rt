@@ -95,7 +95,7 @@ fn left_of(
     Ok(if_belongs(call))
 }
 
-/// The call, but for pending gets and pending scans.
+/// The call, or nothing if it is a pending get or a pending scan.
 fn if_belongs(call: Operation) -> Option<Operation>
     ensures { result ≡ if_belongs call }
 {

@@ -25,7 +25,7 @@ pub fn history_by_stamp(
     History::with_calls(alloc, start, events)
 }
 
-/// The events in the same order.
+/// The events without their stamps, in the same order.
 fn without_stamps(alloc: Global, stamped: Vec<(u64, Event)>) -> Result<Vec<Event>, Memory>
     ensures { IfOk result (λ events. events.items ≡ map (λ e. e.1) stamped.items) }
 {

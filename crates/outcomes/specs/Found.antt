@@ -7,7 +7,7 @@ use Rattle.outcomes.specs.Lines.{line}
 abbrev pub shown_byte : ℕ → ℕ
 shown_byte byte = if nat_le 32 byte && nat_le byte 126 then byte else 63
 
--- a text of at most 80 bytes, or so many and two dots
+-- a text of at most 80 bytes; of a longer text the first bytes and two dots
 abbrev pub shown : List ℕ → List ℕ
 shown text = if nat_le (length text) 80 then map shown_byte text else map shown_byte (take 80 text) ++ codes ".."
 

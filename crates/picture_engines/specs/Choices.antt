@@ -93,7 +93,7 @@ abbrev pub IsPartChoice : HistoryView → OwnPart → Explanation → Choice →
 IsPartChoice history part few (Few places) = ArePartPlaces history part few places.items
 IsPartChoice history part few Part = ⊥
 
--- the few calls that show a location are shown
+-- a few calls that show a location are shown
 abbrev pub IsChoiceFor : HistoryView → Evidence → Choice → Type 0
 IsChoiceFor history (OfEvents few) choice = IsShownFew history history.start few.calls.items choice
 IsChoiceFor history (OfPart part few) choice = IsPartChoice history part few choice

@@ -84,7 +84,7 @@ fn segment_choice(
     Ok(choice)
 }
 
-/// The few calls that are shown of a location.
+/// A few calls that show a location.
 fn located_choice(
     alloc: Global,
     history: &History,
@@ -99,7 +99,7 @@ fn located_choice(
     Ok(choice)
 }
 
-/// The few calls that are shown of what shows a location.
+/// A few calls that show a location, from its evidence.
 fn evidence_choice(alloc: Global, history: &History, evidence: &Evidence) -> Result<Choice, Memory>
     requires refutes { Refutes history.now evidence.now }
     ensures { IfOk result (IsChoiceFor history.now evidence.now) }
@@ -180,8 +180,8 @@ fn few_shown(
     Ok(Choice::Few(places))
 }
 
-/// The events at which a few calls without order from these pairs are invoked, and those of the
-/// calls of the history that put what these read from outside, or that these miss.
+/// The events at which a few calls without order from these pairs are invoked. Also the events of
+/// the calls of the history that put what these read from outside, or that these miss.
 fn places_of_few(
     alloc: Global,
     history: &History,
@@ -197,8 +197,8 @@ fn places_of_few(
     Ok(places)
 }
 
-/// The events at which a few calls are invoked, and those of the calls of the history that put what
-/// these read from outside, if the map holds these pairs at the start.
+/// The events at which a few calls are invoked, and the events of the calls of the history that put
+/// what these read from outside. The map holds these pairs at the start.
 fn few_places(
     alloc: Global,
     history: &History,

@@ -113,7 +113,7 @@ pub fn column_width(picture: &Picture) -> u8
     asked_width(picture).min(greatest_width(picture.columns))
 }
 
-/// The greatest width of so many columns.
+/// The greatest width of a column, for this many columns.
 fn greatest_width(columns: usize) -> u8
     ensures { result ≡ widest columns }
 {

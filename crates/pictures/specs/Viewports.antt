@@ -158,7 +158,7 @@ abbrev pub IsViewportOf : ℕ → ℕ → Picture → Picture → Type 0
 IsViewportOf room event whole part = IsViewportAround room (column_of whole.marks.items event) event whole part
 
 -- what a view shows of a picture of a history with this many events: the picture itself if there is
--- room for all its columns, otherwise a viewport
+-- room for all its columns, and otherwise a viewport
 abbrev pub IsShownOf : ℕ → Option ℕ → View → Picture → Picture → Type 0
 IsShownOf events wrong view whole part = MatchBool (is_whole (room_for view.calls) whole.columns) (part ≡ whole)
     (IsViewportOf (room_for view.calls) (event_shown events wrong view.around whole.marks.items) whole part)

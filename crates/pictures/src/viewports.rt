@@ -61,7 +61,7 @@ pub(crate) fn viewport_around(
     viewport_at(alloc, picture, &columns, event, from, to)
 }
 
-/// Whether a picture with so many columns is shown whole.
+/// Whether a picture with this many columns is shown as a whole.
 fn is_whole(room: usize, columns: usize) -> bool
     ensures { result ≡ is_whole room columns }
 {

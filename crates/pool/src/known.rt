@@ -30,7 +30,7 @@ pub(crate) fn in_place(
     Ok(known)
 }
 
-/// As many empty places as there are segments: no answer is known.
+/// A place for each segment, where no answer is known yet.
 pub(crate) fn none_known(alloc: Global, segments: usize) -> Result<Vec<Option<Found>>, Memory>
     ensures { IfOk result (λ v. v.items ≡ replicate segments None) }
 {

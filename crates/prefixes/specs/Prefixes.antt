@@ -7,7 +7,7 @@ use Rattle.events.specs.HistoryView.{HistoryView}
 use Rattle.events.specs.Operations.{operations}
 use Rattle.orders.specs.Orders.{IsLinearizableHistory}
 
--- the history of so many events, from the same starting pairs
+-- the history of this many first events, from the same starting pairs
 abbrev pub prefix_of : HistoryView → ℕ → HistoryView
 prefix_of history count = record { start = history.start; events = take count history.events }
 

@@ -16,8 +16,9 @@ pub fn is_read(call: &Operation) -> bool
 }
 
 /// Whether a reply says that the call changed nothing. It does if the call was refused or only
-/// reads, put the value that it found, removed nothing, or did not find the value that it was to
-/// replace. A replace of a value by the same value changes nothing, whatever it found.
+/// reads. It also does if the call put the value that it found, removed nothing, or did not find
+/// the value that it was to replace. A replace of a value by the same value changes nothing,
+/// whatever it found.
 pub fn says_unchanged(call: &Call, reply: &Reply) -> bool
     ensures { result ≡ spec.says_unchanged call.now reply.now }
 {

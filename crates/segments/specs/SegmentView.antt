@@ -11,8 +11,8 @@ use Rattle.events.specs.Precedence.{NonePrecedesItself}
 use Rattle.events.specs.Keys.{low_key, high_key}
 use Rattle.orders.specs.Orders.{calls_at}
 
--- some calls by number, with the least and the greatest key that they name, and the pairs that the
--- map holds at the start from the one key to the other
+-- some calls by number, with the least and the greatest key that they name; and the pairs of the
+-- map at the start, from that least key to that greatest key
 pub record SegmentView : Type 0 where
   pub numbers : List ℕ
   pub calls : List Operation

@@ -14,9 +14,9 @@ use events::{History, Memory, Operation};
 use std::alloc::Global;
 use std::marker::Model;
 
-/// At least one call of a history. It has the calls by rising number, the least and the greatest
-/// key that they name, and the pairs of the history's start from the one key to the other.
-/// Contracts see these five.
+/// At least one call of a history. A segment has its calls by rising number, and the least and the
+/// greatest key that they name. It also has the pairs of the history's start from that least key to
+/// that greatest key. Contracts see these parts.
 pub struct Segment {
     numbers: Vec<u32>,
     calls: Vec<Operation>,
