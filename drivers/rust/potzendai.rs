@@ -69,7 +69,7 @@ impl Said {
     }
 }
 
-/// What one thread calls, as a reference to the map: any function but `get` and `put` may be left out. Nothing else changes the map.
+/// What one thread calls, as a reference to the map: any function except `get` and `put` may be left out. Nothing else changes the map.
 pub trait Connection {
     /// The value.
     fn get(&mut self, key: u64) -> Said;
@@ -83,11 +83,11 @@ pub trait Connection {
     fn scan(&mut self, _low: u64, _high: u64) -> Said {
         Said::Missing
     }
-    /// The value found; or Done where it was replaced, Other where it was not.
+    /// The value found; or Done if it was replaced, Other if it was not.
     fn replace(&mut self, _key: u64, _old: u64, _value: u64) -> Said {
         Said::Missing
     }
-    /// None where it was put; else the value found.
+    /// None if it was put, otherwise the value found.
     fn put_if_absent(&mut self, _key: u64, _value: u64) -> Said {
         Said::Missing
     }
@@ -99,7 +99,7 @@ pub trait Connection {
     fn ceiling(&mut self, _key: u64) -> Said {
         Said::Missing
     }
-    /// The least pair, which is taken.
+    /// The least pair, which is removed.
     fn pop_first(&mut self) -> Said {
         Said::Missing
     }
@@ -129,19 +129,19 @@ const PROCESSES: usize = 64;
 const CALLS: u64 = 4096;
 const SPAN: u64 = 16;
 const SELDOM: u64 = 20;
-/// Limits of a stream and of its keys; how many stamps a thread may be ahead of what is handed over; how many bytes are at once.
+/// The limits of a stream and of its keys; how many stamps a thread may be ahead of what is written; how many bytes are written at once.
 const STREAM_PROCESSES: usize = 65536;
 const STREAM_KEYS: u64 = 16384;
-/// Bytes of the report of a stream without order that are shown, and of a stream that are kept for a file.
+/// How many bytes are shown of the report of a stream without order, and how many of a stream are stored for a file.
 const REPORT_SHOWN: usize = 1000;
 const KEPT: usize = 1 << 26;
 /// Under `--cache`, values from here on are the driver's own.
 const OWN_VALUES: u64 = 1 << 63;
-/// How many calls a stream has on behalf of one; of how many of its events the notes are kept; how many other open calls are shown.
+/// How many calls a stream may have on behalf of one call; how many of its last events keep their notes; how many other open calls are shown.
 const BESIDE: usize = 32;
 const NOTES: u64 = 1_000_000;
 const OPEN_SHOWN: usize = 6;
-/// So many rounds are judged together, of so many calls.
+/// This many rounds are judged together, with this many calls.
 const BATCH_ROUNDS: usize = 64;
 const BATCH_CALLS: usize = 256;
 const AGAIN: &str = "  again (draws the same calls; threads may interleave otherwise): ";
@@ -258,7 +258,7 @@ thread_local! {
 
 static HAS_POINTS: AtomicBool = AtomicBool::new(false);
 
-/// To be called by a map's functions where another thread should get in between: under `--yield` it sometimes does.
+/// A map's functions may call this at each place where another thread should be able to run: under `--yield` it sometimes does.
 pub fn point() {
     HAS_POINTS.store(true, Relaxed);
     give_way();
@@ -268,7 +268,7 @@ thread_local! {
     static TAKEN: RefCell<Option<(Arc<AtomicU64>, Vec<u64>)>> = const { RefCell::new(None) };
 }
 
-/// To be called by a map's read once its snapshot is taken: the read counts as answered at this moment, and its pairs may be read later.
+/// A map's read may call this when it has its snapshot. The read counts as answered at that moment, and may read its pairs later.
 pub fn taken() {
     TAKEN.with(|taken| {
         if let Some((stamps, drawn)) = &mut *taken.borrow_mut() {
@@ -326,7 +326,7 @@ fn pairs_text(pairs: &[(u64, u64)]) -> String {
     format!("[{}]", texts.join(","))
 }
 
-/// An answer as a text; none where the call stays open.
+/// An answer as a text; none if the call stays open.
 fn answer_text(said: &Said) -> Option<String> {
     match said {
         Said::Told(value) | Said::Pair(_, value) => Some(value.to_string()),
@@ -368,8 +368,8 @@ fn noted(kind: Kind, words: &[u64], said: &Said) -> Option<(Call, Option<String>
     })
 }
 
-/// What a history has of a call: its invocation, its answer, or none where the call stays open; a note of the call as it was made, where that is
-/// another one; and further calls of the same interval, each by a process of its own.
+/// What a history has of a call: its invocation, and its answer, or none if the call stays open. Also a note of the call as it was made, if that is
+/// another one, and further calls of the same interval, each by a process of its own.
 #[derive(Clone, Debug)]
 struct Noted {
     call: Call,
@@ -484,7 +484,7 @@ impl<'a> Broken<'a> {
         self.times.fetch_add(1, SeqCst);
     }
 
-    /// Does the put that still comes, soon.
+    /// Makes a put that is still to come, soon.
     fn caught_up(&mut self) -> &mut Box<dyn Connection + 'a> {
         if let Some((key, value)) = self.late {
             if self.draws.below(2) == 1 {
@@ -496,7 +496,7 @@ impl<'a> Broken<'a> {
         &mut self.truly
     }
 
-    /// What the put of the map would say where a get says this.
+    /// What the put of the map would say if a get says this.
     fn in_style(&self, got: Said) -> Said {
         match (&self.style, &got) {
             (Some(Said::Done), _) => Said::Done,
@@ -505,8 +505,8 @@ impl<'a> Broken<'a> {
         }
     }
 
-    /// Makes a get and then a put, as if they were one call. If the put reports what it found, the get is of the same key. Else it is of the key
-    /// next to it, which is put back as it was got.
+    /// Makes a get and then a put, as if they were one call. If the put reports what it found, the get is of the same key. Otherwise it is of the key
+    /// next to it, and puts back what it got.
     fn race(&mut self, key: u64, value: u64) -> Said {
         let tells = matches!(self.style, Some(Said::Told(_)));
         let beside = if tells || key ^ 1 >= self.keys { key } else { key ^ 1 };
@@ -642,7 +642,7 @@ struct Event {
     beside: Arc<Vec<Noted>>,
 }
 
-/// The two events of a call, of which the second is none where the call stays open.
+/// The two events of a call; there is no second one if the call stays open.
 fn events_of(stamps: [u64; 2], who: (usize, usize), kind: &'static str, said: usize, noted: Noted) -> Vec<Event> {
     let (beside, (thread, life)) = (Arc::new(noted.beside), who);
     let (what, note) = (What::Invoke(noted.call), noted.note);
@@ -658,7 +658,7 @@ fn writes_key(kind: &str) -> bool {
     matches!(kind, "put" | "del" | "replace" | "put_if_absent")
 }
 
-/// The number of a round, as how many processes a thread may go on, what the map holds, and keys at which calls have no answer.
+/// The number of a round, how many processes a thread may be in turn, what the map holds, and the keys at which calls have no answer.
 #[derive(Clone)]
 struct Task {
     round: u64,
@@ -677,7 +677,7 @@ struct Shared {
     stream: Option<Stream>,
 }
 
-/// A part of what a stamp of a stream has: a call of a process with its note, or its answer, or none if it stays open.
+/// A part of what a stamp of a stream has: a call of a process with its note, or its answer, or nothing if the call stays open.
 struct Part {
     process: usize,
     call: Option<Call>,
@@ -685,8 +685,8 @@ struct Part {
     note: Option<String>,
 }
 
-/// What a stamp of a stream has: first the event of a thread, then those on behalf of it; of which function they are; and what the map said, if
-/// this ends a call.
+/// What a stamp of a stream has: first the event of a thread, then the events on its behalf; their function; and what the map said, if this ends a
+/// call.
 #[derive(Default)]
 struct Happening {
     parts: Vec<Part>,
@@ -700,9 +700,9 @@ const RUNNING: usize = 0;
 const OVER: usize = 1;
 const FAILED: usize = 2;
 
-/// A stream of events, which a thread of its own hands on while others record. Stamps are numbers without a gap, and each has its slot. Who is
-/// too far ahead of what is handed over waits, so that memory does not grow. Between its two stamps nobody waits except for lower stamps, so the
-/// event of the least stamp always comes.
+/// A stream of events, which a thread of its own writes to the program while others record. Stamps are numbers without a gap, and each has its slot.
+/// A thread that is too far ahead of what is written waits, so that memory does not grow. Between its two stamps a thread waits only for lower
+/// stamps, so the event of the least stamp always comes.
 struct Stream {
     slots: Vec<Mutex<Option<Happening>>>,
     taken: AtomicU64,
@@ -711,7 +711,7 @@ struct Stream {
     is_ended: AtomicBool,
 }
 
-/// Lets others go on: most times at once, sometimes for some time.
+/// Lets other threads run: most times once, sometimes for some time.
 fn rest_some(times: u64) {
     if times % 64 != 0 {
         std::thread::yield_now();
@@ -765,7 +765,7 @@ struct Counts {
     wrong: u64, // how often the broken map went wrong
 }
 
-/// What a thread keeps from one map to the next.
+/// What a thread remembers from one map to the next.
 #[derive(Clone, Default)]
 struct Kept {
     counts: Counts,
@@ -845,7 +845,7 @@ impl<'a> Worker<'a> {
         Ok((std::mem::take(&mut self.log), self.kept.counts))
     }
 
-    /// Whether it may make one call more.
+    /// Whether it may make one more call.
     fn goes_on(&self) -> bool {
         let is_running = |stream: &Stream| stream.state.load(SeqCst) == RUNNING && self.process < STREAM_PROCESSES;
         let has_calls = self.options.calls == 0 || self.made < self.options.calls;
@@ -1047,8 +1047,8 @@ impl<M: Map> Opens for M {
     }
 }
 
-/// What a thread does: it opens a connection and puts out nothing, and then one task after another, each of which puts out what it has
-/// recorded, or why the run ends. At the end it answers what it keeps for the next map.
+/// What a thread does: it opens a connection, and does one task after another. Each task sends what it has recorded, or why the run ends. At the end
+/// the thread returns what it remembers for the next map.
 fn serve(number: u64, options: &Options, shared: &Shared, map: &dyn Opens, kept: Kept, tasks: &Receiver<Task>, out: &Sender<Outcome>) -> Kept {
     let done = catch_unwind(AssertUnwindSafe(|| {
         let mut worker = Worker::new(number, options, shared, map, kept);
@@ -1186,7 +1186,7 @@ struct Round {
 }
 
 impl Round {
-    /// Calls that have no answer from before are the first.
+    /// Calls from earlier rounds that have no answer come first.
     fn new(mut noted: Vec<Event>, start: Arc<BTreeMap<u64, u64>>, before: &[Call], tally: &mut Tally) -> Round {
         let events = before.iter().cloned().enumerate().map(|(process, call)| One::new(process, What::Invoke(call), None)).collect();
         let (at_start, nobody) = ("at the start", "nobody");
@@ -1202,8 +1202,8 @@ impl Round {
         *self.numbers.entry(who).or_insert(next)
     }
 
-    /// The events of the threads. Further calls of one are made by processes that are free; where there are none, or too many calls, it is left out
-    /// with them.
+    /// The events of the threads. The further calls of a call get processes that are free. If there are none, or too many calls, the call is left out
+    /// with its further calls.
     fn order(&mut self, noted: Vec<Event>) {
         let is_call = |event: &Event| matches!(event.what, What::Invoke(_));
         let own: HashSet<Who> = noted.iter().map(|event| (event.thread, event.life)).collect();
@@ -1245,8 +1245,8 @@ impl Round {
         }
     }
 
-    /// How many calls were open where another began, at which keys two writers met, and which changes may still come. A call without an answer is
-    /// none that others overlap.
+    /// How many calls were open when another began, at which keys two writers met, and which changes may still come. A call without an answer does
+    /// not count as overlapped.
     fn measure(&mut self, tally: &mut Tally) {
         let mut last = HashMap::new();
         for number in 0..self.events.len() {
@@ -1286,7 +1286,7 @@ impl Round {
             && self.events.iter().any(|one| matches!(&one.what, What::Answer(answer) if *answer == value || answer.contains(&in_pair)))
     }
 
-    /// A history as a round, as far as what is said of it needs that.
+    /// A history as a round, as far as the report needs it.
     fn read(text: &str) -> Round {
         let whole = Json::read(&mut &*text);
         let mut events = vec![];
@@ -1315,7 +1315,7 @@ impl Round {
         }
     }
 
-    /// Whether all its keys are below `keys` and all its calls have answers: then it may be judged together with others.
+    /// Whether all its keys are below `keys` and all its calls have answers. Then it may be judged together with other rounds.
     fn is_apart(&self, keys: u64) -> bool {
         let calls = self.events.iter().filter_map(One::call);
         let is_own = self.events.iter().all(|one| match &one.what {
@@ -1375,7 +1375,7 @@ impl Round {
     }
 }
 
-/// The pairs that an answer has, or none where it is no list of them.
+/// The pairs of an answer, or none if it is not a list of pairs.
 fn pairs_of(answer: &str) -> Option<Vec<(u64, u64)>> {
     match Json::read(&mut &*answer) {
         Json::List(pairs) => Some(pairs.iter().map(|pair| (pair.word(0), pair.word(1))).collect()),
@@ -1387,7 +1387,8 @@ fn note_text(note: &Option<String>) -> String {
     note.as_ref().map_or(String::new(), |note| format!("\"note\":\"{note}\","))
 }
 
-/// How often gets found a value; and how often a key was lost, so that nothing was found where a put was answered and no delete begun since.
+/// How often gets found a value, and how often a key was lost. A key is lost if nothing is found although a put of it was answered, and no delete has
+/// begun since.
 #[derive(Default)]
 struct Tally {
     hits: u64,
@@ -1447,13 +1448,13 @@ impl Tally {
 }
 
 impl Program {
-    /// The verdict: once more at ten times the budget where it is undecided.
+    /// The verdict; if it is undecided, it is asked again at ten times the budget.
     fn ask_twice(&self, command: &str, text: &str) -> Result<(i32, String), Stop> {
         let asked = self.ask(command, text, self.budget)?;
         if asked.0 == UNDECIDED { self.ask(command, text, self.more()) } else { Ok(asked) }
     }
 
-    /// The budget of what is asked again.
+    /// The budget of a question that is asked again.
     fn more(&self) -> u64 {
         (self.budget * 10).min(1_000_000)
     }
@@ -1483,7 +1484,7 @@ impl Program {
         Ok(program)
     }
 
-    /// Whether `judge`, or what else there is, was answered.
+    /// Whether `judge`, or another command, was answered.
     fn has_answered(&self, command: &str) -> &AtomicBool {
         if command == "judge" { &self.has_judged } else { &self.has_told }
     }
@@ -1502,8 +1503,8 @@ impl Program {
         built.max_by_key(|built| built.with_file_name("built").metadata().and_then(|found| found.modified()).ok()).unwrap_or(script)
     }
 
-    /// Has a stream followed that is handed over. The program writes once it has a verdict, and may do so while the stream is still running: then the
-    /// run is over.
+    /// Lets the program follow a stream that is written to it. It prints its verdict when it has one, which may be while the stream is still running.
+    /// Then the run is over.
     fn follow(&self, stream: &Stream, hand: impl FnOnce(&mut dyn Write)) -> Result<(i32, String), Stop> {
         let told = |error: std::io::Error| self.told(&error);
         let mut asked = Command::new(self.at("follow"));
@@ -1545,7 +1546,7 @@ impl Program {
         self.checked(command, child.wait().map_err(told)?, answer)
     }
 
-    /// The status with its report, where the program has given one.
+    /// The status with its report, if the program has given one.
     fn checked(&self, command: &str, ended: ExitStatus, answer: String) -> Result<(i32, String), Stop> {
         match ended.code() {
             Some(status) if status <= UNDECIDED => {
@@ -1608,7 +1609,7 @@ impl Program {
         Ok(Program { budget: options.budget })
     }
 
-    /// What a call answers, and its text: again with more room, where that needs more.
+    /// What a call answers, and its text. It is called again with more room if it needs more.
     fn answered(command: &str, call: impl Fn(*mut u8, usize, *mut usize) -> u32) -> Result<(i32, String), Stop> {
         let mut length = 32767;
         loop {
@@ -1633,7 +1634,7 @@ impl Program {
         Program::answered(command, |room, size, length| unsafe { question(text.as_ptr(), text.len(), budget, room, size, length) })
     }
 
-    /// Has a stream followed that is handed over.
+    /// Lets the library follow a stream that is passed to it.
     fn follow(&self, stream: &Stream, hand: impl FnOnce(&mut dyn Write)) -> Result<(i32, String), Stop> {
         let mut follower = Follower { at: std::ptr::null_mut(), is_open: false };
         if unsafe { potzendai_follow_open(&mut follower, self.budget as u32) } != 0 {
@@ -1670,7 +1671,7 @@ struct Waiting {
     counted: Counted,
 }
 
-/// Rounds at a new map, each of which begins with what the one before has left: the pairs, and calls without an answer that may still come.
+/// Rounds at a new map. Each begins with what the one before has left: the pairs, and calls without an answer that may still take effect.
 struct Run {
     options: Options,
     counted: Counted,
@@ -1824,7 +1825,7 @@ impl Run {
         self.conclude(stream, status, report)
     }
 
-    /// What the verdict on a stream says. One that was cut off has no yes.
+    /// What the verdict on a stream says. A stream that was cut off gets no yes.
     fn conclude(&mut self, stream: &Stream, status: i32, report: String) -> Result<(), Stop> {
         let counts_all = self.options.out == "-" || report.starts_with(&format!("{{\"calls\":{},", self.counted.calls + self.helped));
         match status {
@@ -1842,7 +1843,7 @@ impl Run {
         Ok(())
     }
 
-    /// Hands over each event in its turn, and asks for the verdict at the end.
+    /// Writes each event in its turn, and asks for the verdict at the end.
     fn write(
         &mut self, shared: &Shared, stream: &Stream, start: &BTreeMap<u64, u64>, program: Option<&Program>,
     ) -> Result<(i32, String), Stop> {
@@ -1888,7 +1889,7 @@ impl Run {
         }
     }
 
-    /// Keeps lines of the stream for a file, or nothing of it any more where they are too many.
+    /// Stores lines of the stream, for a file. If there are too many, nothing of the stream is stored any more.
     fn keep(&mut self, lines: &str) {
         self.kept = self.kept.take().filter(|kept| kept.len() + lines.len() <= KEPT);
         if let Some(kept) = &mut self.kept {
@@ -1896,8 +1897,8 @@ impl Run {
         }
     }
 
-    /// The lines of events, and what is counted: as of a round, but nothing is stored of calls that are over. A call without an answer is
-    /// over too: nobody waits for it.
+    /// The lines of events, and the counts, as for a round. But nothing is stored of calls that are over. A call without an answer is over too:
+    /// nobody waits for it.
     fn take_happening(
         &mut self, what: Happening, open: &mut HashMap<usize, (Call, u64)>, writers: &mut HashMap<u64, u64>, text: &mut String,
     ) {
@@ -2044,7 +2045,8 @@ impl Run {
         Ok(())
     }
 
-    /// Judges the rounds that wait: all at once, and each on its own where that is not a yes. Of a no, what was counted is that up to its end.
+    /// Judges the rounds that wait: first all together, and each on its own if that is not a yes. After a no, only what was counted up to its end
+    /// counts.
     fn judge_waiting(&mut self, program: &Program) -> Result<(), Stop> {
         let all = std::mem::take(&mut self.waiting);
         let is_batch = all.len() > 1;
@@ -2072,7 +2074,7 @@ impl Run {
         self.counted.rounds > 0 && (self.options.rounds > 0 && self.counted.rounds >= self.options.rounds || is_late)
     }
 
-    /// Each second a line on a terminal says how far this is.
+    /// Each second a line on a terminal says how far the run is.
     fn progress(&mut self) {
         let seconds = self.began.elapsed().as_secs_f64();
         if self.options.shows && self.options.shown.elapsed() > Duration::from_secs(1) && self.counted.calls > 0 {
@@ -2086,7 +2088,7 @@ impl Run {
         }
     }
 
-    /// The verdict, and what it rests on.
+    /// The verdict, and the counts on which it is based.
     fn summary(&self, verdict: &str) -> String {
         let said: Vec<String> =
             self.counted.sayings.iter().zip(SAYINGS).filter(|(count, _)| **count > 0).map(|(count, word)| format!("{count} {word}")).collect();
@@ -2144,7 +2146,7 @@ impl Run {
     }
 }
 
-/// So many of a noun.
+/// A number with its noun.
 fn counted(count: u64, noun: &str) -> String {
     format!("{count} {noun}{}", if count == 1 { "" } else if noun.ends_with('s') { "es" } else { "s" })
 }
@@ -2154,8 +2156,8 @@ fn grouped(number: u64) -> String {
     if number < 1000 { number.to_string() } else { format!("{},{:03}", grouped(number / 1000), number % 1000) }
 }
 
-/// The smallest run that failed, of some tries with half of the calls or keys, or a thread less. Threads interleave as they will. Where calls
-/// have no answer none is tried, since they may still come.
+/// The smallest run that failed, of some tries with half of the calls or keys, or a thread less. Threads interleave as they will. If calls have no
+/// answer, nothing smaller is tried, since they may still take effect.
 fn smaller<M: Map>(run: &Run, make: &dyn Fn() -> M, program: &Program) -> Result<Option<Run>, Stop> {
     let (mut best, began, mut tries, mut how) = (None, Instant::now(), 0, 0);
     let mut options = run.options.clone();
@@ -2308,7 +2310,7 @@ fn said_call(call: &Json) -> String {
     }
 }
 
-/// The events of a call: that of its invocation by a process, and that of its answer, where it has one.
+/// The events of a call: that of its invocation by a process, and that of its answer if it has one.
 fn said_events(round: &Round, invoked: u64, process: u64) -> String {
     let mut behind = round.events.iter().enumerate().skip(invoked as usize + 1);
     match behind.find(|(_, one)| one.process as u64 == process) {
@@ -2317,7 +2319,7 @@ fn said_events(round: &Round, invoked: u64, process: u64) -> String {
     }
 }
 
-/// The call of an event as it was made, where a history has another one.
+/// The call of an event as it was made, if the history has another one.
 fn note_of(round: &Round, number: u64) -> Option<&String> {
     round.events.get(number as usize)?.note.as_ref()
 }
@@ -2328,7 +2330,7 @@ fn said_made(round: &Round, number: u64, call: String) -> String {
     note_of(round, number).map_or(call, said)
 }
 
-/// The event of a call's answer, or the end where it has none.
+/// The event of a call's answer, or the end if it has none.
 fn last_event(round: &Round, invoked: usize) -> usize {
     let process = round.events[invoked].process;
     (invoked + 1..round.events.len()).find(|number| round.events[*number].process == process).unwrap_or(round.events.len())
@@ -2376,7 +2378,7 @@ fn said_origin(round: &Round, line: &Json) -> String {
     format!("  {} at {} is {who}", line.member("value").number(), line.member("key").number())
 }
 
-/// From which value of a key the few calls have no order. Only an undecided report has such lines.
+/// The value of a key from which the few calls have no order. Only an undecided report has such lines.
 fn said_from(line: &Json) -> String {
     let key = line.member("key").number();
     let (Json::Number(value), put) = (line.member("from"), line.member("put")) else {
@@ -2447,7 +2449,7 @@ fn said_report(report: &str, round: &Round) -> (Vec<String>, Option<String>) {
     (said, few)
 }
 
-/// A line of a report, without the values that replaces of a cache put which said that they changed nothing.
+/// A line of a report, without the values that some replaces of a cache put: those that said that they changed nothing.
 fn unmarked(line: &str) -> String {
     let texts = line.split_inclusive(|one: char| !one.is_ascii_digit());
     texts.map(|text| {
@@ -2459,7 +2461,7 @@ fn unmarked(line: &str) -> String {
     }).collect()
 }
 
-/// Writes a file of a round, or of a stream, and says how it is called.
+/// Writes a file of a round, or of a stream, and says its name.
 fn keep(run: &Run, ending: &str, text: &str) -> String {
     let name = format!("{}-{}-{}{ending}", run.options.name, run.options.seed, run.counted.rounds.saturating_sub(1));
     let path = std::path::Path::new(&run.options.out).join(name);
@@ -2469,7 +2471,7 @@ fn keep(run: &Run, ending: &str, text: &str) -> String {
     }
 }
 
-/// Reports a stream that has no order. If the calls that are left show the fault, their history is explained; else a line says why not. The
+/// Reports a stream that has no order. If the calls that are left show the fault, their history is explained; otherwise a line says why not. The
 /// stream so far is saved, unless it is long. The report is saved if it is not shown whole, or if nothing else is saved.
 fn refuted_stream(run: &Run, program: &Program) -> Result<Vec<String>, Stop> {
     let (report, left) = run.report.split_once('\n').unwrap_or((&run.report, ""));
@@ -2534,7 +2536,7 @@ fn shown(run: &Run, text: &str, report: &str, round: &Round, program: &Program) 
     said
 }
 
-/// Keeps the file that the program or the library makes of a history, or says why there is none.
+/// Saves the file that the program or the library makes of a history, or says why there is none.
 fn keep_made(run: &Run, program: &Program, command: &str, ending: &str, text: &str) -> String {
     match program.ask_twice(command, text) {
         Ok((_, made)) => keep(run, ending, &made),
@@ -2700,13 +2702,13 @@ impl Options {
         Ok(())
     }
 
-    /// Whether what a broken map makes wrong is called; of all of them, whether what one of them does is.
+    /// Whether the functions that a broken map makes wrong are called; for `all`, whether those of one kind are.
     fn is_called(&self, how: &str) -> bool {
         let is_steps = |name: &str| name == "torn" && self.scan == "steps";
         BREAKS.iter().any(|(name, kind)| (*name == how || how == "all") && self.shares[*kind as usize] > 0 && !is_steps(name))
     }
 
-    /// The words together, and with what the map has.
+    /// Tests that the options fit each other and the functions of the map.
     fn fit(&mut self, has: [bool; 9], can_reopen: bool) -> Result<(), Stop> {
         let is_apart = self.void == "own" || self.void == "lock";
         for kind in KINDS {
@@ -2756,7 +2758,7 @@ impl Options {
         self.check_out()
     }
 
-    /// Whether a file can be put into the folder for files: one of a name that none has yet is put there, and taken away.
+    /// Tests whether a file can be written into the folder for files: one with a new name is written there, and removed.
     fn check_out(&self) -> Result<(), Stop> {
         if self.out == "-" {
             return Ok(());
@@ -2775,7 +2777,7 @@ impl Options {
         })
     }
 
-    /// Half of the calls or the keys, or a thread less; none where there are none.
+    /// Options with half of the calls or of the keys, or one thread less; none if that is not possible.
     fn less(&self, how: usize) -> Option<Options> {
         let mut less = self.clone();
         (less.rounds, less.shows) = (1, false);
@@ -2788,7 +2790,7 @@ impl Options {
         (less.calls > 0 && less.threads > 0 && less.keys >= least_keys).then_some(less)
     }
 
-    /// The words that repeat the draws of a run of so many rounds.
+    /// The options that repeat the draws of a run of this many rounds.
     fn again(&self, rounds: u64) -> String {
         let shares = KINDS.iter().filter(|kind| self.shares[**kind as usize] > 0);
         let mix: Vec<String> = shares.map(|kind| format!("{}={}", kind.name(), self.shares[*kind as usize])).collect();
@@ -2860,7 +2862,7 @@ fn tested<M: Map>(name: &str, make: &dyn Fn() -> M, words: &[String]) -> Result<
     Ok((status, said, run.summary(VERDICTS[status as usize])))
 }
 
-/// Each way to go wrong that the drawn calls can show has to be refuted: then the status is that of a no.
+/// Each kind of bug that the drawn calls can show has to be refuted. Then the status is that of a no.
 fn all_broken<M: Map>(
     mut options: Options, make: &dyn Fn() -> M, program: &Program, has: [bool; 9],
 ) -> Result<(i32, Vec<String>, String), Stop> {
@@ -2886,7 +2888,7 @@ fn all_broken<M: Map>(
     })
 }
 
-/// Prints a text, and answers the status: where standard output has no room that of a yes is another one.
+/// Prints a text, and returns the status. If standard output has no room, a yes gets another status.
 fn printed(status: i32, text: &str) -> i32 {
     if writeln!(std::io::stdout(), "{text}").is_ok() {
         return status;
@@ -2895,7 +2897,7 @@ fn printed(status: i32, text: &str) -> i32 {
     if status == YES { BAD_FILE } else { status }
 }
 
-/// A whole program: says how it went, and answers the status. `make` makes a new and empty map: one for each run.
+/// A whole program: it reports how the run went, and returns the status. `make` makes a new and empty map for each run.
 pub fn run<M: Map>(name: &str, make: impl Fn() -> M, words: impl Iterator<Item = String>) -> i32 {
     let words: Vec<String> = words.collect();
     if words.iter().any(|word| word == "--help" || word == "-h") {
@@ -2913,7 +2915,7 @@ pub fn run<M: Map>(name: &str, make: impl Fn() -> M, words: impl Iterator<Item =
     }
 }
 
-/// To be called from a test: panics with the explanation where the verdict is no yes.
+/// For a test: panics with the explanation if the verdict is not yes.
 pub fn check<M: Map>(name: &str, make: impl Fn() -> M, words: &[&str]) {
     let words: Vec<String> = words.iter().map(|word| word.to_string()).collect();
     match tested(name, &make, &words) {
