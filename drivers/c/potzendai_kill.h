@@ -33,7 +33,7 @@ struct potzendai_killing {
     bool is_getting, is_kept; /* whether the open call of a reading is a get, and whether the folder stays */
 };
 
-/* Runs a program to its end: 0 where that is a success. */
+/* Runs a program to its end. Returns 0 if it succeeds. */
 static inline int potzendai_execute(const char *const *words)
 {
     int ended = 1;
@@ -164,7 +164,7 @@ static inline int potzendai_end_child(struct potzendai_child *c)
     return c->ended;
 }
 
-/* Hears what the process writes until then: the length of whole lines at the begin of its text, 0 at the end, or -1 where nothing came. */
+/* Reads what the process writes until then. Returns the length of the whole lines at the beginning of its text, 0 at the end, or -1 if nothing came. */
 static inline ssize_t potzendai_hear(struct potzendai_child *c, double until)
 {
     struct pollfd one = {c->from, POLLIN, 0};
@@ -385,7 +385,7 @@ static inline int potzendai_check_seen(struct potzendai_killing *k, bool is_over
                                                                "stdio, or not in potzendai_store()");
 }
 
-/* Takes the end of a life: -1 where it was no kill, or where nothing of the store was seen. */
+/* Takes the end of a life. Returns -1 if it was no kill, or if nothing of the store was seen. */
 static inline int potzendai_take_end(struct potzendai_killing *k, const struct potzendai_following *f, bool is_killed, uint64_t kill_at)
 {
     struct potzendai_tester *tester = k->tester;
@@ -507,7 +507,7 @@ static inline void potzendai_tell_writes(const struct potzendai_killing *k)
         sprintf(to, ", %" PRIu64 " writes and syncs, %" PRIu64 " syncs", k->writes, k->syncs);
 }
 
-/* Life after life, until one has no order, the store does not open, or the time is over: a status, or -1 where the run fails. */
+/* Makes life after life, until one has no order, the store does not open, or the time is over. Returns a status, or -1 if the run fails. */
 static inline int potzendai_kill_lives(struct potzendai_tester *tester)
 {
     struct potzendai_killing *k = (struct potzendai_killing *)calloc(1, sizeof *k);

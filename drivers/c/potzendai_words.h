@@ -204,7 +204,7 @@ static inline int potzendai_read_named(struct potzendai_options *o, const char *
     return -1;
 }
 
-/* Reads a word of schedules that stands on its own; -1 if it is none of these. */
+/* Reads an option of schedules that takes no value. Returns -1 if it is none of these. */
 static inline int potzendai_read_schedule_flag(struct potzendai_schedule_words *s, const char *word)
 {
     bool is_buffers = strcmp(word, "--tso") == 0;
@@ -241,7 +241,7 @@ static inline int potzendai_read_schedule_word(struct potzendai_schedule_words *
     return is_right ? 0 : potzendai_complain(word, "none of its names or numbers; --help has them");
 }
 
-/* Reads a word of kills that has none after it: -1 where it is none of these. */
+/* Reads an option of kills that takes no value. Returns -1 if it is none of these. */
 static inline int potzendai_read_kill_flag(struct potzendai_options *o, const char *word)
 {
     bool is_power = strcmp(word, "--power") == 0;
@@ -434,7 +434,7 @@ static inline int potzendai_check_sizes(struct potzendai_options *o)
     if (o->kill > 0)
         return 0;
     if (o->is_stream)
-        return o->rounds > 0 ? potzendai_complain("--rounds", "a stream has none; --seconds, or --calls of each thread") : 0;
+        return o->rounds > 0 ? potzendai_complain("--rounds", "a stream has no rounds; use --seconds, or --calls for each thread") : 0;
     if (o->calls == 0)
         o->calls = potzendai_calls_where_none(o);
     if (o->threads >= RECORDING_PROCESSES)

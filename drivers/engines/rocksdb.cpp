@@ -35,8 +35,8 @@ struct Engine {
 };
 
 class Rocks : public FolderMap<Engine> {
-    // Looks what is there under the key's lock, and then puts a value or deletes; a replace only where the old value is there. Nothing has changed
-    // where the transaction has expired or met a conflict; of a commit that fails otherwise nobody knows.
+    // Looks what is there under the key's lock, and then puts a value or deletes; a replace only if the old value is there. Nothing has changed if the
+    // transaction has expired or met a conflict. If a commit fails otherwise, nobody knows.
     map_said change(uint64_t key, const uint64_t *value, const uint64_t *old, uint64_t &found)
     {
         std::string before, at = bytes_of(key);

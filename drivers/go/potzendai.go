@@ -2736,7 +2736,7 @@ func (o *options) fit(has functions, canReopen bool) {
 	case o.isReopened && !canReopen:
 		fail(badWords, "--reopen: the map has no function Reopen")
 	case o.isStream && o.rounds > 0:
-		fail(badWords, "--rounds: a stream has none; --seconds, or --calls of each thread")
+		fail(badWords, "--rounds: a stream has no rounds; use --seconds, or --calls for each thread")
 	case !o.isStream && o.threads >= processes:
 		fail(badWords, "--threads: at most 63 in rounds; --stream has no such limit")
 	case !o.isStream && o.keys > most:

@@ -1039,7 +1039,7 @@ public final class Potzendai {
                 throw new Stop(WORDS, options.name + ": reopen: " + wrong);
             }
             if (opened == null)
-                throw new Stop(WORDS, options.name + ": reopen said nothing, where it has to return the map");
+                throw new Stop(WORDS, options.name + ": reopen returned nothing; it has to return the map");
             open(opened);
         }
 
@@ -2223,7 +2223,7 @@ public final class Potzendai {
             wrong(isReopened && !canReopen, "--reopen: the map has no function reopen");
             calls = calls > 0 || isStream ? calls : Math.min(CALLS / (threads + 2), 200);
             seconds = seconds > 0 ? seconds : rounds > 0 ? 1000000000 : 10;
-            wrong(isStream && rounds > 0, "--rounds: a stream has none; --seconds, or --calls of each thread");
+            wrong(isStream && rounds > 0, "--rounds: a stream has no rounds; use --seconds, or --calls for each thread");
             long most = CALLS / (threads + 1);
             String size = "at most " + most + " with " + threads + " threads, since a round has at most " + CALLS + " calls";
             wrong(!isStream && threads >= PROCESSES, "--threads: at most 63 in rounds; --stream has no such limit");

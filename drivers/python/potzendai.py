@@ -1149,7 +1149,7 @@ class Run:
         except Exception:
             raise Stop(WORDS, "%s: reopen: %s" % (self.options.name, traceback.format_exc().rstrip()))
         if made is None:
-            raise Stop(WORDS, "%s: reopen said nothing, where it has to return the map" % self.options.name)
+            raise Stop(WORDS, "%s: reopen returned nothing; it has to return the map" % self.options.name)
         self.made, self.crew = made, Crew(self.options, made, stamp, self.top + 1)
 
     def round(self, number, lives):
@@ -1609,7 +1609,7 @@ def fit(options, has, can_reopen):
     if not options.shown_by.get(options.broken, not options.broken or any(options.shown_by.values())):
         wrong("--break", "what it makes wrong is not called")
     if options.stream and options.rounds:
-        wrong("--rounds", "a stream has none; --seconds, or --calls of each thread")
+        wrong("--rounds", "a stream has no rounds; use --seconds, or --calls for each thread")
     if options.hot > options.keys:
         wrong("--hot", "more than there are keys")
     if options.void == "own" and options.keys < options.threads:

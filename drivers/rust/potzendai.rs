@@ -1739,7 +1739,7 @@ impl Run {
                 Next::NewMap => (map, at) = (make(), At { values: at.values, ..At::default() }),
                 Next::Reopened => match catch_unwind(AssertUnwindSafe(|| map.reopen())) {
                     Ok(Some(opened)) => map = opened,
-                    Ok(None) => return fail(BAD_WORDS, format!("{}: reopen said nothing, where it has to return the map", run.options.name)),
+                    Ok(None) => return fail(BAD_WORDS, format!("{}: reopen returned nothing; it has to return the map", run.options.name)),
                     Err(_) => return fail(BAD_WORDS, format!("{}: reopen has panicked", run.options.name)),
                 },
             }
@@ -2745,7 +2745,7 @@ impl Options {
             (self.is_stream && self.fresh > 0, "--fresh: not with --stream, which is of one map"),
             (self.is_stream && self.is_reopened, "--reopen: not with --stream, which is of one map"),
             (self.is_reopened && !can_reopen, "--reopen: the map has no function reopen"),
-            (self.is_stream && self.rounds > 0, "--rounds: a stream has none; --seconds, or --calls of each thread"),
+            (self.is_stream && self.rounds > 0, "--rounds: a stream has no rounds; use --seconds, or --calls for each thread"),
             (!self.is_stream && threads >= PROCESSES as u64, "--threads: at most 63 in rounds; --stream has no such limit"),
             (!self.is_stream && self.keys > most, &many_keys),
             (!self.is_stream && self.calls > most, &many_calls),
