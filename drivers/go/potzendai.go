@@ -1297,7 +1297,7 @@ func (c *crew) reopen() {
 	c.made = nil
 	made := closed.(interface{ Reopen() Map }).Reopen()
 	if made == nil {
-		fail(badWords, "%s: Reopen said nothing, where it has to return the map", c.options.name)
+		fail(badWords, "%s: Reopen returned nothing; it has to return the map", c.options.name)
 	}
 	c.open(made)
 }

@@ -11,8 +11,8 @@ use crate::splitting::insert_in;
 use std::alloc::{AllocError, Global};
 use std::marker::Model;
 
-/// A sorted map. A look-up is two binary searches, but where a key came, was replaced or went last.
-/// What comes or goes moves what stands behind it in its leaf.
+/// A sorted map. A look-up is two binary searches, unless the key is where the last one was
+/// inserted, replaced or removed. An insert or a removal moves the entries after it in its leaf.
 #[derive(Drop)]
 pub struct PackedMap<V> {
     leaves: Vec<Leaf<V>>,
@@ -53,7 +53,7 @@ impl<V: Drop> PackedMap<V> {
         get_in(&self.leaves, self.near, key)
     }
 
-    /// Gives a key a value, its first or another. Want of memory leaves the map as it was.
+    /// Gives a key a value, its first or another. If memory runs out, the map is unchanged.
     pub fn insert(&mut self, key: u64, value: V) -> Result<(), AllocError>
         ensures put { OnOk result ((other : ℕ)
             → value_at self.new other
@@ -64,8 +64,8 @@ impl<V: Drop> PackedMap<V> {
         insert_in(&mut self.leaves, &mut self.near, key, value)
     }
 
-    /// Gives a key that has a value another one, and gives the old one back; where the key has
-    /// none, gives back the new one.
+    /// Gives a key that has a value another one, and returns the old value. If the key has none,
+    /// returns the new value.
     pub fn replace(&mut self, key: u64, value: V) -> Result<V, V>
         ensures was { result_ok result ≡ value_at self.old key }
         ensures replaced { (other : ℕ) → value_at self.new other
@@ -76,7 +76,7 @@ impl<V: Drop> PackedMap<V> {
         replace_in(&mut self.leaves, &mut self.near, key, value)
     }
 
-    /// Takes a key out.
+    /// Removes a key.
     pub fn remove(&mut self, key: u64) -> Option<V>
         ensures was { result ≡ value_at self.old key }
         ensures removed { (other : ℕ) → value_at self.new other

@@ -1,5 +1,6 @@
-// Where a key stands, or belongs. What came, was replaced or went last is often asked for next: so
-// its place is tried first. A key that is read moves nothing.
+// The place of a key, or the place at which it would be inserted. The key that was inserted,
+// replaced or removed last is often asked for next, so its place is tried first. Reading a key
+// changes no such place.
 ghost use Rattle.std.specs.Prelude.{◌<◌, length, IsTrue};
 ghost use Rattle.std.specs.List.Sorted.{IsBinarySearchResult, IsPartitionPoint, IsSearchInRange};
 ghost use Rattle.std.specs.Ordering.{nat_cmp, ordering_index};
@@ -8,7 +9,7 @@ ghost use Rattle.packed_map.specs.Searching.{IsGap};
 
 use crate::leaf::Leaf;
 
-/// The place of a key among entries by rising key, or that at which it would stand.
+/// The place of a key among entries by rising key, or the place at which it would be inserted.
 pub(crate) fn place_of<V>(entries: &[(u64, V)], near: usize, key: u64) -> Result<usize, usize>
     ensures bound { IsSearchInRange result (length entries.now) }
     ensures position { IsBinarySearchResult (λ e. nat_cmp e.0 key) entries.now result }
@@ -22,7 +23,7 @@ pub(crate) fn place_of<V>(entries: &[(u64, V)], near: usize, key: u64) -> Result
     search_by_halves(entries, key)
 }
 
-/// The same, by halves.
+/// That place, by binary search.
 fn search_by_halves<V>(entries: &[(u64, V)], key: u64) -> Result<usize, usize>
     ensures bound { IsSearchInRange result (length entries.now) }
     ensures position { IsBinarySearchResult (λ e. nat_cmp e.0 key) entries.now result }
@@ -51,7 +52,7 @@ pub(crate) fn leaf_of<V>(leaves: &[Leaf<V>], near: usize, key: u64) -> usize
     searched_leaf(leaves, key)
 }
 
-/// The same, by halves.
+/// That leaf, by binary search.
 fn searched_leaf<V>(leaves: &[Leaf<V>], key: u64) -> usize
     requires { AreLeaves leaves.now }
     ensures { IsLeafOf key leaves.now result }

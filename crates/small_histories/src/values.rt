@@ -1,4 +1,4 @@
-// A value or none, as reports tell it.
+// A value, or none, as reports give it.
 ghost use Rattle.std.specs.Prelude.{◌≡◌};
 ghost use Rattle.serde_json.specs.View.{view};
 ghost use Rattle.small_histories.specs.Values.{value_data};
