@@ -191,7 +191,7 @@ static inline int potzendai_read_named(struct potzendai_options *o, const char *
         if (strcmp(word, all[i].name) == 0) {
             int place = text ? potzendai_place(all[i].names, text, strlen(text)) : -1;
             if (place < 0)
-                return potzendai_complain(word, "none of its names; --help has them");
+                return potzendai_complain(word, "not one of its names; see --help");
             o->has_void = o->has_void || i == 0;
             if (i == 0)
                 o->void_puts = (enum potzendai_void)place;
@@ -238,7 +238,7 @@ static inline int potzendai_read_schedule_word(struct potzendai_schedule_words *
     else
         return -1;
     s->first = s->first || is_way ? s->first : word;
-    return is_right ? 0 : potzendai_complain(word, "none of its names or numbers; --help has them");
+    return is_right ? 0 : potzendai_complain(word, "not one of its names or numbers; see --help");
 }
 
 /* Reads an option of kills that takes no value. Returns -1 if it is none of these. */
@@ -458,7 +458,7 @@ static inline int potzendai_check_out(const struct potzendai_options *o)
     int file = length > 0 && length < POTZENDAI_PATH ? mkstemp(path) : -1;
     if (file >= 0 && close(file) == 0 && unlink(path) == 0)
         return 0;
-    fprintf(stderr, "--out: no file can be put into %s: %s\n", o->out, strerror(errno));
+    fprintf(stderr, "--out: no file can be written into %s: %s\n", o->out, strerror(errno));
     return POTZENDAI_BAD_FILE;
 }
 

@@ -1,5 +1,5 @@
-// RocksDB, tested: puts and deletes in transactions that read first, and return the value. With the word `plain` before the options they are single
-// calls, which do not say what was there. README.md says how it is built, and what the other words set.
+// RocksDB, tested: puts and deletes in transactions that read first, and return the value. With the word `plain` before the options, puts and deletes
+// are single calls, which do not say what was there. README.md says how it is built, and what the other words set.
 #include "folder_map.hpp"
 #include <rocksdb/utilities/transaction.h>
 #include <rocksdb/utilities/transaction_db.h>

@@ -2642,7 +2642,7 @@ func (o *options) read(word, text string) {
 		"--void": {"done", "told", "own", "lock"}, "--scan": {"snapshot", "steps"}, "--break": append([]string{"all"}, breaks...),
 	}
 	if names, is := named[word]; is && !isOneOf(text, names...) {
-		fail(badWords, "%s: none of its names; --help has them", word)
+		fail(badWords, "%s: not one of its names; see --help", word)
 	}
 	to := map[string]*string{"--void": &o.void, "--scan": &o.scan, "--break": &o.broken, "--out": &o.out, "--bench": &o.bench}[word]
 	switch {
@@ -2767,7 +2767,7 @@ func (o *options) checkOut() {
 			err = cause.Err
 		}
 		said := err.Error()
-		fail(badFile, "--out: no file can be put into %s: %s", o.out, strings.ToUpper(said[:1])+said[1:])
+		fail(badFile, "--out: no file can be written into %s: %s", o.out, strings.ToUpper(said[:1])+said[1:])
 	}
 }
 

@@ -2172,7 +2172,7 @@ public final class Potzendai {
         private static String named(String word, String text, List<String> names) {
             if (names.contains(text))
                 return text;
-            throw new Stop(WORDS, word + ": none of its names; --help has them");
+            throw new Stop(WORDS, word + ": not one of its names; see --help");
         }
 
         private static EnumMap<Kind, Long> mix(String text) {
@@ -2242,7 +2242,7 @@ public final class Potzendai {
             try {
                 Files.delete(Files.createTempFile(Path.of(out), ".potzendai-", ""));
             } catch (IOException | InvalidPathException error) {
-                throw new Stop(FILE, "--out: no file can be put into " + out + ": " + cause(error));
+                throw new Stop(FILE, "--out: no file can be written into " + out + ": " + cause(error));
             }
         }
 

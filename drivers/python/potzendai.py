@@ -1632,7 +1632,7 @@ def fit(options, has, can_reopen):
         if options.out != "-":
             tempfile.TemporaryFile(dir=options.out).close()
     except OSError as error:
-        raise Stop(FILE, "--out: no file can be put into %s: %s" % (options.out, error.strerror))
+        raise Stop(FILE, "--out: no file can be written into %s: %s" % (options.out, error.strerror))
     return options
 
 

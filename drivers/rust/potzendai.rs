@@ -2676,7 +2676,7 @@ impl Options {
             _ => true,
         };
         if !is_named {
-            return fail(BAD_WORDS, format!("{word}: none of its names; --help has them"));
+            return fail(BAD_WORDS, format!("{word}: not one of its names; see --help"));
         }
         match word {
             "--void" => (self.void, self.has_void) = (text.to_string(), true),
@@ -2773,7 +2773,7 @@ impl Options {
         }
         created.and_then(|_| std::fs::remove_file(named(number))).or_else(|error| {
             let (text, code) = (error.to_string(), format!(" (os error {})", error.raw_os_error().unwrap_or(0)));
-            fail(BAD_FILE, format!("--out: no file can be put into {}: {}", self.out, text.replace(&code, "")))
+            fail(BAD_FILE, format!("--out: no file can be written into {}: {}", self.out, text.replace(&code, "")))
         })
     }
 
