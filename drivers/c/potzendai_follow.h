@@ -252,13 +252,13 @@ static inline void potzendai_tell_stream(struct potzendai_following *f)
     if (left)
         potzendai_tell_left(f, left);
     else
-        fprintf(stderr, "few calls are not shown: %s\n", potzendai_why_not_few(f->told.report));
+        fprintf(stderr, "the few calls are not shown: %s\n", potzendai_why_not_few(f->told.report));
     if (!f->is_unkept)
         potzendai_keep(f->tester, ".jsonl", f->kept ? f->kept : "", f->kept_length);
     else if (f->is_long)
-        fprintf(stderr, "the stream is not kept, since it is longer than %d bytes\n", POTZENDAI_KEPT);
+        fprintf(stderr, "the stream is not saved, since it is longer than %d bytes\n", POTZENDAI_KEPT);
     else
-        fputs("the stream is not kept, since memory for it was refused\n", stderr);
+        fputs("the stream is not saved, since memory for it was refused\n", stderr);
     if (!is_whole || (!left && f->is_unkept))
         potzendai_keep(f->tester, "-report.json", f->told.report, strcspn(f->told.report, "\n"));
     potzendai_tell_again(f->tester, 0);

@@ -299,7 +299,7 @@ static inline const char *potzendai_hear_reading(struct potzendai_killing *k, st
     }
     bool is_over = length == 0;
     int ended = potzendai_end_child(&k->child);
-    return !is_over ? "no end of the reading in time" : ended ? "the reading failed" : NULL;
+    return !is_over ? "the reading did not end in time" : ended ? "the reading failed" : NULL;
 }
 
 /* Gives a file of the store what it held at its last sync, or nothing if it never was synced. */
@@ -366,7 +366,7 @@ static inline int potzendai_lose_power(struct potzendai_killing *k)
     if (!k->tester->options->has_power)
         return 0;
     if (potzendai_for_names(k->store, k->shadow, potzendai_lose) || potzendai_for_names(k->shadow, "", potzendai_sort_copy))
-        return potzendai_fail(k->tester->run, POTZENDAI_BAD_FILE, "power: files of the store were not given back");
+        return potzendai_fail(k->tester->run, POTZENDAI_BAD_FILE, "power: files of the store were not restored");
     return 0;
 }
 

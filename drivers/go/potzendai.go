@@ -2371,12 +2371,12 @@ func (r *run) refutedStream() []string {
 	if left != "" {
 		said = append(said, r.shownLeft(left)...)
 	} else {
-		said = append(said, "few calls are not shown: "+whyNotFew(report))
+		said = append(said, "the few calls are not shown: "+whyNotFew(report))
 	}
 	if r.kept != nil {
 		said = append(said, r.keep(".jsonl", string(r.kept)))
 	} else {
-		said = append(said, fmt.Sprintf("the stream is not kept, since it is longer than %d bytes", mostKept))
+		said = append(said, fmt.Sprintf("the stream is not saved, since it is longer than %d bytes", mostKept))
 	}
 	if !isWhole || left == "" && r.kept == nil {
 		said = append(said, r.keep("-report.json", report+"\n"))
@@ -2388,10 +2388,10 @@ func (r *run) refutedStream() []string {
 func (r *run) shownLeft(left string) []string {
 	explained, wrong := r.program.tried("explain", left)
 	if wrong != nil {
-		return []string{"few calls are not shown: " + wrong.line, r.keep(".json", left)}
+		return []string{"the few calls are not shown: " + wrong.line, r.keep(".json", left)}
 	}
 	if !strings.Contains(explained, "\n{\"answer\":") {
-		return []string{fmt.Sprintf("few calls are not shown: they are not found within a budget of %d", r.program.more()), r.keep(".json", left)}
+		return []string{fmt.Sprintf("the few calls are not shown: they are not found within a budget of %d", r.program.more()), r.keep(".json", left)}
 	}
 	return append([]string{saidRenumbered}, r.shown(left, explained, r.noted(roundOf(left)))...)
 }
@@ -2486,7 +2486,7 @@ func (r *run) refuted() []string {
 	kept := r.keep(".json", text) // before: the part that explains may be built first
 	report, wrong := r.program.tried("explain", text)
 	if wrong != nil {
-		return append(said, kept, "few calls are not shown: "+wrong.line, saidAgain+r.options.again(r.rounds))
+		return append(said, kept, "the few calls are not shown: "+wrong.line, saidAgain+r.options.again(r.rounds))
 	}
 	return append(append(said, r.shown(text, report, least.failed)...), saidAgain+r.options.again(r.rounds))
 }
@@ -2500,7 +2500,7 @@ const usage = `  --seconds N       how long (10, or as long as --rounds take)
   --hot N           nine calls in ten use one of the first N keys
   --calls N         calls of each thread in a round, or in a stream (200; no limit)
   --seed N          what the calls are drawn from (the clock)
-  --mix LIST        shares, as get=50,put=30,del=10,scan=10; also replace, put_if_absent, floor, ceiling, pop_first
+  --mix LIST        shares, such as get=50,put=30,del=10,scan=10; also replace, put_if_absent, floor, ceiling, pop_first
   --void HOW        done: a put or del may answer done; told: it must say the value before; own: one writer for each key remembers
                     what it put; lock: a lock for each key around a get and the put after it (done)
   --scan HOW        snapshot: a scan is of one moment; steps: steps of ceiling (snapshot)
@@ -2608,7 +2608,7 @@ func readWords(name string, words []string) *options {
 				o.cache = next
 				i++
 			} else if next != "" && !strings.HasPrefix(next, "--") {
-				fail(badWords, "--cache: late, or nothing")
+				fail(badWords, "--cache: only late may follow")
 			}
 		default:
 			o.read(words[i], next)
@@ -2652,7 +2652,7 @@ func (o *options) read(word, text string) {
 	case word == "--mix":
 		o.shares = readMix(text)
 	default:
-		fail(badWords, "%s: no such word; --help has them", word)
+		fail(badWords, "%s: no such option; see --help", word)
 	}
 }
 
@@ -2662,7 +2662,7 @@ func readMix(text string) map[string]uint64 {
 		pair := strings.Split(part+"=", "=")
 		share, err := strconv.ParseUint(pair[1], 10, 20)
 		if !isOneOf(pair[0], kinds...) || len(pair) != 3 || err != nil {
-			fail(badWords, "--mix: shares, as get=50,put=30,del=10,scan=10")
+			fail(badWords, "--mix: shares, such as get=50,put=30,del=10,scan=10")
 		}
 		mix[pair[0]] = share
 	}
@@ -2720,7 +2720,7 @@ func (o *options) fit(has functions, canReopen bool) {
 	case o.total() == 0:
 		fail(badWords, "--mix: no share")
 	case o.shares["pop_first"] > 0 && isApart:
-		fail(badWords, "pop_first: takes keys of others, so not with --void own or lock")
+		fail(badWords, "pop_first: takes keys of other threads, so not with --void own or lock")
 	case o.broken != "" && !o.isCalled(o.broken):
 		fail(badWords, "--break: what it makes wrong is not called")
 	case o.hot > o.keys:
@@ -2847,7 +2847,7 @@ func allBroken(o *options, make func() Map, p *program, has functions) (int, []s
 			verdict = "yes"
 			missed++
 		} else if r.wrongTimes == 0 {
-			verdict = "no of the map as it is"
+			verdict = "no of the map itself"
 			missed++
 		}
 		said = append(said, how+": "+r.summary(verdict))

@@ -1972,8 +1972,8 @@ public final class Potzendai {
         if (left != null)
             said.addAll(shownLeft(run, left));
         else
-            said.add("few calls are not shown: " + whyNotFew(report));
-        said.add(run.kept == null ? "the stream is not kept, since it is longer than " + KEPT + " bytes"
+            said.add("the few calls are not shown: " + whyNotFew(report));
+        said.add(run.kept == null ? "the stream is not saved, since it is longer than " + KEPT + " bytes"
             : keep(run, ".jsonl", run.kept.toByteArray()));
         if (!isWhole || left == null && run.kept == null)
             said.add(keep(run, "-report.json", report + "\n"));
@@ -1988,10 +1988,10 @@ public final class Potzendai {
         try {
             explained = run.program.askTwice("explain", left).text;
         } catch (Stop stop) {
-            return List.of("few calls are not shown: " + stop.getMessage(), keep(run, ".json", left));
+            return List.of("the few calls are not shown: " + stop.getMessage(), keep(run, ".json", left));
         }
         if (!explained.contains("\n{\"answer\":"))
-            return List.of("few calls are not shown: they are not found within a budget of " + run.program.more(), keep(run, ".json", left));
+            return List.of("the few calls are not shown: they are not found within a budget of " + run.program.more(), keep(run, ".json", left));
         List<String> said = new ArrayList<>(List.of(RENUMBERED));
         Round round = new Round(left);
         TreeSet<Long> invoked = new TreeSet<>();
@@ -2046,7 +2046,7 @@ public final class Potzendai {
         try {
             said.addAll(shown(run, text, run.program.askTwice("explain", text).text, least.failed));
         } catch (Stop stop) {
-            said.addAll(List.of(kept, "few calls are not shown: " + stop.getMessage()));
+            said.addAll(List.of(kept, "the few calls are not shown: " + stop.getMessage()));
         }
         said.add(AGAIN + run.options.again(run.rounds));
         return said;
@@ -2062,7 +2062,7 @@ public final class Potzendai {
         --hot N           nine calls in ten use one of the first N keys
         --calls N         calls of each thread in a round, or in a stream (200; no limit)
         --seed N          what the calls are drawn from (the clock)
-        --mix LIST        shares, as get=50,put=30,del=10,scan=10; also replace, put_if_absent, floor, ceiling, pop_first
+        --mix LIST        shares, such as get=50,put=30,del=10,scan=10; also replace, put_if_absent, floor, ceiling, pop_first
         --void HOW        done: a put or del may answer done; told: it must say the value before; own: one writer for each key remembers
                           what it put; lock: a lock for each key around a get and the put after it (done)
         --scan HOW        snapshot: a scan is of one moment; steps: steps of ceiling (snapshot)
@@ -2124,7 +2124,7 @@ public final class Potzendai {
                     case "--stream" -> isStream = true;
                     case "--reopen" -> isReopened = true;
                     case "--cache" -> {
-                        wrong(!next.isEmpty() && !next.startsWith("--") && !next.equals("late"), "--cache: late, or nothing");
+                        wrong(!next.isEmpty() && !next.startsWith("--") && !next.equals("late"), "--cache: only late may follow");
                         cache = next.equals("late") ? next : "now";
                         i += next.equals("late") ? 1 : 0;
                     }
@@ -2154,7 +2154,7 @@ public final class Potzendai {
                 case "--mix" -> shares = mix(text);
                 case "--out" -> out = text;
                 case "--bench" -> bench = text;
-                default -> throw new Stop(WORDS, word + ": no such word; --help has them");
+                default -> throw new Stop(WORDS, word + ": no such option; see --help");
             }
         }
 
@@ -2183,7 +2183,7 @@ public final class Potzendai {
                 String[] pair = part.split("=", -1);
                 Kind kind = Kind.named(pair[0]);
                 if (kind == null || pair.length != 2 || !pair[1].matches("[0-9]{1,6}"))
-                    throw new Stop(WORDS, "--mix: shares, as get=50,put=30,del=10,scan=10");
+                    throw new Stop(WORDS, "--mix: shares, such as get=50,put=30,del=10,scan=10");
                 shares.put(kind, Long.parseLong(pair[1]));
             }
             return shares;
@@ -2213,7 +2213,7 @@ public final class Potzendai {
                 wrong(shares.get(kind) > 0 && !isThere, kind.name + ": no such function of the map");
             }
             wrong(total() == 0, "--mix: no share");
-            wrong(shares.get(Kind.POP_FIRST) > 0 && isApart, "pop_first: takes keys of others, so not with --void own or lock");
+            wrong(shares.get(Kind.POP_FIRST) > 0 && isApart, "pop_first: takes keys of other threads, so not with --void own or lock");
             wrong(broken != null && !isCalled(broken), "--break: what it makes wrong is not called");
             wrong(hot > keys, "--hot: more than there are keys");
             wrong(isVoid("own") && keys < threads, "--void: own: each thread needs a key");
@@ -2329,7 +2329,7 @@ public final class Potzendai {
             if (run != null)
                 run.called.forEach((kind, count) -> called.merge(kind, count, Long::sum));
             missed += run != null && (run.failed == null || run.wrongTimes == 0) ? 1 : 0;
-            String verdict = run == null || run.failed == null ? "yes" : run.wrongTimes > 0 ? "no" : "no of the map as it is";
+            String verdict = run == null || run.failed == null ? "yes" : run.wrongTimes > 0 ? "no" : "no of the map itself";
             said.add(how + ": " + (run == null ? "what it makes wrong is not called" : run.summary(verdict)));
         }
         said.add(saidCalls(has, called));

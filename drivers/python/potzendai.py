@@ -1522,7 +1522,7 @@ def number(least, most):
 
 def late(text):
     if text != "late":
-        raise argparse.ArgumentTypeError("late, or nothing")
+        raise argparse.ArgumentTypeError("only late may follow")
     return text
 
 
@@ -1532,7 +1532,7 @@ def mix(text):
         name, _, share = part.partition("=")
         kind = {"del": "delete", "delete": ""}.get(name, name)
         if kind not in SHARES or not share.isdigit() or len(share) > 6:
-            raise argparse.ArgumentTypeError("shares, as get=50,put=30,del=10,scan=10")
+            raise argparse.ArgumentTypeError("shares, such as get=50,put=30,del=10,scan=10")
         shares[kind] = int(share)
     return {kind: shares.get(kind, 0) for kind in SHARES}
 
@@ -1551,7 +1551,7 @@ def words_of(argv):
             ("--hot", number(1, STREAM_KEYS), 0, "nine calls in ten use one of the first N keys"),
             ("--calls", number(1, GREATEST), 0, "calls of each thread in a round, or in a stream (200; no limit)"),
             ("--seed", number(0, GREATEST), time.time_ns() % 1000000007, "what the calls are drawn from (the clock)"),
-            ("--mix", mix, None, "shares, as get=50,put=30,del=10,scan=10; also replace, put_if_absent, floor, ceiling, pop_first"),
+            ("--mix", mix, None, "shares, such as get=50,put=30,del=10,scan=10; also replace, put_if_absent, floor, ceiling, pop_first"),
             ("--yield", number(0, 1000), 0, "of a thousand points in and between calls, N let another thread run (0)"),
             ("--out", str, ".", "where files are written (.); -: all histories, or the stream, on standard output, judged by nobody"),
             ("--fresh", number(1, GREATEST), 0, "a new map after each N rounds (one map)"),
@@ -1597,7 +1597,7 @@ def fit(options, has, can_reopen):
     if not sum(options.shares.values()):
         wrong("--mix", "no share")
     if options.shares["pop_first"] and apart:
-        wrong("pop_first", "takes keys of others, so not with --void own or lock")
+        wrong("pop_first", "takes keys of other threads, so not with --void own or lock")
     if options.cache and options.void == "own":
         wrong("--cache", "not with --void own, since the writer of a key does not see that the key was lost")
     for name, is_asked in (("--fresh", options.fresh), ("--reopen", options.reopen)):
@@ -1693,8 +1693,8 @@ def refuted_stream(run):
     report, _, left = run.failed.partition("\n")
     run.options.round, is_whole = 0, len(report) <= REPORT_SHOWN
     said = [report if is_whole else report[:REPORT_SHOWN] + ".."]
-    said += shown_left(run, left) if left else ["few calls are not shown: " + why_not_few(json.loads(report)["keys"])]
-    said += ["the stream is not kept, since it is longer than %d bytes" % KEPT] if run.kept is None else [
+    said += shown_left(run, left) if left else ["the few calls are not shown: " + why_not_few(json.loads(report)["keys"])]
+    said += ["the stream is not saved, since it is longer than %d bytes" % KEPT] if run.kept is None else [
         keep(run.options, ".jsonl", b"".join(run.kept))]
     said += [keep(run.options, "-report.json", report + "\n")] if not is_whole or not left and run.kept is None else []
     return said + [AGAIN + words_again(run.options, 0)]
@@ -1706,9 +1706,9 @@ def shown_left(run, left):
     try:
         told_of = run.program.asked("explain", left)[1]
     except Stop as stop:
-        return ["few calls are not shown: " + stop.line, keep(run.options, ".json", left)]
+        return ["the few calls are not shown: " + stop.line, keep(run.options, ".json", left)]
     if "\n{\"answer\":" not in told_of:
-        return ["few calls are not shown: they are not found within a budget of %d" % run.program.more(), keep(run.options, ".json", left)]
+        return ["the few calls are not shown: they are not found within a budget of %d" % run.program.more(), keep(run.options, ".json", left)]
     whole = json.loads(left)
     keys, calls = json.loads(run.failed.partition("\n")[0])["keys"], [each for each in whole["events"] if "invoke" in each]
     invoked = sorted({number for key in keys for number in key["invoked"]})
@@ -1763,7 +1763,7 @@ def refuted(run):
     try:
         said += shown(run, text, run.program.asked("explain", text)[1], least.failed)
     except Stop as stop:
-        said += [kept, "few calls are not shown: " + stop.line]
+        said += [kept, "the few calls are not shown: " + stop.line]
     return said + [AGAIN + words_again(options, run.rounds)]
 
 
@@ -1775,7 +1775,7 @@ def all_broken(make, options, program, has):
         run = Run(options, make, program).go() if is_called else None
         runs += [run] if run else []
         missed += run is not None and not (run.failed and run.wrong_times)
-        verdict = "no" if run and run.failed and run.wrong_times else "no of the map as it is" if run and run.failed else "yes"
+        verdict = "no" if run and run.failed and run.wrong_times else "no of the map itself" if run and run.failed else "yes"
         said.append("%s: %s" % (how, run.summary(verdict) if run else "what it makes wrong is not called"))
     said += [said_calls(has, runs), "this shows that calls and answers reach the judge; it does not show that threads meet: see the overlap"]
     return (YES, said, "yes: %d of the broken maps were not refuted" % missed) if missed else (NO, said, "no: each broken map was refuted")

@@ -2478,13 +2478,13 @@ fn refuted_stream(run: &Run, program: &Program) -> Result<Vec<String>, Stop> {
     let is_whole = report.len() <= REPORT_SHOWN;
     let mut said = vec![if is_whole { report.to_string() } else { format!("{}..", &report[..REPORT_SHOWN]) }];
     if left.is_empty() {
-        said.push(format!("few calls are not shown: {}", why_not_few(report)));
+        said.push(format!("the few calls are not shown: {}", why_not_few(report)));
     } else {
         said.extend(shown_left(run, left, program));
     }
     said.push(match &run.kept {
         Some(kept) => keep(run, ".jsonl", kept),
-        None => format!("the stream is not kept, since it is longer than {KEPT} bytes"),
+        None => format!("the stream is not saved, since it is longer than {KEPT} bytes"),
     });
     if !is_whole || left.is_empty() && run.kept.is_none() {
         said.push(keep(run, "-report.json", &format!("{report}\n")));
@@ -2497,10 +2497,10 @@ fn refuted_stream(run: &Run, program: &Program) -> Result<Vec<String>, Stop> {
 fn shown_left(run: &Run, left: &str, program: &Program) -> Vec<String> {
     let explained = match program.ask_twice("explain", left) {
         Ok((_, explained)) => explained,
-        Err(Stop(_, line)) => return vec![format!("few calls are not shown: {line}"), keep(run, ".json", left)],
+        Err(Stop(_, line)) => return vec![format!("the few calls are not shown: {line}"), keep(run, ".json", left)],
     };
     if !explained.contains("\n{\"answer\":") {
-        let line = format!("few calls are not shown: they are not found within a budget of {}", program.more());
+        let line = format!("the few calls are not shown: they are not found within a budget of {}", program.more());
         return vec![line, keep(run, ".json", left)];
     }
     let mut said = vec![RENUMBERED.to_string()];
@@ -2559,7 +2559,7 @@ fn refuted<M: Map>(run: &Run, make: &dyn Fn() -> M, program: &Program) -> Result
     let kept = keep(run, ".json", &text); // before: the part that explains may be built first
     match program.ask_twice("explain", &text) {
         Ok((_, explained)) => said.extend(shown(run, &text, &explained, round, program)),
-        Err(Stop(_, line)) => said.extend([kept, format!("few calls are not shown: {line}")]),
+        Err(Stop(_, line)) => said.extend([kept, format!("the few calls are not shown: {line}")]),
     }
     said.push(format!("{AGAIN}{}", run.options.again(run.counted.rounds)));
     Ok(said)
@@ -2574,7 +2574,7 @@ const USAGE: &str = "  --seconds N       how long (10, or as long as --rounds ta
   --hot N           nine calls in ten use one of the first N keys
   --calls N         calls of each thread in a round, or in a stream (200; no limit)
   --seed N          what the calls are drawn from (the clock)
-  --mix LIST        shares, as get=50,put=30,del=10,scan=10; also replace, put_if_absent, floor, ceiling, pop_first
+  --mix LIST        shares, such as get=50,put=30,del=10,scan=10; also replace, put_if_absent, floor, ceiling, pop_first
   --void HOW        done: a put or del may answer done; told: it must say the value before; own: one writer for each key remembers
                     what it put; lock: a lock for each key around a get and the put after it (done)
   --scan HOW        snapshot: a scan is of one moment; steps: steps of ceiling (snapshot)
@@ -2642,7 +2642,7 @@ impl Options {
             }
         }
         if options.cache.as_ref().is_some_and(|how| how != "now" && how != "late") {
-            return fail(BAD_WORDS, "--cache: late, or nothing");
+            return fail(BAD_WORDS, "--cache: only late may follow");
         }
         Ok(options)
     }
@@ -2685,7 +2685,7 @@ impl Options {
             "--out" => self.out = text.to_string(),
             "--bench" => self.bench = Some(text.to_string()),
             "--mix" => return self.read_mix(text),
-            _ => return fail(BAD_WORDS, format!("{word}: no such word; --help has them")),
+            _ => return fail(BAD_WORDS, format!("{word}: no such option; see --help")),
         }
         Ok(())
     }
@@ -2696,7 +2696,7 @@ impl Options {
             let (name, share) = part.split_once('=').unwrap_or((part, ""));
             match (NAMES.iter().position(|own| *own == name), share.parse()) {
                 (Some(at), Ok(share)) if share < 1_000_000 => self.shares[at] = share,
-                _ => return fail(BAD_WORDS, "--mix: shares, as get=50,put=30,del=10,scan=10"),
+                _ => return fail(BAD_WORDS, "--mix: shares, such as get=50,put=30,del=10,scan=10"),
             }
         }
         Ok(())
@@ -2734,7 +2734,7 @@ impl Options {
         let is_unbroken = self.broken.as_ref().map_or(true, |how| self.is_called(how));
         let rows = [
             (self.shares.iter().sum::<u64>() == 0, "--mix: no share"),
-            (self.shares[PopFirst as usize] > 0 && is_apart, "pop_first: takes keys of others, so not with --void own or lock"),
+            (self.shares[PopFirst as usize] > 0 && is_apart, "pop_first: takes keys of other threads, so not with --void own or lock"),
             (!is_unbroken, "--break: what it makes wrong is not called"),
             (self.hot > self.keys, "--hot: more than there are keys"),
             (self.void == "own" && self.keys < self.threads, "--void: own: each thread needs a key"),
@@ -2877,7 +2877,7 @@ fn all_broken<M: Map>(
         let is_refuted = run.failed.is_some() && run.wrong_times > 0;
         missed += usize::from(!is_refuted);
         (0..9).for_each(|kind| called[kind] += run.counted.called[kind]);
-        let verdict = if is_refuted { "no" } else if run.failed.is_some() { "no of the map as it is" } else { "yes" };
+        let verdict = if is_refuted { "no" } else if run.failed.is_some() { "no of the map itself" } else { "yes" };
         said.push(format!("{how}: {}", run.summary(verdict)));
     }
     said.push(said_calls(has, called));
