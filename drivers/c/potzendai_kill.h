@@ -118,7 +118,7 @@ static inline int potzendai_open_kills(struct potzendai_killing *k)
     k->state = o->seed;
     k->functions = (unsigned char *)calloc((size_t)o->threads + POTZENDAI_OTHERS + 1, 1);
     if (!k->functions || potzendai_own_words(k))
-        return potzendai_fail(k->tester->run, POTZENDAI_NO_MEMORY, "memory: a run has no room");
+        return potzendai_fail(k->tester->run, POTZENDAI_NO_MEMORY, "memory: no room for a run");
     return potzendai_build_library(k);
 }
 
@@ -474,7 +474,7 @@ static inline int potzendai_one_life(struct potzendai_killing *k)
     struct potzendai_following *f = (struct potzendai_following *)calloc(1, sizeof *f);
     k->tester->run->round = k->tester->rounds;
     if (!f)
-        return potzendai_fail(k->tester->run, POTZENDAI_NO_MEMORY, "memory: a life has no room");
+        return potzendai_fail(k->tester->run, POTZENDAI_NO_MEMORY, "memory: no room for a life");
     int status = potzendai_open_life(k, f);
     status = status ? status : potzendai_judge_life(k, f);
     potzendai_close_follower(f);
@@ -512,7 +512,7 @@ static inline int potzendai_kill_lives(struct potzendai_tester *tester)
 {
     struct potzendai_killing *k = (struct potzendai_killing *)calloc(1, sizeof *k);
     if (!k)
-        return potzendai_fail(tester->run, POTZENDAI_NO_MEMORY, "memory: a run has no room");
+        return potzendai_fail(tester->run, POTZENDAI_NO_MEMORY, "memory: no room for a run");
     k->tester = tester;
     int status = potzendai_open_kills(k);
     const char *why = status ? NULL : potzendai_hear_reading(k, NULL);

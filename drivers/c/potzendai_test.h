@@ -242,7 +242,7 @@ static inline int potzendai_test(const struct potzendai_options *options, const 
     memset(&broken, 0, sizeof broken);
     if (potzendai_open_tester(&tester, options)) {
         potzendai_close_tester(&tester);
-        fputs("memory: a run has no room\n", stderr);
+        fputs("memory: no room for a run\n", stderr);
         return POTZENDAI_NO_MEMORY;
     }
     tester.program = program;
@@ -272,7 +272,7 @@ static inline int potzendai_test_each(const struct potzendai_options *options, c
     for (int how = 0; how < POTZENDAI_EACH_BREAK; how++) {
         one.broken = (enum potzendai_break)how;
         if (!potzendai_is_called(&one, one.broken)) {
-            fprintf(stderr, "%s: what it makes wrong is not called\n", potzendai_breaks[how]);
+            fprintf(stderr, "%s: the calls that it makes wrong are not made\n", potzendai_breaks[how]);
             continue;
         }
         int status = potzendai_test(&one, program, map, true);

@@ -75,7 +75,7 @@ joined [] = None
 joined (Ok p ∷ done) = gathered (shows p).processes done
 joined (Err e ∷ done) = None
 
--- nothing is missing but memory
+-- an arena was not closed only because memory ran out
 abbrev pub WantsMemory : ArenaClose → Type 0
 WantsMemory (faults.StillOut back given) = ⊥
 WantsMemory (faults.Memory back given) = ⊤

@@ -50,7 +50,7 @@ taken_data taken m next =
     object (member (codes "front") (list_data (map event_data taken)) (member (codes "holds") (list_data (map pair_data m))
     (member (codes "next") (list_data (map (stuck_data m) next)) no_members)))
 
--- the calls with these numbers, from some pairs on
+-- the line of the calls with these numbers, which begin from some pairs
 abbrev pub front_data : Contents → List Operation → List ℕ → Data
 front_data start calls front =
     let taken = calls_at calls front in

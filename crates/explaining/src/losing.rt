@@ -217,7 +217,7 @@ fn told_places(alloc: Global, calls: &[Operation], events: usize) -> Result<Vec<
 enum Nearness {
     /// It is that call, or may have put what that call depends on.
     Told,
-    /// It put something else at a key of that call before that one began.
+    /// It put something else at one of that call's keys, before that call began.
     Missed,
     /// It has a key of that call.
     OfKey,

@@ -171,7 +171,8 @@ ViewportHoldsMiddle = (columns middle room : ℕ) → (viewport_from columns mid
     × (middle < columns → 1 ≤ room → (viewport_from columns middle room ≤ middle)
     × (middle < viewport_from columns middle room + min room columns))
 
--- columns keep their order, each has a place of its own, and none is past their number
+-- columns keep their order, each has a place of its own, and no place is above the number of
+-- columns
 abbrev pub RanksRise : Type 0
 RanksRise = (columns : List ℕ) (a b : ℕ) → (a ≤ b → rank columns a ≤ rank columns b)
     × (Contains columns a → a < b → rank columns a < rank columns b) × (Contains columns a → rank columns a < length columns)

@@ -132,8 +132,9 @@ fn reply_in(alloc: Global, response: &Option<Response>) -> Result<Option<Reply>,
     }
 }
 
-/// The place in the list of the open call that is answered before a place, if there is one. Of
-/// several it is the one answered first, and of those at one place the one with the least number.
+/// Finds the open call that is answered before this place, if there is one. Of several it is the
+/// one answered first, and of those answered at one place the one with the least number. Returns
+/// its place in the list.
 pub fn first_before(open_seats: &[Seat], place: usize) -> Option<usize>
     ensures { MatchOption result (NoneEndsBefore place open_seats.now)
         (λ at. IsSomeAnd (slice_get open_seats.now at)

@@ -26,6 +26,6 @@ pub record IsToldCall (a told : Operation) : Type 0 where
   pub inv : told.inv ≡ a.inv
   pub response : IsToldAs a.call a.response told.response
 
--- the calls by number, each with its response completed so
+-- the calls by number, each with such a response
 abbrev pub AreToldCalls : List Operation → List Operation → Type 0
 AreToldCalls calls told = AllZip IsToldCall calls told
