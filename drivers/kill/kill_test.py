@@ -68,7 +68,7 @@ def options_of(words):
     parser.add_argument("--seconds", metavar="S", type=positive(float), help="begin no life after this time [no limit]")
     parser.add_argument("--keys", metavar="N", type=positive(int), default=16, help="keys are from 0 to N - 1 [16]")
     parser.add_argument("--kill", metavar="SECONDS", type=positive(float),
-                        help="kill 0.5 to 1.5 times as long after the first call [0.2]")
+                        help="kill 0.5 to 1.5 times this long after the first call [0.2]")
     parser.add_argument("--kill-at-write", action="store_true", help="kill before a random write of the store")
     parser.add_argument("--power", action="store_true", help="after a kill a file holds what was synced")
     parser.add_argument("--stop", action="store_true", help="SIGTERM, not SIGKILL: the child closes the store")

@@ -52,7 +52,7 @@ pub record AreHistoryEvents (events : List Event) : Type 0 where
   pub calls : call_count events ≤ call_limit
   pub well_formed : IsWellFormed events
 
--- a history: pairs that one may start with, and events of one
+-- a history: pairs that a history may start with, and events of a history
 pub record IsHistory (history : HistoryView) : Type 0 where
   pub start : IsStart history.start
   pub events : AreHistoryEvents history.events

@@ -1,4 +1,4 @@
-// Calls without order are made fewer.
+// Leaves out calls of a list without order, as many at a time as asked.
 ghost use Rattle.std.specs.Prelude.{◌≡◌, ◌<◌, ◌≤◌, AllPairs, IfOk};
 ghost use Rattle.events.specs.Precedence.{NonePrecedesItself};
 ghost use Rattle.explaining.specs.Explained.{AreEnough, IsReduction, others_than};

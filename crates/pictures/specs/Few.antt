@@ -17,7 +17,7 @@ stands_out places bar = has_number places bar.inv
 abbrev pub named_bar : List ℕ → Bar → Bar
 named_bar places bar = record bar { is_pale = not (stands_out places bar) }
 
--- whether a mark is of such a call
+-- whether a mark is of a call that was invoked at one of these places
 abbrev pub is_of_named : List ℕ → List Bar → Mark → Bool
 is_of_named places bars mark = list_any (λ bar. bar.number == mark.number && stands_out places bar) bars
 
