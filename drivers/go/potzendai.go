@@ -2450,7 +2450,7 @@ func whyNotFew(report string) string {
 	case most == 0:
 		return "the call had taken effect by then, and its answer contradicts what it found"
 	case most > 1:
-		return "a key may have had each of these values before the calls \"invoked\""
+		return "a key may have had any of the listed values before the calls \"invoked\""
 	}
 	return "the calls \"invoked\" may have taken effect in several ways, or they fit no history: they are too many, or too many are open at once"
 }

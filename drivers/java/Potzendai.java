@@ -2013,7 +2013,7 @@ public final class Potzendai {
             case 0 -> "the call had taken effect by then, and its answer contradicts what it found";
             case 1 -> "the calls \"invoked\" may have taken effect in several ways, or they fit no history: they are too many, or too many are open "
                 + "at once";
-            default -> "a key may have had each of these values before the calls \"invoked\"";
+            default -> "a key may have had any of the listed values before the calls \"invoked\"";
         };
     }
 

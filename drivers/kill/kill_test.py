@@ -488,7 +488,7 @@ class Run:
     def verdict(self, status):
         parts = ["%d lives" % self.lives if self.lives != 1 else "1 life", "%d calls in %.1f seconds" % (self.calls, time.monotonic() - self.begun),
                  "%d open at a %s" % (self.open_at_kill, "stop" if self.options.stop else "kill"),
-                 "%d lives with none open" % self.full]
+                 "%d lives without an open call" % self.full]
         if self.empty:
             parts.append("%d without a call" % self.empty)
         if self.options.kill_at_write:

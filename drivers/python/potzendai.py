@@ -1727,7 +1727,7 @@ def why_not_few(keys):
     if most == 0:
         return "the call had taken effect by then, and its answer contradicts what it found"
     if most > 1:
-        return "a key may have had each of these values before the calls \"invoked\""
+        return "a key may have had any of the listed values before the calls \"invoked\""
     return ("the calls \"invoked\" may have taken effect in several ways, or they fit no history: they are too many, or too many are open at "
             "once")
 

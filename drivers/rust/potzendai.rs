@@ -2518,7 +2518,7 @@ fn why_not_few(report: &str) -> &'static str {
         Some(0) => "the call had taken effect by then, and its answer contradicts what it found",
         Some(1) => "the calls \"invoked\" may have taken effect in several ways, or they fit no history: they are too many, or too many are open at \
                     once",
-        Some(_) => "a key may have had each of these values before the calls \"invoked\"",
+        Some(_) => "a key may have had any of the listed values before the calls \"invoked\"",
     }
 }
 

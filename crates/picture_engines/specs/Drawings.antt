@@ -42,7 +42,7 @@ pub record IsPartShown (choice : Choice) (view : View) (history : HistoryView) (
   pub pictured : IsPictureOf history verdict wrong front picture
   pub viewed : IsShownAs choice (length history.events) wrong view picture part
 
--- the text is that of such a part
+-- the text is that of a part which this choice shows
 pub record IsDrawnText (choice : Choice) (view : View) (history : HistoryView) (verdict : Verdict) (wrong : Option ℕ)
     (front text : List ℕ) : Type 0 where
   pub part : Picture
