@@ -474,8 +474,8 @@ func (w *wrong) get(words ...uint64) Said {
 	return said
 }
 
-// Makes a get and then a put, as if they were one call. If the put reports what it found, the get is of the same key. Otherwise it is of the key next
-// to it, and puts back what it got.
+// Makes a get and then a put, as if they were one call. If the put reports what it found, the get is of the same key. Otherwise the get is of the key
+// next to it, and what it got is put back.
 func (w *wrong) race(key, value uint64) Said {
 	beside := key ^ 1
 	if w.style == "told" || beside >= w.keys {
@@ -604,7 +604,7 @@ type task struct {
 	from     uint64
 }
 
-// The lock of a key; and whether a call that writes it has no answer, and so may still come between a get and the put after it.
+// The lock of a key, and whether a call that writes the key has no answer. Such a call may still take effect between a get and the put after it.
 type keyLock struct {
 	sync.Mutex
 	isDoubtful bool
@@ -652,7 +652,7 @@ func (w *worker) open(m Map) {
 	}
 }
 
-// Takes this moment as the answer of the open call, if that only reads. Of several such moments the last one counts.
+// Takes this moment as that of the answer of the open call, if the call only reads. Of several such moments the last one counts.
 func (w *worker) take() {
 	if !w.reads {
 		return
@@ -1428,7 +1428,7 @@ func (r *round) measure(t *tally) {
 	}
 }
 
-// Whether an answer reports what a call puts: then it was done.
+// Whether an answer reports what a call puts. Then the call was done.
 func (r *round) tells(one *call) bool {
 	value := strconv.FormatUint(one.words[len(one.words)-1], 10)
 	for _, each := range r.events {
@@ -2273,7 +2273,7 @@ func saidMissed(r *round, line reported) string {
 	return said
 }
 
-// A report of explain in words, and the line that is the few calls' history, if it is there. After an undecided there is a line of locate, which is
+// A report of explain in words, and the line with the few calls' history, if there is one. After an undecided there is a line of locate, which is
 // skipped.
 func saidReport(report string, r *round) (said []string, few string) {
 	lines := strings.Split(strings.TrimSpace(report), "\n")

@@ -43,8 +43,8 @@ import java.util.regex.Pattern;
 import java.util.stream.Collectors;
 
 /**
- * Tests an ordered map of one's own: threads call its functions, what they do is recorded, and the program {@code bench} judges each
- * recording, or follows one stream of it. Copy this file: Java 17 and the program are all that it needs.
+ * Tests an ordered map of your own. Threads call its functions, and what they do is recorded. The program {@code bench} judges each recording, or
+ * follows one stream. Copy this file: it needs only Java 17 and the program.
  *
  * <pre>
  * public static void main(String[] words) {
@@ -56,14 +56,14 @@ import java.util.stream.Collectors;
  */
 public final class Potzendai {
     /**
-     * A map of numbers. Any function but {@code get} and {@code put} may be left as it is: it is not called then. A function answers what
-     * {@link Said} has; an {@link IOException}, {@link UncheckedIOException} or {@link TimeoutException} means that nobody knows whether it
-     * was done. Nothing else changes the map.
+     * A map of numbers. Any function except {@code get} and {@code put} may be left as it is; then it is not called. A function answers what
+     * {@link Said} has. An {@link IOException}, {@link UncheckedIOException} or {@link TimeoutException} means that nobody knows whether it was done.
+     * Nothing else changes the map.
      */
     public interface Index {
-        /** What one thread calls in the place of the map. It is closed at the end of a run. */
+        /** What one thread calls instead of the map. It is closed at the end of a run. */
         default Index connection() { return this; }
-        /** Of a connection at the end of a run, and of a map once it is used no more. */
+        /** Closes a connection at the end of a run, and a map after its last use. */
         default void close() { }
         /** For {@code --reopen}: closes the map at rest, and returns it opened again, with what it held. */
         default Index reopen() throws Exception { throw new UnsupportedOperationException(); }
@@ -122,7 +122,7 @@ public final class Potzendai {
         @Override public Said putIfAbsent(long key, long value) { return Said.told(map.putIfAbsent(key, value)); }
     }
 
-    /** Its ranges promise no moment, so that they are no scans; their steps are. */
+    /** The map does not promise that a range is of one moment, so ranges are no scans; steps are. */
     private static class OfNavigableMap extends OfMap {
         final ConcurrentNavigableMap<Long, Long> map;
         OfNavigableMap(ConcurrentNavigableMap<Long, Long> map) { super(map); this.map = map; }
@@ -269,7 +269,7 @@ public final class Potzendai {
             return list;
         }
 
-        /** Whether an answer reports what this call puts: then it was done. */
+        /** Whether an answer reports what this call puts. Then the call was done. */
         boolean isToldBy(String answer) {
             String value = Long.toUnsignedString(words[words.length - 1]);
             return !name.equals("remove") && answer != null && (answer.equals(value) || answer.contains("," + value + "]"));
@@ -468,8 +468,8 @@ public final class Potzendai {
             return said;
         }
 
-        /** Makes a get and then a put, as if they were one call. If the put reports what it found, the get is of the same key. Otherwise it is of the
-         * key next to it, and puts back what it got. */
+        /** Makes a get and then a put, as if they were one call. If the put reports what it found, the get is of the same key. Otherwise the get is
+         * of the key next to it, and what it got is put back. */
         private Said race(long key, long value) throws Exception {
             long beside = style == Word.TOLD || (key ^ 1) >= keys ? key : key ^ 1;
             Said got = truly.get(beside);
@@ -566,7 +566,8 @@ public final class Potzendai {
     /** The number of the round, how many processes a thread may be in turn, what the map holds, and the keys at which calls have no answer. */
     private record Task(long round, int lives, Map<Long, Long> start, Set<Long> doubtful, long valuesFrom) { }
 
-    /** The lock of a key; and whether a call that writes it has no answer, and so may still come between a get and the put after it. */
+    /** The lock of a key, and whether a call that writes the key has no answer. Such a call may still take effect between a get and the put after
+     * it. */
     private static final class KeyLock extends ReentrantLock {
         private static final long serialVersionUID = 1;
         boolean isDoubtful;
@@ -612,7 +613,7 @@ public final class Potzendai {
 
         long wrongTimes() { return wrongTimes + (broken == null ? 0 : broken.times); }
 
-        /** Takes this moment as the answer of the open call, if that only reads. Of several such moments the last one counts. */
+        /** Takes this moment as that of the answer of the open call, if the call only reads. Of several such moments the last one counts. */
         void take() {
             if (!isReading)
                 return;
@@ -792,9 +793,9 @@ public final class Potzendai {
     private record Opened(Call call, long stored) { }
 
     /**
-     * A stream of events, which a thread of its own hands on while others record. Stamps are numbers without a gap, and each has its slot. Who
-     * is too far ahead of what is handed over waits, so that memory does not grow. Between its two stamps nobody waits except for lower stamps,
-     * so the event of the least stamp always comes.
+     * A stream of events, which a thread of its own writes to the program while others record. Stamps are numbers without a gap, and each has its
+     * slot. A thread that is too far ahead of what is written waits, so that memory does not grow. Between its two stamps a thread waits only for
+     * lower stamps, so the event of the least stamp always comes.
      */
     private static final class Stream implements Runnable, AutoCloseable {
         final AtomicReferenceArray<Happening> slots = new AtomicReferenceArray<>(AHEAD);
@@ -876,7 +877,7 @@ public final class Potzendai {
             }
         }
 
-        /** The program writes once it has a verdict, and may do so while the stream is still running: then the run is over. */
+        /** The program prints its verdict when it has one, which may be while the stream is still running. Then the run is over. */
         private void read() {
             try {
                 report = process.getInputStream().readAllBytes();
@@ -1073,7 +1074,7 @@ public final class Potzendai {
             throw (Error) wrong;
         }
 
-        /** A round: its events, with gets of all keys after those of the threads. What these gets report is `contents` then. */
+        /** A round: its events, with gets of all keys after those of the threads. Then `contents` is what these gets report. */
         List<Event> round(Task task) {
             AtomicInteger missing = new AtomicInteger(workers.size());
             List<Event> events = each(worker -> {
@@ -1117,7 +1118,7 @@ public final class Potzendai {
             return events;
         }
 
-        /** The function by which is known what a key holds: a put of a new value or, at each second key, a del. Of a cache, a del. */
+        /** The function after which it is known what a key holds: a put of a new value or, at each second key, a del. For a cache it is a del. */
         private Kind writer(long key, long round) {
             return options.hasDel && (options.cache != null || (key + round) % 2 == 1) ? Kind.DEL : Kind.PUT;
         }
@@ -1176,7 +1177,7 @@ public final class Potzendai {
             }
         }
 
-        /** The same calls, with the notes that a stream had of them: those of the calls "invoked" of its report, by rising event. */
+        /** These calls, which the report lists under "invoked", by rising event, with the notes that the stream had of them. */
         void note(List<Long> invoked, Map<Long, String> notes) {
             List<Integer> calls = new ArrayList<>();
             for (int i = 0; i < events.size(); i++)
@@ -1332,7 +1333,7 @@ public final class Potzendai {
      * has begun since. */
     private static final class Tally {
         long hits, misses, losses, clock;
-        /** When a put ended; open deletes; when a delete began or ended last. */
+        /** When a put ended, how many deletes are open, and when a delete began or ended last. */
         private final Map<Long, Long> stored = new HashMap<>(), deletes = new HashMap<>(), deleted = new HashMap<>();
 
         private static boolean deletes(String kind) { return kind.equals("del") || kind.equals("pop_first"); }
@@ -1386,7 +1387,7 @@ public final class Potzendai {
             return program;
         }
 
-        /** Returns the program that runs a command. Once the repository's own `bench` has answered, this is the last program that `bench` built:
+        /** Returns the program that runs a command. After the repository's own `bench` has answered, this is the program that `bench` built last. For
          * `bench` itself takes as long as ten rounds to see that nothing has changed. */
         String at(String command) {
             if (!answered.contains(command.equals("judge")) || !path.endsWith("/bench")) return path;
@@ -1414,7 +1415,7 @@ public final class Potzendai {
                 try (var in = process.getOutputStream()) {
                     in.write(text.getBytes(StandardCharsets.UTF_8));
                 } catch (IOException broken) {
-                    // It has ended before it read all: its status says why.
+                    // The program has ended before it read everything; its status says why.
                 }
                 String answer = new String(process.getInputStream().readAllBytes(), StandardCharsets.UTF_8);
                 return checked(command, process.waitFor(), answer);
@@ -1891,7 +1892,7 @@ public final class Potzendai {
         return said.toString();
     }
 
-    /** A report of `explain` in words. After an undecided, `locate` has a line, which is passed over. */
+    /** A report of `explain` in words. After an undecided there is a line of `locate`, which is skipped. */
     private static List<String> saidReport(List<String> report, Round round) {
         List<String> said = new ArrayList<>(List.of(saidVerdict(report.get(0))));
         List<Map<?, ?>> lines = new ArrayList<>();
@@ -2257,7 +2258,7 @@ public final class Potzendai {
         }
     }
 
-    /** Which functions a map has: those that it does not leave as they are. */
+    /** Which functions a map has: those that it overrides. */
     private static Set<Kind> functions(Index map) {
         Index connection = map.connection();
         Set<Kind> has = new HashSet<>(Set.of(Kind.GET, Kind.PUT));

@@ -284,8 +284,8 @@ class Broken:
         return self.in_style(told(self.connection.get(key))) if self.style else None
 
     def race_put(self, key, value):
-        """Makes a get and then a put, as if they were one call. If the put reports what it found, the get is of the same key. Otherwise it is of the
-        key next to it, and puts back what it got."""
+        """Makes a get and then a put, as if they were one call. If the put reports what it found, the get is of the same key. Otherwise the get is of
+        the key next to it, and what it got is put back."""
         if not self.style:
             return None
         beside = key if self.style == "told" or key ^ 1 >= self.keys else key ^ 1
@@ -410,7 +410,7 @@ class Worker:
             return UNKNOWN
 
     def take(self):
-        """Takes this moment as the answer of the open call, if that only reads. Of several such moments the last one counts."""
+        """Takes this moment as that of the answer of the open call, if the call only reads. Of several such moments the last one counts."""
         if self.is_reading:
             if self.stream and self.end is not None:
                 self.stream.put(self.end, ())
@@ -947,7 +947,7 @@ class Program(Judge):
         self.ask(*(("follow", "") if options.stream else ("judge", '{"events":[],"version":1}\n')), self.budget)
 
     def program(self, command):
-        """Returns the program that runs a command. Once the repository's own `bench` has answered, this is the last program that `bench` built:
+        """Returns the program that runs a command. After the repository's own `bench` has answered, this is the program that `bench` built last. For
         `bench` itself takes as long as ten rounds to see that nothing has changed."""
         folder, script = os.path.split(self.path)
         if (command == "judge") not in self.answered or not folder or script != "bench":

@@ -1,13 +1,13 @@
-//! Tests an ordered map of one's own: threads call its functions, what they do is recorded, and the program `bench` judges each recording, or
-//! follows one stream of it. Copy this file next to a source that says `mod potzendai;`: Rust 1.70 and the program are all that it needs.
+//! Tests an ordered map of your own. Threads call its functions, and what they do is recorded. The program `bench` judges each recording, or follows
+//! one stream. Copy this file next to a source that says `mod potzendai;`. It needs only Rust 1.70 and the program.
 //!
 //!     fn main() {
 //!         std::process::exit(potzendai::run("mine", || Mine::new(), std::env::args().skip(1)));
 //!     }
 //!
-//! From any test, `potzendai::check("mine", || Mine::new(), &["--seconds", "5"])` panics with the explanation.
+//! In a test, `potzendai::check("mine", || Mine::new(), &["--seconds", "5"])` panics with the explanation.
 //!
-//! With `--cfg potzendai_library` it calls the library in the place of the program: `-L FOLDER -l static=potzendai` links it.
+//! With `--cfg potzendai_library` it calls the library instead of the program: `-L FOLDER -l static=potzendai` links it.
 #![allow(dead_code, unused_imports, unknown_lints, unexpected_cfgs)]
 
 use std::cell::RefCell;
@@ -31,14 +31,14 @@ pub enum Said {
     None,
     /// It was done, and nothing is reported.
     Done,
-    /// There was a value, which is not reported; or a pair, of which only the key is.
+    /// There was a value, which is not reported; or a pair, of which only the key is reported.
     Found,
     FoundKey(u64),
     /// The old value was not there, and nothing has changed.
     Other,
-    /// Nothing has changed, as of a transaction that was rolled back.
+    /// Nothing has changed, as after a transaction that was rolled back.
     Refused,
-    /// Nobody knows whether it was done, as of a request that timed out.
+    /// Nobody knows whether it was done, for example after a request that timed out.
     Unknown,
     /// The map has no such function.
     Missing,
@@ -188,7 +188,7 @@ impl Kind {
         options.cache.is_some() || matches!(self, PutIfAbsent | Floor | Ceiling | PopFirst)
     }
 
-    /// Its call in a history, as far as that is known before the answer.
+    /// The call in a history, as far as it is known before the answer.
     fn call(self) -> &'static str {
         ["get", "insert", "remove", "scan", "replace", "insert", "scan", "scan", "remove"][self as usize]
     }
@@ -384,8 +384,8 @@ impl Noted {
     }
 }
 
-/// What a history has of a call. Of a cache, which may lose any key at any time: of a miss, that the key is gone from then on. So this history has an
-/// order if and only if the cache's own has one in which keys may be lost. Late: a miss says nothing.
+/// What a history has of a call. A cache may lose any key at any time, so a miss is recorded in such a way that the key has no value from then on. So
+/// this history has an order if and only if the cache's own has one in which keys may be lost. Late: a miss says nothing.
 fn recorded(options: &Options, kind: Kind, words: &[u64], said: &Said, fresh: &mut dyn FnMut() -> u64) -> Option<Noted> {
     let (call, answer) = noted(kind, words, said)?;
     let plain = Noted { call, answer, note: None, beside: vec![] };
@@ -456,7 +456,7 @@ fn ask(options: &Options, connection: &mut dyn Connection, kind: Kind, words: &[
     fail(BAD_WORDS, format!("{} said {}, which does not fit it", kind.name(), SAYINGS[said.word()]))
 }
 
-/// Which functions a map has: they are called once each, of a map that is not used any more.
+/// Which functions a map has. Each is called once, on a map that is not used afterwards.
 fn functions<M: Map>(map: &M) -> [bool; 9] {
     let mut connection = map.open();
     KINDS.map(|kind| matches!(kind, Get | Put) || ask_any(&mut *connection, kind, &[0, 1, 2]) != Said::Missing)
@@ -505,8 +505,8 @@ impl<'a> Broken<'a> {
         }
     }
 
-    /// Makes a get and then a put, as if they were one call. If the put reports what it found, the get is of the same key. Otherwise it is of the key
-    /// next to it, and puts back what it got.
+    /// Makes a get and then a put, as if they were one call. If the put reports what it found, the get is of the same key. Otherwise the get is of
+    /// the key next to it, and what it got is put back.
     fn race(&mut self, key: u64, value: u64) -> Said {
         let tells = matches!(self.style, Some(Said::Told(_)));
         let beside = if tells || key ^ 1 >= self.keys { key } else { key ^ 1 };
@@ -628,7 +628,7 @@ enum What {
     Answer(String),
 }
 
-/// By which thread, and as which of its processes.
+/// The thread, and which of its processes it is.
 #[derive(Clone, Debug)]
 struct Event {
     stamp: u64,
@@ -636,7 +636,7 @@ struct Event {
     life: usize,
     what: What,
     note: Option<String>,
-    /// The function, unless no thread called one, and what that said, once it is over.
+    /// The function, unless no thread called one, and what it said, when the call is over.
     kind: &'static str,
     said: usize,
     beside: Arc<Vec<Noted>>,
@@ -669,8 +669,8 @@ struct Task {
     values_from: u64,
 }
 
-/// What all threads share: the word of stamps; the locks of keys, with whether a call that writes the key has no answer, and so may still
-/// come between a get and the put after it; and the stream, if it is one.
+/// What all threads share: the word of stamps, the locks of keys, and the stream, if it is one. With each lock goes whether a call that writes the
+/// key has no answer, and so may still take effect between a get and the put after it.
 struct Shared {
     stamps: Arc<AtomicU64>,
     locks: Vec<Mutex<bool>>,
@@ -907,7 +907,7 @@ impl<'a> Worker<'a> {
         }
     }
 
-    /// A get and a call that writes its key, as one. Of a cache, the key may be lost between the two.
+    /// A get and a call that writes its key, as one call. A cache may lose the key between the two.
     fn make_locked(&mut self, kind: Kind, words: &[u64], is_doubtful: &mut bool) -> Result<(), Stop> {
         let begin = self.begin(kind, words);
         let is_void = matches!(kind, Put | Del);
@@ -933,7 +933,7 @@ impl<'a> Worker<'a> {
         self.made_one(kind, words, said?, Said::Done, begin, end)
     }
 
-    /// The stamp before a call. If the call is known already, a stream has it from here on.
+    /// Draws the stamp before a call. If the call is already known, a stream has it from here on.
     fn begin(&self, kind: Kind, words: &[u64]) -> u64 {
         let begin = self.shared.stamp();
         if let (Some(stream), false) = (&self.shared.stream, kind.is_held(self.options)) {
@@ -1073,7 +1073,7 @@ fn serve(number: u64, options: &Options, shared: &Shared, map: &dyn Opens, kept:
     })
 }
 
-/// What gets of all keys at rest reported: the last calls of a round, and what the map holds.
+/// What the gets of all keys at rest reported: they are the last calls of a round, and say what the map holds.
 #[derive(Default)]
 struct Rest {
     events: Vec<Event>,
@@ -1086,7 +1086,7 @@ impl Values {
         self.from = self.from.max(held.values().max().map_or(1, |value| value.wrapping_add(1)));
     }
 
-    /// One of the driver's own.
+    /// A value of the driver's own.
     fn own(&mut self, options: &Options) -> u64 {
         self.puts += 1;
         self.from.max(1) + self.puts * (options.threads + 1) + options.threads
@@ -1165,11 +1165,11 @@ impl One {
     }
 }
 
-/// Who is a process: each thread, and each of its lives, and who makes calls on behalf of one.
+/// Which processes there are: one for each thread, for each of its lives, and for each call on behalf of another.
 type Who = (usize, usize);
 const HELPS: usize = usize::MAX;
 
-/// What one round recorded, as a history: its events with their processes; and what its threads met.
+/// What one round recorded as a history, its events with their processes, and what its threads met.
 #[derive(Default)]
 struct Round {
     start: Arc<BTreeMap<u64, u64>>,
@@ -1278,7 +1278,7 @@ impl Round {
         self.pending = open.into_values().map(|(_, call, _)| call).filter(|call| !self.tells(call)).cloned().collect();
     }
 
-    /// Whether an answer reports what a call puts: then it was done.
+    /// Whether an answer reports what a call puts. Then the call was done.
     fn tells(&self, call: &Call) -> bool {
         let value = call.1.last().map_or(String::new(), u64::to_string);
         let in_pair = format!(",{value}]");
@@ -1304,7 +1304,7 @@ impl Round {
         Round { start: Arc::new(start), events, at_start, nobody, ..Round::default() }
     }
 
-    /// The calls that a follower still had, with the notes that the stream had of them: those of the calls "invoked" of its report, by rising event.
+    /// The calls that a follower still had, which the report lists under "invoked", by rising event, with the notes that the stream had of them.
     fn note(&mut self, report: &str, notes: &HashMap<u64, String>) {
         let report = Json::read(&mut &*report);
         let invoked = report.member("keys").items().iter().flat_map(|key| key.member("invoked").items());
@@ -1395,7 +1395,7 @@ struct Tally {
     misses: u64,
     losses: u64,
     clock: u64,
-    /// When a put ended; open deletes; when a delete began or ended last.
+    /// When a put ended, how many deletes are open, and when a delete began or ended last.
     stored: HashMap<u64, u64>,
     deletes: HashMap<u64, u64>,
     deleted: HashMap<u64, u64>,
@@ -1489,7 +1489,7 @@ impl Program {
         if command == "judge" { &self.has_judged } else { &self.has_told }
     }
 
-    /// Returns the program that runs a command. Once the repository's own `bench` has answered, this is the last program that `bench` built:
+    /// Returns the program that runs a command. After the repository's own `bench` has answered, this is the program that `bench` built last. For
     /// `bench` itself takes as long as ten rounds to see that nothing has changed.
     fn at(&self, command: &str) -> std::path::PathBuf {
         let script = std::path::PathBuf::from(&self.path);
@@ -1691,8 +1691,8 @@ struct Run {
     kept: Option<String>, // the stream so far, while it is no longer than is kept
 }
 
-/// Where a run is between two rounds: what the map holds, and calls that may still come; and the events of a round which ends with reads of the map
-/// that is opened again.
+/// The state of a run between two rounds: what the map holds, and calls that may still take effect. If a round ends with reads of the map that is
+/// opened again, it also has the events of that round.
 #[derive(Default)]
 struct At {
     start: Arc<BTreeMap<u64, u64>>,
@@ -1703,7 +1703,8 @@ struct At {
     values: Values,
 }
 
-/// Each put has a value of its own, which was not in the map before: from which on they are, and how many puts are the driver's own.
+/// Each put has a value of its own, which was not in the map before. This is the number from which these values begin, and how many puts are the
+/// driver's own.
 #[derive(Clone, Copy, Default)]
 struct Values {
     from: u64,
@@ -1717,7 +1718,7 @@ enum Next {
     Reopened,
 }
 
-/// By which a thread gets what it has to do, and what it has done.
+/// The channels by which a thread gets its tasks and sends what it has recorded.
 type Ends = (Sender<Task>, Receiver<Outcome>);
 
 impl Run {
@@ -1859,7 +1860,7 @@ impl Run {
         }
     }
 
-    /// Where a write fails, the stream has failed: whoever follows has ended, and the verdict says why.
+    /// If a write fails, the stream has failed: the program that follows it has ended, and the verdict says why.
     fn hand_all(&mut self, shared: &Shared, stream: &Stream, mut text: String, out: &mut dyn Write) {
         let (mut open, mut writers, mut times) = (HashMap::new(), HashMap::new(), 0);
         loop {
@@ -1948,7 +1949,7 @@ impl Run {
         }
     }
 
-    /// Rounds of one map. Where it is to be opened again, one.
+    /// Rounds of one map. If the map is to be opened again, it is one round.
     fn rounds_of(
         &mut self, map: &dyn Opens, shared: &Shared, threads: &[Ends], program: Option<&Program>, number: u64, at: &mut At,
     ) -> Result<Next, Stop> {
@@ -2101,7 +2102,7 @@ impl Run {
         )];
         let tally = &self.tally;
         if self.is_late() {
-            // such a miss may be of a write that has not appeared yet, and is no loss
+            // such a miss may come before a write that has not appeared yet; it is no loss
             parts.push([counted(tally.hits, "hit"), counted(self.counted.called[Get as usize] - tally.hits, "miss")].join(", "));
         } else if self.options.cache.is_some() {
             parts.push([counted(tally.hits, "hit"), counted(tally.misses, "miss"), counted(tally.losses, "loss")].join(", "));
@@ -2400,8 +2401,8 @@ fn said_missed(round: &Round, line: &Json) -> String {
     }).collect()
 }
 
-/// A report of `explain` in words, and the line that is the few calls' history, if it is there. After an undecided, `locate` has a line, which
-/// is passed over.
+/// A report of `explain` in words, and the line that is the few calls' history, if it is there. After an undecided there is a line of `locate`, which
+/// is skipped.
 fn said_report(report: &str, round: &Round) -> (Vec<String>, Option<String>) {
     let mut lines = report.lines();
     let (mut said, mut few) = (vec![said_verdict(lines.next().unwrap_or(""))], None);

@@ -33,7 +33,7 @@ use Rattle.explain_engines.specs.Origins.{origin_lines}
 use Rattle.explain_engines.specs.Fronts.{front_data}
 use Rattle.explain_engines.specs.OwnParts.{AreFromLines}
 
--- the longest front that a search at the budget meets of the calls of a history, by their numbers
+-- the longest front of a history's calls that a search at the budget meets, by their numbers
 pub record IsFrontOf (budget : ℕ) (history : HistoryView) (front : List ℕ) : Type 0 where
   pub segment : SegmentView
   pub whole : IsWholeSegment history.start (operations history.events) segment

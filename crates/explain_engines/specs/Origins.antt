@@ -24,7 +24,7 @@ pair_origin_data start events places pair =
     object (member (codes "key") (number_data pair.0) (member (codes "puts") (list_data (map (writer_data events) places))
     (member (codes "start") (boolean (holds start pair)) (member (codes "value") (number_data pair.1) no_members))))
 
--- a value at a key, with the calls that put it there, of all these calls
+-- a value at a key, with those of these calls that put it there
 abbrev pub origin_data : Contents → List Event → List Operation → ℕ × ℕ → Data
 origin_data start events calls pair = pair_origin_data start events (map (λ (a : Operation). a.inv) (writers_of pair calls)) pair
 

@@ -1,4 +1,4 @@
--- On the way to which segments a gate was passed.
+-- For which segments a gate was passed.
 use Rattle.std.specs.Prelude.{ℕ, List, EachIndex}
 use Rattle.events.specs.HistoryView.{HistoryView}
 use Rattle.events.specs.Histories.{IsHistory}
@@ -7,7 +7,7 @@ use Rattle.history_text.specs.Texts.{Spells}
 use Rattle.segments.specs.SegmentView.{SegmentView}
 use Rattle.segments.specs.Segments.{AreSegments}
 
--- the gate was passed on the way to each segment of the history
+-- the gate was passed for each segment of the history
 pub record WasPassedForEach (WasPassed : ℕ → Type 0) (history : HistoryView) : Type 0 where
   pub segments : List SegmentView
   pub are_segments : AreSegments history.start (operations history.events) segments

@@ -60,7 +60,7 @@ pub struct Bar {
     pub call: String,
     /// Its reply in words.
     pub reply: Option<String>,
-    /// Whether the verdict does not speak of the call.
+    /// Whether the verdict does not concern the call.
     pub is_pale: bool,
     /// Whether its response is the event at which the history goes wrong.
     pub is_wrong: bool,
