@@ -463,7 +463,7 @@ static inline int potzendai_judge_life(struct potzendai_killing *k, struct potze
         return potzendai_not_opened(k, f, why);
     int status = potzendai_end_stream(f);
     if (status == POTZENDAI_IS_NO) {
-        fprintf(stderr, "  killed after event %" PRIu64 ": those after it read the store\n", lived);
+        fprintf(stderr, "  killed after event %" PRIu64 ": the events after it are the reads of the store\n", lived);
         potzendai_keep_life(k);
     }
     return status;

@@ -33,8 +33,8 @@ may_tell puts a b left = not (precedes b a) && (tells_put left a && not (is_over
 abbrev pub is_touched : List Operation → List Operation → Operation → Bool
 is_touched puts gone b = list_any (λ a. may_tell puts a b b) gone
 
--- whether a call depends on what one of those left out may have put, and still does without its
--- answer
+-- whether a call depends on what one of those left out may have put, and without its answer waits
+-- for what one of them may put
 abbrev pub is_held : List Operation → List Operation → Operation → Bool
 is_held puts gone b = is_touched puts gone b && list_any (λ a. may_tell puts a b (opened b)) gone
 

@@ -37,7 +37,7 @@ value_from first (Some value) _ = Some value
 value_from first None None = first
 value_from first None (Some value) = None
 
--- the other pairs with these put among them: each replaces the pair of its key
+-- pairs with these put among them; each of these replaces the pair that has its key
 abbrev pub put_all : Contents → Contents → Contents
 put_all [] m = m
 put_all ((key, value) ∷ pairs) m = put key value (put_all pairs m)

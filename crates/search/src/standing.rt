@@ -28,8 +28,9 @@ pub struct Level {
 }
 
 /// The state of a walk: the calls taken, the next call to try, and the present configuration with
-/// its map. The next call is the number of calls if none is left. Also the configurations visited,
-/// and the calls left, in the order of their invocations and in the order of their answers.
+/// its map. If no call is left, the next call is the number of calls. Also the configurations
+/// visited, and the calls left, in the order of their invocations and in the order of their
+/// answers.
 pub struct Standing {
     pub levels: Vec<Level>,
     pub next: u32,
