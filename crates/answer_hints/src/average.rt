@@ -4,21 +4,22 @@ ghost use Rattle.answer_hints.specs.Averages.{hundredths, average_text};
 
 use std::alloc::{AllocError, Global};
 
-/// A sum divided by a number of calls, in hundredths and rounded down. No calls count as one.
+/// Returns a sum divided by a number of calls, in hundredths and rounded down. No calls count as
+/// one.
 pub(crate) fn hundredths(calls: usize, total: u64) -> u128
     ensures { result ≡ hundredths calls total }
 {
     total as u128 * 100 / calls.max(1) as u128
 }
 
-/// The last digit of a number.
+/// Returns the last digit of a number.
 fn last_digit(number: u128) -> u8
     ensures { result ≡ number % 10 }
 {
     (number % 10) as u8
 }
 
-/// This quotient with two decimals.
+/// Returns this quotient with two decimals.
 pub fn average_text(alloc: Global, calls: usize, total: u64) -> Result<String, AllocError>
     ensures { IfOk result (λ text. string_bytes text ≡ average_text calls total) }
 {

@@ -8,8 +8,8 @@ use crate::average::{average_text, hundredths};
 use outcomes::{Answer, RunOutcome};
 use std::alloc::{AllocError, Global};
 
-/// A yes with this line. If there are at least two calls, and on average fewer than 0.1 other calls
-/// were open at an invocation, a hint says how many.
+/// Returns a yes with this line. If there are at least two calls, and on average fewer than 0.1
+/// other calls were open at an invocation, a hint says how many.
 pub fn hinted_yes(
     alloc: Global,
     line: Result<String, AllocError>,
@@ -26,7 +26,7 @@ pub fn hinted_yes(
     }
 }
 
-/// A no with this line, and the hint that `bench explain` names a few of the calls.
+/// Returns a no with this line, and the hint that `bench explain` names a few of the calls.
 pub fn hinted_no(alloc: Global, line: Result<String, AllocError>) -> RunOutcome
     ensures { (bytes : List ℕ) → IfOk line (λ text. string_bytes text ≡ bytes)
         → IsHintedBy No bytes no_hint result }
@@ -34,7 +34,7 @@ pub fn hinted_no(alloc: Global, line: Result<String, AllocError>) -> RunOutcome
     RunOutcome::with_note(Answer::No, line, no_hint(alloc))
 }
 
-/// An undecided with this line, and the hint that `bench locate` may decide it.
+/// Returns an undecided with this line, and the hint that `bench locate` may decide it.
 pub fn hinted_undecided(alloc: Global, line: Result<String, AllocError>) -> RunOutcome
     ensures { (bytes : List ℕ) → IfOk line (λ text. string_bytes text ≡ bytes)
         → IsHintedBy Undecided bytes undecided_hint result }
@@ -42,15 +42,15 @@ pub fn hinted_undecided(alloc: Global, line: Result<String, AllocError>) -> RunO
     RunOutcome::with_note(Answer::Undecided, line, undecided_hint(alloc))
 }
 
-/// Whether there are at least two calls, and on average fewer than 0.1 other calls were open at an
-/// invocation.
+/// Returns whether there are at least two calls, and on average fewer than 0.1 other calls were
+/// open at an invocation.
 fn is_rare(calls: usize, overlap: u64) -> bool
     ensures { yes_hint calls overlap ≡ (if result then rare_hint calls overlap else []) }
 {
     calls >= 2 && hundredths(calls, overlap) < 10
 }
 
-/// The hint on how few other calls were open at an invocation.
+/// Returns the hint on how few other calls were open at an invocation.
 fn rare_hint(alloc: Global, calls: usize, overlap: u64) -> Result<String, AllocError>
     ensures { IfOk result (λ hint. string_bytes hint ≡ rare_hint calls overlap) }
 {
@@ -62,7 +62,7 @@ fn rare_hint(alloc: Global, calls: usize, overlap: u64) -> Result<String, AllocE
     Ok(hint)
 }
 
-/// The hint on the subcommand that names a few of the calls.
+/// Returns the hint on the subcommand that names a few of the calls.
 fn no_hint(alloc: Global) -> Result<String, AllocError>
     ensures { IfOk result (λ hint. string_bytes hint ≡ no_hint) }
 {
@@ -72,7 +72,7 @@ fn no_hint(alloc: Global) -> Result<String, AllocError>
     )
 }
 
-/// The hint on the subcommand that may decide.
+/// Returns the hint on the subcommand that may decide.
 fn undecided_hint(alloc: Global) -> Result<String, AllocError>
     ensures { IfOk result (λ hint. string_bytes hint ≡ undecided_hint) }
 {

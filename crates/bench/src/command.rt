@@ -153,7 +153,7 @@ fn drive<R: Threads + Wait + Sync, S: Source, O: Sink, F: Sink, H: Sink>(
     )
 }
 
-/// The shape of a table with these rows.
+/// Returns the shape of a table with these rows.
 fn shape_of(rows: Rows) -> Shape
     ensures { result ≡ shape_of rows }
 {
@@ -165,7 +165,7 @@ fn shape_of(rows: Rows) -> Shape
     }
 }
 
-/// The variant of a tree on shared words; `Tree::Locked` has none.
+/// Returns the variant of a tree on shared words; `Tree::Locked` has none.
 fn variant_of(tree: Tree) -> Option<Variant>
     ensures { result ≡ variant_of tree }
 {
@@ -180,7 +180,7 @@ fn variant_of(tree: Tree) -> Option<Variant>
     }
 }
 
-/// The strategy by which a schedule is drawn.
+/// Returns the strategy by which a schedule is drawn.
 fn strategy_of(strategy: Strategy) -> drawn_schedules::Strategy {
     match strategy {
         Strategy::Walk => drawn_schedules::Strategy::Walk,

@@ -28,7 +28,7 @@ impl Prefix {
     ghost use Rattle.certificate.specs.Faults.{IsRefusedFor};
     ghost use Rattle.certificate.specs.Prefix.{IsPrefixOf};
 
-    /// The state before any number, if the map holds these pairs at the start.
+    /// Returns the state before any number, if the map holds these pairs at the start.
     pub fn new(alloc: Global, start: &[(u64, u64)], calls: &[Operation]) -> Result<Prefix, Memory>
         requires { IsRising start.now }
         ensures { IfOk result (IsPrefixOf start.now calls.now []) }
@@ -78,7 +78,7 @@ impl Prefix {
         Ok(())
     }
 
-    /// The least completed call that was not taken.
+    /// Returns the least completed call that was not taken.
     pub fn least_missing(&self, calls: &[Operation]) -> Option<usize>
         requires { vec_len self.now.taken ≡ length calls.now }
         ensures none { (start : Contents) (order : List ℕ) → IsPrefixOf start calls.now order self.now
@@ -95,7 +95,7 @@ impl Prefix {
     }
 }
 
-/// Whether a response comes before a place.
+/// Returns whether a response comes before a place.
 fn is_before(response: &Option<Response>, place: usize) -> bool
     ensures { result ≡ is_before response.now place }
 {

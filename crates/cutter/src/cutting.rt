@@ -24,7 +24,7 @@ pub fn cut(alloc: Global, history: &History) -> Result<Vec<Segment>, Memory>
     segments_of(alloc, history, &ranges)
 }
 
-/// The segments of a history, from the ranges of its calls by rising low key.
+/// Returns the segments of a history, from the ranges of its calls by rising low key.
 fn segments_of(
     alloc: Global,
     history: &History,
@@ -46,8 +46,8 @@ fn segments_of(
     Ok(segments)
 }
 
-/// How many of the ranges, from the first one on, are connected: each but the first begins at or
-/// below the greatest key of those before it.
+/// Returns how many of the ranges, from the first one on, are connected: each but the first begins
+/// at or below the greatest key of those before it.
 fn chained_len(ranges: &[KeyRange]) -> usize
     requires not_empty { ranges.now ≢ [] }
     requires by_low_key { AllPairs (λ r s. r.low ≤ s.low) ranges.now }

@@ -17,7 +17,7 @@ pub(crate) struct Entered {
     group: Pass,
 }
 
-/// The group's process enters the gate, with its number.
+/// Lets the group's process enter the gate, with its number.
 pub(crate) fn enter<G: Gate>(gate: &G, group: Pass) -> Entered
     requires { IsGroup group }
     ensures same { result.group ≡ group }

@@ -64,7 +64,7 @@ fn do_call<S: Subject>(
     Ok(())
 }
 
-/// The event has no fault, so it was refused only because memory ran out.
+/// Returns out of memory: the event has no fault, so this is the only reason why it was refused.
 fn want_of_memory(fault: RecorderFault) -> Memory
     requires { fault ≡ faults.Memory }
 {

@@ -48,8 +48,8 @@ pub fn drive_subject<R: Threads + Sync, S: Subject + Sync>(
     }
 }
 
-/// The passes of all processes after their scripts, by process. It returns `Err` if memory runs
-/// out.
+/// Returns the passes of all processes after their scripts, by process. It returns `Err` if memory
+/// runs out.
 fn passes_after<R: Threads + Sync, S: Subject + Sync>(
     rt: &R,
     alloc: Global,
@@ -92,7 +92,7 @@ fn do_scripts<R: Threads + Sync, S: Subject + Sync>(
     )
 }
 
-/// A process does its own of the scripts.
+/// Lets a process do its own script.
 fn do_own_script<S: Subject>(
     recorder: &Recorder,
     subject: &S,
@@ -108,7 +108,7 @@ fn do_own_script<S: Subject>(
     do_script(recorder, subject, pass, script)
 }
 
-/// The passes of all processes, unless one of them ran out of memory.
+/// Returns the passes of all processes, unless one of them ran out of memory.
 fn all_passes(alloc: Global, done: Vec<Result<Pass, Memory>>) -> Result<Vec<Pass>, Memory>
     ensures { IfOk result (λ passes. done.items ≡ map (λ pass. Ok pass) passes.items) }
 {
@@ -127,7 +127,7 @@ fn put(passes: &mut Vec<Pass>, pass: Result<Pass, Memory>) -> Result<(), Memory>
     Ok(())
 }
 
-/// A recorder was not closed only because memory ran out.
+/// Returns out of memory, which is the only reason why a recorder was not closed.
 fn want_of_memory(fault: CloseFault) -> Memory
     requires { WantsMemory fault }
 {

@@ -78,7 +78,7 @@ fn do_scripts<R: Threads + Sync, G: Gate + Sync>(
     )
 }
 
-/// A process enters the gate, and does its own of the scripts.
+/// Lets a process enter the gate and do its own script.
 fn do_own_script<G: Gate>(
     alloc: Global,
     arena: &Arena,
@@ -96,7 +96,7 @@ fn do_own_script<G: Gate>(
     do_script(alloc, arena, enter(gate, group), &scripts[process], limit)
 }
 
-/// An arena was not closed only because memory ran out.
+/// Returns out of memory, which is the only reason why an arena was not closed.
 fn want_of_memory(fault: ArenaClose) -> Memory
     requires { WantsMemory fault }
 {

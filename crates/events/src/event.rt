@@ -26,7 +26,7 @@ pub enum Call {
 impl Call {
     ghost use Rattle.events.specs.Keys.{low_key, high_key, may_change};
 
-    /// The least key that the call names.
+    /// Returns the least key that the call names.
     pub fn low_key(&self) -> u64
         ensures { result ≡ low_key self.now }
     {
@@ -37,7 +37,7 @@ impl Call {
         }
     }
 
-    /// The greatest key that the call names.
+    /// Returns the greatest key that the call names.
     pub fn high_key(&self) -> u64
         ensures { result ≡ high_key self.now }
     {
@@ -48,7 +48,7 @@ impl Call {
         }
     }
 
-    /// Whether the call may change the map.
+    /// Returns whether the call may change the map.
     pub fn may_change(&self) -> bool
         ensures { result ≡ may_change self.now }
     {
@@ -83,7 +83,7 @@ impl Pairs {
         Pairs { items }
     }
 
-    /// The pairs.
+    /// Returns the pairs.
     pub fn as_slice(&self) -> &[(u64, u64)]
         ensures { result.now ≡ self.now }
     {
@@ -147,7 +147,7 @@ impl Reply {
         }
     }
 
-    /// How many pairs the reply lists.
+    /// Returns how many pairs the reply lists.
     pub fn pair_count(&self) -> usize
         ensures { result ≡ pair_count self.now }
     {
@@ -157,8 +157,8 @@ impl Reply {
         }
     }
 
-    /// Whether the reply is complete. A partial reply says only that the call was done, that its
-    /// key held a value, or that a replace found another value.
+    /// Returns whether the reply is complete. A partial reply says only that the call was done,
+    /// that its key held a value, or that a replace found another value.
     pub fn is_told(&self) -> bool
         ensures { result ≡ is_told self.now }
     {
@@ -190,7 +190,7 @@ impl Drop for Event {
 impl Event {
     ghost use Rattle.events.specs.Events.{process_of};
 
-    /// The process that begins a call, or whose call is answered.
+    /// Returns the process that begins a call, or whose call is answered.
     pub fn process(&self) -> u8
         ensures { result ≡ process_of self.now }
     {

@@ -103,7 +103,7 @@ impl History {
         })
     }
 
-    /// The pairs of a key and a value that the map holds at the start, by rising key.
+    /// Returns the pairs of a key and a value that the map holds at the start, by rising key.
     pub fn start(&self) -> &[(u64, u64)]
         ensures start { result.now ≡ self.now.start }
         ensures history { IsHistory self.now }
@@ -111,7 +111,7 @@ impl History {
         &self.start
     }
 
-    /// The events, in their order.
+    /// Returns the events, in their order.
     pub fn events(&self) -> &[Event]
         ensures events { result.now ≡ self.now.events }
         ensures history { IsHistory self.now }
@@ -119,7 +119,7 @@ impl History {
         &self.events
     }
 
-    /// The calls by number: call i is the i-th invocation, from 0.
+    /// Returns the calls by number: call i is the i-th invocation, from 0.
     pub fn calls(&self) -> &[Operation]
         ensures calls { result.now ≡ operations self.now.events }
         ensures history { IsHistory self.now }

@@ -47,7 +47,7 @@ impl OpenCalls {
         Ok(())
     }
 
-    /// Whether the event's process has an open call.
+    /// Returns whether the event's process has an open call.
     fn has_open(&self, event: &Event) -> bool
         ensures { result ≡ slice_index_or self.now.has_open (process_of event.now) false }
     {
@@ -73,8 +73,8 @@ impl OpenCalls {
     }
 }
 
-/// The fault of an event at a place, after a number of calls: first of its shape, then of a limit,
-/// then of its turn.
+/// Returns the fault of an event at a place, after a number of calls: first of its shape, then of a
+/// limit, then of its turn.
 fn event_fault(place: usize, calls: usize, has_open: bool, event: &Event) -> Option<HistoryFault>
     ensures { result ≡ event_fault place calls has_open event.now }
 {

@@ -70,14 +70,14 @@ impl Operation {
         })
     }
 
-    /// Whether the call has a response.
+    /// Returns whether the call has a response.
     pub fn is_completed(&self) -> bool
         ensures { result ≡ is_completed self.now }
     {
         self.response.is_some()
     }
 
-    /// Whether the call belongs to a segment: all do but pending gets and pending scans.
+    /// Returns whether the call belongs to a segment: all do but pending gets and pending scans.
     pub fn belongs(&self) -> bool
         ensures { result ≡ belongs self.now }
     {

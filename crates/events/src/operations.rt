@@ -7,9 +7,9 @@ use crate::memory::Memory;
 use crate::operation::{Operation, Response};
 use std::alloc::Global;
 
-/// The calls by number. The response of each call is searched for from its invocation on. Calls of
-/// one process do not overlap in a history, so each event is looked at at most once for each
-/// process.
+/// Returns the calls by number. The response of each call is searched for from its invocation on.
+/// Calls of one process do not overlap in a history, so each event is looked at at most once for
+/// each process.
 pub fn operations_of(alloc: Global, events: &[Event]) -> Result<Vec<Operation>, Memory>
     ensures { IfOk result (λ v. v.items ≡ operations events.now) }
 {
@@ -27,7 +27,7 @@ pub fn operations_of(alloc: Global, events: &[Event]) -> Result<Vec<Operation>, 
     Ok(calls)
 }
 
-/// The first response of a process at a place or after it.
+/// Returns the first response of a process at a place or after it.
 fn response_of(
     alloc: Global,
     process: u8,

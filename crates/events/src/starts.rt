@@ -34,7 +34,7 @@ pub fn test_pair(before: &[(u64, u64)], pair: (u64, u64)) -> Result<(), HistoryF
     Ok(())
 }
 
-/// Whether a key is above the keys of all pairs before it, which rise.
+/// Returns whether a key is above the keys of all pairs before it, which rise.
 pub fn is_above(before: &[(u64, u64)], key: u64) -> bool
     requires { KeysRise before.now }
     ensures { result ≡ is_above before.now key }

@@ -85,7 +85,7 @@ impl Turns {
         Ok(())
     }
 
-    /// The events so far.
+    /// Returns the events so far.
     pub fn events(&self) -> &[Event]
         ensures events { result.now ≡ self.now.events }
         ensures history { IsHistory self.now }
@@ -93,8 +93,8 @@ impl Turns {
         &self.events
     }
 
-    /// The history of the pairs and events so far. It takes time in proportion to the events, for a
-    /// fixed number of processes.
+    /// Returns the history of the pairs and events so far. It takes time in proportion to the
+    /// events, for a fixed number of processes.
     pub fn history(self, alloc: Global) -> Result<History, Memory>
         ensures { IfOk result (λ h. h ≡ self) }
     {

@@ -4,7 +4,7 @@ ghost use Rattle.explain_engines.specs.Reports.{process_at};
 
 use events::Event;
 
-/// The process of the event at a place, or 0 if there is none.
+/// Returns the process of the event at a place, or 0 if there is none.
 pub(crate) fn process_at(events: &[Event], place: usize) -> u8
     ensures { result ≡ process_at events.now place }
 {

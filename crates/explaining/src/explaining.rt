@@ -57,7 +57,7 @@ pub(crate) fn least_of(
     }
 }
 
-/// The most configurations that a search meets if it is to leave out many calls at once.
+/// Returns the most configurations that a search meets if it is to leave out many calls at once.
 pub(crate) fn few_configurations(budget: u32) -> u32
     ensures { result ≡ few_configurations budget }
 {

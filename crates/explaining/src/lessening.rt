@@ -39,7 +39,8 @@ pub(crate) fn lessen(
     Ok(kept)
 }
 
-/// The places of the calls except some, counted by rising key, and at one key by rising invocation.
+/// Returns the places of the calls except some, counted by rising key, and at one key by rising
+/// invocation.
 fn places_outside(
     alloc: Global,
     calls: &[Operation],
@@ -83,7 +84,7 @@ pub(crate) fn look_at_each(
     Ok(Reduction::Least(reasons))
 }
 
-/// The places of all these calls except one.
+/// Returns the places of all these calls except one.
 fn others_than(alloc: Global, kept: &[Operation], place: usize) -> Result<Vec<usize>, Memory>
     ensures { IfOk result (λ places. places.items ≡ others_than kept.now place) }
 {

@@ -104,8 +104,8 @@ fn shown_calls(
     Ok(None)
 }
 
-/// What is left of this many calls from the front of either list, or of the last ones, if they show
-/// that all have no order.
+/// Returns what is left of this many calls from the front of either list, or of the last ones, if
+/// they show that all have no order.
 fn shown_by(
     alloc: Global,
     map: &SortedMap,
@@ -127,8 +127,8 @@ fn shown_by(
     }
 }
 
-/// What is left of this many calls from the front of this list, or of the last ones, if they show
-/// that all have no order.
+/// Returns what is left of this many calls from the front of this list, or of the last ones, if
+/// they show that all have no order.
 fn told_where_shown(
     alloc: Global,
     map: &SortedMap,
@@ -149,7 +149,7 @@ fn told_where_shown(
     }
 }
 
-/// What is left of this many of the last calls, if they show that all have no order.
+/// Returns what is left of this many of the last calls, if they show that all have no order.
 fn last_where_shown(
     alloc: Global,
     map: &SortedMap,
@@ -166,8 +166,8 @@ fn last_where_shown(
     rest_where_shown(alloc, map, calls, &places, budget)
 }
 
-/// What is left of the calls that were invoked at these places, if they show that all have no
-/// order.
+/// Returns what is left of the calls that were invoked at these places, if they show that all have
+/// no order.
 fn rest_where_shown(
     alloc: Global,
     map: &SortedMap,
@@ -187,9 +187,9 @@ fn rest_where_shown(
     }
 }
 
-/// The places of the call that the last event answers, and of the calls that put something else at
-/// one of its keys before it began, the last ones first. Calls that put what it reports are not
-/// listed: without their answers they might come right before it.
+/// Returns the places of the call that the last event answers, and of the calls that put something
+/// else at one of its keys before it began, the last ones first. Calls that put what it reports are
+/// not listed: without their answers they might come right before it.
 fn missed_places(alloc: Global, calls: &[Operation], events: usize) -> Result<Vec<usize>, Memory> {
     let mut places = Vec::new(alloc);
     if let Some(wrong) = answered_by(calls, events) {
@@ -199,8 +199,8 @@ fn missed_places(alloc: Global, calls: &[Operation], events: usize) -> Result<Ve
     Ok(places)
 }
 
-/// The places of all calls: first those nearest to the call that the last event answers, and of
-/// those as near the last ones first.
+/// Returns the places of all calls: first those nearest to the call that the last event answers,
+/// and of those as near the last ones first.
 fn told_places(alloc: Global, calls: &[Operation], events: usize) -> Result<Vec<usize>, Memory> {
     let mut places = Vec::with_capacity(alloc, calls.len())?;
     if let Some(wrong) = answered_by(calls, events) {
@@ -225,7 +225,7 @@ enum Nearness {
     Apart,
 }
 
-/// The call that the last of this many events answers.
+/// Returns the call that the last of this many events answers.
 fn answered_by(calls: &[Operation], events: usize) -> Option<&Operation> {
     for call in calls {
         if let Some(response) = &call.response {
@@ -252,7 +252,7 @@ fn push_near(
     Ok(())
 }
 
-/// How near a call is to one that was answered wrongly.
+/// Returns how near a call is to one that was answered wrongly.
 fn nearness_of(wrong: &Operation, call: &Operation) -> Nearness {
     if call.inv == wrong.inv || tells_put(wrong, call) {
         return Nearness::Told;
@@ -267,7 +267,7 @@ fn nearness_of(wrong: &Operation, call: &Operation) -> Nearness {
     }
 }
 
-/// Whether a key is among those of both calls.
+/// Returns whether a key is among those of both calls.
 fn share_key(call: &Call, other: &Call) -> bool {
     call.low_key() <= other.high_key() && other.low_key() <= call.high_key()
 }

@@ -55,7 +55,8 @@ pub fn run_judge<S: Source, O: Sink, F: Sink, H: Sink, J: Judge>(
     run_text(alloc, source, output, faults, hints, MAX_TEXT, answer)
 }
 
-/// The verdict on the history that the text spells, as its report, with its hint if it has one.
+/// Returns the verdict on the history that the text spells, as its report, with its hint if it has
+/// one.
 pub fn judge_outcome<J: Judge>(alloc: Global, text: &[u8], judge: &J) -> RunOutcome
     requires { J.ready judge.now }
     ensures outcome { IsHintedOutcome (IsHintedJudgeAnswer (J.budget judge.now)) IsHistoryRefusal
@@ -71,7 +72,7 @@ pub fn judge_outcome<J: Judge>(alloc: Global, text: &[u8], judge: &J) -> RunOutc
     }
 }
 
-/// The outcome of a verdict on a history, or that memory ran out.
+/// Returns the outcome of a verdict on a history, or that memory ran out.
 fn hinted_outcome_of(
     alloc: Global,
     history: &History,
@@ -92,7 +93,7 @@ fn hinted_outcome_of(
     }
 }
 
-/// The answer for a verdict on a history, with this line and its hint.
+/// Returns the answer for a verdict on a history, with this line and its hint.
 fn outcome_with_hint(
     alloc: Global,
     history: &History,
@@ -115,7 +116,7 @@ fn outcome_with_hint(
     }
 }
 
-/// The answer that a verdict is.
+/// Returns the answer that a verdict is.
 pub fn answer_of(verdict: &Verdict) -> Answer
     ensures { result ≡ answer_of verdict.now }
 {

@@ -18,7 +18,7 @@ pub enum TextVersion {
 }
 
 impl TextVersion {
-    /// The number by which a text names it.
+    /// Returns the number by which a text names its version.
     pub fn number(self) -> u64
         ensures { result ≡ version_number self }
     {
@@ -29,28 +29,29 @@ impl TextVersion {
         }
     }
 
-    /// Whether its texts have a start.
+    /// Returns whether texts of this version have a start.
     pub fn has_start(self) -> bool
         ensures { result ≡ has_start self }
     {
         !matches!(self, TextVersion::One)
     }
 
-    /// Whether the events of its texts may have a note.
+    /// Returns whether the events of texts of this version may have a note.
     pub fn has_notes(self) -> bool
         ensures { result ≡ has_notes self }
     {
         matches!(self, TextVersion::Three)
     }
 
-    /// Whether a text of this version may have a call: a replace needs a version with a start.
+    /// Returns whether a text of this version may have a call: a replace needs a version with a
+    /// start.
     pub fn may_have_call(self, call: &Call) -> bool
         ensures { result ≡ (has_start self || not (is_replace call.now)) }
     {
         self.has_start() || !matches!(call, Call::Replace(..))
     }
 
-    /// Whether a text of this version may have a reply: a partial one needs version 3.
+    /// Returns whether a text of this version may have a reply: a partial one needs version 3.
     pub fn may_have_reply(self, reply: &Reply) -> bool
         ensures { result ≡ (may_tell_less self || is_told reply.now) }
     {

@@ -23,7 +23,7 @@ pub struct LockedMap<'a, R: Wait> {
 }
 
 impl<'a, R: Wait> LockedMap<'a, R> {
-    /// The empty map.
+    /// Returns the empty map.
     pub fn new(rt: &'a R, alloc: Global) -> LockedMap<'a, R> {
         let map = Mutex::new(SortedMap::new(alloc));
         LockedMap { rt, alloc, map }
@@ -66,8 +66,8 @@ fn are_rising(map: &SortedMap)
     let _pairs = map.pairs();
 }
 
-/// The reply, or a refusal if it lists too many pairs. Only a scan's reply can, and a scan changes
-/// nothing.
+/// Returns the reply, or a refusal if it lists too many pairs. Only a scan's reply can, and a scan
+/// changes nothing.
 fn within_limit(reply: Reply) -> Reply
     ensures short { pair_count result ≤ pair_limit }
     ensures same { pair_count reply ≤ pair_limit → result ≡ reply }

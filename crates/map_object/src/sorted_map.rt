@@ -38,7 +38,7 @@ impl Model for SortedMap {
 }
 
 impl SortedMap {
-    /// The empty map. It takes no memory.
+    /// Returns the empty map. It takes no memory.
     pub fn new(alloc: Global) -> SortedMap
         ensures { result ≡ [] }
     {
@@ -47,7 +47,7 @@ impl SortedMap {
         }
     }
 
-    /// The map of these pairs, whose keys rise. They are copied.
+    /// Returns the map of these pairs, whose keys rise. They are copied.
     pub fn of(alloc: Global, pairs: &[(u64, u64)]) -> Result<SortedMap, Memory>
         requires { IsRising pairs.now }
         ensures { IfOk result (λ m. m ≡ pairs.now) }
@@ -56,7 +56,7 @@ impl SortedMap {
         Ok(SortedMap { pairs })
     }
 
-    /// The pairs of a key and a value, by rising key.
+    /// Returns the pairs of a key and a value, by rising key.
     pub fn pairs(&self) -> &[(u64, u64)]
         ensures pairs { result.now ≡ self.now }
         ensures rising { IsRising self.now }
@@ -72,7 +72,7 @@ impl SortedMap {
         Ok(SortedMap { pairs })
     }
 
-    /// The value at a key, found by binary search.
+    /// Returns the value at a key, found by binary search.
     pub fn value(&self, key: u64) -> Option<u64>
         ensures value { result ≡ value_at self.now key }
         ensures rising { IsRising self.now }
@@ -106,9 +106,9 @@ impl SortedMap {
         }
     }
 
-    /// Whether the reply is legal for this call. `Refused` and `Done` always are. Any other reply
-    /// has to agree with the answer that the map would give. It takes no memory, and compares the
-    /// pairs of a scan one by one.
+    /// Returns whether the reply is legal for this call. `Refused` and `Done` always are. Any other
+    /// reply has to agree with the answer that the map would give. It takes no memory, and compares
+    /// the pairs of a scan one by one.
     pub fn fits(&self, call: &Call, reply: &Reply) -> bool
         ensures { IsTrue result ↔ IsLegalReply self.now call.now reply.now }
     {
@@ -120,7 +120,7 @@ impl SortedMap {
         }
     }
 
-    /// Whether the reply is the whole answer to the call.
+    /// Returns whether the reply is the complete answer to the call.
     fn gives(&self, call: &Call, reply: &Reply) -> bool
         ensures { IsTrue result ↔ (reply.now ≡ reply_to self.now call.now) }
     {
@@ -131,7 +131,7 @@ impl SortedMap {
         }
     }
 
-    /// Whether the call finds a value. A scan finds a list.
+    /// Returns whether the call finds a value. A scan finds a list.
     fn finds_value(&self, call: &Call) -> bool
         ensures { result ≡ is_value (reply_to self.now call.now) }
     {
@@ -142,7 +142,8 @@ impl SortedMap {
         }
     }
 
-    /// Whether the call is a replace that finds another value than the expected one, or none.
+    /// Returns whether the call is a replace that finds another value than the expected one, or
+    /// none.
     fn finds_other(&self, call: &Call) -> bool
         ensures { result ≡ misses call.now (reply_to self.now call.now) }
     {
@@ -205,8 +206,8 @@ impl SortedMap {
         }
     }
 
-    /// The pairs from the first key to the last, both included. There are none if the first key is
-    /// the greater one.
+    /// Returns the pairs from the first key to the last, both included. There are none if the first
+    /// key is the greater one.
     fn range(&self, low: u64, high: u64) -> &[(u64, u64)]
         ensures { result.now ≡ within low high self.now }
     {
@@ -216,7 +217,7 @@ impl SortedMap {
         &rest[..count]
     }
 
-    /// The place of the key, or the place at which it would be inserted.
+    /// Returns the place of the key, or the place at which it would be inserted.
     fn place(&self, key: u64) -> Result<usize, usize>
         ensures found { IfOk result (IsAt self.now key) }
         ensures absent { IfErr result (IsGapFor self.now key) }

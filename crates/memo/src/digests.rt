@@ -32,7 +32,7 @@ pub fn mix_value(key: u64, value: Option<u64>) -> u64
     }
 }
 
-/// What pairs add to a digest.
+/// Returns what pairs add to a digest.
 pub(crate) fn sum_of(pairs: &[(u64, u64)]) -> u64
     ensures { result ≡ sum_by mix_pair pairs.now % 2 ^ 64 }
 {

@@ -7,7 +7,7 @@ use events::{Call, Memory, Operation, Reply};
 use map_object::SortedMap;
 use std::alloc::Global;
 
-/// Whether a call may come next at a map. A completed call may only if the map gives it its
+/// Returns whether a call may come next at a map. A completed call may only if the map gives it its
 /// recorded reply, and a pending one always may.
 pub fn may_come_next(map: &SortedMap, call: &Operation) -> bool
     ensures { IsTrue result ↔ IsLegalCall map.now call.now.call call.now.response }
@@ -29,7 +29,7 @@ pub fn apply(alloc: Global, map: &mut SortedMap, call: &Operation) -> Result<(),
     Ok(())
 }
 
-/// Whether a call may change the map. A call that was refused, or that only reads, may not.
+/// Returns whether a call may change the map. A call that was refused, or that only reads, may not.
 fn may_change(call: &Operation) -> bool
     ensures { (m : Contents) → after_call m call.now.call call.now.response
         ≡ (if result then after m call.now.call else m) }

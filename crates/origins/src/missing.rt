@@ -36,7 +36,7 @@ pub fn missed_by(
     Ok(missed)
 }
 
-/// What is reported of a call that another misses.
+/// Returns what is reported of a call that another misses.
 fn missed_of(call: &Operation) -> Missed
     ensures { result ≡ missed_of call.now }
 {
@@ -46,14 +46,14 @@ fn missed_of(call: &Operation) -> Missed
     }
 }
 
-/// Whether of some calls one misses another, given those that began after that one.
+/// Returns whether of some calls one misses another, given those that began after that one.
 fn is_missed(calls: &[Operation], call: &Operation, other: &Operation, later: &[Operation]) -> bool
     ensures { result ≡ is_missed calls.now call.now other.now later.now }
 {
     gainsays(call, other) && !gainsays_later(call, other, later) && !is_mended(calls, call, other)
 }
 
-/// Whether a call gainsays one of these of the same key.
+/// Returns whether a call contradicts one of these later calls of the same key.
 fn gainsays_later(call: &Operation, other: &Operation, later: &[Operation]) -> bool
     ensures { result ≡ gainsays_later call.now other.now later.now }
 {
@@ -65,7 +65,8 @@ fn gainsays_later(call: &Operation, other: &Operation, later: &[Operation]) -> b
     false
 }
 
-/// Whether one of these calls may have put, after the second call, what the first one reports.
+/// Returns whether one of these calls may have put, after the second call, what the first one
+/// reports.
 fn is_mended(calls: &[Operation], call: &Operation, other: &Operation) -> bool
     ensures { result ≡ list_any (may_mend call.now other.now) calls.now }
 {
@@ -77,8 +78,8 @@ fn is_mended(calls: &[Operation], call: &Operation, other: &Operation) -> bool
     false
 }
 
-/// Whether a third call may have put at the second one's key, after that one and before the first,
-/// what the first one reports.
+/// Returns whether a third call may have put at the second one's key, after that one and before the
+/// first, what the first one reports.
 fn may_mend(call: &Operation, other: &Operation, third: &Operation) -> bool
     ensures { result ≡ may_mend call.now other.now third.now }
 {
@@ -89,8 +90,8 @@ fn may_mend(call: &Operation, other: &Operation, third: &Operation) -> bool
         && !precedes(call, third)
 }
 
-/// Whether the answer of a call shows that one of its keys had another value than another call left
-/// there before it began.
+/// Returns whether the answer of a call shows that one of its keys had another value than another
+/// call left there before it began.
 fn gainsays(call: &Operation, other: &Operation) -> bool
     ensures { result ≡ gainsays call.now other.now }
 {
@@ -100,8 +101,8 @@ fn gainsays(call: &Operation, other: &Operation) -> bool
         && is_gainsaid(&call.call, &call.response, key, left_by(other))
 }
 
-/// Whether the answer of a call shows that a key had another value than the one that was left
-/// there, if anything was.
+/// Returns whether the answer of a call shows that a key had another value than the one that was
+/// left there, if anything was.
 fn is_gainsaid(
     call: &Call,
     response: &Option<Response>,
@@ -116,8 +117,8 @@ fn is_gainsaid(
     }
 }
 
-/// Whether a reply shows that a key had another value than the one that was left there, if anything
-/// was.
+/// Returns whether a reply shows that a key had another value than the one that was left there, if
+/// anything was.
 fn is_other(call: &Call, reply: &Reply, key: u64, left: Option<Option<u64>>) -> bool
     ensures { result ≡ is_other call.now reply.now key left }
 {
@@ -127,7 +128,7 @@ fn is_other(call: &Call, reply: &Reply, key: u64, left: Option<Option<u64>>) -> 
     }
 }
 
-/// What a call left at its key, as its answer says: a value, or none in place of one.
+/// Returns what a call left at its key, as its answer says: a value, or none in place of one.
 fn left_by(call: &Operation) -> Option<Option<u64>>
     ensures { result ≡ left_by call.now }
 {
@@ -138,7 +139,7 @@ fn left_by(call: &Operation) -> Option<Option<u64>>
     }
 }
 
-/// Whether an answer says something about what its call found.
+/// Returns whether an answer says something about what its call found.
 fn says_found(reply: &Reply) -> bool
     ensures { result ≡ says_found reply.now }
 {

@@ -5,7 +5,7 @@ ghost use Rattle.origins.specs.Told.{value_told, pairs_told, told_by, all_told};
 use events::{Call, Memory, Operation, Reply};
 use std::alloc::Global;
 
-/// The pairs that calls report, one call after another.
+/// Returns the pairs that calls report, one call after another.
 pub(crate) fn all_told(alloc: Global, calls: &[Operation]) -> Result<Vec<(u64, u64)>, Memory>
     ensures { IfOk result (λ pairs. pairs.items ≡ all_told calls.now) }
 {

@@ -7,7 +7,7 @@ use std::alloc::{AllocError, Global};
 /// The most bytes that are shown of a text.
 const MAX_SHOWN: usize = 80;
 
-/// The hint that says what is at the place of a fault, and what was expected there.
+/// Returns the hint that says what is at the place of a fault, and what was expected there.
 pub fn found_hint(alloc: Global, text: &[u8], wanted: &str) -> Result<String, AllocError>
     ensures { IfOk result (λ hint. string_bytes hint ≡ found_hint text.now wanted.now) }
 {

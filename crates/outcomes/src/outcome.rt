@@ -40,7 +40,7 @@ pub enum Answer {
 }
 
 impl Answer {
-    /// The exit status.
+    /// Returns the exit status.
     pub fn status(self) -> u8
         ensures { result ≡ answer_status self }
     {
@@ -103,7 +103,7 @@ impl Drop for RunOutcome {
 }
 
 impl RunOutcome {
-    /// An answer with this line, if there was memory for the line.
+    /// Returns an answer with this line, if there was memory for the line.
     pub fn from_answer(answer: Answer, line: Result<String, AllocError>) -> RunOutcome
         ensures { MatchResult line (λ text. result ≡ RunOutcome.Answered answer text)
             (λ _. result ≡ RunOutcome.Memory) }
@@ -114,7 +114,7 @@ impl RunOutcome {
         }
     }
 
-    /// An answer with this line and this note, if there was memory for both.
+    /// Returns an answer with this line and this note, if there was memory for both.
     pub fn with_note(
         answer: Answer,
         line: Result<String, AllocError>,
@@ -134,7 +134,7 @@ impl RunOutcome {
         }
     }
 
-    /// A refusal with this line and this hint, if there was memory for both.
+    /// Returns a refusal with this line and this hint, if there was memory for both.
     pub fn from_refusal(
         line: Result<String, AllocError>,
         hint: Result<String, AllocError>,
@@ -153,7 +153,7 @@ impl RunOutcome {
         }
     }
 
-    /// The answer that numbers are not an order, or out of memory.
+    /// Returns the answer that numbers are not an order, or out of memory.
     pub fn of_order_fault(alloc: Global, fault: &OrderFault) -> RunOutcome
         ensures { IsOrderFaultOutcome fault.now result }
     {

@@ -20,7 +20,7 @@ pub(crate) struct Leaf<V> {
 }
 
 impl<V: Drop> Leaf<V> {
-    /// The value of a key.
+    /// Returns the value of a key.
     pub(crate) fn get(&self, key: u64) -> Option<&V>
         requires { KeysRise self.now.entries.items }
         ensures { IsEdit key (option_copied result) (option_copied result) self.now.entries.items
@@ -105,7 +105,7 @@ impl<V: Drop> Leaf<V> {
         }
     }
 
-    /// Whether there is no entry.
+    /// Returns whether there is no entry.
     pub(crate) fn is_empty(&self) -> bool
         ensures { result ≡ (length self.now.entries.items == 0) }
     {

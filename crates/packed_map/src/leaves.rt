@@ -10,7 +10,7 @@ use crate::leaf::Leaf;
 use crate::searching::leaf_of;
 use std::alloc::AllocError;
 
-/// The value of a key.
+/// Returns the value of a key.
 pub(crate) fn get_in<V: Drop>(leaves: &[Leaf<V>], near: usize, key: u64) -> Option<&V>
     requires { AreLeaves leaves.now }
     ensures { IsEdit key (option_copied result) (option_copied result) (entries_of leaves.now)

@@ -32,7 +32,7 @@ impl<V> Model for PackedMap<V> {
 }
 
 impl<V: Drop> PackedMap<V> {
-    /// A map of no keys. It has one leaf from the start.
+    /// Returns a map of no keys. It has one leaf from the start.
     pub fn new(alloc: Global) -> Result<PackedMap<V>, AllocError>
         ensures { IfOk result (λ m. m ≡ []) }
     {
@@ -46,7 +46,7 @@ impl<V: Drop> PackedMap<V> {
         Ok(PackedMap { leaves, near: 0 })
     }
 
-    /// The value of a key.
+    /// Returns the value of a key.
     pub fn get(&self, key: u64) -> Option<&V>
         ensures { option_copied result ≡ value_at self.now key }
     {
@@ -86,7 +86,7 @@ impl<V: Drop> PackedMap<V> {
         remove_in(&mut self.leaves, &mut self.near, key)
     }
 
-    /// All keys, rising.
+    /// Returns all keys, rising.
     pub fn keys(&self, alloc: Global) -> Result<Vec<u64>, AllocError>
         ensures rising { IfOk result (λ keys. AllPairs (λ k l. k < l) keys.items) }
         ensures each { IfOk result (λ keys. (key : ℕ) → Contains keys.items key
@@ -95,7 +95,7 @@ impl<V: Drop> PackedMap<V> {
         all_keys(alloc, &self.leaves)
     }
 
-    /// The keys of a range, rising.
+    /// Returns the keys of a range, rising.
     pub fn keys_within(&self, alloc: Global, low: u64, high: u64) -> Result<Vec<u64>, AllocError>
         requires { low ≤ high }
         ensures rising { IfOk result (λ keys. AllPairs (λ k l. k < l) keys.items) }

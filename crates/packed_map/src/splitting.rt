@@ -39,14 +39,14 @@ pub(crate) fn insert_in<V: Drop>(
     }
 }
 
-/// How many entries a leaf may have if there are this many leaves.
+/// Returns how many entries a leaf may have if there are this many leaves.
 fn most_entries(leaves: usize) -> usize
     ensures { 0 < result }
 {
     LEAST_FULL.max(leaves / 32)
 }
 
-/// The leaf into which a key belongs, after it was split if it was full.
+/// Returns the leaf into which a key belongs, after it was split if it was full.
 fn room_for<V: Drop>(
     leaves: &mut Vec<Leaf<V>>,
     near: usize,
@@ -105,7 +105,7 @@ impl<V: Drop> Leaf<V> {
     }
 }
 
-/// The place at which entries are cut before a key is inserted, and the least key after it.
+/// Returns the place at which entries are cut before a key is inserted, and the least key after it.
 fn split_place<V>(entries: &[(u64, V)], key: u64, is_last: bool) -> (usize, u64)
     requires rise { KeysRise entries.now }
     requires some { 0 < length entries.now }
@@ -120,7 +120,7 @@ fn split_place<V>(entries: &[(u64, V)], key: u64, is_last: bool) -> (usize, u64)
     (half, entries[half].0)
 }
 
-/// Whether a key is above those of all entries.
+/// Returns whether a key is above those of all entries.
 fn is_above<V>(entries: &[(u64, V)], key: u64) -> bool
     requires { KeysRise entries.now }
     ensures { IsTrue result ↔ All (λ e. e.0 < key) entries.now }

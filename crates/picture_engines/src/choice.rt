@@ -26,10 +26,10 @@ use pictures::View;
 use segments::Segment;
 use std::alloc::Global;
 
-/// What is shown of a verdict and of a location. If the view asks for a part, it is that part.
-/// Otherwise it is a few calls that show a no, the calls that put what these read from outside, and
-/// those that these miss. After an undecided it is the same for the events up to where the history
-/// goes wrong, if that was found.
+/// Returns what is shown of a verdict and of a location. If the view asks for a part, it is that
+/// part. Otherwise it is a few calls that show a no, the calls that put what these read from
+/// outside, and those that these miss. After an undecided it is the same for the events up to where
+/// the history goes wrong, if that was found.
 pub(crate) fn choice_of(
     alloc: Global,
     history: &History,
@@ -49,7 +49,7 @@ pub(crate) fn choice_of(
     }
 }
 
-/// What is shown if the view asks for nothing.
+/// Returns what is shown if the view asks for nothing.
 fn unasked_choice(
     alloc: Global,
     history: &History,
@@ -68,7 +68,7 @@ fn unasked_choice(
     }
 }
 
-/// The few calls of a segment that are shown.
+/// Returns the few calls of a segment that are shown.
 fn segment_choice(
     alloc: Global,
     history: &History,
@@ -84,7 +84,7 @@ fn segment_choice(
     Ok(choice)
 }
 
-/// A few calls that show a location.
+/// Returns a few calls that show a location.
 fn located_choice(
     alloc: Global,
     history: &History,
@@ -99,7 +99,7 @@ fn located_choice(
     Ok(choice)
 }
 
-/// A few calls that show a location, from its evidence.
+/// Returns a few calls that show a location, from its evidence.
 fn evidence_choice(alloc: Global, history: &History, evidence: &Evidence) -> Result<Choice, Memory>
     requires refutes { Refutes history.now evidence.now }
     ensures { IfOk result (IsChoiceFor history.now evidence.now) }
@@ -111,9 +111,9 @@ fn evidence_choice(alloc: Global, history: &History, evidence: &Evidence) -> Res
     }
 }
 
-/// A few calls of a part that goes wrong on its own. With them are the calls that put what these
-/// read from outside, the calls that these miss, and the calls that put the values of their keys
-/// before them.
+/// Returns a few calls of a part that goes wrong on its own. With them are the calls that put what
+/// these read from outside, the calls that these miss, and the calls that put the values of their
+/// keys before them.
 fn part_choice(
     alloc: Global,
     history: &History,
@@ -159,14 +159,15 @@ fn push_place(places: &mut Vec<usize>, place: Option<usize>) -> Result<(), Memor
     Ok(())
 }
 
-/// Whether a view of a history with this many events asks for no event and for no number of calls.
+/// Returns whether a view of a history with this many events asks for no event and for no number of
+/// calls.
 fn asks_for_nothing(events: usize, view: View) -> bool
     ensures { result ≡ asks_for_nothing events view }
 {
     view.around as usize >= events && view.calls as usize > MAX_CALLS
 }
 
-/// A few calls, with those that put what they read from outside, and those that they miss.
+/// Returns a few calls, with those that put what they read from outside, and those that they miss.
 fn few_shown(
     alloc: Global,
     history: &History,
@@ -180,8 +181,8 @@ fn few_shown(
     Ok(Choice::Few(places))
 }
 
-/// The events at which a few calls without order from these pairs are invoked. Also the events of
-/// the calls of the history that put what these read from outside, or that these miss.
+/// Returns the events at which a few calls without order from these pairs are invoked. Also the
+/// events of the calls of the history that put what these read from outside, or that these miss.
 fn places_of_few(
     alloc: Global,
     history: &History,
@@ -197,8 +198,8 @@ fn places_of_few(
     Ok(places)
 }
 
-/// The events at which a few calls are invoked, and the events of the calls of the history that put
-/// what these read from outside. The map holds these pairs at the start.
+/// Returns the events at which a few calls are invoked, and the events of the calls of the history
+/// that put what these read from outside. The map holds these pairs at the start.
 fn few_places(
     alloc: Global,
     history: &History,
@@ -215,7 +216,7 @@ fn few_places(
     Ok(places)
 }
 
-/// The events at which calls are invoked.
+/// Returns the events at which calls are invoked.
 fn places_of(alloc: Global, calls: &[Operation]) -> Result<Vec<usize>, Memory>
     ensures { IfOk result (λ places. places.items ≡ places_of calls.now) }
 {
@@ -254,7 +255,7 @@ fn push_missed(
     Ok(())
 }
 
-/// The events at which the calls are invoked that one misses.
+/// Returns the events at which the calls are invoked that one misses.
 fn events_missed(alloc: Global, calls: &[Operation], call: &Operation) -> Result<Vec<usize>, Memory>
     ensures { IfOk result (λ places. places.items ≡ places_of (missed_by call.now calls.now)) }
 {
@@ -263,7 +264,7 @@ fn events_missed(alloc: Global, calls: &[Operation], call: &Operation) -> Result
     Ok(places)
 }
 
-/// The events of calls that are missed.
+/// Returns the events of calls that are missed.
 fn events_of(alloc: Global, missed: &[Missed]) -> Result<Vec<usize>, Memory>
     ensures { IfOk result (λ places. places.items ≡ map (λ (m : Missed). m.event) missed.now) }
 {

@@ -86,7 +86,7 @@ pub fn draw_outcome<J: Judge>(alloc: Global, text: &[u8], judge: &J, view: View)
     }
 }
 
-/// The outcome of a drawing, or that memory ran out.
+/// Returns the outcome of a drawing, or that memory ran out.
 fn outcome_of(drawn: Result<(Answer, String), Memory>) -> RunOutcome
     ensures outcome { (budget : ℕ) (view : View) (text : List ℕ) (history : HistoryView)
         → IsTextOf text history
@@ -100,7 +100,7 @@ fn outcome_of(drawn: Result<(Answer, String), Memory>) -> RunOutcome
     }
 }
 
-/// The text of a picture of the verdict on a history, and the answer for the verdict.
+/// Returns the text of a picture of the verdict on a history, and the answer for the verdict.
 fn drawing_of<J: Judge>(
     alloc: Global,
     history: &History,
@@ -118,8 +118,8 @@ fn drawing_of<J: Judge>(
     drawing_with(alloc, history, budget, &verdict, &location, view)
 }
 
-/// The text of what a view shows of a picture of this verdict on a history, and the answer for the
-/// verdict. The event of this location is marked as wrong.
+/// Returns the text of what a view shows of a picture of this verdict on a history, and the answer
+/// for the verdict. The event of this location is marked as wrong.
 fn drawing_with(
     alloc: Global,
     history: &History,
@@ -143,7 +143,7 @@ fn drawing_with(
     Ok((answer_of(verdict), drawing))
 }
 
-/// The text of what is shown of the picture with this front.
+/// Returns the text of what is shown of the picture with this front.
 fn drawn_text(
     alloc: Global,
     history: &History,
@@ -162,7 +162,7 @@ fn drawn_text(
     Ok(text)
 }
 
-/// What is shown of the picture with this front.
+/// Returns what is shown of the picture with this front.
 fn part_shown(
     alloc: Global,
     history: &History,
@@ -180,7 +180,7 @@ fn part_shown(
     Ok(part)
 }
 
-/// What a choice shows of a picture of a history with this many events.
+/// Returns what a choice shows of a picture of a history with this many events.
 fn shown_as(
     alloc: Global,
     choice: &Choice,
@@ -197,7 +197,7 @@ fn shown_as(
     }
 }
 
-/// The event at which a location says that the history goes wrong.
+/// Returns the event at which a location says that the history goes wrong.
 fn event_of(location: &Location) -> Option<usize>
     ensures { result ≡ event_of location.now }
 {

@@ -34,7 +34,7 @@ fn push_opening(out: &mut String, bar: &Bar) -> Result<(), Memory>
     Ok(())
 }
 
-/// How a bar is drawn: as the one at which the history goes wrong, as one that the verdict
+/// Returns how a bar is drawn: as the one at which the history goes wrong, as one that the verdict
 /// concerns, or pale.
 fn class_of(bar: &Bar) -> &'static str
     ensures { result.now ≡ class_of bar.now }
@@ -194,8 +194,8 @@ fn push_dashed(out: &mut String, x: u128, y: u128, end: u128) -> Result<(), Memo
     Ok(())
 }
 
-/// How the number of a call is drawn: smaller if it has more than three digits, so that it ends
-/// before the circle in the next column.
+/// Returns how the number of a call is drawn: smaller if it has more than three digits, so that it
+/// ends before the circle in the next column.
 fn number_class(number: usize) -> &'static str
     ensures { result.now ≡ number_class number }
 {
@@ -233,7 +233,7 @@ fn push_words(out: &mut String, width: u8, columns: usize, bar: &Bar) -> Result<
     Ok(())
 }
 
-/// The words of a bar's reply, or that it is pending.
+/// Returns the words of a bar's reply, or that it is pending.
 fn reply_label(bar: &Bar) -> &[u8]
     ensures { result.now ≡ reply_label (option_map string_bytes bar.now.reply) }
 {

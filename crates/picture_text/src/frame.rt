@@ -108,7 +108,7 @@ fn push_start_words(
     Ok(())
 }
 
-/// The words before the pairs at the start.
+/// Returns the words before the pairs at the start.
 fn start_text(part: &Option<PicturePart>) -> &'static str
     ensures { result.now ≡ start_text part.now }
 {
@@ -164,7 +164,7 @@ fn push_name(out: &mut String, y: u128, process: u8) -> Result<(), Memory>
     Ok(())
 }
 
-/// Whether a bar is drawn as the one at which the history goes wrong.
+/// Returns whether a bar is drawn as the one at which the history goes wrong.
 pub fn has_wrong(bars: &[Bar]) -> bool
     ensures { result ≡ has_wrong bars.now }
 {
@@ -203,7 +203,7 @@ fn push_marks_text(out: &mut String, y: u128, heading: &Heading, red: bool) -> R
     Ok(())
 }
 
-/// What a circle means, and what a red and striped bar means if there is one.
+/// Returns what a circle means, and what a red and striped bar means if there is one.
 fn marks_text(heading: &Heading, red: bool) -> &'static str
     ensures { result.now ≡ marks_text heading.now red }
 {

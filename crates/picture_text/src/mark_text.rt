@@ -42,7 +42,7 @@ fn push_opening(out: &mut String, place: usize) -> Result<(), Memory>
     Ok(())
 }
 
-/// The bar of the call with a number.
+/// Returns the bar of the call with a number.
 fn bar_of(bars: &[Bar], number: u32) -> Option<&Bar>
     ensures { option_copied result ≡ bar_of bars.now number }
 {
@@ -76,7 +76,8 @@ fn push_circle(out: &mut String, x: u128, y: u128) -> Result<(), Memory>
     Ok(())
 }
 
-/// How a place is drawn: smaller if it has more than three digits, so that it fits the circle.
+/// Returns how a place is drawn: smaller if it has more than three digits, so that it fits the
+/// circle.
 fn place_class(place: usize) -> &'static str
     ensures { result.now ≡ place_class place }
 {

@@ -143,8 +143,8 @@ fn push_counted(out: &mut String, columns: usize, part: PicturePart) -> Result<(
     Ok(())
 }
 
-/// The words on which calls are left out: a part of a no or an undecided shows only the named
-/// segment, or a few calls of it.
+/// Returns the words on which calls are left out: a part of a no or an undecided shows only the
+/// named segment, or a few calls of it.
 fn alone_text(is_few: bool, heading: &Heading) -> &'static str
     ensures { result.now ≡ alone_text is_few heading.now }
 {

@@ -14,7 +14,7 @@ use events::Memory;
 use pictures::{Bar, Mark, Picture};
 use std::alloc::Global;
 
-/// The text of a picture, one SVG. It takes time in proportion to its length.
+/// Returns the text of a picture, one SVG. It takes time in proportion to its length.
 pub fn svg(alloc: Global, picture: &Picture) -> Result<String, Memory>
     ensures { IfOk result (λ text. IsSvgOf STYLE.now picture.now (string_bytes text)) }
 {
@@ -25,7 +25,7 @@ pub fn svg(alloc: Global, picture: &Picture) -> Result<String, Memory>
     Ok(text)
 }
 
-/// The text above the lanes.
+/// Returns the text above the lanes.
 fn top_of(alloc: Global, all: u128, picture: &Picture) -> Result<String, Memory>
     ensures { IfOk result (λ text. string_bytes text ≡ top_text STYLE.now all picture.now) }
 {

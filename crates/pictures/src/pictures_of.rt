@@ -73,7 +73,7 @@ fn picture_at(
     })
 }
 
-/// The bars of a picture, and the marks of an order on them.
+/// Returns the bars of a picture, and the marks of an order on them.
 fn bars_and_marks(
     alloc: Global,
     scene: &Scene<'_>,
@@ -95,7 +95,7 @@ fn bars_and_marks(
     Ok((bars, marks))
 }
 
-/// The calls that are marked: those of the order of a yes, otherwise those of the front.
+/// Returns the calls that are marked: those of the order of a yes, otherwise those of the front.
 fn marked_calls<'a>(verdict: &'a Verdict, front: &'a [u32]) -> &'a [u32]
     ensures { result.now ≡ marked verdict.now front.now }
 {
@@ -105,7 +105,7 @@ fn marked_calls<'a>(verdict: &'a Verdict, front: &'a [u32]) -> &'a [u32]
     }
 }
 
-/// The heading of a picture of the verdict.
+/// Returns the heading of a picture of the verdict.
 fn heading_of(verdict: &Verdict) -> Heading
     ensures { result ≡ heading_of verdict.now }
 {

@@ -64,7 +64,7 @@ pub fn search_alone<G: Gate>(
     complete(alloc, segments, budget, gate, known)
 }
 
-/// What the workers answer, one worker after another.
+/// Returns what the workers answer, one worker after another.
 fn search_apart<R: Threads + Sync, G: Gate + Sync>(
     rt: &R,
     alloc: Global,

@@ -44,7 +44,7 @@ pub(crate) enum RoundWork {
 }
 
 impl RoundWork {
-    /// The work of a name.
+    /// Returns the work of a name.
     pub(crate) fn of_name(name: &str) -> Option<RoundWork> {
         match name {
             "recorder" => Some(RoundWork::Recorder),
@@ -57,7 +57,7 @@ impl RoundWork {
     }
 }
 
-/// How many events are noted, or additions made, in this many rounds of this many threads.
+/// Returns how many events are noted, or additions made, in this many rounds of this many threads.
 pub(crate) fn done_in<R: Threads + Sync>(
     rt: &R,
     alloc: Global,
@@ -88,7 +88,7 @@ pub(crate) fn done_in<R: Threads + Sync>(
     Ok(done)
 }
 
-/// How many events each of some threads noted at one recorder.
+/// Returns how many events each of some threads noted at one recorder.
 fn record_rounds<R: Threads + Sync>(rt: &R, alloc: Global, threads: u8) -> Result<Vec<u64>, Memory>
     requires { (1 ≤ threads) × (threads ≤ 4) }
 {
@@ -112,7 +112,7 @@ fn note_all(recorder: &Recorder, mut pass: Pass) -> u64
     done
 }
 
-/// How many events were noted while each of some threads did its script on one tree.
+/// Returns how many events were noted while each of some threads did its script on one tree.
 fn drive_tree<R: Threads + Sync>(
     rt: &R,
     alloc: Global,

@@ -42,7 +42,7 @@ impl Recorder {
         }
     }
 
-    /// Whether these passes include one of each process, and all draws.
+    /// Returns whether these passes include one of each process, and all draws.
     fn has_all(&self, passes: &[Pass]) -> bool
         requires own { All (IsPassOf self.now) passes.now }
         ensures { IsTrue result ↔ AreAll self.now passes.now }
@@ -54,7 +54,7 @@ impl Recorder {
         has_processes(passes, self.processes)
     }
 
-    /// The history of the passes, which still have their logs afterwards.
+    /// Returns the history of the passes, which still have their logs afterwards.
     fn history(&self, alloc: Global, passes: &[Pass]) -> Result<History, Memory>
         requires own { All (IsPassOf self.now) passes.now }
         requires all { AreAll self.now passes.now }
@@ -84,7 +84,7 @@ impl Recorder {
     }
 }
 
-/// The hands of passes, joined into one.
+/// Returns the hands of passes, joined into one.
 fn join_hands(tickets: &Tickets, passes: Vec<Pass>) -> Hand
     requires some { passes.items ≢ [] }
     requires own { All (λ p. source_of p ≡ counter tickets.now) passes.items }
@@ -103,7 +103,7 @@ fn join_hands(tickets: &Tickets, passes: Vec<Pass>) -> Hand
     hand
 }
 
-/// The events of all passes with their stamps, pass after pass.
+/// Returns the events of all passes with their stamps, pass after pass.
 fn all_events(alloc: Global, passes: &[Pass]) -> Result<Vec<(u64, Event)>, Memory>
     ensures { IfOk result (λ all. all.items ≡ flat_map log_of passes.now) }
 {
@@ -114,7 +114,7 @@ fn all_events(alloc: Global, passes: &[Pass]) -> Result<Vec<(u64, Event)>, Memor
     Ok(all)
 }
 
-/// Whether each process below a number has a pass among these.
+/// Returns whether each process below a number has a pass among these.
 fn has_processes(passes: &[Pass], processes: u8) -> bool
     ensures { IsTrue result ↔ HasProcesses processes passes.now }
 {
@@ -126,7 +126,7 @@ fn has_processes(passes: &[Pass], processes: u8) -> bool
     true
 }
 
-/// Whether a process has a pass among these.
+/// Returns whether a process has a pass among these.
 fn has_process(passes: &[Pass], process: u8) -> bool
     ensures { IsTrue result ↔ Contains (map process_number passes.now) process }
 {

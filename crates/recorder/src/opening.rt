@@ -39,7 +39,7 @@ impl Recorder {
     }
 }
 
-/// A pass for each process, by rising number. The draws of the hand are shared among them.
+/// Returns a pass for each process, by rising number. The draws of the hand are shared among them.
 fn first_passes(
     alloc: Global,
     tickets: &Tickets,
@@ -66,7 +66,7 @@ fn first_passes(
     Ok(passes)
 }
 
-/// A pass with no event yet.
+/// Returns a pass with no event yet.
 fn first_pass(alloc: Global, process: u8, calls: u32, hand: Hand) -> Pass
     requires process { process < process_limit }
     requires calls { calls ≤ call_limit }

@@ -24,7 +24,7 @@ pub struct Pass {
 impl Pass {
     ghost use Rattle.recorder.specs.Passes.{process_number};
 
-    /// The number of the process that records with the pass.
+    /// Returns the number of the process that records with the pass.
     pub fn process(&self) -> u8
         ensures { result ≡ process_number self.now }
     {

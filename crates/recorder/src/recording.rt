@@ -83,7 +83,7 @@ impl Recorder {
     }
 }
 
-/// Whether an event is an invocation; else it is a response.
+/// Returns whether an event is an invocation; otherwise it is a response.
 fn is_invocation(event: &Event) -> bool
     ensures { result ≡ is_invocation event.now }
 {

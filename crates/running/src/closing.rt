@@ -49,7 +49,7 @@ impl Arena {
         }
     }
 
-    /// The history of a group that has all processes. It looks at the words once.
+    /// Returns the history of a group that has all processes. It looks at the words once.
     fn history(&self, alloc: Global, group: &mut Pass) -> Result<History, Memory>
         requires own { IsGroupOf self.now group.old }
         requires all { HoldsAll (opened_for self.now) (shows group.old) }
@@ -71,7 +71,7 @@ impl Arena {
     }
 }
 
-/// The events of all processes with their stamps, process after process.
+/// Returns the events of all processes with their stamps, process after process.
 fn all_events(alloc: Global, runners: &[(u8, Runner)]) -> Result<Vec<(u64, Event)>, Memory>
     ensures { IfOk result (λ all. all.items ≡ flat_map (λ r. r.1.log.items) runners.now) }
 {

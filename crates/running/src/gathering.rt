@@ -45,7 +45,7 @@ fn put(runners: &mut Vec<(u8, Runner)>, runner: (u8, Runner))
     }
 }
 
-/// The place of a number: before the first one that is greater.
+/// Returns the place of a number: before the first one that is greater.
 fn place_for(runners: &[(u8, Runner)], number: u8) -> usize
     ensures within { result ≤ length runners.now }
     ensures place { (runner : Runner) → placed (number, runner) runners.now ≡ insert runners.now result (number, runner) }

@@ -47,7 +47,7 @@ impl Arena {
     }
 }
 
-/// All processes, before the first step.
+/// Returns all processes, before the first step.
 fn idle_runners(alloc: Global, setup: Setup) -> Result<Vec<(u8, Runner)>, Memory>
     ensures fit { IfOk result (λ runners. Fit setup (all_idle setup).processes runners.items) }
     ensures long { IfOk result (λ runners. vec_len runners ≡ setup.processes) }

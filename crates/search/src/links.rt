@@ -35,7 +35,7 @@ impl Model for Links {
 }
 
 impl Links {
-    /// An empty list, for nodes below `size`.
+    /// Returns an empty list, for nodes below `size`.
     pub fn new(alloc: Global, size: u32) -> Result<Links, Memory>
         requires { size + 1 < 2 ^ 32 }
         ensures { IfOk result (λ l. l ≡ no_links size) }
@@ -46,7 +46,7 @@ impl Links {
         Ok(Links { after, before })
     }
 
-    /// The node after this one, if it is in the list, or the size at the end.
+    /// Returns the node after this one, if it is in the list, or the size at the end.
     pub fn after(&self, node: u32) -> u32
         requires { node < length self.now.after }
         ensures after { result ≡ slice_index self.now.after node }

@@ -113,7 +113,7 @@ pub fn make_step(
     go_back(alloc, calls, standing)
 }
 
-/// The earliest answer of a call left.
+/// Returns the earliest answer of a call left.
 fn earliest_answer(calls: &[Operation], standing: &Standing) -> Option<usize>
     ghost start: { Contents }
     requires few { length calls.now + 1 < 2 ^ 32 }
@@ -210,7 +210,7 @@ fn go_back(alloc: Global, calls: &[Operation], standing: &mut Standing) -> Resul
     Ok(Progress::Made)
 }
 
-/// All places below the size, linked by number.
+/// Returns all places below the size, linked by number.
 fn all_linked(alloc: Global, size: u32) -> Result<Links, Memory>
     requires { size + 1 < 2 ^ 32 }
     ensures size { IfOk result (λ l. length l.after ≡ size + 1) }
@@ -223,7 +223,7 @@ fn all_linked(alloc: Global, size: u32) -> Result<Links, Memory>
     Ok(links)
 }
 
-/// The places of all calls, linked by their answers.
+/// Returns the places of all calls, linked by their answers.
 fn linked_by_answer(alloc: Global, calls: &[Operation]) -> Result<Links, Memory>
     requires { length calls.now + 1 < 2 ^ 32 }
     ensures size { IfOk result (λ l. length l.after ≡ length calls.now + 1) }
@@ -238,9 +238,9 @@ fn linked_by_answer(alloc: Global, calls: &[Operation]) -> Result<Links, Memory>
     Ok(links)
 }
 
-/// The places of all calls in the order of their answers, then those of the pending calls. Each is
-/// inserted after all calls that were answered before it. The place is searched from the end, which
-/// passes at most one call of each process.
+/// Returns the places of all calls in the order of their answers, then those of the pending calls.
+/// Each is inserted after all calls that were answered before it. The place is searched from the
+/// end, which passes at most one call of each process.
 fn order_of_answers(alloc: Global, calls: &[Operation]) -> Result<Vec<u32>, Memory>
     requires { length calls.now + 1 < 2 ^ 32 }
     ensures { IfOk result (λ v. IsByAnswer calls.now (length calls.now) v.items) }
@@ -253,7 +253,7 @@ fn order_of_answers(alloc: Global, calls: &[Operation]) -> Result<Vec<u32>, Memo
     Ok(order)
 }
 
-/// The place at which a call is inserted among others that are sorted by their answers.
+/// Returns the place at which a call is inserted among others that are sorted by their answers.
 fn place_by_answer(calls: &[Operation], order: &[u32], place: usize) -> usize
     requires known { place < length calls.now }
     requires sorted { IsByAnswer calls.now place order.now }
@@ -268,7 +268,7 @@ fn place_by_answer(calls: &[Operation], order: &[u32], place: usize) -> usize
     at
 }
 
-/// Whether a call is answered later than another.
+/// Returns whether a call is answered later than another.
 fn is_later(a: &Operation, b: &Operation) -> bool
     ensures later { result ≡ true → (place : ℕ) → is_before a.now.response place ≡ true → is_before b.now.response place ≡ true }
     ensures no_later { result ≡ false → (place : ℕ) → is_before b.now.response place ≡ true → is_before a.now.response place ≡ true }

@@ -46,7 +46,7 @@ fn do_call(alloc: Global, map: &mut SortedMap, call: &Call) -> Result<Option<Cal
     Ok(Some(undo))
 }
 
-/// The call that gives a key its old value back, or none.
+/// Returns the call that gives a key its old value back, or none.
 fn restoring_call(key: u64, value: Option<u64>) -> Call
     ensures { result ≡ restoring key value }
 {

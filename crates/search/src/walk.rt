@@ -62,7 +62,7 @@ impl Walk {
         })
     }
 
-    /// How many configurations were counted: 1 at the opening.
+    /// Returns how many configurations were counted: 1 at the opening.
     pub fn len(&self) -> usize
         ensures { result ≡ self.now.len }
     {
@@ -91,7 +91,7 @@ impl Walk {
     }
 }
 
-/// The search is over, and this is what it found.
+/// Ends the search with what it found.
 fn end_with(found: Result<Found, Memory>) -> Result<Turn, Memory>
     ensures { result ≡ result_map_both Done (λ memory. memory) found }
 {
@@ -130,7 +130,7 @@ pub(crate) fn make_turn(
     }
 }
 
-/// The numbers of the calls taken.
+/// Returns the numbers of the calls taken.
 pub(crate) fn order_of(
     alloc: Global,
     numbers: &[u32],

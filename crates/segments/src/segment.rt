@@ -83,7 +83,7 @@ impl Segment {
         Ok(Some(Segment::of(alloc, history, &numbers)?))
     }
 
-    /// The numbers of the calls in the history, rising.
+    /// Returns the numbers of the calls in the history, rising.
     pub fn numbers(&self) -> &[u32]
         ensures numbers { result.now ≡ self.now.numbers }
         ensures segment { IsSegmentView self.now }
@@ -91,8 +91,8 @@ impl Segment {
         &self.numbers
     }
 
-    /// The calls, in the order of their numbers. An order of the segment names a call by its place
-    /// in this list.
+    /// Returns the calls, in the order of their numbers. An order of the segment names a call by
+    /// its place in this list.
     pub fn calls(&self) -> &[Operation]
         ensures calls { result.now ≡ self.now.calls }
         ensures segment { IsSegmentView self.now }
@@ -100,22 +100,22 @@ impl Segment {
         &self.calls
     }
 
-    /// The least key that one of its calls names.
+    /// Returns the least key that one of its calls names.
     pub fn lo(&self) -> u64
         ensures { result ≡ self.now.lo }
     {
         self.lo
     }
 
-    /// The greatest key that one of its calls names.
+    /// Returns the greatest key that one of its calls names.
     pub fn hi(&self) -> u64
         ensures { result ≡ self.now.hi }
     {
         self.hi
     }
 
-    /// The pairs of the history's start from the segment's least key to its greatest, by rising
-    /// key.
+    /// Returns the pairs of the history's start from the segment's least key to its greatest, by
+    /// rising key.
     pub fn start(&self) -> &[(u64, u64)]
         ensures start { result.now ≡ self.now.start }
         ensures segment { IsSegmentView self.now }
@@ -140,7 +140,7 @@ impl Segment {
     }
 }
 
-/// The numbers of the calls that belong to a segment, rising.
+/// Returns the numbers of the calls that belong to a segment, rising.
 fn numbers_that_belong(alloc: Global, calls: &[Operation]) -> Result<Vec<u32>, Memory>
     requires { length calls.now < 2 ^ 32 }
     ensures rising { IfOk result (λ v. IsStrictlyIncreasing v.items) }
@@ -156,7 +156,7 @@ fn numbers_that_belong(alloc: Global, calls: &[Operation]) -> Result<Vec<u32>, M
     Ok(numbers)
 }
 
-/// The calls with these numbers.
+/// Returns the calls with these numbers.
 fn copies_of(alloc: Global, calls: &[Operation], numbers: &[u32]) -> Result<Vec<Operation>, Memory>
     requires { All (λ n. n < length calls.now) numbers.now }
     ensures { IfOk result (λ v. v.items ≡ calls_at calls.now numbers.now) }
@@ -168,7 +168,7 @@ fn copies_of(alloc: Global, calls: &[Operation], numbers: &[u32]) -> Result<Vec<
     Ok(taken)
 }
 
-/// The pairs with a key from the one to the other, both included.
+/// Returns the pairs with a key from the one to the other, both included.
 fn pairs_within(
     alloc: Global,
     pairs: &[(u64, u64)],
@@ -205,7 +205,7 @@ fn push_copy(alloc: Global, taken: &mut Vec<Operation>, call: &Operation) -> Res
     Ok(())
 }
 
-/// The least key that the calls name, or 0 if there is no call.
+/// Returns the least key that the calls name, or 0 if there is no call.
 fn least_key(calls: &[Operation]) -> u64
     ensures { result ≡ least (map (λ a. low_key a.call) calls.now) }
 {
@@ -217,7 +217,7 @@ fn least_key(calls: &[Operation]) -> u64
     least
 }
 
-/// The greatest key that the calls name, or 0 if there is no call.
+/// Returns the greatest key that the calls name, or 0 if there is no call.
 fn greatest_key(calls: &[Operation]) -> u64
     ensures { result ≡ greatest (map (λ a. high_key a.call) calls.now) }
 {

@@ -41,7 +41,7 @@ pub fn small_history(
     }
 }
 
-/// The text of a history; none if it would be longer than a text may be.
+/// Returns the text of a history; none if it would be longer than a text may be.
 pub fn small_text(alloc: Global, history: &History) -> Result<Option<String>, Memory>
     ensures { IfOk result (λ found. MatchOption found (text_limit < length (text_of history.now))
         (λ text. IsWrittenAs history.now (string_bytes text))) }
@@ -67,7 +67,7 @@ fn small_events(alloc: Global, calls: &[Operation]) -> Result<Option<Vec<Event>>
     }
 }
 
-/// The history of events from some pairs; none if no history has their calls.
+/// Returns the history of events from some pairs; none if no history has their calls.
 fn history_of(
     alloc: Global,
     start: &[(u64, u64)],

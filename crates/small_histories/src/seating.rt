@@ -27,7 +27,7 @@ pub fn seat_all(alloc: Global, seats: &mut Seats, calls: &[Operation]) -> Result
     Ok(true)
 }
 
-/// The later of two places.
+/// Returns the later of two places.
 fn later_place(place: usize, other: usize) -> usize
     ensures { result ≡ max place other }
 {
@@ -57,7 +57,8 @@ fn seat(
     Ok(begun)
 }
 
-/// Whether a call that begins together with the last of those before it, or later, may follow them.
+/// Returns whether a call that begins together with the last of those before it, or later, may
+/// follow them.
 fn may_follow(before: &[Operation], call: &Operation, place: usize) -> bool
     ensures { IsTrue result ↔ (EndsBehind place call.now
         × All (EndsOutside call.now.inv place) before.now) }
@@ -65,7 +66,7 @@ fn may_follow(before: &[Operation], call: &Operation, place: usize) -> bool
     ends_behind(place, call) && all_end_outside(call.inv, place, before)
 }
 
-/// Whether a call is answered at a place or after it; a pending call is.
+/// Returns whether a call is answered at a place or after it; a pending call is.
 fn ends_behind(place: usize, call: &Operation) -> bool
     ensures { IsTrue result ↔ EndsBehind place call.now }
 {
@@ -75,8 +76,8 @@ fn ends_behind(place: usize, call: &Operation) -> bool
     }
 }
 
-/// Whether no call is answered from one place to another. If there are no such places, no call is
-/// looked at.
+/// Returns whether no call is answered from one place to another. If there are no such places, no
+/// call is looked at.
 fn all_end_outside(low: usize, high: usize, calls: &[Operation]) -> bool
     ensures { IsTrue result ↔ All (EndsOutside low high) calls.now }
 {

@@ -28,7 +28,7 @@ pub struct Seats {
 }
 
 impl Seats {
-    /// All processes are free, and no call has begun.
+    /// Returns the state in which all processes are free, and no call has begun.
     pub fn new(alloc: Global) -> Result<Seats, Memory>
         ensures { (calls : List Operation) → IfOk result (λ seats. AreSeated calls 0 0 seats) }
     {
@@ -90,7 +90,7 @@ impl Seats {
     }
 }
 
-/// All processes; the least one is the last.
+/// Returns all processes; the least one is the last.
 fn all_processes(alloc: Global) -> Result<Vec<u8>, Memory>
     ensures known { IfOk result (λ processes. All (λ p. p < process_limit) processes.items) }
     ensures apart { IfOk result (λ processes. AllPairs (λ p q. p ≢ q) processes.items) }
@@ -103,7 +103,7 @@ fn all_processes(alloc: Global) -> Result<Vec<u8>, Memory>
     Ok(processes)
 }
 
-/// The place of a response, if there is one.
+/// Returns the place of a response, if there is one.
 fn place_in(response: &Option<Response>) -> Option<usize>
     ensures { result ≡ place_in response.now }
 {
@@ -113,7 +113,7 @@ fn place_in(response: &Option<Response>) -> Option<usize>
     }
 }
 
-/// The answer of the call with a number, if it has one.
+/// Returns the answer of the call with a number, if it has one.
 fn reply_at(alloc: Global, calls: &[Operation], number: usize) -> Result<Option<Reply>, Memory>
     ensures { IfOk result (λ reply. reply ≡ reply_at calls.now number) }
 {
@@ -146,7 +146,8 @@ pub fn first_before(open_seats: &[Seat], place: usize) -> Option<usize>
     }
 }
 
-/// The place in the list of the open call that is answered first, and the place of its response.
+/// Returns the place in the list of the open call that is answered first, and the place of its
+/// response.
 pub fn first_answer(open_seats: &[Seat]) -> Option<(usize, usize)>
     ensures { MatchOption result (All (λ s. s.res ≡ None) open_seats.now)
         (IsFirstAmong open_seats.now open_seats.now) }
@@ -158,7 +159,7 @@ pub fn first_answer(open_seats: &[Seat]) -> Option<(usize, usize)>
     first
 }
 
-/// The earlier of two answers; the first of them if both are at one place.
+/// Returns the earlier of two answers; the first of them if both are at one place.
 fn earlier_answer(
     first: Option<(usize, usize)>,
     at: usize,

@@ -30,8 +30,8 @@ impl Model for MemorySource {
 }
 
 impl MemorySource {
-    /// A source that gives at most `most` bytes in a call. It fails once, after `fails_in` calls,
-    /// if that is a number.
+    /// Returns a source that gives at most `most` bytes in a call. It fails once, after `fails_in`
+    /// calls, if that is a number.
     pub fn new(bytes: Vec<u8>, most: usize, fails_in: Option<u64>) -> Self
         requires { 0 < most }
         ensures { result ≡ record { bytes = bytes.items; most = most; fails_in = fails_in; failures = 0 } }
@@ -45,14 +45,14 @@ impl MemorySource {
         }
     }
 
-    /// The bytes that are still to come.
+    /// Returns the bytes that are still to come.
     pub fn bytes(&self) -> &[u8]
         ensures { result.now ≡ self.now.bytes }
     {
         &self.bytes[self.at..]
     }
 
-    /// How many calls have failed.
+    /// Returns how many calls have failed.
     pub fn failures(&self) -> u64
         ensures { result ≡ self.now.failures }
     {
@@ -114,9 +114,9 @@ impl Model for MemorySink {
 }
 
 impl MemorySink {
-    /// A sink that stores what is written after these bytes, and takes at most `most` bytes in a
-    /// call. It fails once, after `fails_in` calls, if that is a number. A call also fails if it
-    /// needs more memory and gets none.
+    /// Returns a sink that stores what is written after these bytes, and takes at most `most` bytes
+    /// in a call. It fails once, after `fails_in` calls, if that is a number. A call also fails if
+    /// it needs more memory and gets none.
     pub fn new(bytes: Vec<u8>, most: usize, fails_in: Option<u64>) -> Self
         requires { 0 < most }
         ensures { result ≡ record { bytes = bytes.items; most = most; fails_in = fails_in; failures = 0 } }
@@ -129,14 +129,14 @@ impl MemorySink {
         }
     }
 
-    /// The bytes that the sink was made with, and then those that were written.
+    /// Returns the bytes that the sink was made with, and then those that were written.
     pub fn bytes(&self) -> &[u8]
         ensures { result.now ≡ self.now.bytes }
     {
         &self.bytes
     }
 
-    /// How many calls have failed.
+    /// Returns how many calls have failed.
     pub fn failures(&self) -> u64
         ensures { result ≡ self.now.failures }
     {

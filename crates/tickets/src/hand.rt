@@ -21,7 +21,7 @@ pub struct Hand {
 impl Hand {
     ghost use Rattle.tickets.specs.Hands.{left_of};
 
-    /// How many numbers the hand may still draw.
+    /// Returns how many numbers the hand may still draw.
     pub fn left(&self) -> u64
         ensures { result ≡ left_of self.now }
     {
