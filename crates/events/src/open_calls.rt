@@ -20,7 +20,7 @@ pub struct OpenCalls {
 impl OpenCalls {
     ghost use Rattle.events.specs.OpenCalls.{AreOpenAfter};
 
-    /// Before any event.
+    /// Returns the state before any event.
     pub fn new() -> OpenCalls
         ensures { AreOpenAfter [] result }
     {

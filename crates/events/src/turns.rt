@@ -39,7 +39,7 @@ impl Turns {
     ghost use Rattle.events.specs.HistoryFaults.{IsRefusedAfter, IsPairRefusedAfter};
     ghost use Rattle.std.specs.Prelude.{◌++◌, ◌∷◌};
 
-    /// No pair and no event yet.
+    /// Returns the state with no pair and no event yet.
     pub fn new(alloc: Global) -> Turns
         ensures none { result ≡ with_no_start [] }
         ensures history { IsHistory result }

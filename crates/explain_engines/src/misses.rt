@@ -28,7 +28,7 @@ pub(crate) fn put_missed(
     put(members, alloc, "misses", all_missed(alloc, events, missed)?)
 }
 
-/// Calls that another misses.
+/// Returns the calls that another call misses.
 fn all_missed(alloc: Global, events: &[Event], missed: &[Missed]) -> Result<Value, AllocError>
     ensures { IfOk result (λ value. view value ≡ list_data
         (map (missed_data events.now) missed.now)) }

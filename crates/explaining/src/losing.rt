@@ -77,9 +77,9 @@ fn explanation_of(
     least_of(alloc, map, calls, kept, budget)
 }
 
-/// Calls that are enough, if short searches show it. For each of these numbers it tries that many
-/// calls from the front of each list, and that many of the last calls. The first number that shows
-/// it decides.
+/// Returns calls that are enough, if short searches show it. For each of these numbers it tries
+/// that many calls from the front of each list, and that many of the last calls. The first number
+/// that shows it decides.
 fn shown_calls(
     alloc: Global,
     map: &SortedMap,

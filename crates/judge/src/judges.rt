@@ -28,7 +28,7 @@ pub trait Judge {
     // The judge was asked for the verdict on this history.
     ghost was_asked: { Self → HistoryView → Type 0 };
 
-    /// Its budget.
+    /// Returns the budget of its searches.
     fn budget(&self) -> u32
         ensures budget { result ≡ budget self.now }
         ensures within { (1 ≤ result) × (result ≤ budget_limit) };

@@ -59,7 +59,7 @@ fn answer(alloc: Global, map: &mut SortedMap, call: &Call) -> Reply
     reply
 }
 
-/// Its keys rise, by which a map is made: it costs nothing.
+/// Shows that the keys of the map rise, by looking at its pairs. It costs nothing.
 fn are_rising(map: &SortedMap)
     ensures { IsRising map.now }
 {

@@ -16,7 +16,7 @@ pub struct Missed {
     pub event: usize,
 }
 
-/// Of some calls, in the order in which they began, those that one of them misses. They were
+/// Returns those of some calls, in the order in which they began, that one call misses. They were
 /// answered before it began, and its answer shows other values at their keys than they left there.
 /// No call may have put there again what it reports. At each key there is at most one such call,
 /// the last. At worst each call is compared with all of them.

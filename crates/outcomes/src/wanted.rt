@@ -39,7 +39,7 @@ pub fn event_wanted() -> &'static str
     numbers are from 0 to 18446744073709551615"
 }
 
-/// When an event comes in its turn.
+/// Returns when an event comes in its turn.
 pub fn turn_wanted() -> &'static str
     ensures { result.now ≡ turn_wanted }
 {

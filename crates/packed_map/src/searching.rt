@@ -24,7 +24,7 @@ pub(crate) fn place_of<V>(entries: &[(u64, V)], near: usize, key: u64) -> Result
     search_by_halves(entries, key)
 }
 
-/// That place, by binary search.
+/// Returns the place of a key, or the place at which it would be inserted, by binary search.
 fn search_by_halves<V>(entries: &[(u64, V)], key: u64) -> Result<usize, usize>
     ensures bound { IsSearchInRange result (length entries.now) }
     ensures position { IsBinarySearchResult (λ e. nat_cmp e.0 key) entries.now result }
@@ -53,7 +53,7 @@ pub(crate) fn leaf_of<V>(leaves: &[Leaf<V>], near: usize, key: u64) -> usize
     searched_leaf(leaves, key)
 }
 
-/// That leaf, by binary search.
+/// Returns the leaf into which a key belongs, by binary search.
 fn searched_leaf<V>(leaves: &[Leaf<V>], key: u64) -> usize
     requires { AreLeaves leaves.now }
     ensures { IsLeafOf key leaves.now result }

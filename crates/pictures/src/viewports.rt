@@ -32,8 +32,8 @@ pub fn part_of(
     viewport_around(alloc, picture, room, column, event)
 }
 
-/// For how many columns there is room: three for each call that the view asks for, and for 20 calls
-/// if it asks for more than a history can have.
+/// Returns for how many columns there is room: three for each call that the view asks for, and for
+/// 20 calls if it asks for more than a history can have.
 fn room_for(calls: u32) -> usize
     ensures { result ≡ room_for calls }
 {

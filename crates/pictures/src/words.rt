@@ -66,7 +66,7 @@ pub fn reply_words(alloc: Global, reply: &Reply) -> Result<String, AllocError>
     }
 }
 
-/// Pairs as in a history's text, as `[[1,10],[2,20]]`.
+/// Returns pairs as in a history's text, such as `[[1,10],[2,20]]`.
 pub fn pairs_words(alloc: Global, pairs: &[(u64, u64)]) -> Result<String, AllocError>
     ensures { IfOk result (λ text. string_bytes text ≡ pairs_words pairs.now) }
 {

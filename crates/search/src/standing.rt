@@ -67,7 +67,7 @@ pub enum Progress {
     NoOrder,
 }
 
-/// Before any call, at the map that the calls begin with.
+/// Returns the state before any call, at the map with which the calls begin.
 pub fn open_standing(alloc: Global, map: SortedMap, calls: &[Operation]) -> Result<Standing, Memory>
     requires few { length calls.now + 1 < 2 ^ 32 }
     requires apart { NonePrecedesItself calls.now }
@@ -173,7 +173,7 @@ fn take_next(alloc: Global, calls: &[Operation], standing: &mut Standing) -> Res
     Ok(())
 }
 
-/// One call further, at the configuration that was visited last.
+/// Pushes a call on the stack, at the configuration that was visited last.
 fn push(size: u32, standing: &mut Standing, place: u32, undo: Option<Call>) -> Result<(), Memory>
     requires size { size < length standing.old.calls.after }
     requires place { place < length standing.old.calls.after }
@@ -190,7 +190,7 @@ fn push(size: u32, standing: &mut Standing, place: u32, undo: Option<Call>) -> R
     Ok(())
 }
 
-/// Back by one call.
+/// Goes back by one call.
 fn go_back(alloc: Global, calls: &[Operation], standing: &mut Standing) -> Result<Progress, Memory>
     ghost start: { Contents }
     requires apart { NonePrecedesItself calls.now }

@@ -46,7 +46,7 @@ pub enum Turn {
 }
 
 impl Walk {
-    /// Before the first call of a segment, which is copied.
+    /// Returns a walk before the first call of a segment, which is copied.
     pub fn open(alloc: Global, segment: &Segment, budget: u32) -> Result<Walk, Memory>
         requires { (1 ≤ budget) × (budget ≤ budget_limit) }
         ensures segment { IfOk result (λ w. w.segment ≡ segment.now) }
@@ -98,7 +98,7 @@ fn end_with(found: Result<Found, Memory>) -> Result<Turn, Memory>
     Ok(Turn::Done(found?))
 }
 
-/// Before any call of a segment, at its starting pairs.
+/// Returns the state before any call of a segment, at its starting pairs.
 pub(crate) fn begin(alloc: Global, segment: &Segment) -> Result<Standing, Memory>
     ensures stands { IfOk result (Stands segment.now.start segment.now.calls) }
     ensures one { IfOk result (λ s. length s.memo ≡ 1) }

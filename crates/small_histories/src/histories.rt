@@ -54,7 +54,8 @@ pub fn small_text(alloc: Global, history: &History) -> Result<Option<String>, Me
     }
 }
 
-/// Events of a history that make these calls, at other places; none if the events of no history do.
+/// Returns events of a history that make these calls, at other places; none if the events of no
+/// history do.
 fn small_events(alloc: Global, calls: &[Operation]) -> Result<Option<Vec<Event>>, Memory>
     ensures { IfOk result (λ found. MatchOption found (NoEventsHave calls.now)
         (λ events. AreEventsWith calls.now events.items)) }

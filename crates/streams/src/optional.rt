@@ -5,7 +5,8 @@ ghost use Rattle.streams.specs.Optional.{failures_of};
 use crate::{Failed, Sink, StandardError};
 use std::io::{IsTerminal, Stderr};
 
-/// Standard error if it is a terminal. It is for a person who reads there, and never for a program.
+/// Returns standard error if it is a terminal. It is for a person who reads there, and never for a
+/// program.
 pub fn terminal_of(error: Stderr) -> Option<StandardError>
     ensures { ⟦<Option<StandardError> as Sink>⟧.failures result ≡ 0 }
 {
