@@ -1,4 +1,4 @@
-// Why a list of numbers is no order.
+// Why a list of numbers is not an order.
 use events::Memory;
 
 /// Why a list of numbers is not an order: the first place that shows a fault, or a call that is

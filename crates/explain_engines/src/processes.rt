@@ -1,4 +1,4 @@
-// Which process an event is of.
+// The process of an event.
 ghost use Rattle.std.specs.Prelude.{◌≡◌};
 ghost use Rattle.explain_engines.specs.Reports.{process_at};
 
