@@ -272,7 +272,7 @@ static inline int potzendai_test_each(const struct potzendai_options *options, c
     for (int how = 0; how < POTZENDAI_EACH_BREAK; how++) {
         one.broken = (enum potzendai_break)how;
         if (!potzendai_is_called(&one, one.broken)) {
-            fprintf(stderr, "%s: the calls that it makes wrong are not made\n", potzendai_breaks[how]);
+            fprintf(stderr, "%s: no call that it would break is made\n", potzendai_breaks[how]);
             continue;
         }
         int status = potzendai_test(&one, program, map, true);

@@ -360,7 +360,7 @@ static inline int potzendai_check_break(const struct potzendai_options *o)
         if ((o->broken == (enum potzendai_break)how || o->broken == POTZENDAI_EACH_BREAK)
             && potzendai_is_called(o, (enum potzendai_break)how))
             return 0;
-    return potzendai_complain("--break", "the calls that it makes wrong are not made");
+    return potzendai_complain("--break", "no call that it would break is made");
 }
 
 /* Whether the map has the functions that --fresh and --reopen need. */

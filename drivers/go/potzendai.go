@@ -2722,7 +2722,7 @@ func (o *options) fit(has functions, canReopen bool) {
 	case o.shares["pop_first"] > 0 && isApart:
 		fail(badWords, "pop_first: takes keys of other threads, so not with --void own or lock")
 	case o.broken != "" && !o.isCalled(o.broken):
-		fail(badWords, "--break: the calls that it makes wrong are not made")
+		fail(badWords, "--break: no call that it would break is made")
 	case o.hot > o.keys:
 		fail(badWords, "--hot: more than there are keys")
 	case o.void == "own" && o.keys < o.threads:
@@ -2839,7 +2839,7 @@ func allBroken(o *options, make func() Map, p *program, has functions) (int, []s
 	said, missed, called := []string{}, 0, map[string]uint64{}
 	for _, how := range breaks {
 		if o.broken = how; !o.isCalled(how) {
-			said = append(said, how+": the calls that it makes wrong are not made")
+			said = append(said, how+": no call that it would break is made")
 			continue
 		}
 		r, verdict := newRun(o, make, p, 0), "no"

@@ -2215,7 +2215,7 @@ public final class Potzendai {
             }
             wrong(total() == 0, "--mix: no share");
             wrong(shares.get(Kind.POP_FIRST) > 0 && isApart, "pop_first: takes keys of other threads, so not with --void own or lock");
-            wrong(broken != null && !isCalled(broken), "--break: the calls that it makes wrong are not made");
+            wrong(broken != null && !isCalled(broken), "--break: no call that it would break is made");
             wrong(hot > keys, "--hot: more than there are keys");
             wrong(isVoid("own") && keys < threads, "--void: own: each thread needs a key");
             wrong(cache != null && isVoid("own"), "--cache: not with --void own, since the writer of a key does not see that the key was lost");
@@ -2331,7 +2331,7 @@ public final class Potzendai {
                 run.called.forEach((kind, count) -> called.merge(kind, count, Long::sum));
             missed += run != null && (run.failed == null || run.wrongTimes == 0) ? 1 : 0;
             String verdict = run == null || run.failed == null ? "yes" : run.wrongTimes > 0 ? "no" : "no of the map itself";
-            said.add(how + ": " + (run == null ? "the calls that it makes wrong are not made" : run.summary(verdict)));
+            said.add(how + ": " + (run == null ? "no call that it would break is made" : run.summary(verdict)));
         }
         said.add(saidCalls(has, called));
         said.add("this shows that calls and answers reach the judge; it does not show that threads meet: see the overlap");

@@ -1607,7 +1607,7 @@ def fit(options, has, can_reopen):
         wrong("--reopen", "the map has no function reopen")
     options.shown_by = {how: options.shares[kind] > 0 and not (how == "torn" and options.scan == "steps") for how, kind in BREAKS.items()}
     if not options.shown_by.get(options.broken, not options.broken or any(options.shown_by.values())):
-        wrong("--break", "the calls that it makes wrong are not made")
+        wrong("--break", "no call that it would break is made")
     if options.stream and options.rounds:
         wrong("--rounds", "a stream has no rounds; use --seconds, or --calls for each thread")
     if options.hot > options.keys:
@@ -1776,7 +1776,7 @@ def all_broken(make, options, program, has):
         runs += [run] if run else []
         missed += run is not None and not (run.failed and run.wrong_times)
         verdict = "no" if run and run.failed and run.wrong_times else "no of the map itself" if run and run.failed else "yes"
-        said.append("%s: %s" % (how, run.summary(verdict) if run else "the calls that it makes wrong are not made"))
+        said.append("%s: %s" % (how, run.summary(verdict) if run else "no call that it would break is made"))
     said += [said_calls(has, runs), "this shows that calls and answers reach the judge; it does not show that threads meet: see the overlap"]
     return (YES, said, "yes: %d of the broken maps were not refuted" % missed) if missed else (NO, said, "no: each broken map was refuted")
 

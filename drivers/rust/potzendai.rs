@@ -2736,7 +2736,7 @@ impl Options {
         let rows = [
             (self.shares.iter().sum::<u64>() == 0, "--mix: no share"),
             (self.shares[PopFirst as usize] > 0 && is_apart, "pop_first: takes keys of other threads, so not with --void own or lock"),
-            (!is_unbroken, "--break: the calls that it makes wrong are not made"),
+            (!is_unbroken, "--break: no call that it would break is made"),
             (self.hot > self.keys, "--hot: more than there are keys"),
             (self.void == "own" && self.keys < self.threads, "--void: own: each thread needs a key"),
             (
@@ -2870,7 +2870,7 @@ fn all_broken<M: Map>(
     let (mut said, mut missed, mut called) = (vec![], 0, [0; 9]);
     for (how, _) in BREAKS {
         if !options.is_called(how) {
-            said.push(format!("{how}: the calls that it makes wrong are not made"));
+            said.push(format!("{how}: no call that it would break is made"));
             continue;
         }
         options.broken = Some(how.to_string());

@@ -162,7 +162,7 @@ fn has_number(numbers: &[u32], number: usize) -> bool
     numbers.iter().any(|other| *other as usize == number)
 }
 
-/// Returns whether an event is given, and is this response.
+/// Returns whether a wrong event is known, and this response is at it.
 fn is_response(event: Option<usize>, response: &Option<Response>) -> bool
     ensures { result ≡ is_response event response.now }
 {

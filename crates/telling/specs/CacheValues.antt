@@ -41,7 +41,7 @@ ReplyBelow bound replies.Done = ⊤
 ReplyBelow bound replies.Found = ⊤
 ReplyBelow bound replies.Other = ⊤
 
--- the same for the answer in a response, if there is one
+-- each value of a response's answer is below a bound; a pending call has none
 abbrev pub ResponseBelow : ℕ → Option Response → Type 0
 ResponseBelow bound None = ⊤
 ResponseBelow bound (Some response) = ReplyBelow bound response.reply
